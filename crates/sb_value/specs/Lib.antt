@@ -1,0 +1,4 @@
+pub mod Order
+pub mod Code
+pub mod Spelling
+pub mod Fits

@@ -1,0 +1,14 @@
+//! Values, tuples, names and schemas: what a relation's rows are made of.
+#![tactic(auto)]
+
+mod bytes;
+mod lists;
+mod schema;
+mod text;
+mod value;
+
+pub use bytes::{Bytes, RecKey};
+pub use lists::{Names, Schema, Tuple};
+pub use schema::{Column, Kind, TypeFault};
+pub use text::Str;
+pub use value::Value;
