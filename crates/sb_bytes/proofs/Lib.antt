@@ -1,0 +1,4 @@
+pub mod FieldLaws
+pub mod Digits
+pub mod Part
+pub mod Fronts

@@ -1,0 +1,5 @@
+use Rattle.sb_bytes.proofs.Part.{put_mid-field}
+use Rattle.sb_bytes.proofs.field.put_u64.Goals as goal
+
+pub returns : goal.returns
+returns c = put_mid-field c.args.at 8 c.args.v c.args.b.now c.write_u64.new.buf c.write_u64.ensures
