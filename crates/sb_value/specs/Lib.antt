@@ -2,3 +2,4 @@ pub mod Order
 pub mod Code
 pub mod Spelling
 pub mod Fits
+pub mod Equal

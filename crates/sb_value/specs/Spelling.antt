@@ -1,5 +1,5 @@
 -- The spelling of a value in stored bytes, and which values have one.
-use Rattle.std.specs.Prelude.{ℕ, ◌^◌, ◌<◌, ◌≤◌, List, ◌∷◌, length, IsUtf8, ℤ, pos, negsuc, FitsSigned}
+use Rattle.std.specs.Prelude.{ℕ, ◌≤◌, List, ◌∷◌, length, IsUtf8, FitsSigned}
 use Rattle.std.specs.Int.{to_be_bytes, cast_unsigned, w64}
 use Rattle.sb_value.specs.declared.value.Value.{Value}
 use Rattle.sb_value.specs.declared.value.Value.TheVariants.{Int, Text}

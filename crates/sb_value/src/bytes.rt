@@ -1,6 +1,6 @@
 //! Rows of bytes.
 
-ghost use Rattle.std.specs.Prelude.{◌≡◌, ◌∷◌, ◌++◌, [], IfOk, OnOk, OnErr, length, take};
+ghost use Rattle.std.specs.Prelude.{◌≡◌, ◌==◌, ◌∷◌, ◌++◌, [], IfOk, OnOk, OnErr, length, take};
 
 use std::alloc::{AllocError, Global};
 use std::marker::Model;
@@ -50,6 +50,12 @@ impl Bytes {
         ensures { result ≡ length self.now }
     {
         self.items.len()
+    }
+
+    pub fn is_empty(&self) -> bool
+        ensures { result ≡ (length self.now == 0) }
+    {
+        self.items.is_empty()
     }
 
     /// Adds one byte. Where memory runs out all stays as it was.
@@ -116,6 +122,18 @@ impl RecKey {
         ensures { result.now ≡ self.now }
     {
         &self.bytes
+    }
+
+    pub fn len(&self) -> usize
+        ensures { result ≡ length self.now }
+    {
+        self.bytes.len()
+    }
+
+    pub fn is_empty(&self) -> bool
+        ensures { result ≡ (length self.now == 0) }
+    {
+        self.bytes.is_empty()
     }
 
     pub fn copy(&self) -> Result<RecKey, AllocError>

@@ -2,13 +2,19 @@
 #![tactic(auto)]
 
 mod bytes;
+mod compare;
+mod fits;
 mod lists;
 mod schema;
+mod spelling;
+#[cfg(test)]
+mod tests;
 mod text;
 mod value;
 
 pub use bytes::{Bytes, RecKey};
 pub use lists::{Names, Schema, Tuple};
 pub use schema::{Column, Kind, TypeFault};
+pub use spelling::{put_value, take_value};
 pub use text::Str;
 pub use value::Value;

@@ -1,6 +1,6 @@
 //! Lists of values, names and columns.
 
-ghost use Rattle.std.specs.Prelude.{◌≡◌, IfOk, length};
+ghost use Rattle.std.specs.Prelude.{◌≡◌, ◌==◌, IfOk, length};
 
 use crate::{Column, Str, Value};
 use std::alloc::AllocError;
@@ -38,6 +38,18 @@ impl Tuple {
         ensures { result.now ≡ self.now }
     {
         &self.values
+    }
+
+    pub fn len(&self) -> usize
+        ensures { result ≡ length self.now }
+    {
+        self.values.len()
+    }
+
+    pub fn is_empty(&self) -> bool
+        ensures { result ≡ (length self.now == 0) }
+    {
+        self.values.is_empty()
     }
 
     pub fn copy(&self) -> Result<Tuple, AllocError>
@@ -83,6 +95,28 @@ impl Names {
     {
         &self.names
     }
+
+    pub fn len(&self) -> usize
+        ensures { result ≡ length self.now }
+    {
+        self.names.len()
+    }
+
+    pub fn is_empty(&self) -> bool
+        ensures { result ≡ (length self.now == 0) }
+    {
+        self.names.is_empty()
+    }
+
+    pub fn copy(&self) -> Result<Names, AllocError>
+        ensures { IfOk result (λ n. n ≡ self.now) }
+    {
+        let mut names = Vec::new(*self.names.allocator());
+        for name in &self.names {
+            names.push(name.copy()?)?;
+        }
+        Ok(Names { names })
+    }
 }
 
 /// The columns of a relation.
@@ -117,5 +151,27 @@ impl Schema {
         ensures { result.now ≡ self.now }
     {
         &self.columns
+    }
+
+    pub fn len(&self) -> usize
+        ensures { result ≡ length self.now }
+    {
+        self.columns.len()
+    }
+
+    pub fn is_empty(&self) -> bool
+        ensures { result ≡ (length self.now == 0) }
+    {
+        self.columns.is_empty()
+    }
+
+    pub fn copy(&self) -> Result<Schema, AllocError>
+        ensures { IfOk result (λ s. s ≡ self.now) }
+    {
+        let mut columns = Vec::new(*self.columns.allocator());
+        for column in &self.columns {
+            columns.push(column.copy()?)?;
+        }
+        Ok(Schema { columns })
     }
 }

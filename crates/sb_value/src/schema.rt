@@ -1,6 +1,9 @@
 //! Columns and their kinds.
 
+ghost use Rattle.std.specs.Prelude.{◌≡◌, IfOk};
+
 use crate::Str;
+use std::alloc::AllocError;
 
 #[derive(Clone, Copy, Debug, PartialEq, Eq)]
 pub enum Kind {
@@ -14,6 +17,18 @@ pub struct Column {
     pub name: Str,
     pub kind: Kind,
     pub limit: u8,
+}
+
+impl Column {
+    pub fn copy(&self) -> Result<Column, AllocError>
+        ensures { IfOk result (λ c. c ≡ self.now) }
+    {
+        Ok(Column {
+            name: self.name.copy()?,
+            kind: self.kind,
+            limit: self.limit,
+        })
+    }
 }
 
 /// The first place, counted from 0, where a tuple lacks a value, has one too many or has one of another kind.

@@ -1,6 +1,6 @@
 //! Texts.
 
-ghost use Rattle.std.specs.Prelude.{◌≡◌, IfOk, IsSome, IfSome, IsUtf8, ◌↔◌, string_bytes};
+ghost use Rattle.std.specs.Prelude.{◌≡◌, ◌==◌, length, IfOk, IsSome, IfSome, IsUtf8, ◌↔◌, string_bytes};
 
 use std::alloc::{AllocError, Global};
 use std::marker::Model;
@@ -55,6 +55,19 @@ impl Str {
         ensures { result.now ≡ self.now }
     {
         self.text.as_bytes()
+    }
+
+    /// The number of bytes.
+    pub fn len(&self) -> usize
+        ensures { result ≡ length self.now }
+    {
+        self.text.len()
+    }
+
+    pub fn is_empty(&self) -> bool
+        ensures { result ≡ (length self.now == 0) }
+    {
+        self.text.is_empty()
     }
 
     pub fn copy(&self) -> Result<Str, AllocError>

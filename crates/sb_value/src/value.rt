@@ -1,8 +1,9 @@
 //! Values of columns.
 
 ghost use Rattle.std.specs.Prelude.{◌≡◌, IfOk};
+ghost use Rattle.sb_value.specs.Fits.{kind_of};
 
-use crate::Str;
+use crate::{Kind, Str};
 use std::alloc::AllocError;
 
 /// What stands in one column of a row.
@@ -13,6 +14,15 @@ pub enum Value {
 }
 
 impl Value {
+    pub fn kind(&self) -> Kind
+        ensures { result ≡ kind_of self.now }
+    {
+        match self {
+            Value::Int(_) => Kind::Int,
+            Value::Text(_) => Kind::Text,
+        }
+    }
+
     pub fn copy(&self) -> Result<Value, AllocError>
         ensures { IfOk result (λ v. v ≡ self.now) }
     {
