@@ -1,0 +1,11 @@
+pub mod Op
+pub mod Tree
+pub mod TreeCode
+pub mod Pred
+pub mod TreeFalls
+pub mod Columns
+pub mod Typing
+pub mod Truth
+pub mod Spelling
+pub mod Bytes
+pub mod Reading
