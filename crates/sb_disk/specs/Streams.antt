@@ -16,3 +16,19 @@ Took (Some left) new count buffer = Takes left new count buffer
 abbrev pub Held : Option (List ℕ) → Option (List ℕ) → ℕ → List ℕ → Type 0
 Held None new count piece = new ≡ None
 Held (Some held) new count piece = new ≡ Some (held ++ take count piece)
+
+-- What a source that tells its bytes has given between two moments.
+pub record Gone (left : List ℕ) (new : Option (List ℕ)) (bytes : List ℕ) : Type 0 where
+  pub rest : List ℕ
+  pub stays : new ≡ Some rest
+  pub whole : left ≡ bytes ++ rest
+
+-- These bytes were taken of the source, where it tells them.
+abbrev pub Taken : Option (List ℕ) → Option (List ℕ) → List ℕ → Type 0
+Taken None new bytes = new ≡ None
+Taken (Some left) new bytes = Gone left new bytes
+
+-- These bytes were given to the sink, where it tells them.
+abbrev pub Given : Option (List ℕ) → Option (List ℕ) → List ℕ → Type 0
+Given None new bytes = new ≡ None
+Given (Some held) new bytes = new ≡ Some (held ++ bytes)
