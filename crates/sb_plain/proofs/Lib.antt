@@ -1,0 +1,4 @@
+pub mod Inserts
+pub mod LinesLemmas
+pub mod PlaysLemmas
+mod Worked

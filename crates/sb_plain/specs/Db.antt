@@ -1,0 +1,74 @@
+-- The plain database: relations under their names, rows under their record keys.
+use Rattle.std.specs.Prelude.{ℕ, cond, codes, List, [], ◌∷◌, Option, Some, None}
+use Rattle.std.specs.List.{filter_map}
+use Rattle.std.specs.Str.{bytes_eq}
+use Rattle.std.specs.FinMap.Entries.{put, find}
+use Rattle.sb_value.specs.declared.value.Value.{Value}
+use Rattle.sb_value.specs.declared.schema.Kind.TheVariants as kind
+use Rattle.sb_value.specs.declared.schema.Column.{Column}
+use Rattle.sb_value.specs.Order.{bytes_cmp}
+use Rattle.sb_value.specs.Code.{ordered_code}
+
+abbrev pub Name : Type 0
+Name = List ℕ
+
+abbrev pub Key : Type 0
+Key = List ℕ
+
+abbrev pub Row : Type 0
+Row = List Value
+
+-- rows under their record keys, in the order of the keys
+abbrev pub Rows : Type 0
+Rows = List (Key × Row)
+
+pub record Relation : Type 0 where
+  pub method : ℕ
+  pub schema : List Column
+  pub key : List Name
+  pub rows : Rows
+
+-- relations under their names, in the order of the names
+abbrev pub Db : Type 0
+Db = List (Name × Relation)
+
+abbrev pub relation_at : Db → Name → Option Relation
+relation_at db name = find bytes_cmp name db
+
+abbrev pub with_relation : Db → Name → Relation → Db
+with_relation db name r = put bytes_cmp name r db
+
+abbrev pub row_at : Rows → Key → Option Row
+row_at rows key = find bytes_cmp key rows
+
+abbrev pub with_row : Rows → Key → Row → Rows
+with_row rows key row = put bytes_cmp key row rows
+
+-- the value of a row in the named column
+abbrev pub value_in : List Column → Row → Name → Option Value
+value_in [] row name = None
+value_in (c ∷ cs) [] name = None
+value_in (c ∷ cs) (v ∷ vs) name = cond (bytes_eq c.name name) (Some v) (value_in cs vs name)
+
+-- the values of a row in the named columns
+abbrev pub values_in : List Column → Row → List Name → List Value
+values_in schema row names = filter_map (value_in schema row) names
+
+-- the record key of a row: the ordered code of its key columns
+abbrev pub key_of : Relation → Row → Key
+key_of r row = ordered_code (values_in r.schema row r.key)
+
+-- the code of the storage method tree
+abbrev pub tree : ℕ
+tree = 2
+
+abbrev pub int_column : Name → Column
+int_column name = record { name = name; kind = kind.Int; limit = 0 }
+
+-- create r using tree (k int) key (k)
+abbrev pub relation_r : Relation
+relation_r = record { method = tree; schema = int_column (codes "k") ∷ []; key = codes "k" ∷ []; rows = [] }
+
+-- the database in which a run begins: the relation r without rows
+abbrev pub first_db : Db
+first_db = with_relation [] (codes "r") relation_r

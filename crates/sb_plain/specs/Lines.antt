@@ -1,0 +1,74 @@
+-- Input as lines, and what each line says.
+use Rattle.std.specs.Prelude.{◌≡◌, ℕ, ◌==◌, Bool, true, cond, not, List, [], ◌∷◌, ◌++◌, map, filter}
+use Rattle.sb_plain.specs.declared.command.Command.{Command}
+use Rattle.sb_plain.specs.Tokens.{is_blank}
+use Rattle.sb_plain.specs.Grammar.{IsCommand}
+
+-- bytes cut behind each line end: the lines that have ended, and what has begun behind them
+pub record Cut : Type 0 where
+  pub ended : List (List ℕ)
+  pub begun : List ℕ
+
+-- a byte in front of the first line
+abbrev pub in_front : ℕ → List (List ℕ) → List ℕ → Cut
+in_front b [] begun = record { ended = []; begun = b ∷ begun }
+in_front b (line ∷ lines) begun = record { ended = (b ∷ line) ∷ lines; begun = begun }
+
+-- a line ends with the byte 10, which isn't of the line
+abbrev pub cut : List ℕ → Cut
+cut [] = record { ended = []; begun = [] }
+cut (b ∷ bytes) = cond (b == 10) (record { ended = [] ∷ (cut bytes).ended; begun = (cut bytes).begun }) (in_front b (cut bytes).ended (cut bytes).begun)
+
+-- the lines that have their end
+abbrev pub whole_lines : List ℕ → List (List ℕ)
+whole_lines bytes = (cut bytes).ended
+
+-- a last line without its end counts where it isn't empty
+abbrev pub last_line : List ℕ → List (List ℕ)
+last_line [] = []
+last_line (b ∷ bytes) = (b ∷ bytes) ∷ []
+
+abbrev pub lines_of : List ℕ → List (List ℕ)
+lines_of bytes = (cut bytes).ended ++ last_line (cut bytes).begun
+
+-- one carriage return at the end of a line is dropped
+abbrev pub without_return : List ℕ → List ℕ
+without_return [] = []
+without_return (b ∷ []) = cond (b == 13) [] (b ∷ [])
+without_return (b ∷ c ∷ bytes) = b ∷ without_return (c ∷ bytes)
+
+-- a blank line, or a comment: its first byte that is no blank is #
+abbrev pub is_passed_over : List ℕ → Bool
+is_passed_over [] = true
+is_passed_over (b ∷ bytes) = cond (is_blank b) (is_passed_over bytes) (b == 35)
+
+-- the lines that ask for a reply
+abbrev pub asking : List (List ℕ) → List (List ℕ)
+asking lines = filter (λ line. not (is_passed_over line)) (map without_return lines)
+
+-- a command, or a bad line with the column of its fault
+pub data Item : Type 0 where
+  Says : Command → Item
+  Bad : ℕ → Item
+
+-- what a line says; a line that no command spells is bad at column 1
+abbrev pub IsItem : List ℕ → Item → Type 0
+IsItem line (Says c) = IsCommand line c
+IsItem line (Bad column) = (column ≡ 1) × ((c : Command) → IsCommand line c → ⊥)
+
+-- what each line says
+abbrev pub AreItems : List (List ℕ) → List Item → Type 0
+AreItems [] [] = Unit {0}
+AreItems (line ∷ lines) (item ∷ items) = IsItem line item × AreItems lines items
+AreItems _ _ = ⊥
+
+-- what the first of the lines say
+pub record AreFirstItems (lines : List (List ℕ)) (items : List Item) : Type 0 where
+  pub first : List (List ℕ)
+  pub others : List (List ℕ)
+  pub are : AreItems first items
+  pub whole : lines ≡ first ++ others
+
+-- the commands and bad lines of the input
+abbrev pub Commands : List ℕ → List Item → Type 0
+Commands bytes items = AreItems (asking (lines_of bytes)) items

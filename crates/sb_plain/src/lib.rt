@@ -1,0 +1,12 @@
+//! The plain database: what commands, replies and lines are, and what each command means.
+#![tactic(auto)]
+
+mod command;
+mod database;
+mod reply;
+mod token;
+
+pub use command::Command;
+pub use database::Database;
+pub use reply::{Picks, Refusal, Reply};
+pub use token::{Sign, Token};
