@@ -1,0 +1,5 @@
+pub mod Front
+pub mod Grammar
+pub mod Scan
+pub mod Items
+pub mod Texts

@@ -1,0 +1,6 @@
+pub mod Reading
+pub mod Commands
+pub mod Gives
+pub mod Scanned
+pub mod Line
+pub mod Printed

@@ -1,0 +1,12 @@
+//! The door: from a line to the command that it spells, and from a reply to its text.
+#![tactic(auto)]
+
+mod line;
+mod printing;
+mod reading;
+mod scanner;
+#[cfg(test)]
+mod tests;
+
+pub use line::{LineFault, one_item, parse_line};
+pub use printing::print_reply;

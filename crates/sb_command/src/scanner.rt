@@ -1,0 +1,160 @@
+//! The tokens of a line.
+
+ghost use Rattle.std.specs.Prelude.{◌≡◌, ℕ, ◌<◌, ◌≤◌, ◌^◌, length, take_while, IfOk, IfSome};
+ghost use Rattle.std.specs.Option.{SomeIff};
+ghost use Rattle.sb_plain.specs.Tokens as spec;
+ghost use Rattle.sb_command.specs.Scanned.{IsScanned};
+
+use sb_plain::{Sign, Token};
+use sb_value::Str;
+use std::alloc::{AllocError, Global};
+
+/// The longest word in bytes.
+const WORD_LIMIT: usize = 32;
+
+fn is_letter(byte: u8) -> bool
+    ensures { result ≡ spec.is_letter byte }
+{
+    matches!(byte, b'A'..=b'Z' | b'a'..=b'z' | b'_')
+}
+
+fn is_digit(byte: u8) -> bool
+    ensures { result ≡ spec.is_digit byte }
+{
+    matches!(byte, b'0'..=b'9')
+}
+
+fn is_word_byte(byte: u8) -> bool
+    ensures { result ≡ spec.is_word_byte byte }
+{
+    is_letter(byte) || is_digit(byte)
+}
+
+fn is_blank(byte: u8) -> bool
+    ensures { result ≡ spec.is_blank byte }
+{
+    byte == b' ' || byte == b'\t'
+}
+
+fn blanks_len(bytes: &[u8]) -> usize
+    ensures { result ≡ length (take_while spec.is_blank bytes.now) }
+{
+    bytes.iter().take_while(|byte| is_blank(**byte)).count()
+}
+
+fn word_len(bytes: &[u8]) -> usize
+    ensures { result ≡ length (take_while spec.is_word_byte bytes.now) }
+{
+    bytes.iter().take_while(|byte| is_word_byte(**byte)).count()
+}
+
+fn digits_len(bytes: &[u8]) -> usize
+    ensures { result ≡ length (spec.digits_of bytes.now) }
+{
+    bytes.iter().take_while(|byte| is_digit(**byte)).count()
+}
+
+#[tactic(auto, using(std::proofs::lemmas::List::take_rest))]
+fn behind_blanks(bytes: &[u8]) -> &[u8]
+    ensures { result.now ≡ spec.behind_blanks bytes.now }
+{
+    &bytes[blanks_len(bytes)..]
+}
+
+#[tactic(auto, using(crate::proofs::Scan::taken_front))]
+fn word_of(bytes: &[u8]) -> &[u8]
+    ensures { result.now ≡ take_while spec.is_word_byte bytes.now }
+{
+    &bytes[..word_len(bytes)]
+}
+
+#[tactic(auto, using(crate::proofs::Scan::taken_front))]
+fn digits_of(bytes: &[u8]) -> &[u8]
+    ensures { result.now ≡ spec.digits_of bytes.now }
+{
+    &bytes[..digits_len(bytes)]
+}
+
+fn word_token(alloc: Global, bytes: &[u8]) -> Result<Option<(Token, usize)>, AllocError>
+    ensures { IfOk result (λ found. found ≡ spec.word_token (take_while spec.is_word_byte bytes.now)) }
+{
+    let text = word_of(bytes);
+    if text.len() > WORD_LIMIT {
+        return Ok(None);
+    }
+    let word = Str::from_utf8(alloc, text)?.unwrap();
+    Ok(Some((Token::Word(word), text.len())))
+}
+
+fn value_of(digits: &[u8]) -> Option<u64>
+    ensures { SomeIff result (spec.value_behind 0 digits.now < 2 ^ 64) (spec.value_behind 0 digits.now) }
+{
+    let mut value: u64 = 0;
+    for digit in digits {
+        value = value
+            .checked_mul(10)?
+            .checked_add(u64::from(digit.saturating_sub(b'0')))?;
+    }
+    Some(value)
+}
+
+fn number_token(is_negative: bool, digits: &[u8], len: usize) -> Option<(Token, usize)>
+    ensures { result ≡ spec.number_token is_negative (spec.value_behind 0 digits.now) len }
+{
+    let value = value_of(digits)?;
+    let number = if is_negative {
+        0_i64.checked_sub_unsigned(value)?
+    } else {
+        i64::try_from(value).ok()?
+    };
+    Some((Token::Int(number), len))
+}
+
+fn sign_token(byte: u8) -> Option<(Token, usize)>
+    ensures { result ≡ spec.sign_token byte }
+{
+    match byte {
+        b'(' => Some((Token::Sign(Sign::Open), 1)),
+        b')' => Some((Token::Sign(Sign::Close), 1)),
+        _ => None,
+    }
+}
+
+fn front_token(alloc: Global, bytes: &[u8]) -> Result<Option<(Token, usize)>, AllocError>
+    ensures token { IfOk result (λ found. found ≡ spec.front_token bytes.now) }
+    ensures within { IfOk result (λ found. IfSome found (λ t. (0 < t.1) × (t.1 ≤ length bytes.now))) }
+{
+    let [first, rest @ ..] = bytes else {
+        return Ok(None);
+    };
+    if is_letter(*first) {
+        return word_token(alloc, bytes);
+    }
+    let digits = digits_of(bytes);
+    if !digits.is_empty() {
+        return Ok(number_token(false, digits, digits.len()));
+    }
+    if *first == b'-' {
+        let digits = digits_of(rest);
+        if !digits.is_empty() {
+            return Ok(number_token(true, digits, 1 + digits.len()));
+        }
+    }
+    Ok(sign_token(*first))
+}
+
+/// The tokens of a line, or `None` where at some place no token can be read.
+pub fn scan(alloc: Global, line: &[u8]) -> Result<Option<Vec<Token>>, AllocError>
+    ensures { IfOk result (λ found. IsScanned line.now found) }
+{
+    let mut tokens = Vec::new(alloc);
+    let mut rest = behind_blanks(line);
+    while !rest.is_empty() {
+        let Some((token, len)) = front_token(alloc, rest)? else {
+            return Ok(None);
+        };
+        tokens.push(token)?;
+        rest = behind_blanks(&rest[len..]);
+    }
+    Ok(Some(tokens))
+}
