@@ -1,0 +1,5 @@
+pub mod Partly
+pub mod LineEnds
+pub mod Answering
+pub mod Taking
+pub mod Serving

@@ -1,0 +1,136 @@
+-- Serving the input, a piece at a time.
+use Rattle.std.proofs.Common.{◌≡◌, ℕ, ◌+◌, ◌<◌, ◌≤◌, Option, Some, None, List, [], ◌++◌, length, take, drop, refl, sym, ◌∙◌, ap, subst, arith, length-append}
+use Rattle.std.proofs.lemmas.List.{append-nil, length-take-le, drop_all}
+use Rattle.sb_disk.specs.Streams.{Taken, Took}
+use Rattle.sb_disk.proofs.StreamLemmas.{Taken-more, Taken-took}
+use Rattle.sb_plain.specs.Lines.{cut, whole_lines, last_line, lines_of}
+use Rattle.sb_plain.proofs.LinesLemmas.{AreFirstItems-asking}
+use Rattle.starburst.specs.declared.ending.Stop.{Stop}
+use Rattle.starburst.specs.declared.ending.Ending.TheVariants.{InputEnded, MostTaken, Stopped}
+use Rattle.starburst.specs.declared.session.Session.{Session}
+use Rattle.starburst.specs.Session.{HasAnswered, HasStopped, Stands}
+use Rattle.starburst.specs.Run.{Told, told, Leaves, HasPlayed}
+use Rattle.starburst.specs.Serving.{Serves, ServesMore}
+
+more_room : (n room : ℕ) → n ≤ n + room
+more_room n room = omega arith
+
+below_room : (n room : ℕ) → 0 < room → n < n + room
+below_room n room some = omega arith
+
+-- ---- the end of the source
+at_end : (left left' : Option (List ℕ)) (count : ℕ) (buffer : List ℕ) → Took left left' count buffer → count ≡ 0 → 0 < length buffer → Leaves InputEnded left'
+at_end None left' count buffer took none room rest is = absurd (let e = took in cc)
+at_end (Some left) left' count buffer took none room rest is =
+    let empty : left ≡ [] = (took.at_end room).0 none in
+    let e : Some (drop count left) ≡ Some rest = sym took.rest ∙ is in
+    let f : drop count left ≡ rest = cc in
+    sym f ∙ ap (λ (l : List ℕ). drop count l) empty ∙ drop_all {X = ℕ} count [] (omega arith)
+
+none_more : (first left left' : Option (List ℕ)) (bytes buffer : List ℕ) (count : ℕ) → Taken first left bytes → Took left left' count buffer → count ≡ 0 → Taken first left' bytes
+none_more first left left' bytes buffer count taken took none =
+    subst (λ (l : List ℕ). Taken first left' l) (ap (λ (n : ℕ). bytes ++ take n buffer) none ∙ append-nil bytes) (Taken-more first left left' bytes (take count buffer) taken (Taken-took left left' count buffer took))
+
+pub plays_to_end : (bytes : List ℕ) (first : Told) (left left' held held' : Option (List ℕ)) (s s' : Session) (room count : ℕ) (buffer : List ℕ) → 0 < room →
+    Serves bytes first (told left held) s → Took left left' count buffer → count ≡ 0 → 0 < length buffer → HasAnswered (lines_of bytes) first.held held' s'.starts s'.database →
+    HasPlayed (length bytes + room) first (told left' held') InputEnded s'.starts
+plays_to_end bytes first left left' held held' s s' room count buffer asked serves took none some a = record {
+  taken = bytes;
+  written = a.written;
+  items = a.items;
+  replies = a.replies;
+  states = a.states;
+  is_taken = none_more first.left left left' bytes buffer count serves.taken took none;
+  is_written = a.is_written;
+  begun = a.begun;
+  answers = a.are_items;
+  leaves = at_end left left' count buffer took none some;
+  within = below_room (length bytes) room asked;
+  plays = a.plays;
+  writes = a.writes;
+}
+
+pub plays_to_stop_at_end : (bytes : List ℕ) (first : Told) (left left' held held' : Option (List ℕ)) (s : Session) (starts : List ℕ) (stop : Stop) (room count : ℕ) (buffer : List ℕ) →
+    Serves bytes first (told left held) s → Took left left' count buffer → count ≡ 0 → HasStopped stop (lines_of bytes) first.held held' starts →
+    HasPlayed (length bytes + room) first (told left' held') (Stopped stop) starts
+plays_to_stop_at_end bytes first left left' held held' s starts stop room count buffer serves took none h = record {
+  taken = bytes;
+  written = h.written;
+  items = h.items;
+  replies = h.replies;
+  states = h.states;
+  is_taken = none_more first.left left left' bytes buffer count serves.taken took none;
+  is_written = h.is_written;
+  begun = h.begun;
+  answers = h.are_items;
+  leaves = tt;
+  within = more_room (length bytes) room;
+  plays = h.plays;
+  writes = h.writes;
+}
+
+-- ---- a piece
+pub serves_more : (bytes : List ℕ) (first : Told) (left left' held held' : Option (List ℕ)) (s s' : Session) (room count : ℕ) (buffer : List ℕ) →
+    Serves bytes first (told left held) s → Took left left' count buffer → 0 < count → count ≤ length buffer → length buffer ≤ room → Stands (bytes ++ take count buffer) first.held held' s' →
+    ServesMore count room bytes first (told left' held') s'
+serves_more bytes first left left' held held' s s' room count buffer serves took some few fits stands = record {
+  more = take count buffer;
+  count_is = length-take-le count buffer few;
+  some = some;
+  few = omega arith;
+  serves = record { taken = Taken-more first.left left left' bytes (take count buffer) serves.taken (Taken-took left left' count buffer took); stands = stands };
+}
+
+piece_fits : (bytes buffer : List ℕ) (count room : ℕ) → count ≤ length buffer → length buffer ≤ room → length (bytes ++ take count buffer) ≤ length bytes + room
+piece_fits bytes buffer count room few fits = omega (arith, length-append bytes (take count buffer), length-take-le count buffer few)
+
+pub plays_to_stop : (bytes : List ℕ) (first : Told) (left left' held held' : Option (List ℕ)) (s : Session) (starts : List ℕ) (stop : Stop) (room count : ℕ) (buffer : List ℕ) →
+    Serves bytes first (told left held) s → Took left left' count buffer → count ≤ length buffer → length buffer ≤ room → HasStopped stop (whole_lines (bytes ++ take count buffer)) first.held held' starts →
+    HasPlayed (length bytes + room) first (told left' held') (Stopped stop) starts
+plays_to_stop bytes first left left' held held' s starts stop room count buffer serves took few fits h = record {
+  taken = bytes ++ take count buffer;
+  written = h.written;
+  items = h.items;
+  replies = h.replies;
+  states = h.states;
+  is_taken = Taken-more first.left left left' bytes (take count buffer) serves.taken (Taken-took left left' count buffer took);
+  is_written = h.is_written;
+  begun = h.begun;
+  answers = AreFirstItems-asking (whole_lines (bytes ++ take count buffer)) (last_line (cut (bytes ++ take count buffer)).begun) h.items h.are_items;
+  leaves = tt;
+  within = piece_fits bytes buffer count room few fits;
+  plays = h.plays;
+  writes = h.writes;
+}
+
+-- ---- all pieces
+-- so many bytes were taken, and all of their whole lines were answered
+pub record ServesSome (taken : ℕ) (first now : Told) (s : Session) : Type 0 where
+  pub bytes : List ℕ
+  pub count_is : length bytes ≡ taken
+  pub serves : Serves bytes first now s
+
+pub ServesSome-none : (first now : Told) (s : Session) → Serves [] first now s → ServesSome 0 first now s
+ServesSome-none first now s serves = record { bytes = []; count_is = refl; serves = serves }
+
+pub ServesSome-more : (taken count : ℕ) (first now : Told) (s : Session) (bytes : List ℕ) (room : ℕ) → length bytes ≡ taken → ServesMore count room bytes first now s → ServesSome (taken + count) first now s
+ServesSome-more taken count first now s bytes room is more = record { bytes = bytes ++ more.more; count_is = length-append bytes more.more ∙ (λ i. is i + more.count_is i); serves = more.serves }
+
+pub plays_to_most : (taken most : ℕ) (first now : Told) (s : Session) → ServesSome taken first now s → taken ≡ most → HasPlayed most first now MostTaken s.starts
+plays_to_most taken most first now s some is =
+    let a = some.serves.stands.answered in
+    record {
+      taken = some.bytes;
+      written = a.written;
+      items = a.items;
+      replies = a.replies;
+      states = a.states;
+      is_taken = some.serves.taken;
+      is_written = a.is_written;
+      begun = a.begun;
+      answers = a.are_items;
+      leaves = tt;
+      within = some.count_is ∙ is;
+      plays = a.plays;
+      writes = a.writes;
+    }

@@ -1,0 +1,75 @@
+-- What a run has done, after one byte more.
+use Rattle.std.proofs.Common.{◌≡◌, ◌≢◌, ◌<◌, ◌≤◌, ◌+◌, ℕ, ◌==◌, false, Option, List, [], ◌∷◌, ◌++◌, length, take, drop, get_or, refl, sym, ◌∙◌, ap, subst, arith, append_assoc}
+use Rattle.std.proofs.lemmas.List.{append-nil, take_more, take_all, take-append-drop}
+use Rattle.sb_plain.specs.Db.{Db}
+use Rattle.sb_plain.specs.Lines.{cut, whole_lines}
+use Rattle.sb_plain.proofs.LinesLemmas.{whole_lines-end, begun-end, whole_lines-byte, begun-byte, AreFirstItems-grow}
+use Rattle.starburst.specs.declared.ending.Stop.{Stop}
+use Rattle.starburst.specs.declared.ending.Stop.TheVariants.{NoMemory}
+use Rattle.starburst.specs.declared.session.Session.{Session}
+use Rattle.starburst.specs.Session.{HasAnswered, HasStopped, Stands}
+use Rattle.starburst.proofs.Answering.{stops_between}
+
+is_other : (b : ℕ) → b ≢ 10 → (b == 10) ≡ false
+is_other b other = grind arith
+
+-- a byte that goes on with the line
+pub goes_on : (bytes : List ℕ) (b : ℕ) (first held : Option (List ℕ)) (old new : Session) → b ≢ 10 → new.line ≡ old.line ++ b ∷ [] → new.starts ≡ old.starts → new.database ≡ old.database →
+    Stands bytes first held old → Stands (bytes ++ b ∷ []) first held new
+goes_on bytes b first held old new other pushed starts database stands = record {
+  answered = subst (λ (lines : List (List ℕ)). HasAnswered lines first held new.starts new.database) (sym (whole_lines-byte bytes b (is_other b other)))
+      (subst (λ (s : List ℕ). HasAnswered (whole_lines bytes) first held s new.database) (sym starts)
+      (subst (λ (db : Db). HasAnswered (whole_lines bytes) first held old.starts db) (sym database) stands.answered));
+  line = pushed ∙ ap (λ (l : List ℕ). l ++ b ∷ []) stands.line ∙ sym (begun-byte bytes b (is_other b other));
+}
+
+-- a byte for which memory is wanting
+pub stops_on : (bytes : List ℕ) (b : ℕ) (first held : Option (List ℕ)) (old : Session) (starts : List ℕ) → b ≢ 10 → starts ≡ old.starts → Stands bytes first held old → HasStopped NoMemory (whole_lines (bytes ++ b ∷ [])) first held starts
+stops_on bytes b first held old starts other is stands =
+    subst (λ (lines : List (List ℕ)). HasStopped NoMemory lines first held starts) (sym (whole_lines-byte bytes b (is_other b other)) ∙ refl)
+    (subst (λ (s : List ℕ). HasStopped NoMemory (whole_lines bytes) first held s) (sym is)
+    (subst (λ (lines : List (List ℕ)). HasStopped NoMemory lines first held old.starts) (append-nil (whole_lines bytes)) (stops_between (whole_lines bytes) [] first held old.starts old.database stands.answered)))
+
+-- the lines of the bytes with a line end behind them
+lines-end : (bytes line : List ℕ) → line ≡ (cut bytes).begun → whole_lines bytes ++ line ∷ [] ≡ whole_lines (bytes ++ 10 ∷ [])
+lines-end bytes line is = ap (λ (l : List ℕ). whole_lines bytes ++ l ∷ []) is ∙ sym (whole_lines-end bytes)
+
+-- a line end
+pub ends : (bytes : List ℕ) (b : ℕ) (first held : Option (List ℕ)) (line : List ℕ) (new : Session) → b ≡ 10 → line ≡ (cut bytes).begun → new.line ≡ [] →
+    HasAnswered (whole_lines bytes ++ line ∷ []) first held new.starts new.database → Stands (bytes ++ b ∷ []) first held new
+ends bytes b first held line new is line_is empty answered = subst (λ (c : ℕ). Stands (bytes ++ c ∷ []) first held new) (sym is) (record {
+  answered = subst (λ (lines : List (List ℕ)). HasAnswered lines first held new.starts new.database) (lines-end bytes line line_is) answered;
+  line = empty ∙ sym (begun-end bytes);
+})
+
+pub stops_at_end : (bytes : List ℕ) (b : ℕ) (first held : Option (List ℕ)) (line : List ℕ) (stop : Stop) (starts : List ℕ) → b ≡ 10 → line ≡ (cut bytes).begun →
+    HasStopped stop (whole_lines bytes ++ line ∷ []) first held starts → HasStopped stop (whole_lines (bytes ++ b ∷ [])) first held starts
+stops_at_end bytes b first held line stop starts is line_is stopped =
+    subst (λ (c : ℕ). HasStopped stop (whole_lines (bytes ++ c ∷ [])) first held starts) (sym is)
+    (subst (λ (lines : List (List ℕ)). HasStopped stop lines first held starts) (lines-end bytes line line_is) stopped)
+
+-- a stop stays one as more bytes come
+pub HasStopped-grow : (stop : Stop) (bytes more : List ℕ) (first held : Option (List ℕ)) (starts : List ℕ) → HasStopped stop (whole_lines bytes) first held starts → HasStopped stop (whole_lines (bytes ++ more)) first held starts
+HasStopped-grow stop bytes more first held starts stopped = record {
+  items = stopped.items;
+  replies = stopped.replies;
+  states = stopped.states;
+  written = stopped.written;
+  is_written = stopped.is_written;
+  begun = stopped.begun;
+  are_items = AreFirstItems-grow bytes more stopped.items stopped.are_items;
+  plays = stopped.plays;
+  writes = stopped.writes;
+}
+
+-- the bytes of a piece, one by one
+pub piece-next : (bytes piece : List ℕ) (i : ℕ) → i < length piece → (bytes ++ take i piece) ++ get_or piece i 0 ∷ [] ≡ bytes ++ take (i + 1) piece
+piece-next bytes piece i within = append_assoc bytes (take i piece) (get_or piece i 0 ∷ []) ∙ ap (λ (front : List ℕ). bytes ++ front) (sym (take_more piece i 0 within))
+
+pub piece-others : (bytes piece : List ℕ) (i : ℕ) → i < length piece → ((bytes ++ take i piece) ++ get_or piece i 0 ∷ []) ++ drop (i + 1) piece ≡ bytes ++ piece
+piece-others bytes piece i within =
+    ap (λ (front : List ℕ). front ++ drop (i + 1) piece) (piece-next bytes piece i within) ∙ append_assoc bytes (take (i + 1) piece) (drop (i + 1) piece)
+    ∙ ap (λ (l : List ℕ). bytes ++ l) (take-append-drop (i + 1) piece)
+
+pub piece-all : (bytes piece : List ℕ) (i : ℕ) → length piece ≤ i → bytes ++ take i piece ≡ bytes ++ piece
+piece-all bytes piece i over = ap (λ (l : List ℕ). bytes ++ l) (take_all i piece over)

@@ -1,0 +1,52 @@
+-- What a run has done with the lines so far.
+use Rattle.std.specs.Prelude.{◌≡◌, ℕ, Option, List, length, Result, Ok, Err}
+use Rattle.sb_disk.specs.Streams.{Given}
+use Rattle.sb_plain.specs.declared.reply.Reply.{Reply}
+use Rattle.sb_plain.specs.Db.{Db}
+use Rattle.sb_plain.specs.Step.{State, committed, first_state}
+use Rattle.sb_plain.specs.Lines.{Item, cut, asking, AreItems, AreFirstItems, whole_lines}
+use Rattle.sb_plain.specs.Plays.{Plays, last_state}
+use Rattle.sb_plain.specs.Text.{text_of}
+use Rattle.starburst.specs.declared.ending.Stop.{Stop}
+use Rattle.starburst.specs.declared.session.Session.{Session}
+use Rattle.starburst.specs.Ending.{WritesAtStop}
+
+-- All asking lines were answered: the items with their replies, written in full, and the database that they lead to.
+pub record HasAnswered (lines : List (List ℕ)) (first held : Option (List ℕ)) (starts : List ℕ) (db : Db) : Type 0 where
+  pub items : List Item
+  pub replies : List Reply
+  pub states : List State
+  pub written : List ℕ
+  pub is_written : Given first held written
+  pub begun : length items ≡ length starts
+  pub are_items : AreItems (asking lines) items
+  pub plays : Plays first_state items replies states
+  pub stands : committed (last_state first_state states) ≡ db
+  pub writes : written ≡ text_of replies
+
+-- The first asking lines were answered, and then a line couldn't be.
+pub record HasStopped (stop : Stop) (lines : List (List ℕ)) (first held : Option (List ℕ)) (starts : List ℕ) : Type 0 where
+  pub items : List Item
+  pub replies : List Reply
+  pub states : List State
+  pub written : List ℕ
+  pub is_written : Given first held written
+  pub begun : length items ≡ length starts
+  pub are_items : AreFirstItems (asking lines) items
+  pub plays : Plays first_state items replies states
+  pub writes : WritesAtStop stop replies written
+
+-- All whole lines of the bytes were answered, and the session holds the line that has begun.
+pub record Stands (bytes : List ℕ) (first held : Option (List ℕ)) (session : Session) : Type 0 where
+  pub answered : HasAnswered (whole_lines bytes) first held session.starts session.database
+  pub line : session.line ≡ (cut bytes).begun
+
+-- What comes of answering some lines.
+abbrev pub LinesLead : Result (Unit {0}) Stop → List (List ℕ) → Option (List ℕ) → Option (List ℕ) → Session → Type 0
+LinesLead (Ok x) lines first held session = HasAnswered lines first held session.starts session.database
+LinesLead (Err stop) lines first held session = HasStopped stop lines first held session.starts
+
+-- What comes of taking some bytes.
+abbrev pub BytesLead : Result (Unit {0}) Stop → List ℕ → Option (List ℕ) → Option (List ℕ) → Session → Type 0
+BytesLead (Ok x) bytes first held session = Stands bytes first held session
+BytesLead (Err stop) bytes first held session = HasStopped stop (whole_lines bytes) first held session.starts

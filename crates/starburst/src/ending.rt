@@ -1,0 +1,70 @@
+//! How a run ends.
+
+ghost use Rattle.std.specs.Prelude.{◌≡◌};
+ghost use Rattle.starburst.specs.Ending.{status_of};
+
+use sb_disk::Failed;
+use std::alloc::{AllocError, AllocFailed};
+
+/// Why a line couldn't be answered.
+#[derive(Clone, Copy, Debug, PartialEq, Eq)]
+pub enum Stop {
+    SinkFailed,
+    NoMemory,
+}
+
+impl From<AllocError> for Stop {
+    ghost use Rattle.starburst.specs.declared.ending.Stop.TheVariants.{NoMemory};
+
+    ghost from_gives = { λ _ stop. stop ≡ NoMemory };
+
+    fn from(_error: AllocError) -> Stop {
+        Stop::NoMemory
+    }
+}
+
+impl<T: Drop> From<AllocFailed<T>> for Stop {
+    ghost use Rattle.starburst.specs.declared.ending.Stop.TheVariants.{NoMemory};
+
+    ghost from_gives = { λ _ stop. stop ≡ NoMemory };
+
+    fn from(_error: AllocFailed<T>) -> Stop {
+        Stop::NoMemory
+    }
+}
+
+impl From<Failed> for Stop {
+    ghost use Rattle.starburst.specs.declared.ending.Stop.TheVariants.{SinkFailed};
+
+    ghost from_gives = { λ _ stop. stop ≡ SinkFailed };
+
+    fn from(_error: Failed) -> Stop {
+        Stop::SinkFailed
+    }
+}
+
+/// The event that ended a run.
+#[derive(Clone, Copy, Debug, PartialEq, Eq)]
+pub enum Ending {
+    /// The source was read to its end and every line was answered.
+    InputEnded,
+    SourceFailed,
+    /// As many bytes as a run may take were taken, and the end of the source wasn't seen.
+    MostTaken,
+    Stopped(Stop),
+}
+
+impl Ending {
+    /// The exit status of the program.
+    pub fn status(self) -> u8
+        ensures { result ≡ status_of self }
+    {
+        match self {
+            Ending::InputEnded => 0,
+            Ending::SourceFailed => 4,
+            Ending::Stopped(Stop::SinkFailed) => 5,
+            Ending::Stopped(Stop::NoMemory) => 7,
+            Ending::MostTaken => 8,
+        }
+    }
+}

@@ -1,0 +1,131 @@
+//! The top call: lines from a source are answered to a sink.
+
+ghost use Rattle.std.specs.Prelude.{◌≡◌, ◌<◌, ◌≤◌, ◌^◌, [], List, ℕ, length};
+ghost use Rattle.sb_disk.specs.Causes.{Rose};
+ghost use Rattle.starburst.specs.Run.{Told, told, HasPlayed, WritesRefusal, IsRun};
+ghost use Rattle.starburst.specs.Serving.{counted, Serves, PieceLeads, ContinuesWithin, NeverFall, HasCause, BreaksWithCause};
+
+use crate::ending::{Ending, Stop};
+use crate::report::{Report, Starts};
+use crate::session::Session;
+use crate::words::is_creating;
+use crate::writing::write_all;
+use sb_disk::{Sink, Source};
+use sb_value::Str;
+use std::alloc::Global;
+use std::ops::ControlFlow;
+
+/// Takes one piece of the source into the buffer, and answers the lines that end in it.
+fn serve_piece<S: Source, K: Sink>(
+    alloc: Global,
+    source: &mut S,
+    sink: &mut K,
+    buffer: &mut [u8],
+    session: &mut Session,
+) -> ControlFlow<Ending, u64>
+    requires { 0 < length buffer.old }
+    ensures leads { (bytes : List ℕ) (first : Told) (room : ℕ) → length buffer.old ≤ room
+        → Serves bytes first (told (S.left source.old) (K.held sink.old)) session.old
+        → PieceLeads result room bytes first (told (S.left source.new) (K.held sink.new)) session.new }
+    ensures progress { ContinuesWithin result (length buffer.old) }
+    ensures counts { NeverFall (counted (S.faults source.old) (K.faults sink.old))
+        (counted (S.faults source.new) (K.faults sink.new)) }
+    ensures cause { BreaksWithCause result (counted (S.faults source.old) (K.faults sink.old))
+        (counted (S.faults source.new) (K.faults sink.new)) }
+{
+    let Ok(count) = source.read(buffer) else {
+        return ControlFlow::Break(Ending::SourceFailed);
+    };
+    if count == 0 {
+        return match session.finish(alloc, sink) {
+            Ok(()) => ControlFlow::Break(Ending::InputEnded),
+            Err(stop) => ControlFlow::Break(Ending::Stopped(stop)),
+        };
+    }
+    match session.feed(alloc, &buffer[..count], sink) {
+        Ok(()) => ControlFlow::Continue(count as u64),
+        Err(stop) => ControlFlow::Break(Ending::Stopped(stop)),
+    }
+}
+
+/// Serves the source until it ends, at most `most` bytes of it.
+fn serve<S: Source, K: Sink>(
+    alloc: Global,
+    source: &mut S,
+    sink: &mut K,
+    most: u64,
+    session: &mut Session,
+) -> Ending
+    ensures played { (first : Told) → Serves [] first (told (S.left source.old) (K.held sink.old)) session.old
+        → HasPlayed most first (told (S.left source.new) (K.held sink.new)) result session.new.starts }
+    ensures counts { NeverFall (counted (S.faults source.old) (K.faults sink.old))
+        (counted (S.faults source.new) (K.faults sink.new)) }
+    ensures cause { HasCause result (counted (S.faults source.old) (K.faults sink.old))
+        (counted (S.faults source.new) (K.faults sink.new)) }
+{
+    let mut buffer = [0; 4096];
+    let mut taken: u64 = 0;
+    while taken < most {
+        let room = (most - taken).min(4096) as usize;
+        match serve_piece(alloc, source, sink, &mut buffer[..room], session) {
+            ControlFlow::Continue(count) => taken += count,
+            ControlFlow::Break(ending) => return ending,
+        }
+    }
+    Ending::MostTaken
+}
+
+/// Writes that the words are refused.
+fn refuse<K: Sink>(alloc: Global, sink: &mut K) -> Report
+    ensures writes { WritesRefusal (K.held sink.old) (K.held sink.new) result }
+    ensures cause { result.status ≡ 5 → Rose (K.faults sink.old) (K.faults sink.new) }
+{
+    let status = match write_all(sink, b"? words\n") {
+        Ok(()) => 2,
+        Err(_) => 5,
+    };
+    Report {
+        status,
+        starts: Starts::new(alloc),
+    }
+}
+
+/// Answers the commands of the source on the sink, one line at a time, until the source ends or `most` bytes were taken.
+///
+/// The words are `--store`, a name and `--create`; others are refused with the line `? words`. The status of the report
+/// says what ended the run: 0 the end of the source, 2 the words, 4 a failed source, 5 a failed sink, 7 want of memory
+/// outside a command, 8 that `most` bytes were taken before the end was seen.
+pub fn run_to<S: Source, K: Sink>(
+    alloc: Global,
+    words: &[Str],
+    source: &mut S,
+    sink: &mut K,
+    most: u64,
+) -> Report
+    ensures run { IsRun words.now most (told (S.left source.old) (K.held sink.old))
+        (told (S.left source.new) (K.held sink.new)) result }
+
+    // A failure is told only where the object has failed in this run.
+    ensures source_failed { result.status ≡ 4 → Rose (S.faults source.old) (S.faults source.new) }
+    ensures sink_failed { result.status ≡ 5 → Rose (K.faults sink.old) (K.faults sink.new) }
+{
+    if !is_creating(words) {
+        return refuse(alloc, sink);
+    }
+    let mut session = Session::new(alloc);
+    let ending = serve(alloc, source, sink, most, &mut session);
+    Report {
+        status: ending.status(),
+        starts: session.into_starts(),
+    }
+}
+
+/// [`run_to`] with 2^32 bytes at most.
+pub fn run<S: Source, K: Sink>(alloc: Global, words: &[Str], source: &mut S, sink: &mut K) -> Report
+    ensures run { IsRun words.now (2 ^ 32) (told (S.left source.old) (K.held sink.old))
+        (told (S.left source.new) (K.held sink.new)) result }
+    ensures source_failed { result.status ≡ 4 → Rose (S.faults source.old) (S.faults source.new) }
+    ensures sink_failed { result.status ≡ 5 → Rose (K.faults sink.old) (K.faults sink.new) }
+{
+    run_to(alloc, words, source, sink, 1 << 32)
+}
