@@ -1,2 +1,7 @@
 pub mod StreamLemmas
 pub mod CauseLemmas
+pub mod RangeLemmas
+pub mod MomentLemmas
+pub mod SyncLemmas
+pub mod QuietLemmas
+pub mod CrashLemmas

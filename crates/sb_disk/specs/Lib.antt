@@ -1,2 +1,7 @@
 pub mod Causes
+pub mod Crashes
+pub mod Disk
+pub mod Moments
+pub mod Quiet
 pub mod Streams
+pub mod Syncs

@@ -1,0 +1,32 @@
+-- What a disk held when it was last synced.
+use Rattle.std.specs.Prelude.{◌≡◌, Option, Some, None, List, [], ◌∷◌, ℕ}
+use Rattle.sb_disk.specs.Disk.{Range, Moment, Story, AgreesBut}
+
+-- One call that was no successful sync: a range more is pending, and only its bytes may differ, or all is as it was.
+pub data Unsynced (old new : Moment) : Type 0 where
+  WroteRange : (range : Range) → new.written ≡ range ∷ old.written → AgreesBut (range ∷ []) old.reads new.reads → Unsynced old new
+  StoodStill : new ≡ old → Unsynced old new
+
+-- a moment after a sync, when nothing was pending, or one that came of such a moment by calls that were no successful syncs
+pub data IsSince : Moment → List Moment → Type 0 where
+  AtSync : (now : Moment) (before : List Moment) → now.written ≡ [] → IsSince now before
+  AfterSync : (now last : Moment) (before : List Moment) → Unsynced last now → IsSince last before → IsSince now (last ∷ before)
+
+-- somewhere in the story nothing was pending
+abbrev pub IsAnchored : Option Story → Type 0
+IsAnchored None = Unit {0}
+IsAnchored (Some s) = IsSince s.now s.before
+
+-- the newer bytes where nothing is pending, and else the older ones
+abbrev pub unless_pending : List Range → List ℕ → List ℕ → List ℕ
+unless_pending [] newer older = newer
+unless_pending (range ∷ ranges) newer older = older
+
+-- the same over moments, the newest first
+abbrev pub last_settled : List Moment → List ℕ
+last_settled [] = []
+last_settled (newest ∷ older) = unless_pending newest.written newest.reads (last_settled older)
+
+-- what a read gave when nothing was pending for the last time
+abbrev pub last_synced : Story → List ℕ
+last_synced s = last_settled (s.now ∷ s.before)
