@@ -1,0 +1,5 @@
+pub mod Failing
+pub mod Past
+pub mod State
+pub mod Streams
+pub mod View
