@@ -1,0 +1,146 @@
+//! The file disk and its calls.
+
+ghost use Rattle.std.specs.Prelude.{◌≡◌, ◌-◌, ◌^◌, ◌≤◌, None, IfSome, OnOk, OnErr};
+ghost use Rattle.sb_disk.specs.Causes.{HasCause};
+ghost use Rattle.sb_disk.specs.Disk.{Ticks};
+
+use crate::faults::Faults;
+use crate::opening::open;
+use sb_disk::{Disk, Failed};
+use std::fs::OpenFile;
+use std::io::{self, ErrorKind, Read, Seek, SeekFrom, Write};
+use std::rt::Files;
+
+/// A file as a disk. Before it is mounted it has no bytes, and each call but `mount` fails.
+#[derive(Drop)]
+pub struct FileDisk<R: Files> {
+    rt: R,
+    file: Option<R::File>,
+    len: u64,
+    clock: u64,
+    faults: Faults,
+}
+
+impl<R: Files> FileDisk<R> {
+    /// A disk that isn't mounted yet.
+    pub fn new(rt: R) -> FileDisk<R>
+        ensures len { ⟦<FileDisk<R> as Disk>⟧.len result ≡ 0 }
+        ensures clock { ⟦<FileDisk<R> as Disk>⟧.clock result ≡ 0 }
+        ensures faults { ⟦<FileDisk<R> as Disk>⟧.faults result ≡ 0 }
+    {
+        FileDisk {
+            rt,
+            file: None,
+            len: 0,
+            clock: 0,
+            faults: Faults { count: 0 },
+        }
+    }
+
+    /// Counts a write or a sync. At its end the clock stands still, and that is a failure.
+    fn tick(&mut self) -> io::Result<()>
+        ensures clock { Ticks self.old.clock self.new.clock result }
+        ensures rest { self.new ≡ record self.old { clock = self.new.clock } }
+    {
+        if self.clock == u64::MAX {
+            return Err(ErrorKind::QuotaExceeded.into());
+        }
+        self.clock += 1;
+        Ok(())
+    }
+}
+
+impl<R: Files> Disk for FileDisk<R> {
+    ghost told = { λ _. None };
+
+    ghost len = { λ d. d.len };
+
+    ghost clock = { λ d. d.clock };
+
+    ghost faults = { λ d. d.faults.count };
+
+    ghost fits = { λ _. tt };
+
+    /// Opens the file of this name and syncs it. With a size it makes the file where there is none, and adds zeros to a shorter one.
+    ///
+    /// It fails where the name isn't UTF-8, and where another file, or this one when it was longer, is mounted already.
+    fn mount(&mut self, name: &[u8], create_size: Option<u64>) -> Result<(), Failed>
+        ensures len { self.old.len ≤ self.new.len }
+        ensures size { OnOk result (IfSome create_size (λ size. size ≤ self.new.len)) }
+        ensures clock { self.new.clock ≡ self.old.clock }
+        ensures cause { HasCause self.old.faults.count self.new.faults.count result }
+        ensures err { OnErr result (self.new ≡ record self.old { faults = self.new.faults }) }
+    {
+        let outcome = open(&self.rt, &self.file, name, create_size);
+        let opened = self.faults.note(outcome)?;
+        if opened.len < self.len {
+            return self.faults.note(Err(ErrorKind::UnexpectedEof.into()));
+        }
+        self.len = opened.len;
+        self.file = Some(opened.file);
+        Ok(())
+    }
+
+    fn len(&self) -> u64 {
+        self.len
+    }
+
+    fn clock(&self) -> u64 {
+        self.clock
+    }
+
+    fn faults(&self) -> u64 {
+        self.faults.count
+    }
+
+    /// Reads on until the buffer is full. It fails where the file has become too short for that.
+    fn read_at(&mut self, at: u64, buffer: &mut [u8]) -> Result<(), Failed> {
+        let outcome = fill(&mut self.file, at, buffer);
+        self.faults.note(outcome)
+    }
+
+    /// Writes on until all bytes are taken. At the clock's end it leaves the file alone.
+    fn write_at(&mut self, at: u64, bytes: &[u8]) -> Result<(), Failed>
+        ensures late { 2 ^ 64 - 1 ≤ self.old.clock → self.new.file ≡ self.old.file }
+        ensures clock { Ticks self.old.clock self.new.clock result }
+        ensures len { self.new.len ≡ self.old.len }
+        ensures cause { HasCause self.old.faults.count self.new.faults.count result }
+    {
+        let outcome = match self.tick() {
+            Ok(()) => store(&mut self.file, at, bytes),
+            late => late,
+        };
+        self.faults.note(outcome)
+    }
+
+    fn sync(&mut self) -> Result<(), Failed> {
+        let outcome = match self.tick() {
+            Ok(()) => settle(&self.file),
+            late => late,
+        };
+        self.faults.note(outcome)
+    }
+}
+
+fn fill<F: Read + Seek>(file: &mut Option<F>, at: u64, buffer: &mut [u8]) -> io::Result<()> {
+    let Some(file) = file else {
+        return Err(ErrorKind::NotConnected.into());
+    };
+    file.seek(SeekFrom::Start(at))?;
+    file.read_exact(buffer)
+}
+
+fn store<F: Write + Seek>(file: &mut Option<F>, at: u64, bytes: &[u8]) -> io::Result<()> {
+    let Some(file) = file else {
+        return Err(ErrorKind::NotConnected.into());
+    };
+    file.seek(SeekFrom::Start(at))?;
+    file.write_all(bytes)
+}
+
+fn settle<F: OpenFile>(file: &Option<F>) -> io::Result<()> {
+    let Some(file) = file else {
+        return Err(ErrorKind::NotConnected.into());
+    };
+    file.sync_all()
+}

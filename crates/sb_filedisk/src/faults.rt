@@ -1,0 +1,31 @@
+//! How often a device has failed.
+
+ghost use Rattle.std.specs.Prelude.{◌≡◌, ◌+◌, ◌-◌, ◌^◌, cond, min, is_err, IfOk};
+ghost use Rattle.sb_disk.specs.Causes.{HasCause};
+
+use sb_disk::Failed;
+use std::io;
+
+/// A count of failures, up to the greatest u64.
+#[derive(Clone, Copy, Debug, Drop)]
+pub struct Faults {
+    pub count: u64,
+}
+
+impl Faults {
+    /// What a call came to, which is counted where it failed.
+    pub fn note<T>(&mut self, outcome: io::Result<T>) -> Result<T, Failed>
+        ensures ok { IfOk result (λ value. IfOk outcome (λ given. value ≡ given)) }
+        ensures same { is_err result ≡ is_err outcome }
+        ensures counted { self.new.count ≡ cond (is_err outcome) (min (self.old.count + 1) (2 ^ 64 - 1)) self.old.count }
+        ensures cause { HasCause self.old.count self.new.count result }
+    {
+        match outcome {
+            Ok(value) => Ok(value),
+            Err(_) => {
+                self.count = self.count.saturating_add(1);
+                Err(Failed)
+            }
+        }
+    }
+}

@@ -1,0 +1,63 @@
+//! How the file of a disk is opened.
+
+ghost use Rattle.std.specs.Prelude.{◌≤◌, IfOk, IfSome};
+
+use std::fs::{OpenFile, OpenOptions};
+use std::io::{self, ErrorKind};
+use std::os::unix::fs::MetadataExt;
+use std::rt::Files;
+use std::str;
+
+/// An open file and how many bytes it had then.
+#[derive(Drop)]
+pub struct Opened<F> {
+    pub file: F,
+    pub len: u64,
+}
+
+/// Opens the file of this name, with a size makes it that long, and syncs it. It has to be the file that is mounted, where one is.
+pub fn open<R: Files>(
+    rt: &R,
+    mounted: &Option<R::File>,
+    name: &[u8],
+    create_size: Option<u64>,
+) -> io::Result<Opened<R::File>>
+    ensures size { IfOk result (λ opened. IfSome create_size (λ size. size ≤ opened.len)) }
+{
+    let Ok(name) = str::from_utf8(name) else {
+        return Err(ErrorKind::InvalidFilename.into());
+    };
+    let file = OpenOptions::new()
+        .read(true)
+        .write(true)
+        .create(create_size.is_some() && mounted.is_none())
+        .open(rt, name)?;
+    if let Some(mounted) = mounted {
+        if !is_same(mounted, &file)? {
+            return Err(ErrorKind::ResourceBusy.into());
+        }
+    }
+    let len = grow(&file, create_size)?;
+    file.sync_all()?;
+    Ok(Opened { file, len })
+}
+
+/// Whether both are the same file of the system.
+fn is_same<F: OpenFile>(one: &F, other: &F) -> io::Result<bool> {
+    let (one, other) = (one.metadata()?, other.metadata()?);
+    Ok(one.dev() == other.dev() && one.ino() == other.ino())
+}
+
+/// Makes a shorter file this long, and answers how many bytes it has then.
+fn grow<F: OpenFile>(file: &F, create_size: Option<u64>) -> io::Result<u64>
+    ensures size { IfOk result (λ len. IfSome create_size (λ size. size ≤ len)) }
+{
+    let len = file.metadata()?.len();
+    match create_size {
+        Some(size) if len < size => {
+            file.set_len(size)?;
+            Ok(size)
+        }
+        _ => Ok(len),
+    }
+}
