@@ -1,0 +1,12 @@
+pub mod ChunkLemmas
+pub mod RegionLemmas
+pub mod OpenLemmas
+pub mod ForceLemmas
+pub mod AppendLemmas
+pub mod ReadLemmas
+pub mod ZeroLemmas
+pub mod CloseLemmas
+pub mod ForeignLemmas
+pub mod InsideLemmas
+pub mod OneReading
+pub mod FieldLemmas

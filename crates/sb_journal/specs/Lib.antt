@@ -1,0 +1,10 @@
+pub use Rattle.sb_disk.specs.Causes
+pub use Rattle.sb_disk.specs.Disk
+pub use Rattle.sb_disk.specs.Moments
+pub mod Calls
+pub mod Chunks
+pub mod Closing
+pub mod Opening
+pub mod Sealing
+pub mod State
+pub mod View

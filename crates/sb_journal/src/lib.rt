@@ -1,0 +1,16 @@
+//! A journal: chunks of bytes, each of which a crash leaves whole or not at all.
+#![tactic(auto)]
+
+mod closing;
+mod fault;
+mod journal;
+mod laws;
+mod opening;
+mod reading;
+mod sealing;
+#[cfg(test)]
+mod tests;
+
+pub use fault::JournalFault;
+pub use journal::{Journal, Region};
+pub use laws::{one_reading, past_is_one, past_is_unread};
