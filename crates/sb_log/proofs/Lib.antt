@@ -1,0 +1,13 @@
+pub mod FieldLemmas
+pub mod RecordLemmas
+pub mod RowLemmas
+pub mod StandingLemmas
+pub mod RestoredLemmas
+pub mod ImageLemmas
+pub mod SpliceLemmas
+pub mod UndoLemmas
+pub mod ViewLemmas
+pub mod PageLemmas
+pub mod WholeLemmas
+pub mod CommitLemmas
+pub mod Worked
