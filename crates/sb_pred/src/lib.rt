@@ -9,10 +9,10 @@ mod typing;
 mod writing;
 
 pub use predicate::{Node, Op, Pred, Term, nodes};
-pub use reading::read_pred;
-pub use truth::{eval, well_typed_sides_have_values};
+pub use reading::{name_of, read_pred, term_of};
+pub use truth::{eval, value_of, well_typed_sides_have_values};
 pub use typing::well_typed;
-pub use writing::write_pred;
+pub use writing::{append_name, append_term, write_pred};
 
 #[cfg(test)]
 mod tests;

@@ -24,7 +24,8 @@ fn value_of(alloc: Global, bytes: &[u8]) -> Result<Option<(Value, &[u8])>, Alloc
     }
 }
 
-fn name_of(alloc: Global, bytes: &[u8]) -> Result<Option<(Str, &[u8])>, AllocError>
+/// The name that the first bytes spell, and the bytes behind it.
+pub fn name_of(alloc: Global, bytes: &[u8]) -> Result<Option<(Str, &[u8])>, AllocError>
     ensures { IfOk result (λ r. Finds IsStorableName name_spelling bytes.now r) }
 {
     let [len, rest @ ..] = bytes else {
@@ -41,7 +42,8 @@ fn name_of(alloc: Global, bytes: &[u8]) -> Result<Option<(Str, &[u8])>, AllocErr
     }
 }
 
-fn term_of(alloc: Global, bytes: &[u8]) -> Result<Option<(Term, &[u8])>, AllocError>
+/// The term that the first bytes spell, and the bytes behind it.
+pub fn term_of(alloc: Global, bytes: &[u8]) -> Result<Option<(Term, &[u8])>, AllocError>
     ensures { IfOk result (λ r. Finds IsStorableTerm term_spelling bytes.now r) }
 {
     let [tag, rest @ ..] = bytes else {

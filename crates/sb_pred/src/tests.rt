@@ -116,3 +116,17 @@ fn copies(rt: HostRuntime) -> Result<(), Fail> {
     assert!(rt; matches!(pred.node(), Node::And(_, _)));
     Ok(())
 }
+
+#[test]
+fn terms_one_by_one(rt: HostRuntime) -> Result<(), Fail> {
+    let alloc = rt.alloc();
+    let mut out = Bytes::new(alloc);
+    append_term(&Term::Old(text(alloc, b"ab")?), &mut out)?;
+    append_name(&text(alloc, b"c")?, &mut out)?;
+    assert_eq!(rt; out.as_slice(), b"\x02\x02ab\x01c".as_slice());
+    let (term, rest) = term_of(alloc, out.as_slice())?.ok_or("no term")?;
+    let (name, rest) = name_of(alloc, rest)?.ok_or("no name")?;
+    assert!(rt; matches!(&term, Term::Old(old) if old.as_str() == "ab"));
+    assert!(rt; name.as_str() == "c" && rest.is_empty());
+    Ok(())
+}

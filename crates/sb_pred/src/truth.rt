@@ -48,7 +48,8 @@ fn value_in<'a>(row: Option<&'a Tuple>, schema: &Schema, name: &Str) -> Option<&
     row?.as_slice().get(find_column(schema, name)?)
 }
 
-fn value_of<'a>(
+/// The term's value over an old and a new row of the schema; `None` where its row or its column isn't there.
+pub fn value_of<'a>(
     term: &'a Term,
     schema: &Schema,
     old: Option<&'a Tuple>,

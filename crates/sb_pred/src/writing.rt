@@ -10,7 +10,8 @@ use crate::tags;
 use sb_value::{Bytes, Str, put_value};
 use std::alloc::AllocError;
 
-fn append_name(name: &Str, out: &mut Bytes) -> Result<(), AllocError>
+/// Adds the name's spelling. Where memory runs out a part of it may be left.
+pub fn append_name(name: &Str, out: &mut Bytes) -> Result<(), AllocError>
     requires { length name.now ≤ 255 }
     ensures ok { OnOk result (out.new ≡ out.old ++ name_spelling name.now) }
     ensures err { OnErr result (Extends out.old out.new) }
@@ -21,7 +22,8 @@ fn append_name(name: &Str, out: &mut Bytes) -> Result<(), AllocError>
     out.extend(text.as_bytes())
 }
 
-fn append_term(term: &Term, out: &mut Bytes) -> Result<(), AllocError>
+/// Adds the term's spelling. Where memory runs out a part of it may be left.
+pub fn append_term(term: &Term, out: &mut Bytes) -> Result<(), AllocError>
     requires { IsShortTerm term.now }
     ensures ok { OnOk result (out.new ≡ out.old ++ term_spelling term.now) }
     ensures err { OnErr result (Extends out.old out.new) }
