@@ -1,22 +1,17 @@
 -- The plain database: relations under their names, rows under their record keys.
-use Rattle.std.specs.Prelude.{ℕ, cond, codes, List, [], ◌∷◌, Option, Some, None}
+use Rattle.std.specs.Prelude.{ℕ, codes, List, [], ◌∷◌, Option, Some}
 use Rattle.std.specs.List.{filter_map}
-use Rattle.std.specs.Str.{bytes_eq}
 use Rattle.std.specs.FinMap.Entries.{put, find}
 use Rattle.sb_value.specs.declared.value.Value.{Value}
+use Rattle.sb_pred.specs.Columns.{column_value}
+pub use Rattle.sb_rule.specs.Rows.{Name, Row}
 use Rattle.sb_value.specs.declared.schema.Kind.TheVariants as kind
 use Rattle.sb_value.specs.declared.schema.Column.{Column}
 use Rattle.sb_value.specs.Order.{bytes_cmp}
 use Rattle.sb_value.specs.Code.{ordered_code}
 
-abbrev pub Name : Type 0
-Name = List ℕ
-
 abbrev pub Key : Type 0
 Key = List ℕ
-
-abbrev pub Row : Type 0
-Row = List Value
 
 -- rows under their record keys, in the order of the keys
 abbrev pub Rows : Type 0
@@ -44,15 +39,9 @@ row_at rows key = find bytes_cmp key rows
 abbrev pub with_row : Rows → Key → Row → Rows
 with_row rows key row = put bytes_cmp key row rows
 
--- the value of a row in the named column
-abbrev pub value_in : List Column → Row → Name → Option Value
-value_in [] row name = None
-value_in (c ∷ cs) [] name = None
-value_in (c ∷ cs) (v ∷ vs) name = cond (bytes_eq c.name name) (Some v) (value_in cs vs name)
-
 -- the values of a row in the named columns
 abbrev pub values_in : List Column → Row → List Name → List Value
-values_in schema row names = filter_map (value_in schema row) names
+values_in schema row names = filter_map (column_value schema (Some row)) names
 
 -- the record key of a row: the ordered code of its key columns
 abbrev pub key_of : Relation → Row → Key
