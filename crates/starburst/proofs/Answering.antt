@@ -1,5 +1,5 @@
 -- What a run has done, after one line more.
-use Rattle.std.proofs.Common.{◌≡◌, ℕ, ◌+◌, true, false, Option, List, [], ◌∷◌, ◌++◌, length, refl, sym, ◌∙◌, ap, subst, inl, inr, length-append, append_assoc}
+use Rattle.std.proofs.Common.{◌≡◌, ℕ, ◌+◌, true, false, Option, List, [], ◌∷◌, ◌++◌, length, refl, sym, ◌∙◌, ap, subst, inl, inr, length-append}
 use Rattle.sb_disk.specs.Streams.{Given}
 use Rattle.sb_disk.proofs.StreamLemmas.{Given-more}
 use Rattle.sb_plain.specs.declared.reply.Reply.{Reply}
@@ -14,6 +14,7 @@ use Rattle.starburst.specs.declared.ending.Stop.TheVariants.{SinkFailed, NoMemor
 use Rattle.starburst.specs.Writing.{GivenFront}
 use Rattle.starburst.specs.Replying.{RepliesTo}
 use Rattle.starburst.specs.Session.{HasAnswered, HasStopped}
+use Rattle.starburst.proofs.Replied.{all_replied, more_replies, more_written}
 
 -- a blank line or a comment changes nothing
 pub passes_over : (lines : List (List ℕ)) (line : List ℕ) (first held : Option (List ℕ)) (starts : List ℕ) (db : Db) →
@@ -79,7 +80,7 @@ answers lines line first held held' starts now start db new reply answered said 
 -- a line whose reply the sink didn't take
 pub stops_at_sink : (lines : List (List ℕ)) (line : List ℕ) (first held held' : Option (List ℕ)) (starts now : List ℕ) (start : ℕ) (db new : Db) (reply : Reply) →
     HasAnswered lines first held starts db → is_passed_over (without_return line) ≡ false → now ≡ starts ++ start ∷ [] → RepliesTo (without_return line) db reply new → GivenFront held held' (reply_text reply) →
-    HasStopped SinkFailed (lines ++ line ∷ []) first held' now
+    HasStopped SinkFailed lines (lines ++ line ∷ []) first held' now
 stops_at_sink lines line first held held' starts now start db new reply answered said pushed replies given =
     let h = begins lines line first held starts now start db new reply answered said pushed replies in
     record {
@@ -91,16 +92,14 @@ stops_at_sink lines line first held held' starts now start db new reply answered
       begun = h.begun;
       are_items = AreFirstItems-all (asking (lines ++ line ∷ [])) h.items h.are_items;
       plays = h.plays;
-      writes = record {
-        others = given.front.others;
-        whole = text_of-push answered.replies reply ∙ (λ i. sym answered.writes i ++ given.front.whole i) ∙ sym (append_assoc answered.written given.written given.front.others);
-      };
+      replied = more_written lines (answered.replies ++ reply ∷ []) answered.written given.written (more_replies lines answered.replies (reply ∷ []) answered.written (all_replied lines first held starts db answered));
+      writes = record { written = answered.replies; last = reply; part = given.written; are = refl; breaks_off = given.front; is_text = ap (λ (text : List ℕ). text ++ given.written) answered.writes };
     }
 
 -- a line whose reply couldn't be printed
 pub stops_unprinted : (lines : List (List ℕ)) (line : List ℕ) (first held : Option (List ℕ)) (starts now : List ℕ) (start : ℕ) (db new : Db) (reply : Reply) →
     HasAnswered lines first held starts db → is_passed_over (without_return line) ≡ false → now ≡ starts ++ start ∷ [] → RepliesTo (without_return line) db reply new →
-    HasStopped NoMemory (lines ++ line ∷ []) first held now
+    HasStopped NoMemory lines (lines ++ line ∷ []) first held now
 stops_unprinted lines line first held starts now start db new reply answered said pushed replies =
     let h = begins lines line first held starts now start db new reply answered said pushed replies in
     record {
@@ -112,11 +111,12 @@ stops_unprinted lines line first held starts now start db new reply answered sai
       begun = h.begun;
       are_items = AreFirstItems-all (asking (lines ++ line ∷ [])) h.items h.are_items;
       plays = h.plays;
+      replied = more_replies lines answered.replies (reply ∷ []) answered.written (all_replied lines first held starts db answered);
       writes = inr (record { written = answered.replies; last = reply; are = refl; is_text = answered.writes });
     }
 
 -- a run that couldn't go on behind some lines
-pub stops_between : (lines others : List (List ℕ)) (first held : Option (List ℕ)) (starts : List ℕ) (db : Db) → HasAnswered lines first held starts db → HasStopped NoMemory (lines ++ others) first held starts
+pub stops_between : (lines others : List (List ℕ)) (first held : Option (List ℕ)) (starts : List ℕ) (db : Db) → HasAnswered lines first held starts db → HasStopped NoMemory lines (lines ++ others) first held starts
 stops_between lines others first held starts db answered = record {
   items = answered.items;
   replies = answered.replies;
@@ -126,5 +126,6 @@ stops_between lines others first held starts db answered = record {
   begun = answered.begun;
   are_items = AreFirstItems-asking lines others answered.items (AreFirstItems-all (asking lines) answered.items answered.are_items);
   plays = answered.plays;
+  replied = all_replied lines first held starts db answered;
   writes = inl answered.writes;
 }

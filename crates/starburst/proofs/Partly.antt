@@ -1,8 +1,9 @@
 -- Bytes of which a sink has taken a front.
-use Rattle.std.proofs.Common.{◌≡◌, ℕ, Option, List, [], ◌++◌, take, drop, refl, sym, ◌∙◌, ap, subst, append_assoc}
+use Rattle.std.proofs.Common.{◌≡◌, ℕ, ◌<◌, Option, List, [], ◌∷◌, ◌++◌, length, take, drop, refl, sym, ◌∙◌, ap, subst, arith, append_assoc}
 use Rattle.std.proofs.lemmas.List.{append-nil, take-append-drop}
 use Rattle.sb_disk.specs.Streams.{Given, Held}
 use Rattle.sb_disk.proofs.StreamLemmas.{Given-none, Given-more, Given-held}
+use Rattle.starburst.specs.Ending.{BreaksOff}
 use Rattle.starburst.specs.Writing.{GivenFront}
 
 -- the bytes before the rest were given
@@ -25,9 +26,13 @@ pub Given-partly : (old new : Option (List ℕ)) (bytes rest : List ℕ) → Par
 Given-partly old new bytes rest partly none =
     subst (λ (l : List ℕ). Given old new l) (sym (partly.whole ∙ ap (λ (l : List ℕ). partly.written ++ l) none ∙ append-nil partly.written)) partly.is_written
 
-pub GivenFront-partly : (old middle new : Option (List ℕ)) (bytes rest : List ℕ) → Partly old middle bytes rest → new ≡ middle → GivenFront old new bytes
-GivenFront-partly old middle new bytes rest partly stays = record {
+breaks_off : (text bytes rest : List ℕ) → 0 < length rest → text ≡ bytes ++ rest → BreaksOff bytes text
+breaks_off text bytes [] some whole = absurd (omega (arith, some))
+breaks_off text bytes (next ∷ others) some whole = record { next = next; others = others; whole = whole }
+
+pub GivenFront-partly : (old middle new : Option (List ℕ)) (bytes rest : List ℕ) → Partly old middle bytes rest → 0 < length rest → new ≡ middle → GivenFront old new bytes
+GivenFront-partly old middle new bytes rest partly some stays = record {
   written = partly.written;
   is_written = subst (λ (h : Option (List ℕ)). Given old h partly.written) (sym stays) partly.is_written;
-  front = record { others = rest; whole = partly.whole };
+  front = breaks_off bytes partly.written rest some partly.whole;
 }

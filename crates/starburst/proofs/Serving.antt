@@ -48,10 +48,11 @@ plays_to_end bytes first left left' held held' s s' room count buffer asked serv
   within = below_room (length bytes) room asked;
   plays = a.plays;
   writes = a.writes;
+  in_time = tt;
 }
 
 pub plays_to_stop_at_end : (bytes : List ℕ) (first : Told) (left left' held held' : Option (List ℕ)) (s : Session) (starts : List ℕ) (stop : Stop) (room count : ℕ) (buffer : List ℕ) →
-    Serves bytes first (told left held) s → Took left left' count buffer → count ≡ 0 → HasStopped stop (lines_of bytes) first.held held' starts →
+    Serves bytes first (told left held) s → Took left left' count buffer → count ≡ 0 → HasStopped stop (whole_lines bytes) (lines_of bytes) first.held held' starts →
     HasPlayed (length bytes + room) first (told left' held') (Stopped stop) starts
 plays_to_stop_at_end bytes first left left' held held' s starts stop room count buffer serves took none h = record {
   taken = bytes;
@@ -67,6 +68,7 @@ plays_to_stop_at_end bytes first left left' held held' s starts stop room count 
   within = more_room (length bytes) room;
   plays = h.plays;
   writes = h.writes;
+  in_time = record { before = bytes; piece = []; is = sym (append-nil bytes); short = omega arith; replied = h.replied };
 }
 
 -- ---- a piece
@@ -84,10 +86,13 @@ serves_more bytes first left left' held held' s s' room count buffer serves took
 piece_fits : (bytes buffer : List ℕ) (count room : ℕ) → count ≤ length buffer → length buffer ≤ room → length (bytes ++ take count buffer) ≤ length bytes + room
 piece_fits bytes buffer count room few fits = omega (arith, length-append bytes (take count buffer), length-take-le count buffer few)
 
+piece_short : (buffer : List ℕ) (count : ℕ) → count ≤ length buffer → length buffer ≤ 4096 → length (take count buffer) ≤ 4096
+piece_short buffer count few short = omega (arith, length-take-le count buffer few)
+
 pub plays_to_stop : (bytes : List ℕ) (first : Told) (left left' held held' : Option (List ℕ)) (s : Session) (starts : List ℕ) (stop : Stop) (room count : ℕ) (buffer : List ℕ) →
-    Serves bytes first (told left held) s → Took left left' count buffer → count ≤ length buffer → length buffer ≤ room → HasStopped stop (whole_lines (bytes ++ take count buffer)) first.held held' starts →
+    Serves bytes first (told left held) s → Took left left' count buffer → count ≤ length buffer → length buffer ≤ room → length buffer ≤ 4096 → HasStopped stop (whole_lines bytes) (whole_lines (bytes ++ take count buffer)) first.held held' starts →
     HasPlayed (length bytes + room) first (told left' held') (Stopped stop) starts
-plays_to_stop bytes first left left' held held' s starts stop room count buffer serves took few fits h = record {
+plays_to_stop bytes first left left' held held' s starts stop room count buffer serves took few fits short h = record {
   taken = bytes ++ take count buffer;
   written = h.written;
   items = h.items;
@@ -101,6 +106,7 @@ plays_to_stop bytes first left left' held held' s starts stop room count buffer 
   within = piece_fits bytes buffer count room few fits;
   plays = h.plays;
   writes = h.writes;
+  in_time = record { before = bytes; piece = take count buffer; is = refl; short = piece_short buffer count few short; replied = h.replied };
 }
 
 -- ---- all pieces
@@ -133,4 +139,5 @@ plays_to_most taken most first now s some is =
       within = some.count_is ∙ is;
       plays = a.plays;
       writes = a.writes;
+      in_time = tt;
     }

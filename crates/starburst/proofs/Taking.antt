@@ -3,11 +3,13 @@ use Rattle.std.proofs.Common.{◌≡◌, ◌≢◌, ◌<◌, ◌≤◌, ◌+◌,
 use Rattle.std.proofs.lemmas.List.{append-nil, take_more, take_all, take-append-drop}
 use Rattle.sb_plain.specs.Db.{Db}
 use Rattle.sb_plain.specs.Lines.{cut, whole_lines}
-use Rattle.sb_plain.proofs.LinesLemmas.{whole_lines-end, begun-end, whole_lines-byte, begun-byte, AreFirstItems-grow}
+use Rattle.sb_plain.proofs.LinesLemmas.{whole_lines-end, begun-end, whole_lines-byte, begun-byte, whole_lines-grow, AreFirstItems-grow}
 use Rattle.starburst.specs.declared.ending.Stop.{Stop}
 use Rattle.starburst.specs.declared.ending.Stop.TheVariants.{NoMemory}
 use Rattle.starburst.specs.declared.session.Session.{Session}
+use Rattle.starburst.specs.Ending.{AreReplied}
 use Rattle.starburst.specs.Session.{HasAnswered, HasStopped, Stands}
+use Rattle.starburst.proofs.Replied.{first_replied}
 use Rattle.starburst.proofs.Answering.{stops_between}
 
 is_other : (b : ℕ) → b ≢ 10 → (b == 10) ≡ false
@@ -24,11 +26,11 @@ goes_on bytes b first held old new other pushed starts database stands = record 
 }
 
 -- a byte for which memory is wanting
-pub stops_on : (bytes : List ℕ) (b : ℕ) (first held : Option (List ℕ)) (old : Session) (starts : List ℕ) → b ≢ 10 → starts ≡ old.starts → Stands bytes first held old → HasStopped NoMemory (whole_lines (bytes ++ b ∷ [])) first held starts
+pub stops_on : (bytes : List ℕ) (b : ℕ) (first held : Option (List ℕ)) (old : Session) (starts : List ℕ) → b ≢ 10 → starts ≡ old.starts → Stands bytes first held old → HasStopped NoMemory (whole_lines bytes) (whole_lines (bytes ++ b ∷ [])) first held starts
 stops_on bytes b first held old starts other is stands =
-    subst (λ (lines : List (List ℕ)). HasStopped NoMemory lines first held starts) (sym (whole_lines-byte bytes b (is_other b other)) ∙ refl)
-    (subst (λ (s : List ℕ). HasStopped NoMemory (whole_lines bytes) first held s) (sym is)
-    (subst (λ (lines : List (List ℕ)). HasStopped NoMemory lines first held old.starts) (append-nil (whole_lines bytes)) (stops_between (whole_lines bytes) [] first held old.starts old.database stands.answered)))
+    subst (λ (lines : List (List ℕ)). HasStopped NoMemory (whole_lines bytes) lines first held starts) (sym (whole_lines-byte bytes b (is_other b other)) ∙ refl)
+    (subst (λ (s : List ℕ). HasStopped NoMemory (whole_lines bytes) (whole_lines bytes) first held s) (sym is)
+    (subst (λ (lines : List (List ℕ)). HasStopped NoMemory (whole_lines bytes) lines first held old.starts) (append-nil (whole_lines bytes)) (stops_between (whole_lines bytes) [] first held old.starts old.database stands.answered)))
 
 -- the lines of the bytes with a line end behind them
 lines-end : (bytes line : List ℕ) → line ≡ (cut bytes).begun → whole_lines bytes ++ line ∷ [] ≡ whole_lines (bytes ++ 10 ∷ [])
@@ -43,14 +45,14 @@ ends bytes b first held line new is line_is empty answered = subst (λ (c : ℕ)
 })
 
 pub stops_at_end : (bytes : List ℕ) (b : ℕ) (first held : Option (List ℕ)) (line : List ℕ) (stop : Stop) (starts : List ℕ) → b ≡ 10 → line ≡ (cut bytes).begun →
-    HasStopped stop (whole_lines bytes ++ line ∷ []) first held starts → HasStopped stop (whole_lines (bytes ++ b ∷ [])) first held starts
+    HasStopped stop (whole_lines bytes) (whole_lines bytes ++ line ∷ []) first held starts → HasStopped stop (whole_lines bytes) (whole_lines (bytes ++ b ∷ [])) first held starts
 stops_at_end bytes b first held line stop starts is line_is stopped =
-    subst (λ (c : ℕ). HasStopped stop (whole_lines (bytes ++ c ∷ [])) first held starts) (sym is)
-    (subst (λ (lines : List (List ℕ)). HasStopped stop lines first held starts) (lines-end bytes line line_is) stopped)
+    subst (λ (c : ℕ). HasStopped stop (whole_lines bytes) (whole_lines (bytes ++ c ∷ [])) first held starts) (sym is)
+    (subst (λ (lines : List (List ℕ)). HasStopped stop (whole_lines bytes) lines first held starts) (lines-end bytes line line_is) stopped)
 
--- a stop stays one as more bytes come
-pub HasStopped-grow : (stop : Stop) (bytes more : List ℕ) (first held : Option (List ℕ)) (starts : List ℕ) → HasStopped stop (whole_lines bytes) first held starts → HasStopped stop (whole_lines (bytes ++ more)) first held starts
-HasStopped-grow stop bytes more first held starts stopped = record {
+-- a stop stays one as more bytes come, and where fewer of them are the early ones
+pub HasStopped-grow : (stop : Stop) (early some bytes more : List ℕ) (first held : Option (List ℕ)) (starts : List ℕ) → HasStopped stop (whole_lines (early ++ some)) (whole_lines bytes) first held starts → HasStopped stop (whole_lines early) (whole_lines (bytes ++ more)) first held starts
+HasStopped-grow stop early some bytes more first held starts stopped = record {
   items = stopped.items;
   replies = stopped.replies;
   states = stopped.states;
@@ -59,6 +61,7 @@ HasStopped-grow stop bytes more first held starts stopped = record {
   begun = stopped.begun;
   are_items = AreFirstItems-grow bytes more stopped.items stopped.are_items;
   plays = stopped.plays;
+  replied = first_replied (whole_lines early) (whole_lines-grow early some).others stopped.replies stopped.written (subst (λ (lines : List (List ℕ)). AreReplied lines stopped.replies stopped.written) (whole_lines-grow early some).is stopped.replied);
   writes = stopped.writes;
 }
 

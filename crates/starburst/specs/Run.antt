@@ -1,5 +1,5 @@
 -- A whole run: what was taken, what was answered and what was written.
-use Rattle.std.specs.Prelude.{◌≡◌, ◌⊎◌, ℕ, ◌<◌, ◌≤◌, Bool, true, false, List, [], length, Option, Some}
+use Rattle.std.specs.Prelude.{◌≡◌, ◌⊎◌, ℕ, ◌<◌, ◌≤◌, Bool, true, false, List, [], ◌++◌, length, Option, Some}
 use Rattle.sb_disk.specs.Streams.{Taken, Given}
 use Rattle.sb_plain.specs.declared.reply.Reply.{Reply}
 use Rattle.sb_plain.specs.Lines.{Item, whole_lines, lines_of, asking, AreItems, AreFirstItems, Commands}
@@ -9,7 +9,7 @@ use Rattle.starburst.specs.declared.report.Report.{Report}
 use Rattle.starburst.specs.declared.ending.Ending.{Ending}
 use Rattle.starburst.specs.declared.ending.Ending.TheVariants.{InputEnded, SourceFailed, MostTaken, Stopped}
 use Rattle.starburst.specs.Words.{are_words, words_line}
-use Rattle.starburst.specs.Ending.{status_of, IsFront, WritesAtEnd}
+use Rattle.starburst.specs.Ending.{status_of, BreaksOff, AreReplied, WritesAtEnd}
 
 -- what the source has left and the sink holds, where they tell it
 pub record Told : Type 0 where
@@ -38,6 +38,19 @@ TakesUpTo most SourceFailed count = count < most
 TakesUpTo most MostTaken count = count ≡ most
 TakesUpTo most (Stopped stop) count = count ≤ most
 
+-- When the source was asked for the last piece, the replies to all lines that had ended were written.
+pub record KeepsUp (taken : List ℕ) (replies : List Reply) (written : List ℕ) : Type 0 where
+  pub before : List ℕ
+  pub piece : List ℕ
+  pub is : taken ≡ before ++ piece
+  pub short : length piece ≤ 4096
+  pub replied : AreReplied (whole_lines before) replies written
+
+-- where a line couldn't be answered, it ended in that piece; at any other end all replies are written
+abbrev pub WritesInTime : Ending → List ℕ → List Reply → List ℕ → Type 0
+WritesInTime (Stopped stop) taken replies written = KeepsUp taken replies written
+WritesInTime _ taken replies written = Unit {0}
+
 -- a run that has begun, with the items begun, their replies and the states after them
 pub record HasPlayed (most : ℕ) (old new : Told) (ending : Ending) (starts : List ℕ) : Type 0 where
   pub taken : List ℕ
@@ -53,6 +66,7 @@ pub record HasPlayed (most : ℕ) (old new : Told) (ending : Ending) (starts : L
   pub within : TakesUpTo most ending (length taken)
   pub plays : Plays first_state items replies states
   pub writes : WritesAtEnd ending replies written
+  pub in_time : WritesInTime ending taken replies written
 
 -- a run with words that the program takes
 pub record HasRun (most : ℕ) (old new : Told) (report : Report) : Type 0 where
@@ -60,12 +74,12 @@ pub record HasRun (most : ℕ) (old new : Told) (report : Report) : Type 0 where
   pub status : report.status ≡ status_of ending
   pub played : HasPlayed most old new ending report.starts
 
--- the line that refuses the words was written, or a front of it to a sink that failed
+-- the line that refuses the words was written, or a front that lacks its end to a sink that failed
 pub record WritesRefusal (held new : Option (List ℕ)) (report : Report) : Type 0 where
   pub starts : report.starts ≡ []
   pub written : List ℕ
   pub is_written : Given held new written
-  pub status : ((report.status ≡ 2) × (written ≡ words_line)) ⊎ ((report.status ≡ 5) × IsFront written words_line)
+  pub status : ((report.status ≡ 2) × (written ≡ words_line)) ⊎ ((report.status ≡ 5) × BreaksOff written words_line)
 
 -- a run with other words, which reads nothing
 pub record HasRefused (old new : Told) (report : Report) : Type 0 where

@@ -6,18 +6,17 @@ mod lines;
 mod report;
 mod run;
 mod session;
-mod streams;
 mod words;
 mod writing;
 
 pub use report::{Report, Starts};
 pub use run::{run, run_to};
+use sb_filedisk::{ReadSource, WriteSink};
 use sb_value::Str;
 use std::alloc::{AllocError, Global};
 use std::process::ExitCode;
 use std::rt::Env;
 use std::{env, io};
-use streams::{ReadSource, WriteSink};
 
 /// The words behind the program's name.
 fn given_words(rt: &(impl Env + AllocGlobal)) -> Result<Vec<Str>, AllocError> {

@@ -23,7 +23,8 @@ fn serve_piece<S: Source, K: Sink>(
     buffer: &mut [u8],
     session: &mut Session,
 ) -> ControlFlow<Ending, u64>
-    requires { 0 < length buffer.old }
+    requires some { 0 < length buffer.old }
+    requires short { length buffer.old ≤ 4096 }
     ensures leads { (bytes : List ℕ) (first : Told) (room : ℕ) → length buffer.old ≤ room
         → Serves bytes first (told (S.left source.old) (K.held sink.old)) session.old
         → PieceLeads result room bytes first (told (S.left source.new) (K.held sink.new)) session.new }

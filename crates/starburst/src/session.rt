@@ -1,7 +1,7 @@
 //! Lines as they come, each answered before the next.
 
 ghost use Rattle.std.specs.Prelude.{◌≡◌, ℕ, Option, List, [], ◌∷◌, ◌++◌};
-ghost use Rattle.sb_plain.specs.Lines.{lines_of};
+ghost use Rattle.sb_plain.specs.Lines.{whole_lines, lines_of};
 ghost use Rattle.starburst.specs.Replying.{RepliesTo};
 ghost use Rattle.starburst.specs.Causes.{SinkCause};
 
@@ -60,7 +60,7 @@ impl Session {
     /// Answers the line that has begun and has come to its end.
     fn answer<K: Sink>(&mut self, alloc: Global, sink: &mut K) -> Result<(), Stop>
         ensures leads { (lines : List (List ℕ)) (first : Option (List ℕ)) → HasAnswered lines first (K.held sink.old) self.old.starts self.old.database
-            → LinesLead result (lines ++ self.old.line ∷ []) first (K.held sink.new) self.new }
+            → LinesLead result lines (lines ++ self.old.line ∷ []) first (K.held sink.new) self.new }
         ensures cause { SinkCause (K.faults sink.old) (K.faults sink.new) result }
     {
         let line = content(self.line.as_slice());
@@ -78,7 +78,7 @@ impl Session {
     /// Takes one byte of the input.
     fn take<K: Sink>(&mut self, alloc: Global, byte: u8, sink: &mut K) -> Result<(), Stop>
         ensures leads { (bytes : List ℕ) (first : Option (List ℕ)) → Stands bytes first (K.held sink.old) self.old
-            → BytesLead result (bytes ++ byte ∷ []) first (K.held sink.new) self.new }
+            → BytesLead result bytes (bytes ++ byte ∷ []) first (K.held sink.new) self.new }
         ensures cause { SinkCause (K.faults sink.old) (K.faults sink.new) result }
     {
         if byte != b'\n' {
@@ -93,7 +93,7 @@ impl Session {
     /// Takes a piece of the input, and answers each line that ends in it.
     pub fn feed<K: Sink>(&mut self, alloc: Global, piece: &[u8], sink: &mut K) -> Result<(), Stop>
         ensures leads { (bytes : List ℕ) (first : Option (List ℕ)) → Stands bytes first (K.held sink.old) self.old
-            → BytesLead result (bytes ++ piece.now) first (K.held sink.new) self.new }
+            → BytesLead result bytes (bytes ++ piece.now) first (K.held sink.new) self.new }
         ensures cause { SinkCause (K.faults sink.old) (K.faults sink.new) result }
     {
         for byte in piece {
@@ -105,7 +105,7 @@ impl Session {
     /// Answers a last line without its end, where one has begun.
     pub fn finish<K: Sink>(&mut self, alloc: Global, sink: &mut K) -> Result<(), Stop>
         ensures leads { (bytes : List ℕ) (first : Option (List ℕ)) → Stands bytes first (K.held sink.old) self.old
-            → LinesLead result (lines_of bytes) first (K.held sink.new) self.new }
+            → LinesLead result (whole_lines bytes) (lines_of bytes) first (K.held sink.new) self.new }
         ensures cause { SinkCause (K.faults sink.old) (K.faults sink.new) result }
     {
         if self.line.len() == 0 {

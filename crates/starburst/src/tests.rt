@@ -1,11 +1,13 @@
 //! Scripts over a memory source and a memory sink that take and give pieces of any size and fail at a chosen call.
 
-ghost use Rattle.std.specs.Prelude.{◌<◌, Some};
+ghost use Rattle.std.specs.Prelude.{◌<◌, Some, None};
 
 use crate::{run, run_to};
 use sb_disk::{Failed, Sink, Source};
 use sb_value::Str;
 use std::alloc::{AllocError, Global};
+use std::cell::Cell;
+use std::fs;
 use std::test::Fail;
 
 /// Gives at most `piece` bytes a call, and fails at the call with this number.
@@ -89,6 +91,8 @@ struct Script {
     most: u64,
     status: u8,
     output: &'static [u8],
+    /// What the source has left at the end.
+    left: &'static [u8],
     begun: usize,
 }
 
@@ -100,6 +104,7 @@ const PLAIN: Script = Script {
     most: 1 << 32,
     status: 0,
     output: b"",
+    left: b"",
     begun: 0,
 };
 
@@ -111,7 +116,7 @@ fn creating(alloc: Global) -> Result<Vec<Str>, AllocError> {
     Ok(words)
 }
 
-const SCRIPTS: [Script; 17] = [
+const SCRIPTS: [Script; 19] = [
     PLAIN,
     Script {
         input: b"insert r values (5)\ninsert r values (5)\n",
@@ -172,6 +177,7 @@ const SCRIPTS: [Script; 17] = [
         input: b"insert r values (5)\n",
         source_fails_at: 0,
         status: 4,
+        left: b"insert r values (5)\n",
         ..PLAIN
     },
     Script {
@@ -180,6 +186,7 @@ const SCRIPTS: [Script; 17] = [
         source_fails_at: 1,
         status: 4,
         output: b"ok @8000000000000005\n",
+        left: b"alues (6)\n",
         begun: 1,
         ..PLAIN
     },
@@ -196,19 +203,39 @@ const SCRIPTS: [Script; 17] = [
         sink_fails_at: 1,
         status: 5,
         output: b"ok @",
+        left: b"insert r values (6)\n",
         begun: 1,
+        ..PLAIN
+    },
+    Script {
+        input: b"insert r values (5)\ninsert r values (6)\n",
+        piece: 1,
+        sink_fails_at: 0,
+        status: 5,
+        left: b"insert r values (6)\n",
+        begun: 1,
+        ..PLAIN
+    },
+    Script {
+        input: b"insert r values (5)\ninsert r values (6)\n",
+        sink_fails_at: 1,
+        status: 5,
+        output: b"ok @8000000000000005\n",
+        begun: 2,
         ..PLAIN
     },
     Script {
         input: b"insert r values (5)\n",
         most: 10,
         status: 8,
+        left: b"alues (5)\n",
         ..PLAIN
     },
     Script {
         input: b"insert r values (5)\n",
         most: 19,
         status: 8,
+        left: b"\n",
         ..PLAIN
     },
     Script {
@@ -244,6 +271,7 @@ fn scripts_are_answered(rt: HostRuntime) -> Result<(), Fail> {
         let report = run_to(alloc, &words, &mut source, &mut sink, script.most);
         assert_eq!(rt; report.status, script.status, "script {number}");
         assert_eq!(rt; sink.held.as_slice(), script.output, "script {number}");
+        assert_eq!(rt; source.left, script.left, "script {number}");
         assert_eq!(rt;
             report.starts.as_slice().len(),
             script.begun,
@@ -289,6 +317,162 @@ fn other_words_are_refused(rt: HostRuntime) -> Result<(), Fail> {
         assert_eq!(rt; report.status, *status, "words {number}");
         assert_eq!(rt; sink.held.as_slice(), *output, "words {number}");
         assert!(rt; report.starts.as_slice().is_empty(), "words {number}");
+    }
+    Ok(())
+}
+
+/// Gives a piece a call, and counts the calls at which the sink doesn't hold what it should.
+#[derive(Drop)]
+struct WatchingSource<'a> {
+    /// Each piece with the number of bytes that are to be written when it is asked for.
+    pieces: &'a [(&'static [u8], usize)],
+    given: usize,
+    written: &'a Cell<usize>,
+    untimely: u64,
+    faults: u64,
+}
+
+impl<'a> Source for WatchingSource<'a> {
+    ghost left = { λ _. None };
+
+    ghost faults = { λ s. s.faults };
+
+    fn read(&mut self, buffer: &mut [u8]) -> Result<usize, Failed> {
+        let Some((piece, written)) = self.pieces.get(self.given) else {
+            return Ok(0);
+        };
+        if self.written.get() != *written {
+            self.untimely = self.untimely.saturating_add(1);
+        }
+        let count = piece.len().min(buffer.len());
+        let (front, _) = piece.split_at(count);
+        buffer[..count].copy_from_slice(front);
+        self.given = self.given.saturating_add(1);
+        Ok(count)
+    }
+
+    fn faults(&self) -> u64 {
+        self.faults
+    }
+}
+
+/// Counts the bytes that it takes.
+#[derive(Drop)]
+struct CountingSink<'a> {
+    written: &'a Cell<usize>,
+    faults: u64,
+}
+
+impl<'a> Sink for CountingSink<'a> {
+    ghost held = { λ _. None };
+
+    ghost faults = { λ s. s.faults };
+
+    fn write(&mut self, piece: &[u8]) -> Result<usize, Failed> {
+        self.written
+            .set(self.written.get().saturating_add(piece.len()));
+        Ok(piece.len())
+    }
+
+    fn faults(&self) -> u64 {
+        self.faults
+    }
+}
+
+const TALK: [(&[u8], usize); 8] = [
+    (b"insert r values (5)\n", 0),
+    (b"# a comment\n", 21),
+    (b"insert r values (5)\n", 21),
+    (b"insert r", 35),
+    (b" 5\n", 35),
+    (b"insert r values (6)\ninsert r values (7)\n", 46),
+    (b"insert r values (6)", 88),
+    (b"", 88),
+];
+
+#[test]
+fn replies_are_written_before_more_is_read(rt: HostRuntime) -> Result<(), Fail> {
+    let alloc = rt.alloc();
+    let words = creating(alloc)?;
+    let written = Cell::new(0);
+    let mut source = WatchingSource {
+        pieces: &TALK,
+        given: 0,
+        written: &written,
+        untimely: 0,
+        faults: 0,
+    };
+    let mut sink = CountingSink {
+        written: &written,
+        faults: 0,
+    };
+    let report = run(alloc, &words, &mut source, &mut sink);
+    assert_eq!(rt; report.status, 0);
+    assert_eq!(rt; source.untimely, 0);
+    assert_eq!(rt; source.given, TALK.len());
+    assert_eq!(rt; written.get(), 102);
+    Ok(())
+}
+
+/// Gives the same piece at each of so many calls.
+#[derive(Drop)]
+struct RepeatingSource {
+    piece: &'static [u8],
+    left: u64,
+    faults: u64,
+}
+
+impl Source for RepeatingSource {
+    ghost left = { λ _. None };
+
+    ghost faults = { λ s. s.faults };
+
+    fn read(&mut self, buffer: &mut [u8]) -> Result<usize, Failed> {
+        if self.left == 0 {
+            return Ok(0);
+        }
+        self.left -= 1;
+        let count = self.piece.len().min(buffer.len());
+        let (front, _) = self.piece.split_at(count);
+        buffer[..count].copy_from_slice(front);
+        Ok(count)
+    }
+
+    fn faults(&self) -> u64 {
+        self.faults
+    }
+}
+
+/// The most kilobytes of memory that this process has held so far, where the system tells them.
+fn peak_memory(rt: &HostRuntime) -> Option<u64> {
+    let status = fs::read_to_string(rt, "/proc/self/status").ok()?;
+    let peak = status.lines().find_map(|line| line.strip_prefix("VmHWM:"))?;
+    peak.trim().strip_suffix(" kB")?.parse().ok()
+}
+
+#[test]
+fn passed_input_is_not_kept(rt: HostRuntime) -> Result<(), Fail> {
+    let alloc = rt.alloc();
+    let words = creating(alloc)?;
+    let written = Cell::new(0);
+    let mut source = RepeatingSource {
+        piece: b"# a comment that asks for no reply and has no need to be kept..\n",
+        left: 1 << 18,
+        faults: 0,
+    };
+    let mut sink = CountingSink {
+        written: &written,
+        faults: 0,
+    };
+    let before = peak_memory(&rt);
+    let report = run(alloc, &words, &mut source, &mut sink);
+    assert_eq!(rt; report.status, 0);
+    assert_eq!(rt; source.left, 0);
+    if let (Some(before), Some(after)) = (before, peak_memory(&rt)) {
+        assert!(rt;
+            after.saturating_sub(before) < 8192,
+            "{before} to {after} kB"
+        );
     }
     Ok(())
 }

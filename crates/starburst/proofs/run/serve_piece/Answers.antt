@@ -21,4 +21,5 @@ returns-in-Ok-feed-clause-leads g c = λ bytes first room within serves.
 pub returns-in-Err-feed-clause-leads : goal.returns-in-Err-feed-clause-leads
 returns-in-Err-feed-clause-leads g c = λ bytes first room within serves.
     let fits : length c.read.new.buffer ≤ room = omega arith in
-    plays_to_stop bytes first _ _ _ _ c.args.session.now _ c.in-Err-feed.stop room c.in-Ok.count c.read.new.buffer serves c.in-Ok.ensures.took c.in-Ok.ensures.most fits (c.in-Err-feed.ensures.leads bytes first.held serves.stands)
+    let short : length c.read.new.buffer ≤ 4096 = omega arith in
+    plays_to_stop bytes first _ _ _ _ c.args.session.now _ c.in-Err-feed.stop room c.in-Ok.count c.read.new.buffer serves c.in-Ok.ensures.took c.in-Ok.ensures.most fits short (c.in-Err-feed.ensures.leads bytes first.held serves.stands)

@@ -1,12 +1,21 @@
-use Rattle.std.proofs.Common.{◌≡◌, ℕ, List, ◌++◌, false, sym, ap, subst, ◌∙◌}
+use Rattle.std.proofs.Common.{◌≡◌, ℕ, List, [], ◌∷◌, ◌++◌, false, sym, ap, subst, ◌∙◌}
 use Rattle.std.proofs.lemmas.Result.{err_from_is_err_and}
 use Rattle.sb_disk.specs.Streams.{Given}
 use Rattle.sb_plain.specs.Lines.{without_return, is_passed_over}
 use Rattle.sb_plain.specs.Text.{reply_text}
+use Rattle.starburst.specs.declared.ending.Stop.TheVariants.{NoMemory}
+use Rattle.starburst.specs.Session.{HasStopped}
 use Rattle.starburst.specs.Writing.{GivenFront}
 use Rattle.starburst.specs.Replying.{RepliesTo}
-use Rattle.starburst.proofs.Answering.{answers, stops_at_sink, stops_unprinted}
+use Rattle.starburst.proofs.Answering.{answers, stops_at_sink, stops_unprinted, stops_between}
 use Rattle.starburst.proofs.session.Session.answer.Goals as goal
+
+pub returns-in_err-push-clause-leads : goal.returns-in_err-push-clause-leads
+returns-in_err-push-clause-leads g c = λ lines first answered.
+    let p = err_from_is_err_and c.from_residual.result c.from_residual.ensures.1 in
+    let line = c.args.self.now.line in
+    rw (p.1, p.2) (subst (λ (starts : List ℕ). HasStopped NoMemory lines (lines ++ line ∷ []) first (g.K.Sink.held c.args.sink.now) starts) (sym c.in_err-push.ensures.err)
+    (stops_between lines (line ∷ []) first _ c.args.self.now.starts c.args.self.now.database answered))
 
 pub returns-in_err-print_reply-clause-leads : goal.returns-in_err-print_reply-clause-leads
 returns-in_err-print_reply-clause-leads g c = λ lines first answered.

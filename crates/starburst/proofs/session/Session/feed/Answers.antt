@@ -10,8 +10,8 @@ returns-in_err-take-clause-leads g c = λ bytes first stands.
     let p = err_from_is_err_and c.from_residual.result c.from_residual.ensures.1 in
     let i = c.loop-byte.byte-index in
     let stopped = c.in_err-take.ensures.leads (bytes ++ take i c.args.piece.now) first (c.loop-byte.invariant.stands bytes first stands) in
-    rw (p.1, p.2) (subst (λ (all : List ℕ). HasStopped c.in_err-take.field-0.0 (whole_lines all) first (g.K.Sink.held c.take.new.sink) c.take.new.self.starts) (piece-others bytes c.args.piece.now i c.loop-byte-test.true)
-    (HasStopped-grow c.in_err-take.field-0.0 ((bytes ++ take i c.args.piece.now) ++ get_or c.args.piece.now i 0 ∷ []) (drop (i + 1) c.args.piece.now) first _ _ stopped))
+    rw (p.1, p.2) (subst (λ (all : List ℕ). HasStopped c.in_err-take.field-0.0 (whole_lines bytes) (whole_lines all) first (g.K.Sink.held c.take.new.sink) c.take.new.self.starts) (piece-others bytes c.args.piece.now i c.loop-byte-test.true)
+    (HasStopped-grow c.in_err-take.field-0.0 bytes (take i c.args.piece.now) ((bytes ++ take i c.args.piece.now) ++ get_or c.args.piece.now i 0 ∷ []) (drop (i + 1) c.args.piece.now) first _ _ stopped))
 
 pub loop-byte-preserved : goal.loop-byte-preserved
 loop-byte-preserved g c = record {
