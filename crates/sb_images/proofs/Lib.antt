@@ -1,0 +1,12 @@
+pub mod LayoutLemmas
+pub mod ImageLemmas
+pub mod HoldLemmas
+pub mod StepLemmas
+pub mod CallLemmas
+pub mod WritingLemmas
+pub mod PageLemmas
+pub mod CommitLemmas
+pub mod StoreLemmas
+pub mod RestartLemmas
+pub mod GrownLemmas
+pub mod Worked

@@ -1,0 +1,5 @@
+pub mod Layout
+pub mod Images
+pub mod Store
+pub mod Writing
+pub mod Laws
