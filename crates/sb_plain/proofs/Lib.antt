@@ -2,3 +2,4 @@ pub mod Inserts
 pub mod LinesLemmas
 pub mod PlaysLemmas
 mod Worked
+pub mod WorkedRules

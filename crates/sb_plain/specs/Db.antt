@@ -1,14 +1,16 @@
 -- The plain database: relations under their names, rows under their record keys.
-use Rattle.std.specs.Prelude.{ℕ, codes, List, [], ◌∷◌, Option, Some}
+use Rattle.std.specs.Prelude.{ℕ, not, codes, List, [], ◌∷◌, Option, Some, None}
 use Rattle.std.specs.List.{filter_map}
-use Rattle.std.specs.FinMap.Entries.{put, find}
+use Rattle.std.specs.Str.{bytes_eq}
+use Rattle.std.specs.FinMap.Entries.{put, find, where_key}
 use Rattle.sb_value.specs.declared.value.Value.{Value}
-use Rattle.sb_pred.specs.Columns.{column_value}
-pub use Rattle.sb_rule.specs.Rows.{Name, Row}
 use Rattle.sb_value.specs.declared.schema.Kind.TheVariants as kind
 use Rattle.sb_value.specs.declared.schema.Column.{Column}
 use Rattle.sb_value.specs.Order.{bytes_cmp}
 use Rattle.sb_value.specs.Code.{ordered_code}
+use Rattle.sb_pred.specs.Columns.{column_value}
+use Rattle.sb_rule.specs.declared.rule.Rule.{Rule}
+pub use Rattle.sb_rule.specs.Rows.{Name, Row}
 
 abbrev pub Key : Type 0
 Key = List ℕ
@@ -17,11 +19,18 @@ Key = List ℕ
 abbrev pub Rows : Type 0
 Rows = List (Key × Row)
 
+-- an instance of an attachment, under its name
+pub record Attached : Type 0 where
+  pub name : Name
+  pub rule : Rule
+
+-- a relation with its attachments in call order: by code, and within a code as they were attached
 pub record Relation : Type 0 where
   pub method : ℕ
   pub schema : List Column
   pub key : List Name
   pub rows : Rows
+  pub attachments : List Attached
 
 -- relations under their names, in the order of the names
 abbrev pub Db : Type 0
@@ -38,6 +47,23 @@ row_at rows key = find bytes_cmp key rows
 
 abbrev pub with_row : Rows → Key → Row → Rows
 with_row rows key row = put bytes_cmp key row rows
+
+abbrev pub without_row : Rows → Key → Rows
+without_row rows key = where_key bytes_cmp (λ k. not (bytes_eq k key)) rows
+
+-- the rows and the columns of a relation; none where it isn't there
+abbrev pub rows_at : Db → Name → Rows
+rows_at db name = elim (relation_at db name) [ None ↦ [] | Some r ↦ r.rows ]
+
+abbrev pub schema_at : Db → Name → List Column
+schema_at db name = elim (relation_at db name) [ None ↦ [] | Some r ↦ r.schema ]
+
+-- the database with other rows in a relation that is there
+abbrev pub with_rows : Db → Name → Rows → Db
+with_rows db name rows = elim (relation_at db name) [
+  | None ↦ db
+  | Some r ↦ with_relation db name (record r { rows = rows })
+]
 
 -- the values of a row in the named columns
 abbrev pub values_in : List Column → Row → List Name → List Value
@@ -56,7 +82,7 @@ int_column name = record { name = name; kind = kind.Int; limit = 0 }
 
 -- create r using tree (k int) key (k)
 abbrev pub relation_r : Relation
-relation_r = record { method = tree; schema = int_column (codes "k") ∷ []; key = codes "k" ∷ []; rows = [] }
+relation_r = record { method = tree; schema = int_column (codes "k") ∷ []; key = codes "k" ∷ []; rows = []; attachments = [] }
 
 -- the database in which a run begins: the relation r without rows
 abbrev pub first_db : Db

@@ -23,8 +23,12 @@ pub struct Database {
 
 impl Model for Database {
     ghost use Rattle.sb_plain.specs.Db.{Db};
+    ghost use Rattle.std.specs.Coded.{codes};
+    ghost use Rattle.sb_pred.specs.TreeCode.{tree_code};
 
     ghost Value = { Db };
+
+    ghost coded = { Prim.hlevel (codes, tree_code) };
 
     ghost use Rattle.sb_plain.specs.Held.{database_of};
 
