@@ -1,0 +1,12 @@
+pub mod View
+pub mod HeldLaws
+pub mod Sound
+pub mod ViewLaws
+pub mod ListedLaws
+pub mod DrivingLaws
+pub mod Uses
+pub mod Method
+pub mod MethodAnswers
+pub mod Attachment
+pub mod AttachAnswers
+pub mod Laws
