@@ -1,0 +1,2 @@
+pub mod BoxesLemmas
+pub mod CodesLemmas

@@ -1,0 +1,60 @@
+-- What boxes mean, by the meaning of a value of each type that is boxed.
+use Rattle.std.specs.Prelude.{◌≡◌, ℕ, ◌==◌, Bool, true, false, List, ◌++◌, map, Option}
+use Rattle.std.specs.List.{find}
+use Rattle.sb_ctx.specs.Method.{Method}
+use Rattle.sb_ctx.specs.Attachment.{Attachment}
+use Rattle.sb_registry.specs.declared.extensions.Extensions.{Extensions}
+use Rattle.sb_registry.specs.Codes.{repeated, GoesIf}
+
+-- the box of a code, among what boxes mean
+abbrev pub method_of : ℕ → List Method → Option Method
+method_of code methods = find (λ m. m.rules.code == code) methods
+
+abbrev pub attachment_of : ℕ → List Attachment → Option Attachment
+attachment_of code attachments = find (λ a. a.rules.code == code) attachments
+
+-- what the live and the spare boxes mean
+pub record Meanings : Type 0 where
+  pub methods : List Method
+  pub attachments : List Attachment
+  pub spare_methods : List Method
+  pub spare_attachments : List Attachment
+
+abbrev pub meanings : {I J : Type 0} {F : I → Type 0} {G : J → Type 0} → ((i : I) → F i → Method) → ((j : J) → G j → Attachment) → Extensions I J F G → Meanings
+meanings of_method of_attachment exts = record {
+  methods = map (λ b. of_method b.vtable b.value) exts.methods.items;
+  attachments = map (λ b. of_attachment b.vtable b.value) exts.attachments.items;
+  spare_methods = map (λ b. of_method b.vtable b.value) exts.spare_methods.items;
+  spare_attachments = map (λ b. of_attachment b.vtable b.value) exts.spare_attachments.items;
+}
+
+-- the first code that two boxes of a kind bear: methods first, live ones before spare ones
+abbrev pub repeated_in : Meanings → Option ℕ
+repeated_in m = repeated (map (λ x. x.rules.code) (m.methods ++ m.spare_methods)) (map (λ x. x.rules.code) (m.attachments ++ m.spare_attachments))
+
+-- the same boxes
+pub record AreSame {I J : Type 0} {F : I → Type 0} {G : J → Type 0} (old new : Extensions I J F G) : Type 0 where
+  pub methods : new.methods.items ≡ old.methods.items
+  pub attachments : new.attachments.items ≡ old.attachments.items
+  pub spare_methods : new.spare_methods.items ≡ old.spare_methods.items
+  pub spare_attachments : new.spare_attachments.items ≡ old.spare_attachments.items
+
+-- the spare box of this kind and code is live now, or there is none
+abbrev pub Registered : {I J : Type 0} {F : I → Type 0} {G : J → Type 0} → ((i : I) → F i → Method) → ((j : J) → G j → Attachment)
+    → Bool → ℕ → Bool → Extensions I J F G → Extensions I J F G → Type 0
+Registered of_method of_attachment true code moved old new =
+    GoesIf moved (λ b. (of_method b.vtable b.value).rules.code == code) old.spare_methods.items old.methods.items new.spare_methods.items new.methods.items
+    × (new.attachments.items ≡ old.attachments.items) × (new.spare_attachments.items ≡ old.spare_attachments.items)
+Registered of_method of_attachment false code moved old new =
+    GoesIf moved (λ b. (of_attachment b.vtable b.value).rules.code == code) old.spare_attachments.items old.attachments.items new.spare_attachments.items new.attachments.items
+    × (new.methods.items ≡ old.methods.items) × (new.spare_methods.items ≡ old.spare_methods.items)
+
+-- the live box of this kind and code is spare now, or there is none
+abbrev pub Retired : {I J : Type 0} {F : I → Type 0} {G : J → Type 0} → ((i : I) → F i → Method) → ((j : J) → G j → Attachment)
+    → Bool → ℕ → Bool → Extensions I J F G → Extensions I J F G → Type 0
+Retired of_method of_attachment true code moved old new =
+    GoesIf moved (λ b. (of_method b.vtable b.value).rules.code == code) old.methods.items old.spare_methods.items new.methods.items new.spare_methods.items
+    × (new.attachments.items ≡ old.attachments.items) × (new.spare_attachments.items ≡ old.spare_attachments.items)
+Retired of_method of_attachment false code moved old new =
+    GoesIf moved (λ b. (of_attachment b.vtable b.value).rules.code == code) old.attachments.items old.spare_attachments.items new.attachments.items new.spare_attachments.items
+    × (new.methods.items ≡ old.methods.items) × (new.spare_methods.items ≡ old.spare_methods.items)

@@ -1,0 +1,13 @@
+//! The boxes of the extensions by their codes: the live ones, which commands reach, and the spare ones.
+#![tactic(auto)]
+
+mod boxes;
+mod coded;
+mod extensions;
+mod registry;
+
+pub use extensions::Extensions;
+pub use registry::Registry;
+
+#[cfg(test)]
+mod tests;

@@ -1,0 +1,112 @@
+//! The registry.
+
+ghost use Rattle.std.specs.Prelude.{◌≡◌, Some, None, option_map, IfOk, IfErr, OnErr};
+ghost use Rattle.sb_registry.specs.Boxes.{meanings, repeated_in, method_of, attachment_of, AreSame};
+ghost use Rattle.sb_registry.specs.Boxes.{Registered, Retired};
+
+use crate::Extensions;
+use crate::boxes::{lend_attachment, lend_method};
+use crate::coded::{first_repeated, move_over, place_of};
+use sb_ctx::{Attachment, StorageMethod};
+use std::alloc::AllocError;
+
+/// The live boxes and the spare ones, of which no two of a kind bear one code.
+#[derive(Drop)]
+pub struct Registry {
+    exts: Extensions,
+}
+
+impl Registry {
+    /// Refused where two boxes of a kind bear one code, live or spare, with the boxes and the first code that stands
+    /// before already: storage methods first, live ones before spare ones.
+    pub fn take(exts: Extensions) -> Result<Registry, (u16, Extensions)>
+        ensures ok { IfOk result (λ r. AreSame exts r.exts
+            × (repeated_in (meanings (λ i. (⟦<dyn StorageMethod as StorageMethod>⟧ i).method)
+            (λ j. (⟦<dyn Attachment as Attachment>⟧ j).attachment) exts) ≡ None)) }
+        ensures err { IfErr result (λ e. AreSame exts e.1
+            × (repeated_in (meanings (λ i. (⟦<dyn StorageMethod as StorageMethod>⟧ i).method)
+            (λ j. (⟦<dyn Attachment as Attachment>⟧ j).attachment) exts) ≡ Some e.0)) }
+    {
+        match repeated_code(&exts) {
+            Some(code) => Err((code, exts)),
+            None => Ok(Registry { exts }),
+        }
+    }
+
+    /// The live storage method of this code.
+    pub fn method(&self, code: u16) -> Option<&dyn StorageMethod>
+        ensures { option_map (λ m. (⟦<dyn StorageMethod as StorageMethod>⟧ m.now.0).method m.now.1) result
+            ≡ method_of code (meanings (λ i. (⟦<dyn StorageMethod as StorageMethod>⟧ i).method)
+            (λ j. (⟦<dyn Attachment as Attachment>⟧ j).attachment) self.now.exts).methods }
+    {
+        let i = place_of(&self.exts.methods, code)?;
+        Some(lend_method(&self.exts.methods[i]))
+    }
+
+    /// The live attachment of this code.
+    pub fn attachment(&self, code: u16) -> Option<&dyn Attachment>
+        ensures { option_map (λ a. (⟦<dyn Attachment as Attachment>⟧ a.now.0).attachment a.now.1) result
+            ≡ attachment_of code (meanings (λ i. (⟦<dyn StorageMethod as StorageMethod>⟧ i).method)
+            (λ j. (⟦<dyn Attachment as Attachment>⟧ j).attachment) self.now.exts).attachments }
+    {
+        let i = place_of(&self.exts.attachments, code)?;
+        Some(lend_attachment(&self.exts.attachments[i]))
+    }
+
+    /// Moves the spare box of this code to the live ones: a storage method or an attachment. False where none is
+    /// spare. Where memory runs out all stays as it was.
+    pub fn register(&mut self, method: bool, code: u16) -> Result<bool, AllocError>
+        ensures ok { IfOk result (λ moved. Registered (λ i. (⟦<dyn StorageMethod as StorageMethod>⟧ i).method)
+            (λ j. (⟦<dyn Attachment as Attachment>⟧ j).attachment)
+            method code moved self.old.exts self.new.exts) }
+        ensures err { OnErr result (AreSame self.old.exts self.new.exts) }
+    {
+        if method {
+            move_over(&mut self.exts.spare_methods, &mut self.exts.methods, code)
+        } else {
+            move_over(
+                &mut self.exts.spare_attachments,
+                &mut self.exts.attachments,
+                code,
+            )
+        }
+    }
+
+    /// Moves the live box of this code to the spare ones. False where none is live. Where memory runs out all stays
+    /// as it was.
+    pub fn retire(&mut self, method: bool, code: u16) -> Result<bool, AllocError>
+        ensures ok { IfOk result (λ moved. Retired (λ i. (⟦<dyn StorageMethod as StorageMethod>⟧ i).method)
+            (λ j. (⟦<dyn Attachment as Attachment>⟧ j).attachment)
+            method code moved self.old.exts self.new.exts) }
+        ensures err { OnErr result (AreSame self.old.exts self.new.exts) }
+    {
+        if method {
+            move_over(&mut self.exts.methods, &mut self.exts.spare_methods, code)
+        } else {
+            move_over(
+                &mut self.exts.attachments,
+                &mut self.exts.spare_attachments,
+                code,
+            )
+        }
+    }
+
+    /// All boxes.
+    pub fn give_back(self) -> Extensions
+        ensures { AreSame self.exts result }
+    {
+        let Registry { exts } = self;
+        exts
+    }
+}
+
+/// The first code that two boxes of a kind bear.
+fn repeated_code(exts: &Extensions) -> Option<u16>
+    ensures { result ≡ repeated_in (meanings (λ i. (⟦<dyn StorageMethod as StorageMethod>⟧ i).method)
+        (λ j. (⟦<dyn Attachment as Attachment>⟧ j).attachment) exts.now) }
+{
+    match first_repeated(&exts.methods, &exts.spare_methods) {
+        Some(code) => Some(code),
+        None => first_repeated(&exts.attachments, &exts.spare_attachments),
+    }
+}
