@@ -4,3 +4,4 @@ pub mod Replied
 pub mod Answering
 pub mod Taking
 pub mod Serving
+pub mod Worked

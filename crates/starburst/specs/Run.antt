@@ -46,7 +46,7 @@ pub record KeepsUp (taken : List ℕ) (replies : List Reply) (written : List ℕ
   pub short : length piece ≤ 4096
   pub replied : AreReplied (whole_lines before) replies written
 
--- where a line couldn't be answered, it ended in that piece; at any other end all replies are written
+-- Where a line couldn't be answered, the run had kept up until the last piece; at any other end all replies are written.
 abbrev pub WritesInTime : Ending → List ℕ → List Reply → List ℕ → Type 0
 WritesInTime (Stopped stop) taken replies written = KeepsUp taken replies written
 WritesInTime _ taken replies written = Unit {0}
