@@ -3,16 +3,16 @@ use Rattle.std.specs.Prelude.{◌≡◌, ℕ, ◌<◌, ◌==◌, Bool, true, fal
 use Rattle.std.specs.Ordering.{is_lt}
 use Rattle.std.specs.List.{find as first}
 use Rattle.sb_value.specs.Order.{bytes_cmp}
-use Rattle.sb_plain.specs.declared.image.Image.{Image}
+use Rattle.sb_relation.specs.declared.image.Image.{Image}
 use Rattle.sb_rule.specs.declared.change.Change.{Change}
 use Rattle.sb_rule.specs.declared.change.Change.TheVariants as change
 use Rattle.sb_rule.specs.declared.rule.Rule.{Rule}
 use Rattle.sb_rule.specs.declared.rule.Rule.TheVariants.{TreeIndex, Check, Refers}
-use Rattle.sb_plain.specs.Changes.{changed, changed_rows}
-use Rattle.sb_plain.specs.Db.{Key, Row, Rows, Db, row_at, rows_at, with_row, with_rows}
-use Rattle.sb_plain.specs.Images.{Entry, image, page_image, is_before}
-use Rattle.sb_plain.specs.Lawful.{AreRows}
-use Rattle.sb_plain.specs.Rules.{admits, follows, late_actions, late_checks, holds, entry_fails}
+use Rattle.sb_relation.specs.Changes.{changed, changed_rows}
+use Rattle.sb_relation.specs.Db.{Key, Row, Rows, Db, row_at, rows_at, with_row, with_rows}
+use Rattle.sb_relation.specs.Images.{Entry, image, page_image, is_before}
+use Rattle.sb_relation.specs.Lawful.{AreRows}
+use Rattle.sb_relation.specs.Rules.{admits, follows, late_actions, late_checks, holds, entry_fails}
 use Rattle.sb_forms.specs.Pages.{Pages, new_pages}
 use Rattle.sb_ctx.specs.declared.instance.Instance.{Instance}
 use Rattle.sb_ctx.specs.declared.calls.AttachCall.{AttachCall}

@@ -1,17 +1,17 @@
 -- What a box of an attachment means, and the conditions of its calls.
 use Rattle.std.specs.Prelude.{◌≡◌, true, false, Option, Some, None, IfSome}
 use Rattle.sb_value.specs.Fits.{Fits}
-use Rattle.sb_plain.specs.declared.image.Image.{Image}
+use Rattle.sb_relation.specs.declared.image.Image.{Image}
 use Rattle.sb_rule.specs.declared.change.Change.{Change}
 use Rattle.sb_rule.specs.declared.change.Change.TheVariants as change
 use Rattle.sb_rule.specs.declared.rule.Rule.{Rule}
 use Rattle.sb_rule.specs.Bound.{row_before, row_after}
 use Rattle.sb_rule.specs.Spelling.{SpellsRule}
-use Rattle.sb_plain.specs.Db.{Row, Rows, Relation, Db, relation_at, row_at}
-use Rattle.sb_plain.specs.Fits.{MayStand}
-use Rattle.sb_plain.specs.Foreign.{AttachRules}
-use Rattle.sb_plain.specs.Keys.{is_record_key}
-use Rattle.sb_plain.specs.Lawful.{IsRow, AreRows, is_long_for}
+use Rattle.sb_relation.specs.Db.{Row, Rows, Relation, Db, relation_at, row_at}
+use Rattle.sb_relation.specs.Fits.{MayStand}
+use Rattle.sb_relation.specs.Foreign.{AttachRules}
+use Rattle.sb_relation.specs.Keys.{is_record_key}
+use Rattle.sb_relation.specs.Lawful.{IsRow, AreRows, is_long_for}
 use Rattle.sb_forms.specs.Pages.{Pages}
 use Rattle.sb_ctx.specs.declared.instance.Instance.{Instance}
 

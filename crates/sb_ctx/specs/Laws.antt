@@ -1,8 +1,8 @@
 -- What holds of every box, beside what its calls promise.
 use Rattle.std.specs.Prelude.{◌≡◌, true, Some}
-use Rattle.sb_plain.specs.Db.{Rows}
-use Rattle.sb_plain.specs.Images.{no_image}
-use Rattle.sb_plain.specs.Lawful.{AreRows}
+use Rattle.sb_relation.specs.Db.{Rows}
+use Rattle.sb_relation.specs.Images.{no_image}
+use Rattle.sb_relation.specs.Lawful.{AreRows}
 use Rattle.sb_forms.specs.Pages.{Pages}
 use Rattle.sb_forms.specs.ListPages.{list_rows}
 use Rattle.sb_ctx.specs.declared.instance.Instance.{Instance}

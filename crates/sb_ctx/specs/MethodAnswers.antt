@@ -3,8 +3,8 @@ use Rattle.std.specs.Prelude.{◌≡◌, ℕ, Bool, true, [], Option, Some, None
 use Rattle.std.specs.Ordering.{is_lt}
 use Rattle.std.specs.List.{find as first}
 use Rattle.sb_value.specs.Order.{bytes_cmp}
-use Rattle.sb_plain.specs.Db.{Key, Row, Rows, row_at, with_row, without_row}
-use Rattle.sb_plain.specs.Keys.{NewKeys, AnyOf, Just, Taken, NoGreater, keying_of, new_keys}
+use Rattle.sb_relation.specs.Db.{Key, Row, Rows, row_at, with_row, without_row}
+use Rattle.sb_relation.specs.Keys.{NewKeys, AnyOf, Just, Taken, NoGreater, keying_of, new_keys}
 use Rattle.sb_forms.specs.Pages.{Pages, new_pages}
 use Rattle.sb_ctx.specs.declared.instance.Instance.{Instance}
 use Rattle.sb_ctx.specs.declared.calls.MethodCall.{MethodCall}

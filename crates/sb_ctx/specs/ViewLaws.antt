@@ -3,7 +3,7 @@ use Rattle.std.proofs.Common.{◌≡◌, ℕ, ◌+◌, ◌≤◌, ◌==◌, Bool
 use Rattle.std.specs.List.{find as first}
 use Rattle.std.proofs.lemmas.Bool.{and_parts, and_right, cond-true, cond-false}
 use Rattle.std.proofs.lemmas.Option.{same_Some}
-use Rattle.sb_plain.specs.Fits.{is_empty}
+use Rattle.sb_relation.specs.Fits.{is_empty}
 use Rattle.sb_forms.specs.Pages.{Pages, IsNext}
 use Rattle.sb_ctx.specs.View.{HeldPage, View, held_at, page_of, room_of, next_of, spliced, bytes_put, with_page, free_page, as_given, dropped, HoldsPart, stored}
 use Rattle.sb_ctx.specs.HeldLaws.{Entries, page_in, with_bytes, page_in-cons, page_in-each, page_in-bytes_put, page_in-place, each-each, each-bytes_put}

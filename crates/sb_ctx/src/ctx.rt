@@ -4,7 +4,7 @@ ghost use Rattle.std.specs.Prelude.{◌≡◌, ◌≢◌, ◌+◌, ◌≤◌, []
 ghost use Rattle.std.specs.List.{slice_get, position};
 ghost use Rattle.std.specs.Ordering.{nat_cmp};
 ghost use Rattle.std.specs.FinMap.Entries.{put};
-ghost use Rattle.sb_plain.specs.Fits.{is_empty};
+ghost use Rattle.sb_relation.specs.Fits.{is_empty};
 ghost use Rattle.sb_forms.specs.Pages.{zeros};
 ghost use Rattle.sb_ctx.specs.Sound.{IsSound, MayBeHeld};
 ghost use Rattle.sb_ctx.specs.View.{nothing, page_of, next_of, found_of, with_page, free_page, as_given, dropped, edited_pages, fresh_pages, freed_pages, with_held, given_page, fresh_page, with_next, with_found, spliced, room_of};

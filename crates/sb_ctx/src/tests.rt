@@ -3,7 +3,7 @@
 ghost use Rattle.std.specs.Prelude.{◌≡◌, IfOk};
 
 use crate::{Actions, Checks, Ctx, Keys};
-use sb_plain::{Action, Pairs};
+use sb_relation::{Action, Pairs};
 use sb_value::{Bytes, Names, RecKey, Str, Tuple, Value};
 use std::alloc::{AllocError, Global};
 use std::test::Fail;

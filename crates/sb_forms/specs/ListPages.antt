@@ -9,8 +9,8 @@ use Rattle.sb_value.specs.declared.schema.Kind.{Kind}
 use Rattle.sb_value.specs.declared.schema.Kind.TheVariants as kind
 use Rattle.sb_value.specs.declared.schema.Column.{Column}
 use Rattle.sb_value.specs.Order.{bytes_cmp}
-use Rattle.sb_plain.specs.Db.{Name, Key, Row, Rows}
-use Rattle.sb_plain.specs.Fits.{is_empty}
+use Rattle.sb_relation.specs.Db.{Name, Key, Row, Rows}
+use Rattle.sb_relation.specs.Fits.{is_empty}
 use Rattle.sb_forms.specs.Pages.{Pages}
 
 -- the numbers of the instance's pages, rising

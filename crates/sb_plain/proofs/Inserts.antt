@@ -12,7 +12,7 @@ use Rattle.sb_plain.specs.declared.command.Command.TheVariants.{Insert}
 use Rattle.sb_plain.specs.declared.reply.Refusal.TheVariants.{Duplicate}
 use Rattle.sb_plain.specs.declared.reply.Reply.{Reply}
 use Rattle.sb_plain.specs.declared.reply.Reply.TheVariants.{Done, Refused}
-use Rattle.sb_plain.specs.Db.{Name, Key, Row, Rows, Db, row_at, with_row}
+use Rattle.sb_relation.specs.Db.{Name, Key, Row, Rows, Db, row_at, with_row}
 use Rattle.sb_plain.specs.Step.{State, Outcome, Made, Stopped, Going, ◌>>=◌, work, committed, db_or_empty, with_commit, turn_of}
 use Rattle.sb_plain.specs.declared.token.Sign.TheVariants.{Open, Close}
 use Rattle.sb_plain.specs.declared.token.Token.{Token}

@@ -2,4 +2,3 @@ pub mod Inserts
 pub mod LinesLemmas
 pub mod PlaysLemmas
 mod Worked
-pub mod WorkedRules

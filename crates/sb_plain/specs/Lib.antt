@@ -1,5 +1,4 @@
 pub mod Held
-pub mod Db
 pub mod Step
 pub mod Lang
 pub mod Tokens
@@ -7,12 +6,3 @@ pub mod Grammar
 pub mod Lines
 pub mod Plays
 pub mod Text
-pub mod Foreign
-pub mod Keys
-pub mod Changes
-pub mod Rules
-pub mod Images
-pub mod Fits
-pub mod Lawful
-pub mod Build
-pub mod Limits

@@ -4,7 +4,7 @@ use Rattle.sb_plain.specs.declared.command.Command.{Command}
 use Rattle.sb_plain.specs.declared.reply.Refusal.TheVariants.{Syntax, NoMemory}
 use Rattle.sb_plain.specs.declared.reply.Reply.{Reply}
 use Rattle.sb_plain.specs.declared.reply.Reply.TheVariants.{Refused}
-use Rattle.sb_plain.specs.Db.{Key, Db}
+use Rattle.sb_relation.specs.Db.{Key, Db}
 use Rattle.sb_plain.specs.Step.{State, committed, step}
 use Rattle.sb_plain.specs.Lines.{Item, Says, Bad}
 

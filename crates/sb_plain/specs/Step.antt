@@ -7,7 +7,8 @@ use Rattle.sb_plain.specs.declared.reply.Refusal.{Refusal}
 use Rattle.sb_plain.specs.declared.reply.Refusal.TheVariants.{Duplicate}
 use Rattle.sb_plain.specs.declared.reply.Reply.{Reply}
 use Rattle.sb_plain.specs.declared.reply.Reply.TheVariants.{Done, Refused}
-use Rattle.sb_plain.specs.Db.{Name, Key, Row, Relation, Db, relation_at, with_relation, row_at, with_row, key_of, first_db}
+use Rattle.sb_plain.specs.Held.{first_db}
+use Rattle.sb_relation.specs.Db.{Name, Key, Row, Relation, Db, relation_at, with_relation, row_at, with_row, key_of}
 
 -- what comes of a piece of work: a value, a refusal, or nothing where these picks give no step
 pub data Outcome (A : Type 0) : Type 0 where

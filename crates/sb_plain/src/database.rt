@@ -5,9 +5,8 @@ ghost use Rattle.std.specs.List.{list_any};
 ghost use Rattle.std.specs.Ordering.{is_gt, eq_by_cmp};
 ghost use Rattle.sb_value.specs.Code.{ordered_code};
 ghost use Rattle.sb_value.specs.Order.{bytes_cmp};
-ghost use Rattle.sb_plain.specs.Db.{first_db};
 ghost use Rattle.sb_plain.specs.Grammar.{IsSpelled};
-ghost use Rattle.sb_plain.specs.Held.{IsOneInt};
+ghost use Rattle.sb_plain.specs.Held.{IsOneInt, first_db};
 ghost use Rattle.sb_plain.specs.Plays.{Executes};
 
 use crate::{Command, Picks, Refusal, Reply};
@@ -22,7 +21,7 @@ pub struct Database {
 }
 
 impl Model for Database {
-    ghost use Rattle.sb_plain.specs.Db.{Db};
+    ghost use Rattle.sb_relation.specs.Db.{Db};
     ghost use Rattle.std.specs.Coded.{codes};
     ghost use Rattle.sb_pred.specs.TreeCode.{tree_code};
 

@@ -1,11 +1,11 @@
 //! What no clause says: that calls succeed while memory lasts. And which boxes are refused, with codes from outside.
 
 ghost use Rattle.std.specs.Prelude.{◌≡◌, ◌+◌, true, Some, None};
-ghost use Rattle.sb_plain.specs.Images.{no_image};
+ghost use Rattle.sb_relation.specs.Images.{no_image};
 
 use crate::{Extensions, Registry};
 use sb_ctx::{Attachment, Ctx, Instance, Move, StorageMethod};
-use sb_plain::Change;
+use sb_relation::Change;
 use sb_value::{Bytes, Names, RecKey, Schema, Tuple};
 use std::alloc::{AllocError, Global};
 use std::test::*;

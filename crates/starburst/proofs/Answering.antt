@@ -3,7 +3,7 @@ use Rattle.std.proofs.Common.{◌≡◌, ℕ, ◌+◌, true, false, Option, List
 use Rattle.sb_disk.specs.Streams.{Given}
 use Rattle.sb_disk.proofs.StreamLemmas.{Given-more}
 use Rattle.sb_plain.specs.declared.reply.Reply.{Reply}
-use Rattle.sb_plain.specs.Db.{Db}
+use Rattle.sb_relation.specs.Db.{Db}
 use Rattle.sb_plain.specs.Step.{State, committed, first_state}
 use Rattle.sb_plain.specs.Lines.{Item, asking, is_passed_over, without_return, AreItems}
 use Rattle.sb_plain.specs.Plays.{Plays, last_state}

@@ -3,7 +3,7 @@ use Rattle.std.proofs.Common.{◌≡◌, ℕ, suc, ◌≤◌, Option, List, [], 
 use Rattle.std.proofs.lemmas.List.{append-nil, take-append-drop, length-take-le}
 use Rattle.std.proofs.lemmas.Grind.{flat_map-append}
 use Rattle.sb_plain.specs.declared.reply.Reply.{Reply}
-use Rattle.sb_plain.specs.Db.{Db}
+use Rattle.sb_relation.specs.Db.{Db}
 use Rattle.sb_plain.specs.Step.{State, first_state}
 use Rattle.sb_plain.specs.Lines.{Item, asking, AreItems}
 use Rattle.sb_plain.specs.Plays.{Plays}

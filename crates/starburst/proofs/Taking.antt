@@ -1,7 +1,7 @@
 -- What a run has done, after one byte more.
 use Rattle.std.proofs.Common.{◌≡◌, ◌≢◌, ◌<◌, ◌≤◌, ◌+◌, ℕ, ◌==◌, false, Option, List, [], ◌∷◌, ◌++◌, length, take, drop, get_or, refl, sym, ◌∙◌, ap, subst, arith, append_assoc}
 use Rattle.std.proofs.lemmas.List.{append-nil, take_more, take_all, take-append-drop}
-use Rattle.sb_plain.specs.Db.{Db}
+use Rattle.sb_relation.specs.Db.{Db}
 use Rattle.sb_plain.specs.Lines.{cut, whole_lines}
 use Rattle.sb_plain.proofs.LinesLemmas.{whole_lines-end, begun-end, whole_lines-byte, begun-byte, whole_lines-grow, AreFirstItems-grow}
 use Rattle.starburst.specs.declared.ending.Stop.{Stop}

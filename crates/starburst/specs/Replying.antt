@@ -1,7 +1,7 @@
 -- The reply to one line.
 use Rattle.std.specs.Prelude.{◌≡◌, ℕ, List}
 use Rattle.sb_plain.specs.declared.reply.Reply.{Reply}
-use Rattle.sb_plain.specs.Db.{Db}
+use Rattle.sb_relation.specs.Db.{Db}
 use Rattle.sb_plain.specs.Step.{State, committed}
 use Rattle.sb_plain.specs.Lines.{Item, IsItem}
 use Rattle.sb_plain.specs.Plays.{Moves}

@@ -2,7 +2,7 @@
 use Rattle.std.specs.Prelude.{◌≡◌, ℕ, Option, List, length, Result, Ok, Err}
 use Rattle.sb_disk.specs.Streams.{Given}
 use Rattle.sb_plain.specs.declared.reply.Reply.{Reply}
-use Rattle.sb_plain.specs.Db.{Db}
+use Rattle.sb_relation.specs.Db.{Db}
 use Rattle.sb_plain.specs.Step.{State, committed, first_state}
 use Rattle.sb_plain.specs.Lines.{Item, cut, asking, AreItems, AreFirstItems, whole_lines}
 use Rattle.sb_plain.specs.Plays.{Plays, last_state}

@@ -4,7 +4,7 @@ use Rattle.sb_plain.specs.declared.reply.Refusal.TheVariants.{Duplicate}
 use Rattle.sb_plain.specs.declared.reply.Reply.TheVariants.{Done, Refused}
 use Rattle.std.proofs.Common.{Some}
 use Rattle.sb_value.specs.Code.{ordered_code}
-use Rattle.sb_plain.specs.Db.{Name, Key, Rows, Db}
+use Rattle.sb_relation.specs.Db.{Name, Key, Rows, Db}
 use Rattle.sb_plain.specs.Plays.{Executes}
 use Rattle.sb_plain.specs.Held.{database_of}
 use Rattle.sb_plain.proofs.Inserts.{has_key, refuses, adds_at}

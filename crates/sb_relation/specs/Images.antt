@@ -8,13 +8,13 @@ use Rattle.sb_value.specs.declared.schema.Column.{Column}
 use Rattle.sb_value.specs.Code.{ordered_code}
 use Rattle.sb_value.specs.Order.{bytes_cmp}
 use Rattle.sb_pred.specs.Columns.{column_value}
-use Rattle.sb_plain.specs.declared.image.Image.{Image}
+use Rattle.sb_relation.specs.declared.image.Image.{Image}
 use Rattle.sb_rule.specs.declared.rule.Side.TheVariants.{Main, Mirror}
 use Rattle.sb_rule.specs.declared.rule.Rule.{Rule}
 use Rattle.sb_rule.specs.declared.rule.Rule.TheVariants.{TreeIndex, HashIndex, JoinIndex, Stats, Foreign}
-use Rattle.sb_plain.specs.Db.{Name, Key, Rows, Db, rows_at, schema_at, values_in}
-use Rattle.sb_plain.specs.Foreign.{AttachRules}
-use Rattle.sb_plain.specs.Rules.{has_values}
+use Rattle.sb_relation.specs.Db.{Name, Key, Rows, Db, rows_at, schema_at, values_in}
+use Rattle.sb_relation.specs.Foreign.{AttachRules}
+use Rattle.sb_relation.specs.Rules.{has_values}
 
 -- two keys, the second one a record key
 abbrev pub Entry : Type 0

@@ -16,8 +16,8 @@ use Rattle.sb_rule.specs.declared.action.Action.{Action}
 use Rattle.sb_rule.specs.declared.action.Action.TheVariants as action
 use Rattle.sb_rule.specs.declared.rule.Rule.{Rule}
 use Rattle.sb_rule.specs.declared.rule.Rule.TheVariants.{TreeIndex, HashIndex, JoinIndex, Stats, Check, Refers, Trigger, Foreign}
-use Rattle.sb_plain.specs.Db.{Name, Db, relation_at, schema_at}
-use Rattle.sb_plain.specs.Foreign.{MethodRules, AttachRules}
+use Rattle.sb_relation.specs.Db.{Name, Db, relation_at, schema_at}
+use Rattle.sb_relation.specs.Foreign.{MethodRules, AttachRules}
 
 -- ---- relations that a rule names
 abbrev pub relation_of : Action → Name

@@ -4,7 +4,7 @@ use Rattle.sb_rule.specs.declared.rule.Side.TheVariants.{Main, Mirror}
 use Rattle.sb_rule.specs.declared.rule.Rule.{Rule}
 use Rattle.sb_rule.specs.declared.rule.Rule.TheVariants.{JoinIndex, Refers}
 use Rattle.sb_rule.specs.Spelling.{rule_code}
-use Rattle.sb_plain.specs.Db.{Name, Attached, Db, relation_at, with_relation}
+use Rattle.sb_relation.specs.Db.{Name, Attached, Db, relation_at, with_relation}
 
 -- the name of the mirror of an instance: its relation, a dot and its own name
 abbrev pub mirror_name : Name → Name → Name

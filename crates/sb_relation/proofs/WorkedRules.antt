@@ -13,12 +13,12 @@ use Rattle.sb_rule.specs.declared.action.Action.TheVariants as action
 use Rattle.sb_rule.specs.declared.change.Change.TheVariants.{Insert, Delete, Update}
 use Rattle.sb_rule.specs.declared.rule.Rule.{Rule}
 use Rattle.sb_rule.specs.declared.rule.Rule.TheVariants.{TreeIndex, JoinIndex, Stats, Check, Refers, Trigger}
-use Rattle.sb_plain.specs.Build.{with_rule}
-use Rattle.sb_plain.specs.Changes.{changed}
-use Rattle.sb_plain.specs.Db.{Name, Key, Rows, Relation, Db, int_column, with_relation, tree}
-use Rattle.sb_plain.specs.Images.{image, entries_only}
-use Rattle.sb_plain.specs.Keys.{Coded, Counted, Just, Taken, new_keys}
-use Rattle.sb_plain.specs.Rules.{admits, follows}
+use Rattle.sb_relation.specs.Build.{with_rule}
+use Rattle.sb_relation.specs.Changes.{changed}
+use Rattle.sb_relation.specs.Db.{Name, Key, Rows, Relation, Db, int_column, with_relation, tree}
+use Rattle.sb_relation.specs.Images.{image, entries_only}
+use Rattle.sb_relation.specs.Keys.{Coded, Counted, Just, Taken, new_keys}
+use Rattle.sb_relation.specs.Rules.{admits, follows}
 
 abbrev int : ℕ → Value
 int n = value.Int (pos n)

@@ -2,7 +2,7 @@
 use Rattle.std.specs.Prelude.{Bool, true}
 use Rattle.sb_rule.specs.declared.change.Change.{Change}
 use Rattle.sb_rule.specs.declared.change.Change.TheVariants.{Insert, Delete, Update}
-use Rattle.sb_plain.specs.Db.{Name, Key, Row, Rows, Db, with_row, without_row, rows_at, with_rows}
+use Rattle.sb_relation.specs.Db.{Name, Key, Row, Rows, Db, with_row, without_row, rows_at, with_rows}
 
 -- the rows after a change
 abbrev pub changed_rows : Rows → Change → Rows

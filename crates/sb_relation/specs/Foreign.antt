@@ -2,8 +2,8 @@
 use Rattle.std.specs.Prelude.{ℕ, ◌==◌, Bool, cond, List, [], ◌∷◌, Option, Some, None}
 use Rattle.sb_value.specs.declared.schema.Column.{Column}
 use Rattle.sb_rule.specs.declared.change.Change.{Change}
-use Rattle.sb_plain.specs.declared.image.Image.{Image}
-use Rattle.sb_plain.specs.Db.{Name, Rows, Db}
+use Rattle.sb_relation.specs.declared.image.Image.{Image}
+use Rattle.sb_relation.specs.Db.{Name, Rows, Db}
 
 -- a storage method: its code, whether its relations outlive a run, and whether it keeps relations of these columns and this key
 pub record MethodRules : Type 0 where

@@ -9,8 +9,8 @@ use Rattle.sb_value.specs.Order.{bytes_cmp}
 use Rattle.sb_codec.specs.Tuples.{IsTuple, tuple_spelling}
 use Rattle.sb_rule.specs.declared.rule.Rule.{Rule}
 use Rattle.sb_rule.specs.declared.rule.Rule.TheVariants.{TreeIndex, HashIndex}
-use Rattle.sb_plain.specs.Db.{Name, Row, Rows, Relation, values_in}
-use Rattle.sb_plain.specs.Keys.{is_record_key}
+use Rattle.sb_relation.specs.Db.{Name, Row, Rows, Relation, values_in}
+use Rattle.sb_relation.specs.Keys.{is_record_key}
 
 -- the ordered code of the columns has more than 200 bytes
 abbrev pub is_long_code : List Column → List Name → Row → Bool

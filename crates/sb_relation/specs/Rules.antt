@@ -22,9 +22,9 @@ use Rattle.sb_rule.specs.declared.change.Change.TheVariants as change
 use Rattle.sb_rule.specs.declared.rule.Rule.{Rule}
 use Rattle.sb_rule.specs.declared.rule.Rule.TheVariants.{TreeIndex, HashIndex, JoinIndex, Stats, Check, Refers, Trigger, Foreign}
 use Rattle.sb_rule.specs.Bound.{row_before, row_after, bound}
-use Rattle.sb_plain.specs.Db.{Name, Key, Row, Rows, Db, rows_at, schema_at, values_in}
-use Rattle.sb_plain.specs.Foreign.{AttachRules}
-use Rattle.sb_plain.specs.Changes.{of_new, of_old}
+use Rattle.sb_relation.specs.Db.{Name, Key, Row, Rows, Db, rows_at, schema_at, values_in}
+use Rattle.sb_relation.specs.Foreign.{AttachRules}
+use Rattle.sb_relation.specs.Changes.{of_new, of_old}
 
 -- ---- rows by their columns
 -- the row has these values in the named columns

@@ -79,11 +79,3 @@ tree = 2
 
 abbrev pub int_column : Name → Column
 int_column name = record { name = name; kind = kind.Int; limit = 0 }
-
--- create r using tree (k int) key (k)
-abbrev pub relation_r : Relation
-relation_r = record { method = tree; schema = int_column (codes "k") ∷ []; key = codes "k" ∷ []; rows = []; attachments = [] }
-
--- the database in which a run begins: the relation r without rows
-abbrev pub first_db : Db
-first_db = with_relation [] (codes "r") relation_r

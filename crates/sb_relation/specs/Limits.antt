@@ -12,7 +12,7 @@ use Rattle.sb_rule.specs.declared.action.Action.TheVariants as action
 use Rattle.sb_rule.specs.declared.rule.Rule.{Rule}
 use Rattle.sb_rule.specs.declared.rule.Rule.TheVariants.{JoinIndex, Check, Refers, Trigger}
 use Rattle.sb_rule.specs.Spelling.{names_spelling, rule_spelling}
-use Rattle.sb_plain.specs.Db.{Name, Relation, Db, relation_at}
+use Rattle.sb_relation.specs.Db.{Name, Relation, Db, relation_at}
 
 -- the bytes of a relation's descriptor: its numbers, its columns and key, and each attachment with its rule
 abbrev pub descriptor_len : Relation → ℕ

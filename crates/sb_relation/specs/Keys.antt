@@ -2,7 +2,7 @@
 use Rattle.std.specs.Prelude.{ℕ, ◌+◌, ◌-◌, ◌^◌, ◌==◌, nat_le, nat_lt, Bool, false, cond, ◌&&◌, ◌||◌, [], ◌∷◌, length, Option, Some, None, is_none}
 use Rattle.std.specs.Int.{to_be_bytes, from_be_bytes, w64}
 use Rattle.std.specs.Str.{bytes_eq}
-use Rattle.sb_plain.specs.Db.{Key, Rows, row_at}
+use Rattle.sb_relation.specs.Db.{Key, Rows, row_at}
 
 -- picked by the method, the ordered code of the key columns, or counted from 1
 pub data Keying : Type 0 where

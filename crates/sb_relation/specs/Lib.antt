@@ -1,0 +1,10 @@
+pub mod Db
+pub mod Foreign
+pub mod Keys
+pub mod Changes
+pub mod Rules
+pub mod Images
+pub mod Fits
+pub mod Lawful
+pub mod Build
+pub mod Limits
