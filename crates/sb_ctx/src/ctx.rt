@@ -1,6 +1,6 @@
 //! What a boxed call sees.
 
-ghost use Rattle.std.specs.Prelude.{◌≡◌, ◌≢◌, ◌+◌, ◌≤◌, [], ◌==◌, map, length, take_while, nat_lt, ◌&&◌, IsSome, IfSome, OnOk, OnErr, option_map, MatchOption};
+ghost use Rattle.std.specs.Prelude.{◌≡◌, ◌≢◌, ◌+◌, ◌-◌, ◌^◌, min, ◌≤◌, [], ◌==◌, map, length, take_while, nat_lt, ◌&&◌, IsSome, IfSome, OnOk, OnErr, option_map, MatchOption};
 ghost use Rattle.std.specs.List.{slice_get, position};
 ghost use Rattle.std.specs.Ordering.{nat_cmp};
 ghost use Rattle.std.specs.FinMap.Entries.{put};
@@ -110,6 +110,13 @@ impl Ctx {
             .iter()
             .find(|found| found.answers(relation, columns, values))?;
         Some(&found.keys)
+    }
+
+    /// How many finds are answered, or 2^32 - 1 where there are more. A call may ask for eight.
+    pub fn finds(&self) -> u32
+        ensures { result ≡ min (length self.now.found) (2 ^ 32 - 1) }
+    {
+        self.found.len().min(u32::MAX as usize) as u32
     }
 
     /// How often something was given to this Ctx, or 2^32 - 1 where it was oftener.

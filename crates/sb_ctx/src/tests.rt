@@ -231,6 +231,7 @@ fn found_keys(rt: HostRuntime) -> Result<(), Fail> {
     }
     assert_eq!(rt; keys.as_slice().len(), 2);
     assert_eq!(rt; ctx.asks(), 1);
+    assert_eq!(rt; ctx.finds(), 1);
     Ok(())
 }
 

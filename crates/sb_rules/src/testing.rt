@@ -1,0 +1,92 @@
+//! What a check answers.
+
+ghost use Rattle.std.specs.Prelude.{◌≡◌, ◌∷◌, [], map, IfOk};
+ghost use Rattle.std.specs.Option.{option_copied};
+ghost use Rattle.sb_codec.specs.Tuples.{tuple_spelling, IsTuple};
+ghost use Rattle.sb_ctx.specs.View.{found_of};
+ghost use Rattle.sb_ctx.specs.AttachAnswers.{AsksFor};
+ghost use Rattle.sb_rule.specs.Bound.{row_after};
+ghost use Rattle.sb_ctx.specs.declared.moves.Move.TheVariants.{Find as Finds};
+ghost use Rattle.sb_rules.specs.Checks.{verdict_of, queued, asked, IsOrMemory};
+
+use crate::keeping::names_of;
+use sb_codec::encode_tuple;
+use sb_ctx::{Actions, Checks, Ctx, Instance, Move};
+use sb_relation::Change;
+use sb_value::{Names, Tuple};
+use std::alloc::{AllocError, Global};
+
+/// Done where the row passes.
+pub fn verdict(passes: bool) -> Move
+    ensures { result ≡ verdict_of passes }
+{
+    if passes { Move::Done } else { Move::Veto }
+}
+
+pub fn new_row(change: &Change) -> Option<&Tuple>
+    ensures { option_copied result ≡ row_after change.now }
+{
+    match change {
+        Change::Delete { .. } => None,
+        Change::Insert { new, .. } | Change::Update { new, .. } => Some(new),
+    }
+}
+
+fn entry_of(alloc: Global, row: &Tuple) -> Result<Checks, AllocError>
+    requires { IsTuple row.now }
+    ensures { IfOk result (λ checks. checks ≡ tuple_spelling row.now ∷ []) }
+{
+    let mut entries = Vec::new(alloc);
+    entries.push(encode_tuple(alloc, row)?)?;
+    Ok(Checks::from_vec(entries))
+}
+
+/// Leaves the row for the commit.
+pub fn queue(alloc: Global, row: &Tuple) -> Move
+    requires { IsTuple row.now }
+    ensures { IsOrMemory (queued row.now) result }
+{
+    match entry_of(alloc, row) {
+        Ok(checks) => Move::Acts {
+            now: Actions::new(alloc),
+            late: Actions::new(alloc),
+            checks,
+        },
+        Err(_) => Move::NoMemory,
+    }
+}
+
+/// So many finds a call may ask for.
+const MOST_FINDS: u32 = 8;
+
+/// Done where no row of the relation is this one.
+pub fn none_stands(alloc: Global, ctx: &Ctx, inst: &Instance, row: Tuple) -> Move
+    ensures answers { IsOrMemory (asked (found_of ctx.now inst.now.relation (map (λ c. c.name) inst.now.schema) row)
+        inst.now.relation (map (λ c. c.name) inst.now.schema) row) result }
+    ensures asks { AsksFor ctx.now result }
+{
+    let Ok(columns) = names_of(alloc, &inst.schema) else {
+        return Move::NoMemory;
+    };
+    if let Some(keys) = ctx.found(&inst.relation, &columns, &row) {
+        return verdict(keys.as_slice().is_empty());
+    }
+    if ctx.finds() < MOST_FINDS {
+        find(inst, columns, row)
+    } else {
+        Move::NoMemory
+    }
+}
+
+fn find(inst: &Instance, columns: Names, values: Tuple) -> Move
+    ensures { IsOrMemory (Finds inst.now.relation columns values) result }
+{
+    match inst.relation.copy() {
+        Ok(relation) => Move::Find {
+            relation,
+            columns,
+            values,
+        },
+        Err(_) => Move::NoMemory,
+    }
+}
