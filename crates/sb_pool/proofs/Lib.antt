@@ -1,0 +1,10 @@
+pub mod PutLemmas
+pub mod RunLemmas
+pub mod PageLemmas
+pub mod CallLemmas
+pub mod PutRuns
+pub mod PutImages
+pub mod FlushLemmas
+pub mod WriteLemmas
+pub mod InsideLemmas
+pub mod StoreLemmas

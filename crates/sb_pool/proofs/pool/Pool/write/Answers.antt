@@ -1,0 +1,68 @@
+use Rattle.std.proofs.Common.{rules, ◌≡◌, ◌<◌, ℕ, List, Option, length, map, get_or, set, refl, ◌∙◌, ap, subst, arith}
+use Rattle.sb_disk.specs.Disk.{splice}
+use Rattle.sb_log.specs.declared.geometry.Geometry.{Geometry}
+use Rattle.sb_pool.specs.declared.frame.Content.TheVariants.{Dirty}
+use Rattle.sb_pool.specs.declared.frame.Frame.{Frame}
+use Rattle.sb_pool.specs.declared.pool.Pool.TheInside.{Inside}
+use Rattle.sb_pool.specs.Frames.{held_of}
+use Rattle.sb_pool.specs.Pages.{bytes_or}
+use Rattle.sb_pool.specs.State.{State, Held, held, IsHeld}
+use Rattle.sb_pool.specs.View.{state_of}
+use Rattle.sb_pool.proofs.CallLemmas.{Serves-as}
+use Rattle.sb_pool.proofs.PageLemmas.{Puts, Puts-frame, held-frame}
+use Rattle.sb_pool.proofs.WriteLemmas.{some_bytes, written, dirty_frame, IsDirty-written, dirty-written, AgreesOn-written, Becomes-written}
+use Rattle.sb_pool.proofs.pool.Pool.write.Goals as goal
+
+-- what is known of the pool with the page written, and of the page before it
+record At (mid after : State) (page offset : ℕ) (bytes old : List ℕ) : Type 0 where
+  pub was : (disk : List ℕ) → bytes_or disk (held mid page) ≡ old
+  pub puts : Puts mid after page (written (splice offset bytes old))
+
+write_at : (a : Inside) (pool mid : State) (page offset position : ℕ) (bytes : List ℕ) (f new : Frame) → state_of a ≡ mid → length a.frames.items ≡ a.geometry.pages → mid.geometry ≡ pool.geometry → page < pool.geometry.pages
+    → f ≡ get_or a.frames.items page f → IsHeld mid page → new.content ≡ Dirty → new.bytes.items ≡ splice offset bytes f.bytes.items
+    → At mid (record { geometry = a.geometry; pages = map held_of (set a.frames.items page new); position = position }) page offset bytes f.bytes.items
+write_at a pool mid page offset position bytes f new is count same lt at some dirty wrote =
+    let e : a.geometry.pages ≡ pool.geometry.pages = ap (λ (s : State). s.geometry.pages) is ∙ ap (λ (g : Geometry). g.pages) same in
+    let below : page < length a.frames.items = omega arith in
+    record {
+      was = λ disk. some_bytes f (held mid page) disk (held-frame a mid page f is below at) some;
+      puts = subst (λ (h : Option Held). Puts mid (record { geometry = a.geometry; pages = map held_of (set a.frames.items page new); position = position }) page h)
+          (dirty_frame new (splice offset bytes f.bytes.items) dirty wrote) (Puts-frame a mid page new position is below);
+    }
+
+pub returns-clause-written : goal.returns-clause-written
+returns-clause-written g c =
+    let at = write_at c.self.inside c.args.self.now c.load.new.self c.args.page c.args.offset c.args.position c.args.bytes.now c.index_mut-frame.result.now c.write.new.self c.self.view_is c.self.invariant.count
+    c.in_ok-load.ensures.keeps.geometry c.requires.page c.index_mut-frame.ensures.value c.in_ok-load.ensures.held.0 c.write.ensures.dirty c.write.ensures.bytes in
+    Becomes-written c.load.new.self _ c.args.page _ at.puts c.args.self.now c.args.offset c.args.bytes.now c.index_mut-frame.result.now.bytes.items at.was refl
+    (g.D.Disk.told c.args.disk.now) (g.D.Disk.told c.load.new.disk) c.load.new.journal c.in_ok-load.ensures.pages
+
+pub returns-clause-dirty : goal.returns-clause-dirty
+returns-clause-dirty g c =
+    let at = write_at c.self.inside c.args.self.now c.load.new.self c.args.page c.args.offset c.args.position c.args.bytes.now c.index_mut-frame.result.now c.write.new.self c.self.view_is c.self.invariant.count
+    c.in_ok-load.ensures.keeps.geometry c.requires.page c.index_mut-frame.ensures.value c.in_ok-load.ensures.held.0 c.write.ensures.dirty c.write.ensures.bytes in
+    (IsDirty-written c.load.new.self _ c.args.page _ at.puts, refl)
+
+pub returns-clause-others : goal.returns-clause-others
+returns-clause-others g c =
+    let at = write_at c.self.inside c.args.self.now c.load.new.self c.args.page c.args.offset c.args.position c.args.bytes.now c.index_mut-frame.result.now c.write.new.self c.self.view_is c.self.invariant.count
+    c.in_ok-load.ensures.keeps.geometry c.requires.page c.index_mut-frame.ensures.value c.in_ok-load.ensures.held.0 c.write.ensures.dirty c.write.ensures.bytes in
+    dirty-written c.load.new.self _ c.args.page _ at.puts c.args.self.now c.in_ok-load.ensures.dirty
+
+pub returns-clause-keeps : goal.returns-clause-keeps
+returns-clause-keeps g c =
+    let at = write_at c.self.inside c.args.self.now c.load.new.self c.args.page c.args.offset c.args.position c.args.bytes.now c.index_mut-frame.result.now c.write.new.self c.self.view_is c.self.invariant.count
+    c.in_ok-load.ensures.keeps.geometry c.requires.page c.index_mut-frame.ensures.value c.in_ok-load.ensures.held.0 c.write.ensures.dirty c.write.ensures.bytes in
+    let kept = c.in_ok-load.ensures.keeps in
+    let told = g.D.Disk.told c.load.new.disk in
+    record {
+      size = kept.size;
+      geometry = at.puts.geometry ∙ kept.geometry;
+      position = tt;
+      later = kept.later;
+      fault = tt;
+      cause = λ is. search rules;
+      serves = Serves-as told told _ _ c.load.new.journal c.load.new.self.geometry _ refl refl at.puts.geometry kept.serves;
+      agrees = AgreesOn-written c.load.new.self _ c.args.page _ at.puts told c.load.new.journal kept.agrees;
+      sound = kept.sound;
+    }

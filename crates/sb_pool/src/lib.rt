@@ -1,0 +1,12 @@
+//! The pages of a store in memory.
+#![tactic(auto)]
+
+mod fault;
+mod flushing;
+mod frame;
+mod pool;
+#[cfg(test)]
+mod tests;
+
+pub use fault::PoolFault;
+pub use pool::Pool;
