@@ -1,0 +1,17 @@
+pub mod ChangeLemmas
+pub mod GeometryLemmas
+pub mod FrameLemmas
+pub mod FoundLemmas
+pub mod ChunkLemmas
+pub mod RestoredLemmas
+pub mod LogLemmas
+pub mod WriteLemmas
+pub mod BadLemmas
+pub mod FinalLemmas
+pub mod MountLemmas
+pub mod SuperLemmas
+pub mod FirstPageLemmas
+pub mod LayingLemmas
+pub mod LaidLemmas
+pub mod FormattingLemmas
+pub mod FirstPagesWorked

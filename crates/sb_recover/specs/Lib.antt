@@ -1,0 +1,13 @@
+pub mod BadLog
+pub mod Changes
+pub mod Faults
+pub mod Found
+pub mod Frames
+pub mod SuperPage
+pub mod Geometries
+pub mod Restarted
+pub mod Restoring
+pub mod Writing
+pub mod FirstPages
+pub mod Laying
+pub mod Formatting
