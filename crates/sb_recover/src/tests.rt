@@ -44,16 +44,22 @@ fn put(image: &mut Vec<u8>, at: usize, bytes: &[u8]) {
     }
 }
 
+// So many zeros. A size that proofs can compute with would be a list of two million items to them.
+fn zeros(alloc: Global, size: usize) -> Result<Vec<u8>, AllocError> {
+    vec![in alloc; 0u8; size]
+}
+
 // A store with these chunks in its log. Page 3 has ones on the disk.
 fn store(alloc: Global, chunks: &[&[u8]]) -> Result<Vec<u8>, AllocError> {
-    let mut image = vec![in alloc; 0u8; SIZE]?;
+    let mut image = zeros(alloc, SIZE)?;
     put(&mut image, 0, &SUPER);
     put(&mut image, PAGES + 3 * 4096, &[1; 4]);
     let mut gate = 4096usize;
     let mut at = 69632usize;
     for chunk in chunks {
         put(&mut image, gate, &[0xa5]);
-        put(&mut image, at, &(chunk.len() as u32).to_be_bytes());
+        let len = chunk.len().min(65535) as u32;
+        put(&mut image, at, &len.to_be_bytes());
         put(&mut image, at.saturating_add(4), chunk);
         gate = gate.saturating_add(1);
         at = at.saturating_add(4).saturating_add(chunk.len());
