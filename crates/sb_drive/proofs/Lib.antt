@@ -1,0 +1,11 @@
+pub mod SlotsLemmas
+pub mod SearchLemmas
+pub mod WritesLemmas
+pub mod OwnedLemmas
+pub mod StoresLemmas
+pub mod TurnsLemmas
+pub mod MeasureLemmas
+pub mod AsksLemmas
+pub mod MethodLemmas
+pub mod AttachLemmas
+pub mod TestLemmas

@@ -1,0 +1,45 @@
+-- What an answer means to a driver.
+use Rattle.std.proofs.Common.{◌≡◌, ℕ, subst, sym, Result, Ok, Err, OnErr}
+use Rattle.sb_ctx.specs.declared.moves.Move.{Move}
+use Rattle.sb_ctx.specs.declared.moves.Move.TheVariants.{Done, Acts, Need, Fresh, After, Find, Veto, NoRecord, Duplicate, Range, Key, Row, Entry, Sums, End, Broken, NoMemory}
+use Rattle.sb_ctx.specs.MethodAnswers.{AsksFor}
+use Rattle.sb_ctx.specs.AttachAnswers.{AsksFor as AttachAsksFor}
+use Rattle.sb_ctx.specs.View.{View}
+use Rattle.sb_drive.specs.declared.turns.Ask.{Ask}
+use Rattle.sb_drive.specs.declared.turns.Ask.TheVariants as ask
+use Rattle.sb_drive.specs.declared.turns.Turn.TheVariants.{Give, Stop, End as Ends}
+use Rattle.sb_drive.specs.Turns.{turn_of, IsEnd}
+use Rattle.sb_drive.proofs.AsksLemmas.{IsAsked}
+
+-- what is asked for isn't held
+pub IsAsked-method : (c : View) (move : Move) (a : Ask) → turn_of move ≡ Give a → AsksFor c move → IsAsked c a
+IsAsked-method c (Need n) a is asks = let same : ask.Page n ≡ a = cc in subst (IsAsked c) same asks
+IsAsked-method c Fresh a is asks = let same : ask.Fresh ≡ a = cc in subst (IsAsked c) same tt
+IsAsked-method c (After low) a is asks = let same : ask.After low ≡ a = cc in subst (IsAsked c) same asks
+IsAsked-method c move a is asks = cc
+
+pub IsAsked-attachment : (c : View) (move : Move) (a : Ask) → turn_of move ≡ Give a → AttachAsksFor c move → IsAsked c a
+IsAsked-attachment c (Find relation columns values) a is asks = cc
+IsAsked-attachment c move a is asks = IsAsked-method c move a is asks
+
+-- an end is the answer itself
+pub end-is : (move end : Move) → turn_of move ≡ Ends end → move ≡ end
+end-is (Need n) end is = cc
+end-is Fresh end is = cc
+end-is (After low) end is = cc
+end-is (Broken n) end is = cc
+end-is NoMemory end is = cc
+end-is move end is = cc
+
+pub IsEnd-end : (move end : Move) → turn_of move ≡ Ends end → IsEnd end
+IsEnd-end (Need n) end is = cc
+IsEnd-end Fresh end is = cc
+IsEnd-end (After low) end is = cc
+IsEnd-end (Broken n) end is = cc
+IsEnd-end NoMemory end is = cc
+IsEnd-end move end is = let same : move ≡ end = cc in subst IsEnd same tt
+
+-- what is so in any case is so at an error
+pub OnErr-always : {T E P : Type 0} (r : Result T E) → P → OnErr r P
+OnErr-always (Ok x) so = tt
+OnErr-always (Err e) so = so

@@ -1,0 +1,18 @@
+-- Pages that are written in a row, and written back.
+use Rattle.std.specs.Prelude.{ℕ, ◌<◌, List, [], ◌∷◌, All}
+use Rattle.sb_drive.specs.declared.slots.Write.{Write}
+use Rattle.sb_drive.specs.Slots.{Slots, with_slot}
+
+-- the pages once these are written, the first one first
+abbrev pub written : List Write → Slots → Slots
+written [] s = s
+written (w ∷ ws) s = written ws (with_slot w.number w.slot s)
+
+-- the pages once these are written back, the last one first
+abbrev pub undone : List Write → Slots → Slots
+undone [] s = s
+undone (w ∷ ws) s = with_slot w.number w.slot (undone ws s)
+
+-- each of them is one of so many pages
+abbrev pub AreAmong : ℕ → List Write → Type 0
+AreAmong most ws = All (λ w. w.number < most) ws

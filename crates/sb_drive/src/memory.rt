@@ -1,0 +1,174 @@
+//! Pages in memory, and what was there when the command began.
+
+ghost use Rattle.std.specs.Prelude.{◌≡◌, ◌≢◌, ℕ, ◌<◌, ◌≤◌, ◌↔◌, IsTrue, [], OnOk, OnErr, IfOk, IfSome, IfNone};
+ghost use Rattle.sb_forms.specs.Pages.{IsNext, new_pages};
+ghost use Rattle.sb_drive.specs.Asks.{IsNextFrom};
+ghost use Rattle.sb_drive.specs.Instances.{IsLeastOwner, IsLeastFree};
+ghost use Rattle.sb_drive.specs.Slots.{Keeps, nothing, slots, pages_of};
+ghost use Rattle.sb_drive.specs.Writes.{written, AreAmong};
+
+use crate::slots::{Slot, Write, exchange_all, has_owner, make_room};
+use std::alloc::{AllocError, Global};
+use std::marker::Model;
+
+/// How many pages there are at most.
+pub const MOST_PAGES: u32 = 65536;
+
+/// The pages of several instances, by number, and what is to be written back where the command is undone.
+#[derive(Drop)]
+pub struct Memory {
+    pages: Vec<Slot>,
+    undo: Vec<Write>,
+}
+
+impl Model for Memory {
+    ghost use Rattle.std.specs.Prelude.{◌≤◌, length};
+    ghost use Rattle.sb_drive.specs.Slots.{Contents, slots, listed};
+    ghost use Rattle.sb_drive.specs.Writes.{undone, AreAmong};
+
+    ghost Value = { Contents };
+
+    ghost view = { λ m. record { now = listed (slots m.pages.items); was = listed (undone m.undo.items (slots m.pages.items)) } };
+
+    ghost invariant = { λ m. (length m.pages.items ≤ 65536) × AreAmong (length m.pages.items) m.undo.items };
+}
+
+impl Memory {
+    /// All pages are nobody's.
+    pub fn new(alloc: Global) -> Memory
+        ensures { result ≡ nothing }
+    {
+        Memory {
+            pages: Vec::new(alloc),
+            undo: Vec::new(alloc),
+        }
+    }
+
+    /// Makes an instance: its owner and its root, a page of zeros. Refused where memory runs out, no page is free or
+    /// no owner is left.
+    pub fn new_instance(&mut self) -> Result<(u16, u32), AllocError>
+        ensures owner { IfOk result (λ made. IsLeastOwner (slots self.old.now) made.0) }
+        ensures root { IfOk result (λ made. IsLeastFree (slots self.old.now) made.1) }
+        ensures pages { IfOk result (λ made. pages_of self.new.now made.0 ≡ new_pages made.1) }
+        ensures others { IfOk result (λ made. Keeps made.0 self.old self.new) }
+        ensures err { OnErr result (self.new ≡ self.old) }
+    {
+        let alloc = *self.pages.allocator();
+        let owner = self.unused_owner().ok_or(AllocError)?;
+        let root = self.free_page().ok_or(AllocError)?;
+        let slot = Slot::new(owner, vec![in alloc; 0; 4096]?);
+        let mut writes = Vec::new(alloc);
+        writes.push(Write { number: root, slot })?;
+        self.write(writes)?;
+        Ok((owner, root))
+    }
+
+    /// Back to what was there when the command began.
+    pub fn undo(&mut self)
+        ensures now { self.new.now ≡ self.old.was }
+        ensures was { self.new.was ≡ self.old.was }
+    {
+        while let Some(write) = self.undo.pop() {
+            self.pages[write.number as usize] = write.slot;
+        }
+    }
+
+    /// What is there now is what a new command begins with.
+    pub fn keep(&mut self)
+        ensures now { self.new.now ≡ self.old.now }
+        ensures was { self.new.was ≡ self.old.now }
+    {
+        self.undo.clear();
+    }
+
+    /// The owner of a page; 0 where it is nobody's.
+    pub fn owner_of(&self, n: u32) -> u16
+        ensures { result ≡ (slots self.now.now n).0 }
+    {
+        match self.pages.get(n as usize) {
+            Some(slot) => slot.owner(),
+            None => 0,
+        }
+    }
+
+    /// The bytes of an owner's page; none where it isn't this owner's.
+    pub fn page(&self, owner: u16, n: u32) -> &[u8]
+        ensures { result.now ≡ pages_of self.now.now owner n }
+    {
+        match self.pages.get(n as usize) {
+            Some(slot) => slot.bytes_for(owner),
+            None => &[],
+        }
+    }
+
+    /// The number of the owner's next page behind this one, or of its first one.
+    pub fn next_page(&self, owner: u16, low: Option<u32>) -> Option<u32>
+        ensures { IsNext (pages_of self.now.now owner) low result }
+    {
+        match low {
+            Some(n) => self.next_from(owner, n as usize + 1),
+            None => self.next_from(owner, 0),
+        }
+    }
+
+    /// The number of the owner's first page from this one on.
+    fn next_from(&self, owner: u16, first: usize) -> Option<u32>
+        ensures { IsNextFrom (pages_of self.now.now owner) first result }
+    {
+        for n in first..self.pages.len() {
+            if !self.page(owner, n as u32).is_empty() {
+                return Some(n as u32);
+            }
+        }
+        None
+    }
+
+    /// Makes the writes in a row, all of them or none.
+    pub fn write(&mut self, writes: Vec<Write>) -> Result<(), AllocError>
+        requires { AreAmong 65536 writes.items }
+        ensures now { OnOk result (slots self.new.now ≡ written writes.items (slots self.old.now)) }
+        ensures was { self.new.was ≡ self.old.was }
+        ensures err { OnErr result (self.new ≡ self.old) }
+    {
+        let mut writes = writes;
+        make_room(&mut self.pages, &writes)?;
+        self.undo.reserve(writes.len())?;
+        exchange_all(&mut self.pages, &mut writes);
+        let Ok(()) = self.undo.append(&mut writes) else {
+            unreachable!()
+        };
+        Ok(())
+    }
+
+    /// The least page that is nobody's.
+    fn free_page(&self) -> Option<u32>
+        ensures { IfSome result (IsLeastFree (slots self.now.now)) }
+    {
+        for n in 0..MOST_PAGES {
+            if self.owner_of(n) == 0 {
+                return Some(n);
+            }
+        }
+        None
+    }
+
+    /// The least owner from 3 on that no page has.
+    fn unused_owner(&self) -> Option<u16>
+        ensures { IfSome result (IsLeastOwner (slots self.now.now)) }
+    {
+        for owner in 3..u16::MAX {
+            if !self.has_pages(owner) {
+                return Some(owner);
+            }
+        }
+        None
+    }
+
+    /// Whether some page is this owner's.
+    fn has_pages(&self, owner: u16) -> bool
+        requires { owner ≢ 0 }
+        ensures { IsTrue result ↔ (n : ℕ) × ((slots self.now.now n).0 ≡ owner) }
+    {
+        has_owner(&self.pages, owner)
+    }
+}

@@ -1,0 +1,58 @@
+//! What a driver does with the answer of a call.
+
+ghost use Rattle.std.specs.Prelude.{◌≡◌};
+ghost use Rattle.sb_drive.specs.Turns.{turn_of, is_find};
+ghost use Rattle.sb_drive.specs.declared.turns.DriveFault.TheVariants.{NoMemory};
+
+use sb_ctx::Move;
+use std::alloc::AllocError;
+
+/// What a call asks a driver for: a page by its number, a fresh page, or the number of the next page behind this one.
+#[derive(Clone, Copy, Debug, PartialEq, Eq, Drop)]
+pub enum Ask {
+    Page(u32),
+    Fresh,
+    After(Option<u32>),
+}
+
+/// Why a call didn't come to its end. Damaged names a page that the box called broken.
+#[derive(Clone, Copy, Debug, PartialEq, Eq, Drop)]
+pub enum DriveFault {
+    Damaged { page: u32 },
+    NoMemory,
+}
+
+impl From<AllocError> for DriveFault {
+    ghost from_gives = { λ _ e. e ≡ NoMemory };
+
+    fn from(_error: AllocError) -> DriveFault {
+        DriveFault::NoMemory
+    }
+}
+
+/// What is to be done: give what is asked for, stop, or end the call with this move.
+#[derive(Drop)]
+pub enum Turn {
+    Give(Ask),
+    Stop(DriveFault),
+    End(Move),
+}
+
+pub fn turn_of(made: Move) -> Turn
+    ensures { result ≡ turn_of made }
+{
+    match made {
+        Move::Need(n) => Turn::Give(Ask::Page(n)),
+        Move::Fresh => Turn::Give(Ask::Fresh),
+        Move::After(n) => Turn::Give(Ask::After(n)),
+        Move::Broken(page) => Turn::Stop(DriveFault::Damaged { page }),
+        Move::NoMemory => Turn::Stop(DriveFault::NoMemory),
+        end => Turn::End(end),
+    }
+}
+
+pub fn is_find(made: &Move) -> bool
+    ensures { result ≡ is_find made.now }
+{
+    matches!(made, Move::Find { .. })
+}
