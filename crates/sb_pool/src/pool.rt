@@ -63,6 +63,13 @@ impl Pool {
         })
     }
 
+    /// How many pages the store has.
+    pub fn pages(&self) -> u32
+        ensures { result ≡ self.now.geometry.pages }
+    {
+        self.geometry.pages
+    }
+
     /// Brings the page into memory, where it isn't held.
     pub fn load<D: Disk>(
         &mut self,

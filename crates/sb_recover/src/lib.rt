@@ -24,3 +24,4 @@ pub use formatting::format;
 pub use laws::owners_stand;
 pub use restarting::restart;
 pub use sizes::need;
+pub use store::{gates as gate_region, log as log_region};

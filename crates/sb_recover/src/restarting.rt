@@ -6,6 +6,7 @@ ghost use Rattle.sb_disk.specs.Disk.{WhereTold};
 ghost use Rattle.sb_disk.specs.Moments.{LeavesOnly};
 ghost use Rattle.sb_log.specs.declared.geometry.Geometry.{Geometry as Sizes};
 ghost use Rattle.sb_images.specs.Images.{Restores};
+ghost use Rattle.sb_images.specs.Layout.{need, IsGeometry};
 ghost use Rattle.sb_images.specs.Store.{IsMounted};
 ghost use Rattle.sb_recover.specs.Restarted.{IsRestarted, RestartErr};
 
@@ -23,6 +24,8 @@ use std::alloc::Global;
 /// It syncs first. `NotStore` comes exactly where the disk holds no store of any sizes, and `BadLog` exactly where an open chunk runs past the region, with offset 0, or is no row of whole records; it names the first such chunk. Records of pages that the store lacks are passed over.
 pub fn restart<D: Disk>(alloc: Global, disk: &mut D) -> Result<Geometry, OpenFault>
     ensures ok { IfOk result (λ g. WhereTold (D.told disk.old) (D.told disk.new) (IsRestarted g)) }
+    ensures sizes { IfOk result (λ g. IsGeometry g) }
+    ensures room { IfOk result (λ g. need g.pages g.log ≤ D.len disk.new) }
 
     // A crash at any moment of the call leaves pages that are restored as before.
     ensures any_moment { (want : ℕ → List ℕ) (g : Sizes) → IsMounted want (D.told disk.old) g

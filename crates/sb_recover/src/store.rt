@@ -18,7 +18,7 @@ use sb_log::Geometry;
 const GATE_COUNT: u64 = 65536;
 
 /// Where the gates of a store stand.
-pub(crate) fn gates(g: &Geometry) -> Region
+pub fn gates(g: &Geometry) -> Region
     ensures { range_of result ≡ gates_of g.now }
 {
     Region {
@@ -28,7 +28,7 @@ pub(crate) fn gates(g: &Geometry) -> Region
 }
 
 /// Where the log stands.
-pub(crate) fn log(g: &Geometry) -> Region
+pub fn log(g: &Geometry) -> Region
     ensures { range_of result ≡ log_of g.now }
 {
     Region {
