@@ -28,8 +28,8 @@ bytes_for-free owner slot free = by (owner == 0) refl
     by false somebody = cond-false (slot.0 == owner) slot.1 [] (ne_eqb slot.0 owner (λ same. absurd (grind (arith, nat_tests))))
 
 -- ---- a new instance
-pub owned-new : (s : Slots) (owner root : ℕ) → IsLeastOwner s owner → owned (with_slot root (owner, zeros) s) owner ≡ new_pages root
-owned-new s owner root own = λ i n. by n (root == n) refl i
+pub owned-new : (s : Slots) (taken : List ℕ) (owner root : ℕ) → IsLeastOwner s taken owner → owned (with_slot root (owner, zeros) s) owner ≡ new_pages root
+owned-new s taken owner root own = λ i n. by n (root == n) refl i
   where
     by : (n : ℕ) (b : Bool) → root == n ≡ b → bytes_for owner (cond b (owner, zeros) (s n)) ≡ cond (n == root) zeros []
     by n true here = bytes_for-own owner zeros (omega (arith, own.from)) ∙ sym (cond-true (n == root) zeros [] (eq-eqb n root (sym (eqb-true root n here))))
@@ -43,8 +43,8 @@ owned-beside s owner root o bytes free other = λ i n. by n (root == n) refl i
     by n false there = refl
 
 -- no page was the new owner's
-pub owned-unused : (s : Slots) (owner : ℕ) → IsLeastOwner s owner → owned s owner ≡ no_pages
-owned-unused s owner own = λ i n. bytes_for-other owner (s n) (own.unused n) i
+pub owned-unused : (s : Slots) (taken : List ℕ) (owner : ℕ) → IsLeastOwner s taken owner → owned s owner ≡ no_pages
+owned-unused s taken owner own = λ i n. bytes_for-other owner (s n) (own.unused n) i
 
 -- ---- where nothing happens
 pub Keeps-same : (owner : ℕ) (old new : Contents) → new ≡ old → Keeps owner old new

@@ -1,8 +1,11 @@
 -- What a search by rising numbers has found so far.
-use Rattle.std.proofs.Common.{◌≡◌, ◌≢◌, ℕ, ◌+◌, ◌<◌, ◌≤◌, ◌==◌, Bool, true, false, Option, Some, None, refl, sym, subst, arith, eqb-true}
+use Rattle.std.proofs.Common.{◌≡◌, ◌≢◌, inl, inr, ℕ, ◌+◌, ◌<◌, ◌≤◌, ◌==◌, Bool, true, false, List, Option, Some, None, refl, sym, subst, ◌∙◌, arith, eqb-true}
+use Rattle.std.proofs.lemmas.List.{get_or_default}
 use Rattle.std.proofs.lemmas.Bool.Decides.{nat_tests}
 use Rattle.sb_forms.specs.Pages.{Pages, IsNext}
 use Rattle.sb_drive.specs.Asks.{IsNextFrom}
+use Rattle.sb_drive.specs.Instances.{IsUsed, IsLeastOwner}
+use Rattle.sb_drive.specs.Slots.{Slots}
 
 -- one number more
 pub one-more : (P : ℕ → Type 0) (least n : ℕ) → ((m : ℕ) → least ≤ m → m < n → P m) → P n → (m : ℕ) → least ≤ m → m < n + 1 → P m
@@ -26,3 +29,13 @@ IsNext-first P low next is found = subst (λ (o : Option ℕ). IsNext P o next) 
     by : (o : Option ℕ) → IsNextFrom P 0 o → IsNext P None o
     by None none = λ m above. none m (omega arith)
     by (Some next) one = (tt, one.1, λ m above before. one.2 m (omega arith) before)
+
+-- ---- owners that are used
+-- no page is the owner's, and it isn't among those that are taken
+pub IsLeastOwner-unused : (s : Slots) (taken : List ℕ) (owner : ℕ) → 3 ≤ owner → (IsUsed s taken owner → ⊥) → ((o : ℕ) → 3 ≤ o → o < owner → IsUsed s taken o) → IsLeastOwner s taken owner
+IsLeastOwner-unused s taken owner from unused least = record {
+  from = from;
+  unused = λ n same. unused (inr (n, same));
+  untaken = λ k o within same. unused (inl (k, within, get_or_default taken k owner o within ∙ same));
+  least = least;
+}

@@ -3,7 +3,7 @@
 ghost use Rattle.std.specs.Prelude.{◌≡◌, ◌≢◌, ℕ, ◌<◌, ◌≤◌, ◌↔◌, IsTrue, [], OnOk, OnErr, IfOk, IfSome, IfNone};
 ghost use Rattle.sb_forms.specs.Pages.{IsNext, new_pages};
 ghost use Rattle.sb_drive.specs.Asks.{IsNextFrom};
-ghost use Rattle.sb_drive.specs.Instances.{IsLeastOwner, IsLeastFree};
+ghost use Rattle.sb_drive.specs.Instances.{IsLeastOwner, IsLeastFree, IsUsed};
 ghost use Rattle.sb_drive.specs.Slots.{Keeps, nothing, slots, pages_of};
 ghost use Rattle.sb_drive.specs.Writes.{written, AreAmong};
 
@@ -44,17 +44,17 @@ impl Memory {
         }
     }
 
-    /// Makes an instance: its owner and its root, a page of zeros. Refused where memory runs out, no page is free or
-    /// no owner is left.
-    pub fn new_instance(&mut self) -> Result<(u16, u32), AllocError>
-        ensures owner { IfOk result (λ made. IsLeastOwner (slots self.old.now) made.0) }
+    /// Makes an instance: its owner and its root, a page of zeros. An owner that has freed all of its pages is named
+    /// among those that are `taken`. Refused where memory runs out, no page is free or no owner is left.
+    pub fn new_instance(&mut self, taken: &[u16]) -> Result<(u16, u32), AllocError>
+        ensures owner { IfOk result (λ made. IsLeastOwner (slots self.old.now) taken.now made.0) }
         ensures root { IfOk result (λ made. IsLeastFree (slots self.old.now) made.1) }
         ensures pages { IfOk result (λ made. pages_of self.new.now made.0 ≡ new_pages made.1) }
         ensures others { IfOk result (λ made. Keeps made.0 self.old self.new) }
         ensures err { OnErr result (self.new ≡ self.old) }
     {
         let alloc = *self.pages.allocator();
-        let owner = self.unused_owner().ok_or(AllocError)?;
+        let owner = self.unused_owner(taken).ok_or(AllocError)?;
         let root = self.free_page().ok_or(AllocError)?;
         let slot = Slot::new(owner, vec![in alloc; 0; 4096]?);
         let mut writes = Vec::new(alloc);
@@ -152,16 +152,24 @@ impl Memory {
         None
     }
 
-    /// The least owner from 3 on that no page has.
-    fn unused_owner(&self) -> Option<u16>
-        ensures { IfSome result (IsLeastOwner (slots self.now.now)) }
+    /// The least owner from 3 on that no page has and that isn't taken.
+    fn unused_owner(&self, taken: &[u16]) -> Option<u16>
+        ensures { IfSome result (IsLeastOwner (slots self.now.now) taken.now) }
     {
         for owner in 3..u16::MAX {
-            if !self.has_pages(owner) {
+            if !self.is_used(taken, owner) {
                 return Some(owner);
             }
         }
         None
+    }
+
+    /// Whether some page is this owner's, or it is among these.
+    fn is_used(&self, taken: &[u16], owner: u16) -> bool
+        requires { owner ≢ 0 }
+        ensures { IsTrue result ↔ IsUsed (slots self.now.now) taken.now owner }
+    {
+        taken.contains(&owner) || self.has_pages(owner)
     }
 
     /// Whether some page is this owner's.

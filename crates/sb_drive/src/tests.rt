@@ -248,7 +248,7 @@ struct Stopped;
 fn a_page_is_taken_and_undone(rt: HostRuntime) -> Result<(), Fail> {
     let alloc = rt.alloc();
     let mut memory = Memory::new(alloc);
-    let (owner, root) = memory.new_instance()?;
+    let (owner, root) = memory.new_instance(&[])?;
     assert!(rt; owner == 3 && root == 0);
     memory.keep();
     let inst = instance(alloc, owner, root)?;
@@ -273,7 +273,7 @@ const WRITES: [(&'static [u8], Option<u8>); 3] = [
 fn pages_are_written_and_freed(rt: HostRuntime) -> Result<(), Fail> {
     let alloc = rt.alloc();
     let mut memory = Memory::new(alloc);
-    let (owner, root) = memory.new_instance()?;
+    let (owner, root) = memory.new_instance(&[])?;
     memory.keep();
     let inst = instance(alloc, owner, root)?;
     for (bytes, first) in WRITES {
@@ -291,8 +291,8 @@ fn pages_are_written_and_freed(rt: HostRuntime) -> Result<(), Fail> {
 fn another_owners_page_is_not_given(rt: HostRuntime) -> Result<(), Fail> {
     let alloc = rt.alloc();
     let mut memory = Memory::new(alloc);
-    memory.new_instance()?;
-    let (owner, root) = memory.new_instance()?;
+    memory.new_instance(&[])?;
+    let (owner, root) = memory.new_instance(&[])?;
     assert!(rt; owner == 4 && root == 1);
     let inst = instance(alloc, 4, 0)?;
     let end = delete(&mut memory, alloc, &inst, b"write");
@@ -304,7 +304,7 @@ fn another_owners_page_is_not_given(rt: HostRuntime) -> Result<(), Fail> {
 fn an_attachment_is_driven(rt: HostRuntime) -> Result<(), Fail> {
     let alloc = rt.alloc();
     let mut memory = Memory::new(alloc);
-    let (owner, root) = memory.new_instance()?;
+    let (owner, root) = memory.new_instance(&[])?;
     let inst = instance(alloc, owner, root)?;
     let mut ctx = Ctx::new(alloc);
     let call = AttachCall::Changed(Change::Delete {

@@ -13,13 +13,13 @@ returns-clause-pages c =
     let s = slots c.args.self.now.now in
     let owner = c.in_ok-owner.owner in
     let root = c.in_ok-root.root in
-    let own : IsLeastOwner s owner = search rules in
+    let own : IsLeastOwner s c.args.taken.now owner = search rules in
     let bytes : c.in_ok-vec.field-0.items ≡ replicate 4096 0 = search rules in
     let slot : c.new-slot.result ≡ (owner, zeros) = c.new-slot.ensures ∙ ap (λ (l : List ℕ). (owner, l)) bytes in
     let writes : c.push.new.self.items ≡ record { number = root; slot = c.new-slot.result } ∷ [] = c.in_ok-push.ensures.items ∙ ap (λ (ws : List Write). ws ++ record { number = root; slot = c.new-slot.result } ∷ []) c.new-writes.ensures.items in
     let made : slots c.write.new.self.now ≡ with_slot root (owner, zeros) s =
     c.in_ok-write.ensures.now ∙ ap (λ (ws : List Write). written ws s) writes ∙ ap (λ (x : Slot). with_slot root x s) slot in
-    ap (λ (f : Slots). owned f owner) made ∙ owned-new s owner root own
+    ap (λ (f : Slots). owned f owner) made ∙ owned-new s c.args.taken.now owner root own
 
 pub returns-clause-others : goal.returns-clause-others
 returns-clause-others c =

@@ -1,7 +1,13 @@
-use Rattle.std.proofs.Common.{◌≡◌, ℕ, refl}
+use Rattle.std.proofs.Common.{refl, sym, ◌∙◌, true≢false, arith}
+use Rattle.sb_drive.specs.Instances.{IsUsed}
 use Rattle.sb_drive.specs.Slots.{slots}
-use Rattle.sb_drive.proofs.SearchLemmas.{one-more}
+use Rattle.sb_drive.proofs.SearchLemmas.{one-more, IsLeastOwner-unused}
 use Rattle.sb_drive.proofs.memory.Memory.unused_owner.Goals as goal
 
 pub loop-owner-preserved : goal.loop-owner-preserved
-loop-owner-preserved c = one-more (λ o. (n : ℕ) × ((slots c.args.self.now.now n).0 ≡ o)) 3 c.loop-owner.owner c.loop-owner.invariant (c.if-not-has_pages.ensures.0 refl)
+loop-owner-preserved c = one-more (IsUsed (slots c.args.self.now.now) c.args.taken.now) 3 c.loop-owner.owner c.loop-owner.invariant (c.if-not-is_used.ensures.0 refl)
+
+pub returns-then-not-is_used : goal.returns-then-not-is_used
+returns-then-not-is_used c =
+    IsLeastOwner-unused (slots c.args.self.now.now) c.args.taken.now c.loop-owner.owner (omega arith)
+    (λ used. absurd (true≢false (sym (c.is_used.ensures.1 used) ∙ c.if-not-is_used.true))) c.loop-owner.invariant
