@@ -70,6 +70,13 @@ impl Pool {
         self.geometry.pages
     }
 
+    /// The sizes of the store.
+    pub fn geometry(&self) -> Geometry
+        ensures { result ≡ self.now.geometry }
+    {
+        self.geometry
+    }
+
     /// Brings the page into memory, where it isn't held.
     pub fn load<D: Disk>(
         &mut self,
