@@ -1,0 +1,192 @@
+-- What going back to a mark leaves of a store.
+use Rattle.std.proofs.Common.{◌≡◌, ℕ, zero, suc, ◌+◌, ◌<◌, ◌≤◌, Bool, true, false, ◌||◌, Option, Result, Ok, List, [], ◌∷◌, ◌++◌, length, take, drop, get_or, nat_lt, refl, sym, ◌∙◌, ap, subst, arith}
+use Rattle.std.proofs.Math.Seq.{take-suc, drop-cons, take-length, drop-length}
+use Rattle.std.proofs.lemmas.Bool.{lt-ltb, le-ltb}
+use Rattle.std.proofs.lemmas.List.{length_push, length-take-le}
+use Rattle.sb_disk.specs.Disk.{Story}
+use Rattle.sb_log.specs.Records.{Record}
+use Rattle.sb_log.proofs.StandingLemmas.{or_false}
+use Rattle.sb_journal.specs.State as journal
+use Rattle.sb_journal.specs.State.{sealed, counted, after_force}
+use Rattle.sb_pool.specs.Calls.{IsSameOrForced}
+use Rattle.sb_pool.specs.Pages.{with_bytes}
+use Rattle.std.proofs.Common.{◌⊎◌, inl, inr, ⊎_elim}
+use Rattle.sb_pool.specs.State as pool
+use Rattle.sb_txn.specs.Book.{Undo, Out, Book, standing_in, undone_out, with_out}
+use Rattle.sb_txn.specs.Clauses.{Parts, parts, IsReady, IsStoreOf, Leads, LeavesWanted, Keeps, unwound, cut_back, Grows, UndoesLast, Undoes, GoesBack, Aborts}
+use Rattle.sb_txn.specs.State.{State, together}
+use Rattle.sb_txn.specs.declared.fault.StoreFault.{StoreFault}
+use Rattle.sb_txn.proofs.KeepsLemmas.{LeavesWanted-none, LeavesWanted-then, Keeps-ok, Keeps-then, Keeps-still}
+use Rattle.sb_txn.proofs.RoomLemmas.{SameRoom-forced, lens-same}
+use Rattle.sb_txn.proofs.EndLemmas.{Ties-drop}
+use Rattle.sb_txn.proofs.UndoLemmas.{some_first}
+
+-- ---- lists
+snoc_one : (xs ys : List Undo) (x y : Undo) → xs ++ x ∷ [] ≡ ys ++ y ∷ [] → (xs ≡ ys) × (x ≡ y)
+snoc_one [] [] x y e = (refl, cc)
+snoc_one [] (v ∷ ys) x y e = absurd (let l = ap (λ (us : List Undo). length us) e in let m = length_push ys y in omega arith)
+snoc_one (u ∷ xs) [] x y e = absurd (let l = ap (λ (us : List Undo). length us) e in let m = length_push xs x in omega arith)
+snoc_one (u ∷ xs) (v ∷ ys) x y e =
+    let head : u ≡ v = cc in
+    let tail : xs ++ x ∷ [] ≡ ys ++ y ∷ [] = cc in
+    let rest = snoc_one xs ys x y tail in
+    (ap (λ (w : Undo). w ∷ xs) head ∙ ap (λ (l : List Undo). v ∷ l) rest.0, rest.1)
+
+-- the last of the first n and one
+record IsCut (us : List Undo) (n : ℕ) (others : List Undo) (last : Undo) : Type 0 where
+  pub front : others ≡ take n us
+  pub behind : drop n us ≡ last ∷ drop (suc n) us
+
+IsCut-at : (us : List Undo) (n : ℕ) (others : List Undo) (last : Undo) → n < length us → take (suc n) us ≡ others ++ last ∷ [] → IsCut us n others last
+IsCut-at us n others last lt was =
+    let both = snoc_one others (take n us) last (get_or us n last) (sym was ∙ take-suc us n last lt) in
+    record { front = both.0; behind = drop-cons us n last lt ∙ ap (λ (u : Undo). u ∷ drop (suc n) us) (sym both.1) }
+
+-- ---- the journal
+forced_twice : (j : journal.State) → after_force (after_force j) ≡ after_force j
+forced_twice j = refl
+
+pub IsSameOrForced-then : (j k l : journal.State) → IsSameOrForced j k → IsSameOrForced k l → IsSameOrForced j l
+IsSameOrForced-then j k l one two = ⊎_elim
+    (λ (a : k ≡ j). ⊎_elim
+    (λ (b : l ≡ k). inl (b ∙ a))
+    (λ (b : l ≡ after_force k). inr (b ∙ ap after_force a))
+    two)
+    (λ (a : k ≡ after_force j). ⊎_elim
+    (λ (b : l ≡ k). inr (b ∙ a))
+    (λ (b : l ≡ after_force k). inr (b ∙ ap after_force a ∙ forced_twice j))
+    two)
+    one
+
+-- ---- one change more is undone
+all_stand : (o : Out) → cut_back o (length o.undos) ≡ o
+all_stand o = ap (λ (us : List Undo). record o { undos = us; undone = o.undone || nat_lt (length o.undos) (length o.undos) }) (take-length o.undos)
+    ∙ ap (λ (b : Bool). record o { undone = b }) (ap (λ (b : Bool). o.undone || b) (le-ltb (length o.undos) (length o.undos) (omega arith)) ∙ or_false o.undone)
+
+pub Undoes-none : (p : Parts) (o : Out) (rest : List Out) → p.store.book.out ≡ o ∷ rest → Undoes p p o rest (length o.undos)
+Undoes-none p o rest is = record {
+  out = is ∙ ap (λ (x : Out). x ∷ rest) (sym (all_stand o));
+  pages = λ want now store. subst (λ (us : List Undo). IsStoreOf want (unwound us now) p) (sym (drop-length o.undos)) store;
+  journal = inl refl;
+}
+
+or_true : (b : Bool) → true ≡ (b || true)
+or_true true = refl
+or_true false = refl
+
+pub Undoes-more : (old mid new : Parts) (o : Out) (rest : List Out) (n : ℕ) → n < length o.undos → Undoes old mid o rest (suc n) → UndoesLast mid new (cut_back o (suc n)) rest → Undoes old new o rest n
+Undoes-more old mid new o rest n lt so_far one =
+    let cut = IsCut-at o.undos n one.others one.last lt one.was in
+    record {
+      out = one.out ∙ ap (λ (us : List Undo). record o { undos = us; undone = true } ∷ rest) cut.front
+          ∙ ap (λ (b : Bool). record o { undos = take n o.undos; undone = b } ∷ rest) (or_true o.undone ∙ ap (λ (b : Bool). o.undone || b) (sym (lt-ltb n (length o.undos) lt)));
+      pages = λ want now store.
+          subst (λ (us : List Undo). IsStoreOf want (unwound us now) new) (sym cut.behind) (one.pages want (unwound (drop (suc n) o.undos) now) (so_far.pages want now store));
+      journal = IsSameOrForced-then old.store.journal mid.store.journal new.store.journal so_far.journal one.journal;
+    }
+
+-- ---- the loop
+-- what a call answers that has nothing to say
+abbrev pub done : Result (Unit {0}) StoreFault
+done = Ok tt
+
+-- So many changes stand still, at least those up to the mark.
+pub record WentBack {D : Type 0} (told : D → Option Story) (len faults : D → ℕ) (old new : D) (s t : State) (n : ℕ) : Type 0 where
+  pub left : ℕ
+  pub standing : standing_in t.book.out ≡ left
+  pub least : n ≤ left
+  pub most : (o : Out) (rest : List Out) → s.book.out ≡ o ∷ rest → left ≤ length o.undos
+  pub undoes : (o : Out) (rest : List Out) → s.book.out ≡ o ∷ rest → Undoes (parts told len old s) (parts told len new t) o rest left
+  pub first : 0 < left → (o : Out) × (rest : List Out) × (s.book.out ≡ o ∷ rest)
+  pub up : t.book.down ≡ false
+  pub leaves : LeavesWanted (parts told len old s) (parts told len new t)
+  pub keeps : Keeps told len faults old new s t done
+
+module _ {D : Type 0} (told : D → Option Story) (len faults : D → ℕ) where
+  none_of : (s : State) (o : Out) (rest : List Out) → s.book.out ≡ o ∷ rest → standing_in s.book.out ≡ length o.undos
+  none_of s o rest is = ap standing_in is
+
+  pub WentBack-none : (d : D) (s : State) (n : ℕ) → s.book.down ≡ false → n ≤ standing_in s.book.out → IsReady (parts told len d s) → WentBack told len faults d d s s n
+  WentBack-none d s n up least ready = record {
+    left = standing_in s.book.out;
+    standing = refl;
+    least = least;
+    most = λ o rest is. let e = none_of s o rest is in omega arith;
+    undoes = λ o rest is. subst (λ (k : ℕ). Undoes (parts told len d s) (parts told len d s) o rest k) (sym (none_of s o rest is)) (Undoes-none (parts told len d s) o rest is);
+    first = λ some. some_first s.book.out some;
+    up = up;
+    leaves = LeavesWanted-none (parts told len d s);
+    keeps = Keeps-ok told len faults tt d d s s up up refl refl (omega arith) ready;
+  }
+
+  module _ (old mid new : D) (s m t : State) (n : ℕ) (so_far : WentBack told len faults old mid s m n) (some : n < standing_in m.book.out)
+      (leaves : LeavesWanted (parts told len mid m) (parts told len new t)) where
+    now_first : (o : Out) × (rest : List Out) × (s.book.out ≡ o ∷ rest)
+    now_first = so_far.first (let e = so_far.standing in omega arith)
+
+    -- up to the call, also where it fails
+    pub leaves_now : LeavesWanted (parts told len old s) (parts told len new t)
+    leaves_now = LeavesWanted-then (parts told len old s) (parts told len mid m) (parts told len new t) (unwound (drop so_far.left now_first.0.undos)) so_far.keeps.geometry
+        (so_far.undoes now_first.0 now_first.1 now_first.2).pages so_far.leaves leaves
+
+    module _ (undoes : (o : Out) (rest : List Out) → m.book.out ≡ o ∷ rest → UndoesLast (parts told len mid m) (parts told len new t) o rest) where
+      one_fewer : (k : ℕ) → 0 < k → (j : ℕ) × (k ≡ suc j)
+      one_fewer zero lt = absurd (omega arith)
+      one_fewer (suc j) lt = (j, refl)
+
+      fewer : (j : ℕ) × (so_far.left ≡ suc j)
+      fewer = one_fewer so_far.left (let e = so_far.standing in omega arith)
+
+      below : (o : Out) (rest : List Out) → s.book.out ≡ o ∷ rest → fewer.0 < length o.undos
+      below o rest is = let e = fewer.1 in let h = so_far.most o rest is in omega arith
+
+      mid_out : (o : Out) (rest : List Out) → s.book.out ≡ o ∷ rest → m.book.out ≡ cut_back o (suc fewer.0) ∷ rest
+      mid_out o rest is = (so_far.undoes o rest is).out ∙ ap (λ (k : ℕ). cut_back o k ∷ rest) fewer.1
+
+      undoes_now : (o : Out) (rest : List Out) → s.book.out ≡ o ∷ rest → Undoes (parts told len old s) (parts told len new t) o rest fewer.0
+      undoes_now o rest is = Undoes-more (parts told len old s) (parts told len mid m) (parts told len new t) o rest fewer.0 (below o rest is)
+          (subst (λ (k : ℕ). Undoes (parts told len old s) (parts told len mid m) o rest k) fewer.1 (so_far.undoes o rest is))
+          (undoes (cut_back o (suc fewer.0)) rest (mid_out o rest is))
+
+      standing_now : (o : Out) (rest : List Out) → s.book.out ≡ o ∷ rest → standing_in t.book.out ≡ fewer.0
+      standing_now o rest is = ap standing_in (undoes_now o rest is).out ∙ length-take-le fewer.0 o.undos (let h = below o rest is in omega arith)
+
+      pub WentBack-more : Keeps told len faults mid new m t done → WentBack told len faults old new s t n
+      WentBack-more keeps = record {
+        left = fewer.0;
+        standing = standing_now now_first.0 now_first.1 now_first.2;
+        least = let e = fewer.1 in let h = so_far.standing in omega arith;
+        most = λ o rest is. let h = below o rest is in omega arith;
+        undoes = undoes_now;
+        first = λ _. now_first;
+        up = Keeps-still told len faults tt mid new m t so_far.up keeps;
+        leaves = leaves_now;
+        keeps = Keeps-then told len faults tt done old mid new s m t so_far.keeps keeps;
+      }
+
+      pub fewer_now : standing_in t.book.out < standing_in m.book.out
+      fewer_now = let e = standing_now now_first.0 now_first.1 now_first.2 in let f = fewer.1 in let h = so_far.standing in omega arith
+
+-- ---- what the calls say of it
+grows_forced : (s t : State) → IsSameOrForced s.journal t.journal → Grows s t 0 1
+grows_forced s t forced =
+    let room = SameRoom-forced s.journal t.journal forced in
+    record { bytes = let e = room.used in omega arith; gates = lens-same s.journal t.journal room }
+
+pub GoesBack-undoes : (old new : Parts) (o : Out) (rest : List Out) (n : ℕ) → Undoes old new o rest n → GoesBack old new o rest n
+GoesBack-undoes old new o rest n undoes = record { out = undoes.out; pages = undoes.pages; grows = grows_forced old.store new.store undoes.journal }
+
+-- none is left, and the transaction ends
+pub Aborts-undoes : (old : Parts) (told : Option Story) (size : ℕ) (j : journal.State) (p : pool.State) (book : Book) (o : Out) (rest : List Out) → Undoes old (record { told = told; size = size; store = together j p book }) o rest 0
+    → Aborts old (record { told = told; size = size; store = together j p (with_out book rest) }) o rest
+Aborts-undoes old told size j p book o rest undoes = record {
+  out = refl;
+  pages = λ want now store.
+      let mid = undoes.pages want now store in
+      (mid.0, mid.1, Ties-drop want (unwound o.undos now) told size j p book (cut_back o 0) rest undoes.out mid.0 mid.1 mid.2 refl);
+  grows = grows_forced old.store (together j p (with_out book rest)) undoes.journal;
+}
+
+pub any_first : (out : List Out) → 0 < length out → (o : Out) × (rest : List Out) × (out ≡ o ∷ rest)
+any_first [] some = absurd (omega arith)
+any_first (o ∷ rest) some = (o, rest, refl)

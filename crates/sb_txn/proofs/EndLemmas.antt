@@ -1,0 +1,314 @@
+-- What the end of a transaction leaves of a store.
+use Rattle.std.proofs.Common.{◌≡◌, ℕ, ◌+◌, ◌*◌, ◌<◌, ◌≤◌, Bool, false, true, cond, ◌||◌, Option, Some, None, List, [], ◌∷◌, ◌++◌, length, refl, sym, ◌∙◌, ap, subst, arith, append_assoc}
+use Rattle.std.specs.List.{All}
+use Rattle.std.proofs.lemmas.Bool.{false≢true}
+use Rattle.std.proofs.lemmas.List.{append-nil}
+use Rattle.std.proofs.lemmas.List.Elements.{All-nil, All-head}
+use Rattle.sb_disk.specs.Disk.{Range, Story, WhereTold}
+use Rattle.sb_disk.specs.Moments.{LeavesOnly}
+use Rattle.sb_disk.proofs.MomentLemmas.{weaker}
+use Rattle.sb_journal.specs.State.{StandsOn, used_of, after_append, after_force}
+use Rattle.sb_journal.specs.State as journal
+use Rattle.sb_log.specs.declared.geometry.Geometry.{Geometry}
+use Rattle.sb_log.specs.Records.{Change, Record, Back, Commit}
+use Rattle.sb_log.specs.Restored.{imaged}
+use Rattle.sb_log.specs.Standing.{keep, standing, own_changes, count_of, AreBelow}
+use Rattle.sb_log.specs.Views.{Active, active_with}
+use Rattle.sb_log.proofs.RestoredLemmas.{imaged-append}
+use Rattle.sb_log.proofs.StandingLemmas.{or_false, stood_all-append, keep-again, own_changes-keep, AreBelow-append}
+use Rattle.sb_log.proofs.WholeLemmas.{IsWhole-drop}
+use Rattle.sb_images.specs.Images.{Restores, IsOldOrNew}
+use Rattle.sb_images.specs.Store.{IsStoreOn, own_of, with_changes}
+use Rattle.sb_images.proofs.CallLemmas.{LeavesOnly-idle, IsReadyOn-as}
+use Rattle.sb_images.proofs.CommitLemmas.{LeavesOnly-old}
+use Rattle.sb_images.proofs.ImageLemmas.{IsOldOrNew-as}
+use Rattle.sb_images.proofs.StoreLemmas.{IsStoreOn-ready, IsStoreOn-step, IsStore-idle, WillBe-commit, WillBe-alone}
+use Rattle.sb_pool.specs.Calls.{AreImaged}
+use Rattle.sb_pool.specs.State as pool
+use Rattle.sb_pool.proofs.StoreLemmas.{SamePages, AgreesOn-same, ArePagesOn-same}
+use Rattle.sb_txn.specs.Book.{Undo, Out, Book, actives, with_out, IsFirst, standing_in}
+use Rattle.sb_txn.specs.Clauses.{Parts, committed_pages, Commits, LeavesCommit, LeavesOne}
+use Rattle.sb_txn.specs.State.{together}
+use Rattle.sb_txn.specs.Steps.{some, KeepsDisk, filled}
+use Rattle.sb_txn.specs.Tied.{IsOut, AreOut, IsBookOf, Ties, reserve, gates_used}
+use Rattle.sb_txn.proofs.LogLemmas.{SamePages-as}
+use Rattle.sb_txn.proofs.RoomLemmas.{SameRoom-force, lens-gates, filled-used, used-append, gates-append}
+
+-- ---- a Back in front
+-- the transaction's changes that stand are the same
+pub own_of-back : (b : Bool) (opened pending : List Record) (tx n : ℕ) → own_of (opened ++ (pending ++ some b (Back tx n))) (active_with tx n) ≡ own_of (opened ++ pending) (active_with tx n)
+own_of-back true opened pending tx n =
+    ap (λ (l : List Record). own_of l (active_with tx n)) (sym (append_assoc opened pending (Back tx n ∷ [])))
+    ∙ ap (λ (cs : List Change). own_changes tx (keep tx n cs)) (stood_all-append [] (opened ++ pending) (Back tx n ∷ []))
+    ∙ ap (λ (cs : List Change). own_changes tx cs) (keep-again tx n (standing (opened ++ pending)))
+own_of-back false opened pending tx n = ap (λ (l : List Record). own_of (opened ++ l) (active_with tx n)) (append-nil pending)
+
+-- ---- the first transaction that is out
+one_at_most : (os : List Out) (n : ℕ) → n + length os ≤ 1 → 0 < n → os ≡ []
+one_at_most [] n most some = refl
+one_at_most (o ∷ os) n most some = absurd (omega arith)
+
+module _ (want now : ℕ → List ℕ) (told : Option Story) (size : ℕ) (j : journal.State) (p : pool.State) (book : Book) (o : Out) (rest : List Out) (is : book.out ≡ o ∷ rest) (opened pending : List Record)
+    (ties : Ties want now told size j p book opened pending) where
+  pub first_out : IsOut p.geometry.pages (opened ++ pending) book.next o
+  first_out = (subst (λ (l : List Out). AreOut p.geometry.pages (opened ++ pending) book.next l) is ties.knows.out).0
+
+  pub first_store : IsStoreOn want now told j p.geometry opened pending (active_with o.tx (length o.undos) ∷ actives rest)
+  first_store = subst (λ (l : List Out). IsStoreOn want now told j p.geometry opened pending (actives l)) is ties.store
+
+  pub first_alone : rest ≡ []
+  first_alone = one_at_most rest 1 (let e = ap (λ (l : List Out). length l) is in let h = ties.knows.alone in omega arith) (omega arith)
+
+  pub first_room : used_of j + reserve * (1 + length rest) ≤ j.log.len
+  first_room = let e = ap (λ (l : List Out). length l) is in let h = ties.spare.room in omega arith
+
+  pub first_gates : gates_used j + 1 + length rest ≤ j.gates.len
+  first_gates = let e = ap (λ (l : List Out). length l) is in let h = ties.spare.gates in omega arith
+
+  pub first_few : length o.undos ≤ used_of j
+  first_few = All-head (λ (x : Out). length x.undos ≤ used_of j) o rest (subst (λ (l : List Out). All (λ (x : Out). length x.undos ≤ used_of j) l) is ties.spare.few)
+
+  pub rest_few : (n : ℕ) → All (λ (x : Out). length x.undos ≤ n) rest
+  rest_few n = subst (λ (l : List Out). All (λ (x : Out). length x.undos ≤ n) l) (sym first_alone) (All-nil (λ (x : Out). length x.undos ≤ n))
+
+  pub rest_out : (recs : List Record) → AreOut p.geometry.pages recs book.next rest
+  rest_out recs = subst (λ (l : List Out). AreOut p.geometry.pages recs book.next l) (sym first_alone) tt
+
+  -- none of its changes stands
+  pub Ties-drop : o.undos ≡ [] → Ties want now told size j p (with_out book rest) opened pending
+  Ties-drop none = record {
+    up = ties.up;
+    store = IsStoreOn-step want now j p.geometry opened pending (active_with o.tx 0 ∷ actives rest) now (actives rest) told
+        (λ disk whole. IsWhole-drop p.geometry.pages disk now opened pending o.tx (actives rest) whole)
+        (subst (λ (us : List Undo). IsStoreOn want now told j p.geometry opened pending (active_with o.tx (length us) ∷ actives rest)) none first_store);
+    serves = ties.serves;
+    agrees = ties.agrees;
+    pages = ties.pages;
+    dirty = ties.dirty;
+    position = ties.position;
+    knows = record { images = ties.knows.images; count = ties.knows.count; out = rest_out (opened ++ pending); fresh = ties.knows.fresh; alone = let e = ap (λ (l : List Out). length l) first_alone in omega arith };
+    spare = record { few = rest_few (used_of j); room = let h = first_room in omega arith; gates = let h = first_gates in omega arith };
+  }
+
+-- ---- where none is out
+-- the pages wanted are those now
+IsStoreOn-idle : (want now : ℕ → List ℕ) (told : Option Story) (j : journal.State) (g : Geometry) (opened pending : List Record) → IsStoreOn want now told j g opened pending [] → IsStoreOn now now told j g opened pending []
+IsStoreOn-idle want now None j g opened pending store = tt
+IsStoreOn-idle want now (Some s) j g opened pending store = record {
+  ready = IsReadyOn-as want now (Some s) j g opened pending (λ q lt. sym (IsStore-idle want now j g opened pending [] s refl store q lt)) store.ready;
+  whole = store.whole;
+}
+
+pub Ties-idle : (want now : ℕ → List ℕ) (told : Option Story) (size : ℕ) (j : journal.State) (p : pool.State) (book : Book) (opened pending : List Record) → book.out ≡ [] → Ties want now told size j p book opened pending → Ties now now told size j p book opened pending
+Ties-idle want now told size j p book opened pending none ties = record {
+  up = ties.up;
+  store = subst (λ (l : List Out). IsStoreOn now now told j p.geometry opened pending (actives l)) (sym none)
+      (IsStoreOn-idle want now told j p.geometry opened pending (subst (λ (l : List Out). IsStoreOn want now told j p.geometry opened pending (actives l)) none ties.store));
+  serves = ties.serves;
+  agrees = ties.agrees;
+  pages = ties.pages;
+  dirty = ties.dirty;
+  position = ties.position;
+  knows = ties.knows;
+  spare = ties.spare;
+}
+
+-- ---- a commit of a transaction that has no record
+abbrev at : Option Story → ℕ → journal.State → pool.State → Book → Parts
+at told size j p book = record { told = told; size = size; store = together j p book }
+
+pub Commits-idle : (told : Option Story) (size : ℕ) (j : journal.State) (p : pool.State) (book : Book) (o : Out) (rest : List Out) → book.out ≡ o ∷ rest → o.begun ≡ false → Commits (at told size j p book) (at told size j p (with_out book rest)) o rest
+Commits-idle told size j p book o rest is off = record {
+  out = refl;
+  pages = λ want now opened pending ties.
+      let none = (first_out want now told size j p book o rest is opened pending ties).none off in
+      let dropped = Ties-drop want now told size j p book o rest is opened pending ties none in
+      let nothing : own_of (opened ++ pending) (active_with o.tx (length o.undos)) ≡ [] = ap (λ (us : List Undo). own_of (opened ++ pending) (active_with o.tx (length us))) none ∙ own_changes-keep o.tx 0 (standing (opened ++ pending)) in
+      (opened, pending, subst (λ (cs : List Change). Ties (with_changes cs want) now told size j p (with_out book rest) opened pending) (sym nothing) dropped);
+  alone = λ last want now store.
+      let none = (first_out want now told size j p book o rest is store.0 store.1 store.2).none off in
+      (store.0, store.1, Ties-idle want now told size j p (with_out book rest) store.0 store.1 last (Ties-drop want now told size j p book o rest is store.0 store.1 store.2 none));
+  grows = record { bytes = omega arith; gates = omega arith };
+}
+
+pub LeavesCommit-idle : (told : Option Story) (size : ℕ) (j : journal.State) (p : pool.State) (book after : Book) (o : Out) → LeavesCommit (at told size j p book) (at told size j p after) o
+LeavesCommit-idle told size j p book after o want now opened pending ties =
+    LeavesOnly-old want (committed_pages (opened ++ pending) o want) p.geometry told told
+    (LeavesOnly-idle want j p.geometry opened pending told (IsStoreOn-ready want now told j p.geometry opened pending (actives book.out) ties.store))
+
+-- ---- the one that is out
+-- with its changes the pages wanted are those now
+alone_pages : (want now : ℕ → List ℕ) (s : Story) (j : journal.State) (g : Geometry) (opened pending : List Record) (a : Active) → IsStoreOn want now (Some s) j g opened pending (a ∷ []) → (q : ℕ) → q < g.pages → with_changes (own_of (opened ++ pending) a) want q ≡ now q
+alone_pages want now s j g opened pending a store q lt = sym (WillBe-commit want now j g opened pending a [] (Some s) store q lt) ∙ WillBe-alone want now (Some s) j g opened pending a store q lt
+
+-- a disk that tells nothing leaves nothing
+LeavesOnly-none : (new : Option Story) (P Q : List ℕ → Type 0) → LeavesOnly None new P → LeavesOnly None new Q
+LeavesOnly-none None P Q run = record { tells = run.tells; later = run.later; before = run.before; since = λ t image le may. absurd may }
+LeavesOnly-none (Some t) P Q run = absurd (false≢true run.tells)
+
+leaves_alone : (want now : ℕ → List ℕ) (told new : Option Story) (j : journal.State) (g : Geometry) (opened pending : List Record) (a : Active) → IsStoreOn want now told j g opened pending (a ∷ [])
+    → LeavesOnly told new (IsOldOrNew g want (with_changes (own_of (opened ++ pending) a) want)) → LeavesOnly told new (IsOldOrNew g want now)
+leaves_alone want now None new j g opened pending a store run = LeavesOnly-none new (IsOldOrNew g want (with_changes (own_of (opened ++ pending) a) want)) (IsOldOrNew g want now) run
+leaves_alone want now (Some s) new j g opened pending a store run =
+    weaker (Some s) new (IsOldOrNew g want (with_changes (own_of (opened ++ pending) a) want)) (IsOldOrNew g want now)
+    (λ image old_or_new. IsOldOrNew-as g want (with_changes (own_of (opened ++ pending) a) want) now image (alone_pages want now s j g opened pending a store) old_or_new) run
+
+pub LeavesOne-commit : (old new : Parts) (o : Out) → old.store.book.out ≡ o ∷ [] → LeavesCommit old new o → LeavesOne old new
+LeavesOne-commit old new o is run want now store =
+    leaves_alone want now old.told new.told old.store.journal old.store.pool.geometry store.0 store.1 (active_with o.tx (length o.undos))
+    (first_store want now old.told old.size old.store.journal old.store.pool old.store.book o [] is store.0 store.1 store.2) (run want now store.0 store.1 store.2)
+
+-- ---- a commit
+-- the records of its end
+abbrev ends : Bool → ℕ → ℕ → List Record
+ends b tx n = some b (Back tx n) ++ Commit tx ∷ []
+
+ends-imaged : (b : Bool) (tx n q : ℕ) → imaged (ends b tx n) q ≡ false
+ends-imaged true tx n q = refl
+ends-imaged false tx n q = refl
+
+ends-below : (b : Bool) (tx n next : ℕ) → tx < next → AreBelow next (ends b tx n)
+ends-below true tx n next lt = (lt, (lt, tt))
+ends-below false tx n next lt = (lt, tt)
+
+ends-len : (b : Bool) → (cond b 9 0 + 5 ≤ 14) × (0 < cond b 9 0 + 5)
+ends-len true = (omega arith, omega arith)
+ends-len false = (omega arith, omega arith)
+
+same_records : (opened pending : List Record) (b : Bool) (tx n : ℕ) → opened ++ ((pending ++ some b (Back tx n)) ++ Commit tx ∷ []) ≡ (opened ++ pending) ++ ends b tx n
+same_records opened pending b tx n = ap (λ (l : List Record). opened ++ l) (append_assoc pending (some b (Back tx n)) (Commit tx ∷ [])) ∙ sym (append_assoc opened pending (ends b tx n))
+
+no_image : (recs : List Record) (b : Bool) (tx n q : ℕ) → imaged (recs ++ ends b tx n) q ≡ imaged recs q
+no_image recs b tx n q = imaged-append recs (ends b tx n) q ∙ ap (λ (x : Bool). imaged recs q || x) (ends-imaged b tx n q) ∙ or_false (imaged recs q)
+
+-- What `finish` leaves of disk and journal.
+pub record Finishes (told new : Option Story) (j k : journal.State) (tx n : ℕ) (undone : Bool) : Type 0 where
+  pub done : k ≡ after_force (after_append (cond undone 9 0 + 5) j)
+  pub pages : KeepsDisk j told new
+  pub stands : StandsOn new k
+  pub store : (want now : ℕ → List ℕ) (g : Geometry) (opened pending : List Record) (rest : List Active) → IsStoreOn want now told j g opened pending (active_with tx n ∷ rest) → (undone ≡ false → count_of tx (standing (opened ++ pending)) ≤ n)
+      → IsStoreOn (with_changes (own_of (opened ++ pending) (active_with tx n)) want) now new k g (opened ++ ((pending ++ some undone (Back tx n)) ++ Commit tx ∷ [])) [] rest
+
+-- the journal after it
+record IsFinished (j k : journal.State) (m : ℕ) : Type 0 where
+  pub used : used_of k ≡ filled j + m
+  pub gates : gates_used k ≡ length j.lens + 1
+  pub lens : length k.lens ≤ length j.lens + 1
+  pub up : k.failed ≡ j.failed
+  pub gates_is : k.gates ≡ j.gates
+  pub log_is : k.log ≡ j.log
+  pub clean : k.clean ≡ j.clean
+  pub none : k.pending ≡ 0
+
+IsFinished-after : (j : journal.State) (m : ℕ) → 0 < m → IsFinished j (after_force (after_append m j)) m
+IsFinished-after j m some =
+    let same = SameRoom-force (after_append m j) in
+    let gates : gates_used (after_force (after_append m j)) ≡ length j.lens + 1 = same.gates ∙ gates-append j m some in
+    record {
+      used = same.used ∙ used-append j m some;
+      gates = gates;
+      lens = let e = lens-gates (after_force (after_append m j)) in omega arith;
+      up = refl;
+      gates_is = refl;
+      log_is = refl;
+      clean = refl;
+      none = refl;
+    }
+
+IsFinished-done : (j k : journal.State) (undone : Bool) → k ≡ after_force (after_append (cond undone 9 0 + 5) j) → IsFinished j k (cond undone 9 0 + 5)
+IsFinished-done j k undone done = subst (λ (l : journal.State). IsFinished j l (cond undone 9 0 + 5)) (sym done) (IsFinished-after j (cond undone 9 0 + 5) (ends-len undone).1)
+
+module _ (told new : Option Story) (size len : ℕ) (j k : journal.State) (p : pool.State) (book : Book) (o : Out) (rest : List Out) (is : book.out ≡ o ∷ rest) (long : len ≡ size)
+    (finish : Finishes told new j k o.tx (length o.undos) o.undone) where
+  finished : IsFinished j k (cond o.undone 9 0 + 5)
+  finished = IsFinished-done j k o.undone finish.done
+
+  finish_bytes : used_of k ≤ used_of j + 18
+  finish_bytes = let e = finished.used in let m = (ends-len o.undone).0 in let f = (filled-used j).0 in omega arith
+
+  finish_more : used_of j ≤ used_of k
+  finish_more = let e = finished.used in let f = (filled-used j).1 in omega arith
+
+  module _ (want now : ℕ → List ℕ) (opened pending : List Record) (ties : Ties want now told size j p book opened pending) where
+    abbrev tail : List Record
+    tail = ends o.undone o.tx (length o.undos)
+
+    abbrev recs : List Record
+    recs = (opened ++ pending) ++ tail
+
+    out : IsOut p.geometry.pages (opened ++ pending) book.next o
+    out = first_out want now told size j p book o rest is opened pending ties
+
+    same_disk : WhereTold told new (SamePages p.geometry)
+    same_disk = SamePages-as p.geometry told new (finish.pages p.geometry ties.serves.gates ties.serves.log)
+
+    was_up : k.failed ≡ false → j.failed ≡ false
+    was_up up = sym finished.up ∙ up
+
+    all : recs ≡ recs ++ []
+    all = sym (append-nil recs)
+
+    pub Ties-finish : Ties (committed_pages (opened ++ pending) o want) now new len k p (with_out book rest) recs []
+    Ties-finish = record {
+      up = finished.up ∙ ties.up;
+      store = subst (λ (l : List Record). IsStoreOn (committed_pages (opened ++ pending) o want) now new k p.geometry l [] (actives rest)) (same_records opened pending o.undone o.tx (length o.undos))
+          (finish.store want now p.geometry opened pending (actives rest) (first_store want now told size j p book o rest is opened pending ties) out.logged);
+      serves = record {
+        sizes = ties.serves.sizes;
+        room = let h = ties.serves.room in omega arith;
+        gates = finished.gates_is ∙ ties.serves.gates;
+        log = finished.log_is ∙ ties.serves.log;
+        stands = finish.stands;
+        clean = finished.clean ∙ ties.serves.clean;
+        free = λ some. absurd (let e = finished.none in omega arith);
+      };
+      agrees = AgreesOn-same j k was_up p told new same_disk ties.agrees;
+      pages = ArePagesOn-same j k was_up now p told new same_disk ties.pages;
+      dirty = subst (λ (l : List Record). AreImaged p l) all (λ q dirty. no_image (opened ++ pending) o.undone o.tx (length o.undos) q ∙ ties.dirty q dirty);
+      position = let h = ties.position in let m = finish_more in omega arith;
+      knows = subst (λ (l : List Record). IsBookOf p.geometry.pages l (with_out book rest)) all (record {
+        images = λ q lt. ties.knows.images q lt ∙ sym (no_image (opened ++ pending) o.undone o.tx (length o.undos) q);
+        count = ties.knows.count;
+        out = rest_out want now told size j p book o rest is opened pending ties recs;
+        fresh = AreBelow-append book.next (opened ++ pending) tail ties.knows.fresh (ends-below o.undone o.tx (length o.undos) book.next out.number);
+        alone = let e = ap (λ (l : List Out). length l) (first_alone want now told size j p book o rest is opened pending ties) in omega arith;
+      });
+      spare = record {
+        few = rest_few want now told size j p book o rest is opened pending ties (used_of k);
+        room = let h = first_room want now told size j p book o rest is opened pending ties in let m = finish_bytes in let l = ap (λ (r : Range). r.len) finished.log_is in omega arith;
+        gates = let h = first_gates want now told size j p book o rest is opened pending ties in let e = finished.gates in let m = lens-gates j in let l = ap (λ (r : Range). r.len) finished.gates_is in omega arith;
+      };
+    }
+
+  pub Commits-finish : Commits (at told size j p book) (at new len k p (with_out book rest)) o rest
+  Commits-finish = record {
+    out = refl;
+    pages = λ want now opened pending ties. (recs want now opened pending ties, [], Ties-finish want now opened pending ties);
+    alone = λ last want now store.
+        (recs want now store.0 store.1 store.2, [], Ties-idle (committed_pages (store.0 ++ store.1) o want) now new len k p (with_out book rest) (recs want now store.0 store.1 store.2) [] last (Ties-finish want now store.0 store.1 store.2));
+    grows = record { bytes = let m = finish_bytes in omega arith; gates = finished.lens };
+  }
+
+-- what a crash leaves at each moment of it
+pub record LeavesFinish (told new : Option Story) (j : journal.State) (tx n : ℕ) (undone : Bool) : Type 0 where
+  pub each : (want now : ℕ → List ℕ) (g : Geometry) (opened pending : List Record) (rest : List Active) → IsStoreOn want now told j g opened pending (active_with tx n ∷ rest) → (undone ≡ false → count_of tx (standing (opened ++ pending)) ≤ n)
+      → LeavesOnly told new (IsOldOrNew g want (with_changes (own_of (opened ++ pending) (active_with tx n)) want))
+
+pub LeavesCommit-finish : (told new : Option Story) (size len : ℕ) (j k : journal.State) (p : pool.State) (book after : Book) (o : Out) (rest : List Out) → book.out ≡ o ∷ rest → LeavesFinish told new j o.tx (length o.undos) o.undone
+    → LeavesCommit (at told size j p book) (at new len k p after) o
+LeavesCommit-finish told new size len j k p book after o rest is leaves want now opened pending ties =
+    leaves.each want now p.geometry opened pending (actives rest) (first_store want now told size j p book o rest is opened pending ties)
+    (first_out want now told size j p book o rest is opened pending ties).logged
+
+-- ---- the transaction of the call is the first
+pub first_is : (tx : ℕ) (out : List Out) → IsFirst tx out → (o : Out) × (rest : List Out) × (out ≡ o ∷ rest)
+first_is tx [] first = absurd first
+first_is tx (o ∷ rest) first = (o, rest, refl)
+
+module _ (P : ℕ → ℕ → Bool → Type 0) (out : List Out) (o : Out) (rest : List Out) (is : out ≡ o ∷ rest) (tx n : ℕ) (undone : Bool) where
+  -- what is so of its number, the count of its changes and its flag
+  pub of_first : IsFirst tx out → n ≡ standing_in out → undone ≡ o.undone → P tx n undone → P o.tx (length o.undos) o.undone
+  of_first first count flag has =
+      let number : o.tx ≡ tx = subst (λ (l : List Out). IsFirst tx l) is first in
+      let size : n ≡ length o.undos = count ∙ ap standing_in is in
+      subst (λ (t : ℕ). P t (length o.undos) o.undone) (sym number) (subst (λ (m : ℕ). P tx m o.undone) size (subst (λ (u : Bool). P tx n u) flag has))

@@ -1,0 +1,87 @@
+-- A change of a page that was brought into memory first.
+use Rattle.std.proofs.Common.{◌≡◌, ⊎_elim, ℕ, ◌+◌, ◌≤◌, Option, Some, None, is_some, List, length, take, drop, sym, ◌∙◌, ap, subst, arith}
+use Rattle.std.proofs.lemmas.Bool.{false≢true}
+use Rattle.sb_disk.specs.Disk.{Story, Range}
+use Rattle.sb_journal.specs.State.{used_of, after_force}
+use Rattle.sb_journal.specs.State as journal
+use Rattle.sb_images.specs.Store.{IfTold}
+use Rattle.sb_pool.specs.Calls.{IsSameOrForced}
+use Rattle.sb_txn.specs.declared.fault.StoreFault.{StoreFault}
+use Rattle.sb_txn.specs.declared.fault.StoreFault.TheVariants.{Fault, LogFull, GatesFull, Down, NoMemory}
+use Rattle.sb_txn.specs.Book.{Out, Book, wants_of, change_len}
+use Rattle.sb_txn.specs.Changes.{NoRoom, AddErr}
+use Rattle.sb_txn.specs.Clauses.{Parts, LeavesWanted, Loads, Refused, Changes, ChangeErr, HasRoom, need_of}
+use Rattle.sb_txn.proofs.RoomLemmas.{SameRoom, SameRoom-forced, lens-gates, lens-same}
+use Rattle.sb_txn.proofs.TiedLemmas.{Refused-loads}
+
+-- ---- the load before it
+lens-loaded : (j k : journal.State) → IsSameOrForced j k → length j.lens ≤ length k.lens
+lens-loaded j k same = ⊎_elim
+    (λ (e : k ≡ j). let l = ap (λ (x : journal.State). length x.lens) e in omega arith)
+    (λ (e : k ≡ after_force j). let l = ap (λ (x : journal.State). length x.lens) e in let g = lens-gates j in omega arith)
+    same
+
+as_told : (a b : Option Story) (P : Type 0) → is_some a ≡ is_some b → IfTold b P → IfTold a P
+as_told None b P tells has = tt
+as_told (Some s) None P tells has = absurd (false≢true (sym tells))
+as_told (Some s) (Some t) P tells has = has
+
+module _ (old mid : Parts) (loads : Loads old mid) where
+  room_same : SameRoom old.store.journal mid.store.journal
+  room_same = SameRoom-forced old.store.journal mid.store.journal loads.journal
+
+  need_same : (o : Out) (page count : ℕ) → need_of mid.store.book o page count ≡ need_of old.store.book o page count
+  need_same o page count = ap (λ (b : Book). need_of b o page count) loads.book
+
+  pub HasRoom-loaded : (o : Out) (page count : ℕ) → HasRoom mid.store o page count → HasRoom old.store o page count
+  HasRoom-loaded o page count room = record {
+    bytes =
+        let a = room.bytes in
+        let b = room_same.used in
+        let c = need_same o page count in
+        let l = ap (λ (r : Range). r.len) room_same.log_is in
+        omega arith;
+    gates =
+        let a = room.gates in
+        let b = lens-loaded old.store.journal mid.store.journal loads.journal in
+        let c = ap (λ (x : Book). length x.out) loads.book in
+        omega arith;
+  }
+
+  pub ChangeErr-room : (o : Out) (page count : ℕ) (e : StoreFault) → NoRoom mid.store.journal mid.store.book o page count e → ChangeErr old mid o page count e
+  ChangeErr-room o page count (LogFull used need total) none =
+      let l = ap (λ (r : Range). r.len) room_same.log_is in
+      (none.0 ∙ room_same.used, none.1 ∙ need_same o page count, none.2 ∙ l, none.3, Refused-loads old mid loads)
+  ChangeErr-room o page count (GatesFull used total) none =
+      let g = ap (λ (r : Range). r.len) room_same.gates_is in
+      let b = ap (λ (x : Book). length x.out) loads.book in
+      let over = none.2 in
+      (none.0, none.1 ∙ g, omega arith, Refused-loads old mid loads)
+  ChangeErr-room o page count Fault none = absurd none
+  ChangeErr-room o page count Down none = absurd none
+  ChangeErr-room o page count NoMemory none = absurd none
+
+  pub ChangeErr-add : (new : Parts) (o : Out) (page count : ℕ) (e : StoreFault) → AddErr mid new e → ChangeErr old new o page count e
+  ChangeErr-add new o page count NoMemory err = subst (λ (p : Parts). Refused old p) (sym err) (Refused-loads old mid loads)
+  ChangeErr-add new o page count Fault err = tt
+  ChangeErr-add new o page count (LogFull used need total) err = absurd err
+  ChangeErr-add new o page count (GatesFull used total) err = absurd err
+  ChangeErr-add new o page count Down err = absurd err
+
+  pub Changes-loaded : (new : Parts) (o : Out) (rest : List Out) (page offset : ℕ) (bytes : List ℕ) → LeavesWanted old mid → Changes mid new o rest page offset bytes → length new.store.journal.lens ≤ length mid.store.journal.lens + 1
+      → Changes old new o rest page offset bytes
+  Changes-loaded new o rest page offset bytes leaves changes chunks = record {
+    before = changes.before;
+    was = λ want now store. as_told old.told mid.told (changes.before ≡ take (length bytes) (drop offset (now page))) (leaves.each want now store).tells (changes.was want now (loads.pages want now store));
+    out = changes.out;
+    pages = λ want now store. changes.pages want now (loads.pages want now store);
+    grows = record {
+      bytes = let a = changes.grows.bytes in let b = room_same.used in omega arith;
+      gates = let a = lens-same old.store.journal mid.store.journal room_same in omega arith;
+    };
+    least =
+        let a = changes.least in
+        let b = room_same.used in
+        let c = ap (λ (x : Book). change_len (wants_of x o page) (length bytes)) loads.book in
+        omega arith;
+  }

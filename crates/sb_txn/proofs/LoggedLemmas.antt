@@ -1,0 +1,306 @@
+-- A store with the records of a change in its log.
+use Rattle.std.proofs.Common.{◌≡◌, ⊎_elim, ℕ, zero, suc, ◌+◌, ◌<◌, ◌≤◌, Bool, true, false, cond, not, Option, Some, None, is_some, IsSome, List, [], ◌∷◌, ◌++◌, length, take, drop, slice_index_or, slice_set, refl, sym, ◌∙◌, ap, subst, arith}
+use Rattle.std.specs.List.{All}
+use Rattle.std.proofs.lemmas.Bool.{false≢true, cases_eq}
+use Rattle.std.proofs.lemmas.List.{length_push, length-set, length-take, length-drop, get_or-set_same, get_or-set_other}
+use Rattle.std.proofs.lemmas.List.Elements.{All-head, All-nil, All-cons}
+use Rattle.sb_disk.specs.Disk.{Story, Range, WhereTold, AgreesBut}
+use Rattle.sb_disk.specs.Moments.{LeavesOnly}
+use Rattle.sb_journal.specs.Chunks.{bytes_of}
+use Rattle.sb_journal.specs.State.{StandsOn, used_of, room_of, sealed, after_append}
+use Rattle.sb_journal.specs.State as journal
+use Rattle.sb_journal.proofs.RegionLemmas.{none_sure}
+use Rattle.sb_log.specs.declared.geometry.Geometry.{Geometry}
+use Rattle.sb_log.specs.Records.{Change, Record, Changed, spelling}
+use Rattle.sb_log.specs.Restored.{imaged}
+use Rattle.sb_log.specs.Undoing.{IsFree}
+use Rattle.sb_log.specs.Views.{Active, active_with, is_active, changes}
+use Rattle.sb_log.specs.Whole.{with_range}
+use Rattle.sb_log.proofs.RecordLemmas.{length-change}
+use Rattle.sb_log.proofs.ViewLemmas.{IsFree-alone}
+use Rattle.sb_images.specs.Images.{Restores}
+use Rattle.sb_images.specs.Layout.{page_at, gates_of, log_of, place_of}
+use Rattle.sb_images.specs.Store.{IsStoreOn}
+use Rattle.sb_images.proofs.LayoutLemmas.{page_off_log, page_at-AgreesBut}
+use Rattle.sb_pool.specs.Calls.{Serves}
+use Rattle.sb_pool.specs.Pages.{bytes_or, ArePagesOn, with_bytes}
+use Rattle.sb_pool.specs.State.{Held, held, IsHeld}
+use Rattle.sb_pool.specs.State as pool
+use Rattle.sb_pool.proofs.StoreLemmas.{SamePages, AgreesOn-same, ArePagesOn-same}
+use Rattle.sb_txn.specs.declared.changing.Wants.{Wants}
+use Rattle.sb_txn.specs.Ahead.{IsAhead}
+use Rattle.sb_txn.specs.Book.{Undo, Out, Book, actives, changed_out, with_change, wants_of, change_len}
+use Rattle.sb_txn.specs.Changing.{IsNext, behind}
+use Rattle.sb_txn.specs.Clauses.{HasRoom}
+use Rattle.sb_txn.specs.Logging.{HasSpace, records_len}
+use Rattle.sb_txn.specs.State.{together}
+use Rattle.sb_txn.specs.Tied.{Fits, AreOut, IsBookOf, HasReserve, Ties}
+use Rattle.sb_txn.proofs.ChangesLemmas.{changed, imaged-changed, imaged-other, imaged-page, AreBelow-changed, IsOut-changed}
+use Rattle.sb_txn.proofs.RoomLemmas.{gates-lens}
+
+-- ---- room
+room_of-most : (m : ℕ) → room_of m ≤ 4 + m
+room_of-most zero = omega arith
+room_of-most (suc m) = omega arith
+
+room_of-least : (m : ℕ) → m ≤ room_of m
+room_of-least zero = omega arith
+room_of-least (suc m) = omega arith
+
+room_of-some : (m : ℕ) → 0 < m → room_of m ≡ 4 + m
+room_of-some zero some = absurd (omega arith)
+room_of-some (suc m) some = refl
+
+cond-most : (b : Bool) (n : ℕ) → cond b n 0 ≤ n
+cond-most true n = omega arith
+cond-most false n = omega arith
+
+used-append : (j k : journal.State) (m : ℕ) → 0 < m → k ≡ after_append m j → used_of k ≡ bytes_of j.lens + 4 + j.pending + m
+used-append j k m some done = ap (λ (x : journal.State). used_of x) done ∙ (let e = room_of-some (j.pending + m) (omega arith) in omega arith)
+
+-- ---- a page that is held
+bytes_or-held : (h : Option Held) → IsSome h → (a b : List ℕ) → bytes_or a h ≡ bytes_or b h
+bytes_or-held None some a b = absurd (false≢true some)
+bytes_or-held (Some h) some a b = refl
+
+pub is_now : (now : ℕ → List ℕ) (s : Story) (j : journal.State) (p : pool.State) (page : ℕ) (image : List ℕ) → j.failed ≡ false → IsHeld p page → bytes_or [] (held p page) ≡ image → page < p.geometry.pages → ArePagesOn now (Some s) j p → image ≡ now page
+is_now now s j p page image up has is lt pages = sym is ∙ bytes_or-held (held p page) has [] (page_at p.geometry page s.now.reads) ∙ pages up page lt
+
+-- ---- pages that are elsewhere than the log
+module _ (g : Geometry) (j : journal.State) (gates : j.gates ≡ gates_of g) (log : j.log ≡ log_of g) where
+  pub SamePages-log : (told new : Option Story) → WhereTold told new (λ s t. AgreesBut (j.log ∷ []) s.now.reads t.now.reads) → WhereTold told new (SamePages g)
+  SamePages-log None new same = same
+  SamePages-log (Some s) None same = same
+  SamePages-log (Some s) (Some t) same = record { pages = λ p. page_at-AgreesBut g p (j.log ∷ []) s.now.reads t.now.reads same (page_off_log g j gates log p [] (none_sure (place_of g p) 4096)) }
+
+-- ---- the change may come next
+-- the only transaction that is out changes a range of a page
+module _ (now : ℕ → List ℕ) (p : pool.State) (book : Book) (opened pending : List Record) (o : Out) (rest : List Out) (owner page offset : ℕ) (image bytes : List ℕ)
+    (knows : IsBookOf p.geometry.pages (opened ++ pending) book) (is : book.out ≡ o ∷ rest) (lt : page < p.geometry.pages) (range : offset + length bytes ≤ 4096) (long : length image ≡ 4096) where
+  abbrev recs : List Record
+  recs = opened ++ pending
+
+  abbrev pub edit_undo : Undo
+  edit_undo = record { page = page; offset = offset; before = take (length bytes) (drop offset image) }
+
+  abbrev pub edit_change : Change
+  edit_change = record { tx = o.tx; owner = owner; page = page; offset = offset; before = take (length bytes) (drop offset image); after = bytes }
+
+  abbrev pub edit_records : List Record
+  edit_records = changed opened pending (wants_of book o page) o.tx (length o.undos) page image edit_change
+
+  abbrev pub edit_book : Book
+  edit_book = with_change book o rest edit_undo
+
+  none_of : (xs : List Out) → length xs ≡ 0 → xs ≡ []
+  none_of [] e = refl
+  none_of (x ∷ xs) e = absurd (omega arith)
+
+  none_else : rest ≡ []
+  none_else = none_of rest (let e = ap (λ (l : List Out). length l) is in let a = knows.alone in omega arith)
+
+  outs : AreOut p.geometry.pages recs book.next (o ∷ rest)
+  outs = subst (λ (l : List Out). AreOut p.geometry.pages recs book.next l) is knows.out
+
+  size_before : length (take (length bytes) (drop offset image)) ≡ length bytes
+  size_before = let a = length-take (length bytes) (drop offset image) in let b = length-drop offset image in omega arith
+
+  not_not : (b : Bool) → not (not b) ≡ b
+  not_not true = refl
+  not_not false = refl
+
+  covered : imaged recs page ≡ not (not (slice_index_or book.imaged page false))
+  covered = sym (knows.images page lt) ∙ sym (not_not (slice_index_or book.imaged page false))
+
+  pub edit_next : image ≡ now page → IsNext (wants_of book o page) o.tx (length o.undos) page image now opened pending (actives rest) edit_change
+  edit_next here = record {
+    of_tx = refl;
+    of_page = refl;
+    is = here;
+    fits = range;
+    beneath = record { size = size_before; is = ap (λ (l : List ℕ). take (length bytes) (drop offset l)) here };
+    logged = outs.0.logged;
+    covered = covered;
+    free = subst (λ (r : List Out). IsFree (is_active (active_with o.tx (length o.undos) ∷ actives r)) edit_change (changes (opened ++ behind pending (wants_of book o page) o.tx (length o.undos) page image) (active_with o.tx (length o.undos) ∷ actives r) page))
+        (sym none_else) (IsFree-alone edit_change (length o.undos) _);
+  }
+
+  is_imaged : imaged (opened ++ edit_records) page ≡ true
+  is_imaged = imaged-page opened pending (wants_of book o page) o.tx (length o.undos) page image edit_change covered
+
+  edit_fits : Fits p.geometry.pages (opened ++ edit_records) edit_undo
+  edit_fits = record { page = lt; within = let e = size_before in omega arith; covered = is_imaged }
+
+  below_count : page < length book.imaged
+  below_count = let e = knows.count in omega arith
+
+  images_now : (q : ℕ) → q < p.geometry.pages → slice_index_or edit_book.imaged q false ≡ imaged (opened ++ edit_records) q
+  images_now q below = ⊎_elim
+      (λ (here : page ≡ q). subst (λ (n : ℕ). slice_index_or (slice_set book.imaged page true) n false ≡ imaged (opened ++ edit_records) n) here (get_or-set_same book.imaged page true false below_count ∙ sym is_imaged))
+      (λ (other : page ≡ q → ⊥). get_or-set_other book.imaged page q true false (λ e. other (sym e)) ∙ knows.images q below ∙ sym (imaged-other opened pending (wants_of book o page) o.tx (length o.undos) page image edit_change q other))
+      (cases_eq page q)
+
+  pub edit_knows : IsBookOf p.geometry.pages (opened ++ edit_records) edit_book
+  edit_knows = record {
+    images = images_now;
+    count = length-set book.imaged page true ∙ knows.count;
+    out = subst (λ (r : List Out). AreOut p.geometry.pages (opened ++ edit_records) book.next (changed_out o edit_undo ∷ r)) (sym none_else)
+        (IsOut-changed p.geometry.pages opened pending book.next page image o (wants_of book o page) edit_undo edit_change refl refl (record { page = refl; offset = refl; before = refl }) outs.0 edit_fits, tt);
+    fresh = AreBelow-changed opened pending (wants_of book o page) o.tx (length o.undos) page image edit_change book.next outs.0.number refl knows.fresh;
+    alone = let e = ap (λ (l : List Out). length l) is in let a = knows.alone in omega arith;
+  }
+
+-- ---- with room
+module _ (want now : ℕ → List ℕ) (told : Option Story) (size : ℕ) (j : journal.State) (p : pool.State) (book : Book) (opened pending : List Record) (o : Out) (rest : List Out) (owner page offset : ℕ) (image bytes : List ℕ)
+    (ties : Ties want now told size j p book opened pending) (is : book.out ≡ o ∷ rest) (lt : page < p.geometry.pages) (range : offset + length bytes ≤ 4096) (long : length image ≡ 4096)
+    (has : IsHeld p page) (bytes_held : bytes_or [] (held p page) ≡ image) (room : HasRoom (together j p book) o page (length bytes)) where
+  abbrev w : Wants
+  w = wants_of book o page
+
+  abbrev c : Change
+  c = record { tx = o.tx; owner = owner; page = page; offset = offset; before = take (length bytes) (drop offset image); after = bytes }
+
+  abbrev u : Undo
+  u = record { page = page; offset = offset; before = take (length bytes) (drop offset image) }
+
+  abbrev act : List Active
+  act = active_with o.tx (length o.undos) ∷ actives rest
+
+  abbrev more : List Record
+  more = changed opened pending w o.tx (length o.undos) page image c
+
+  abbrev m : ℕ
+  m = records_len w (length (spelling (Changed c)))
+
+  -- what the log takes
+  size_of : m ≡ change_len w (length bytes)
+  size_of =
+      let a = length-change c in
+      let b = length-take (length bytes) (drop offset image) in
+      let d = length-drop offset image in
+      omega arith
+
+  len_some : 15 ≤ change_len w (length bytes)
+  len_some = omega arith
+
+  one_out : length book.out ≡ suc (length rest)
+  one_out = ap (λ (l : List Out). length l) is
+
+  pub edit_space : HasSpace m j
+  edit_space = record { up = ties.up; bytes = let a = room.bytes in let b = room_of-least j.pending in let e = size_of in omega arith }
+
+  store_at : IsStoreOn want now told j p.geometry opened pending act
+  store_at = subst (λ (l : List Out). IsStoreOn want now told j p.geometry opened pending (actives l)) is ties.store
+
+  next : (s : Story) → ArePagesOn now (Some s) j p → IsNext w o.tx (length o.undos) page image now opened pending (actives rest) c
+  next s pages = edit_next now p book opened pending o rest owner page offset image bytes ties.knows is lt range long (is_now now s j p page image ties.up has bytes_held lt pages)
+
+  -- a disk that tells nothing has any store
+  by_told : (a b : Option Story) (P : Type 0) → is_some a ≡ is_some b → ArePagesOn now a j p → (a ≡ None → b ≡ None → P) → (IsNext w o.tx (length o.undos) page image now opened pending (actives rest) c → P) → P
+  by_told None None P tells pages none some = none refl refl
+  by_told None (Some t) P tells pages none some = absurd (false≢true tells)
+  by_told (Some s) b P tells pages none some = some (next s pages)
+
+  module _ (new : Option Story) (tells : is_some told ≡ is_some new) where
+    pub edit_leaves : (IsNext w o.tx (length o.undos) page image now opened pending (actives rest) c → IsStoreOn want now told j p.geometry opened pending act → LeavesOnly told new (Restores p.geometry want)) → LeavesOnly told new (Restores p.geometry want)
+    edit_leaves leaves = by_told told new (LeavesOnly told new (Restores p.geometry want)) tells ties.pages
+        (λ a b. subst (λ (x : Option Story). LeavesOnly x new (Restores p.geometry want)) (sym a) (subst (λ (x : Option Story). LeavesOnly None x (Restores p.geometry want)) (sym b) none_leaves))
+        (λ is_next. leaves is_next store_at)
+      where
+        none_leaves : LeavesOnly None None (Restores p.geometry want)
+        none_leaves = record { tells = refl; later = omega arith; before = λ t image lt left. absurd left; since = λ t image le left. absurd left }
+
+    module _ (len : ℕ) (k : journal.State) (done : k ≡ after_append m j) (same : WhereTold told new (λ s t. AgreesBut (j.log ∷ []) s.now.reads t.now.reads)) (stands : StandsOn new k) (sized : len ≡ size) where
+      edit_store : (IsNext w o.tx (length o.undos) page image now opened pending (actives rest) c → IsStoreOn want now told j p.geometry opened pending act
+          → IsStoreOn want (with_range c bytes now) new k p.geometry opened more (active_with o.tx (suc (length o.undos)) ∷ actives rest))
+          → IsStoreOn want (with_bytes page offset bytes now) new k p.geometry opened more (actives (changed_out o u ∷ rest))
+      edit_store stored =
+          subst (λ (n : ℕ). IsStoreOn want (with_bytes page offset bytes now) new k p.geometry opened more (active_with o.tx n ∷ actives rest)) (let e = length_push o.undos u in omega arith)
+          (by_told told new (IsStoreOn want (with_range c bytes now) new k p.geometry opened more (active_with o.tx (suc (length o.undos)) ∷ actives rest)) tells ties.pages
+          (λ a b. subst (λ (x : Option Story). IsStoreOn want (with_range c bytes now) x k p.geometry opened more (active_with o.tx (suc (length o.undos)) ∷ actives rest)) (sym b) tt)
+          (λ is_next. stored is_next store_at))
+
+      up_now : k.failed ≡ false
+      up_now = ap (λ (x : journal.State). x.failed) done ∙ ties.up
+
+      same_pages : WhereTold told new (SamePages p.geometry)
+      same_pages = SamePages-log p.geometry j ties.serves.gates ties.serves.log told new same
+
+      used_now : used_of k ≡ bytes_of j.lens + 4 + j.pending + m
+      used_now = used-append j k m (let e = size_of in let s = len_some in omega arith) done
+
+      edit_serves : Serves new len k p.geometry
+      edit_serves = record {
+        sizes = ties.serves.sizes;
+        room = let h = ties.serves.room in omega arith;
+        gates = ap (λ (x : journal.State). x.gates) done ∙ ties.serves.gates;
+        log = ap (λ (x : journal.State). x.log) done ∙ ties.serves.log;
+        stands = stands;
+        clean = ap (λ (x : journal.State). x.clean) done ∙ ties.serves.clean;
+        free = λ pending_some.
+            let l = ap (λ (x : journal.State). length x.lens) done in
+            let g = ap (λ (x : journal.State). x.gates.len) done in
+            let e = ap (λ (x : Range). x.len) ties.serves.gates in
+            let h = room.gates in
+            let q = one_out in
+            omega arith;
+      }
+
+      edit_spare : HasReserve k (with_change book o rest u)
+      edit_spare =
+          let q = one_out in
+          let us = used_now in
+          let e = size_of in
+          let s = len_some in
+          let r = room_of-most j.pending in
+          let rl = room_of-least j.pending in
+          record {
+            few = All-cons (λ (x : Out). length x.undos ≤ used_of k) (changed_out o u) rest
+                (let a = All-head (λ (x : Out). length x.undos ≤ used_of j) o rest (subst (λ (l : List Out). All (λ (x : Out). length x.undos ≤ used_of j) l) is ties.spare.few) in let b = length_push o.undos u in omega arith)
+                (subst (λ (l : List Out). All (λ (x : Out). length x.undos ≤ used_of k) l) (sym (none_else now p book opened pending o rest owner page offset image bytes ties.knows is lt range long)) (All-nil (λ (x : Out). length x.undos ≤ used_of k)));
+            room = let a = room.bytes in let l = ap (λ (x : journal.State). x.log.len) done in omega arith;
+            gates =
+                let a = room.gates in
+                let l = ap (λ (x : journal.State). length x.lens) done in
+                let g = ap (λ (x : journal.State). x.gates.len) done in
+                let b = ap (λ (x : Range). x.len) ties.serves.gates in
+                let d = gates-lens k in
+                omega arith;
+          }
+
+      pub IsAhead-logged : (IsNext w o.tx (length o.undos) page image now opened pending (actives rest) c → IsStoreOn want now told j p.geometry opened pending act
+          → IsStoreOn want (with_range c bytes now) new k p.geometry opened more (active_with o.tx (suc (length o.undos)) ∷ actives rest))
+          → IsAhead want now page offset bytes (record { told = new; size = len; store = together k p (with_change book o rest u) })
+      IsAhead-logged stored = record {
+        opened = opened;
+        pending = more;
+        leans = record {
+          up = up_now;
+          store = edit_store stored;
+          serves = edit_serves;
+          agrees = AgreesOn-same j k (λ up. ties.up) p told new same_pages ties.agrees;
+          pages = ArePagesOn-same j k (λ up. ties.up) now p told new same_pages ties.pages;
+          dirty = λ q dirty. imaged-changed opened pending w o.tx (length o.undos) page image c q (ties.dirty q dirty);
+          position = let a = ties.position in let b = used_now in let d = room_of-most j.pending in omega arith;
+          knows = edit_knows now p book opened pending o rest owner page offset image bytes ties.knows is lt range long;
+          spare = edit_spare;
+        };
+        covered = is_imaged now p book opened pending o rest owner page offset image bytes ties.knows is lt range long;
+      }
+
+      -- what the log has taken
+      pub used-logged : used_of j + change_len w (length bytes) ≤ used_of k
+      used-logged = let a = used_now in let e = size_of in let d = room_of-most j.pending in omega arith
+
+      pub used-logged_most : used_of k ≤ used_of j + 12396
+      used-logged_most =
+          let a = used_now in
+          let e = size_of in
+          let d = room_of-least j.pending in
+          let x = cond-most w.begin 5 in
+          let y = cond-most w.back 9 in
+          let z = cond-most w.image 4101 in
+          omega arith
+
+      pub lens-logged : length k.lens ≡ length j.lens
+      lens-logged = ap (λ (x : journal.State). length x.lens) done

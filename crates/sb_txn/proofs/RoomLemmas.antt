@@ -1,0 +1,104 @@
+-- The bytes and the gates that a journal's chunks take.
+use Rattle.std.proofs.Common.{◌≡◌, ◌⊎◌, ⊎_elim, ℕ, zero, suc, ◌+◌, ◌<◌, ◌≤◌, Bool, List, [], ◌∷◌, ◌++◌, length, refl, sym, ◌∙◌, ap, subst, arith}
+use Rattle.std.proofs.lemmas.List.{length_push}
+use Rattle.sb_disk.specs.Disk.{Range}
+use Rattle.sb_journal.specs.Chunks.{bytes_of}
+use Rattle.sb_journal.specs.State.{State, room_of, used_of, need_of, sealed, after_append, after_force}
+use Rattle.sb_journal.proofs.ChunkLemmas.{bytes_of_more}
+use Rattle.sb_pool.specs.Calls.{IsSameOrForced}
+use Rattle.sb_txn.specs.Steps.{filled}
+use Rattle.sb_txn.specs.Tied.{gates_used}
+
+-- ---- a force
+used_force : (lens : List ℕ) (pending : ℕ) → bytes_of (sealed pending lens) + 0 ≡ bytes_of lens + room_of pending
+used_force lens zero = refl
+used_force lens (suc n) = let e = bytes_of_more lens (suc n) in omega arith
+
+-- the chunks and the pending one take as many bytes, and as many gates
+pub record SameRoom (j k : State) : Type 0 where
+  pub used : used_of k ≡ used_of j
+  pub gates : gates_used k ≡ gates_used j
+  pub gates_is : k.gates ≡ j.gates
+  pub log_is : k.log ≡ j.log
+  pub up : k.failed ≡ j.failed
+
+pub SameRoom-none : (j : State) → SameRoom j j
+SameRoom-none j = record { used = refl; gates = refl; gates_is = refl; log_is = refl; up = refl }
+
+pub SameRoom-then : (j k l : State) → SameRoom j k → SameRoom k l → SameRoom j l
+SameRoom-then j k l one two = record {
+  used = two.used ∙ one.used;
+  gates = two.gates ∙ one.gates;
+  gates_is = two.gates_is ∙ one.gates_is;
+  log_is = two.log_is ∙ one.log_is;
+  up = two.up ∙ one.up;
+}
+
+pub SameRoom-force : (j : State) → SameRoom j (after_force j)
+SameRoom-force j = record { used = used_force j.lens j.pending; gates = refl; gates_is = refl; log_is = refl; up = refl }
+
+pub SameRoom-forced : (j k : State) → IsSameOrForced j k → SameRoom j k
+SameRoom-forced j k same = ⊎_elim
+    (λ (e : k ≡ j). subst (λ (l : State). SameRoom j l) (sym e) (SameRoom-none j))
+    (λ (e : k ≡ after_force j). subst (λ (l : State). SameRoom j l) (sym e) (SameRoom-force j))
+    same
+
+-- ---- gates
+length-sealed : (pending : ℕ) (lens : List ℕ) → (length lens ≤ length (sealed pending lens)) × (length (sealed pending lens) ≤ length lens + 1)
+length-sealed zero lens = (omega arith, omega arith)
+length-sealed (suc n) lens = let e = length_push lens (suc n) in (omega arith, omega arith)
+
+pub lens-gates : (j : State) → length j.lens ≤ gates_used j
+lens-gates j = (length-sealed j.pending j.lens).0
+
+pub gates-lens : (j : State) → gates_used j ≤ length j.lens + 1
+gates-lens j = (length-sealed j.pending j.lens).1
+
+-- where as many gates are used, one chunk more may be there
+pub lens-same : (j k : State) → SameRoom j k → length k.lens ≤ length j.lens + 1
+lens-same j k same = let a = lens-gates k in let b = gates-lens j in let e = same.gates in omega arith
+
+-- with something pending there is a gate for it, if there is one for those used
+pub gate_free : (pending : ℕ) (lens : List ℕ) (count : ℕ) → length (sealed pending lens) ≤ count → 0 < pending → length lens < count
+gate_free zero lens count room some = absurd (omega arith)
+gate_free (suc n) lens count room some = let e = length_push lens (suc n) in omega arith
+
+-- ---- an append
+need_more : (pending n : ℕ) → room_of pending + need_of pending n ≡ 4 + pending + n
+need_more zero n = omega arith
+need_more (suc p) n = omega arith
+
+pub need_filled : (j : State) (n : ℕ) → used_of j + need_of j.pending n ≡ filled j + n
+need_filled j n = let e = need_more j.pending n in omega arith
+
+pub filled-append : (j : State) (n : ℕ) → filled (after_append n j) ≡ filled j + n
+filled-append j n = omega arith
+
+room_of-suc : (n : ℕ) → 0 < n → room_of n ≡ 4 + n
+room_of-suc zero some = absurd (omega arith)
+room_of-suc (suc n) some = refl
+
+room_of-most : (n : ℕ) → (room_of n ≤ 4 + n) × (n ≤ room_of n)
+room_of-most zero = (omega arith, omega arith)
+room_of-most (suc n) = (omega arith, omega arith)
+
+pub filled-used : (j : State) → (filled j ≤ used_of j + 4) × (used_of j ≤ filled j)
+filled-used j = let e = room_of-most j.pending in (omega arith, omega arith)
+
+-- so many bytes more, which are some
+pub used-append : (j : State) (n : ℕ) → 0 < n → used_of (after_append n j) ≡ filled j + n
+used-append j n some = let e = room_of-suc (j.pending + n) (omega arith) in omega arith
+
+pub used-more : (j : State) (n : ℕ) → 0 < n → used_of j + n ≤ used_of (after_append n j)
+used-more j n some = let e = used-append j n some in let m = room_of_within j.pending in omega arith
+  where
+    room_of_within : (p : ℕ) → room_of p ≤ 4 + p
+    room_of_within p = (room_of-most p).0
+
+-- with something pending the chunks will be one more
+pub gates-append : (j : State) (n : ℕ) → 0 < n → gates_used (after_append n j) ≡ length j.lens + 1
+gates-append j n some = sealed_one (j.pending + n) j.lens (omega arith)
+  where
+    sealed_one : (p : ℕ) (lens : List ℕ) → 0 < p → length (sealed p lens) ≡ length lens + 1
+    sealed_one zero lens more = absurd (omega arith)
+    sealed_one (suc p) lens more = length_push lens (suc p)

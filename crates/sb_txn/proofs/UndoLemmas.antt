@@ -1,0 +1,152 @@
+-- What the undoing of changes leaves of a store.
+use Rattle.std.proofs.Common.{◌≡◌, ℕ, zero, suc, ◌+◌, ◌*◌, ◌<◌, ◌≤◌, Bool, true, false, cond, ◌||◌, ◌==◌, Option, Some, None, List, [], ◌∷◌, ◌++◌, length, take, drop, nat_lt, refl, sym, ◌∙◌, ap, subst, arith}
+use Rattle.std.specs.List.{All}
+use Rattle.std.proofs.lemmas.Bool.{false≢true}
+use Rattle.std.proofs.lemmas.List.{length_push, length-take}
+use Rattle.std.proofs.lemmas.List.Elements.{All-nil, All-cons}
+use Rattle.sb_disk.specs.Disk.{Story, splice}
+use Rattle.sb_journal.specs.State.{used_of}
+use Rattle.sb_journal.specs.State as journal
+use Rattle.sb_log.specs.Records.{Change, Record}
+use Rattle.sb_log.specs.Restored.{imaged}
+use Rattle.sb_log.specs.Standing.{keep, standing, own_changes, count_of}
+use Rattle.sb_log.specs.Views.{active_with}
+use Rattle.sb_log.specs.Whole.{with_range}
+use Rattle.sb_log.proofs.StandingLemmas.{own_changes-keep, count_of-own}
+use Rattle.sb_log.proofs.ViewLemmas.{HasLast, HasLast-some, HasLast-own}
+use Rattle.sb_log.proofs.WholeLemmas.{IsWhole-undo}
+use Rattle.sb_images.specs.Store.{IsStoreOn}
+use Rattle.sb_images.proofs.StoreLemmas.{IsStoreOn-step}
+use Rattle.sb_pool.specs.Pages.{with_bytes}
+use Rattle.sb_pool.specs.State as pool
+use Rattle.sb_txn.specs.Book.{Undo, Out, Book, actives, undone_out, standing_in, Pops}
+use Rattle.sb_txn.specs.Tied.{IsUndo, AreUndos, Fits, AllFit, IsOut, AreOut, IsBookOf, HasReserve, Ties, Lags, reserve, gates_used}
+use Rattle.sb_txn.proofs.EndLemmas.{first_out, first_store, first_alone, first_room, first_gates, first_few, rest_out, rest_few}
+
+-- ---- undos and changes
+pub length-AreUndos : (us : List Undo) (cs : List Change) → AreUndos us cs → length cs ≡ length us
+length-AreUndos [] [] are = refl
+length-AreUndos [] (c ∷ cs) are = absurd are
+length-AreUndos (u ∷ us) [] are = absurd are
+length-AreUndos (u ∷ us) (c ∷ cs) are = let e = length-AreUndos us cs are.1 in omega arith
+
+pub AreUndos-push : (us : List Undo) (cs : List Change) (u : Undo) (c : Change) → AreUndos us cs → IsUndo u c → AreUndos (us ++ u ∷ []) (cs ++ c ∷ [])
+AreUndos-push [] [] u c are is = (is, tt)
+AreUndos-push [] (d ∷ cs) u c are is = absurd are
+AreUndos-push (v ∷ us) [] u c are is = absurd are
+AreUndos-push (v ∷ us) (d ∷ cs) u c are is = (are.0, AreUndos-push us cs u c are.1 is)
+
+AreUndos-last : (us : List Undo) (cs : List Change) (u : Undo) (c : Change) → AreUndos (us ++ u ∷ []) (cs ++ c ∷ []) → AreUndos us cs × IsUndo u c
+AreUndos-last [] [] u c are = (tt, are.0)
+AreUndos-last [] (d ∷ cs) u c are = absurd (let e = length-AreUndos [] (cs ++ c ∷ []) are.1 in let l = length_push cs c in omega arith)
+AreUndos-last (v ∷ us) [] u c are = absurd (let e = length-AreUndos (us ++ u ∷ []) [] are.1 in let l = length_push us u in omega arith)
+AreUndos-last (v ∷ us) (d ∷ cs) u c are = let rest = AreUndos-last us cs u c are.1 in ((are.0, rest.0), rest.1)
+
+AllFit-last : (count : ℕ) (recs : List Record) (us : List Undo) (u : Undo) → AllFit count recs (us ++ u ∷ []) → AllFit count recs us × Fits count recs u
+AllFit-last count recs [] u fit = (tt, fit.0)
+AllFit-last count recs (v ∷ us) u fit = let rest = AllFit-last count recs us u fit.1 in ((fit.0, rest.0), rest.1)
+
+-- ---- the last change of a transaction
+-- the bytes before it, in the words of the pool
+same_bytes : (u : Undo) (c : Change) (now : ℕ → List ℕ) → IsUndo u c → with_range c c.before now ≡ with_bytes u.page u.offset u.before now
+same_bytes u c now is =
+    ap (λ (x : ℕ). with_bytes x c.offset c.before now) (sym is.page) ∙ ap (λ (x : ℕ). with_bytes u.page x c.before now) (sym is.offset) ∙ ap (λ (x : List ℕ). with_bytes u.page u.offset x now) (sym is.before)
+
+module _ (count : ℕ) (recs : List Record) (next : ℕ) (o : Out) (others : List Undo) (u : Undo) (was : o.undos ≡ others ++ u ∷ []) (out : IsOut count recs next o) where
+  abbrev n : ℕ
+  n = length others
+
+  one_more : length o.undos ≡ suc n
+  one_more = ap (λ (us : List Undo). length us) was ∙ length_push others u ∙ (omega arith)
+
+  are : AreUndos (others ++ u ∷ []) (own_changes o.tx (keep o.tx (suc n) (standing recs)))
+  are = subst (λ (k : ℕ). AreUndos (others ++ u ∷ []) (own_changes o.tx (keep o.tx k (standing recs)))) one_more
+      (subst (λ (us : List Undo). AreUndos us (own_changes o.tx (keep o.tx (length o.undos) (standing recs)))) was out.undos)
+
+  enough : n < count_of o.tx (standing recs)
+  enough =
+      let long = length-AreUndos (others ++ u ∷ []) (own_changes o.tx (keep o.tx (suc n) (standing recs))) are in
+      let taken = ap (λ (cs : List Change). length cs) (own_changes-keep o.tx (suc n) (standing recs)) in
+      let most = length-take (suc n) (own_changes o.tx (standing recs)) in
+      let all = count_of-own o.tx (standing recs) in
+      let more = length_push others u in
+      omega arith
+
+  pub last_change : HasLast o.tx n (standing recs)
+  last_change = HasLast-some o.tx n (standing recs) enough
+
+  parted : AreUndos others (own_changes o.tx (keep o.tx n (standing recs))) × IsUndo u last_change.c
+  parted = AreUndos-last others (own_changes o.tx (keep o.tx n (standing recs))) u last_change.c
+      (subst (λ (cs : List Change). AreUndos (others ++ u ∷ []) cs) (HasLast-own o.tx n (standing recs) last_change) are)
+
+  pub fits_last : Fits count recs u
+  fits_last = (AllFit-last count recs others u (subst (λ (us : List Undo). AllFit count recs us) was out.fit)).1
+
+  some_undo : others ++ u ∷ [] ≡ [] → ⊥
+  some_undo e = absurd (let l = ap (λ (us : List Undo). length us) e in let m = length_push others u in omega arith)
+
+  pub IsOut-undone : IsOut count recs next (undone_out o others)
+  IsOut-undone = record {
+    undos = parted.0;
+    logged = λ e. absurd (false≢true (sym e));
+    none = λ e. absurd (some_undo (sym was ∙ out.none e));
+    number = out.number;
+    fit = (AllFit-last count recs others u (subst (λ (us : List Undo). AllFit count recs us) was out.fit)).0;
+  }
+
+module _ (want now : ℕ → List ℕ) (told : Option Story) (size : ℕ) (j : journal.State) (p : pool.State) (book after : Book) (o : Out) (rest : List Out) (is : book.out ≡ o ∷ rest) (u : Undo) (pops : Pops o rest book after u) (opened pending : List Record)
+    (ties : Ties want now told size j p book opened pending) where
+  abbrev then : ℕ → List ℕ
+  then = with_bytes u.page u.offset u.before now
+
+  abbrev popped : Book
+  popped = record book { out = undone_out o pops.others ∷ rest }
+
+  out_first : IsOut p.geometry.pages (opened ++ pending) book.next o
+  out_first = first_out want now told size j p book o rest is opened pending ties
+
+  pub fits_popped : Fits p.geometry.pages (opened ++ pending) u
+  fits_popped = fits_last p.geometry.pages (opened ++ pending) book.next o pops.others u pops.was out_first
+
+  store_popped : IsStoreOn want then told j p.geometry opened pending (actives popped.out)
+  store_popped =
+      let last = last_change p.geometry.pages (opened ++ pending) book.next o pops.others u pops.was out_first in
+      let was = subst (λ (n : ℕ). IsStoreOn want now told j p.geometry opened pending (active_with o.tx n ∷ actives rest)) (one_more p.geometry.pages (opened ++ pending) book.next o pops.others u pops.was out_first)
+      (first_store want now told size j p book o rest is opened pending ties) in
+      subst (λ (pages : ℕ → List ℕ). IsStoreOn want pages told j p.geometry opened pending (actives popped.out))
+      (same_bytes u last.c now (parted p.geometry.pages (opened ++ pending) book.next o pops.others u pops.was out_first).1)
+      (IsStoreOn-step want now j p.geometry opened pending (active_with o.tx (suc (length pops.others)) ∷ actives rest) (with_range last.c last.c.before now) (active_with o.tx (length pops.others) ∷ actives rest) told
+      (λ disk whole. IsWhole-undo p.geometry.pages disk now opened pending o.tx (length pops.others) (actives rest) last whole) was)
+
+  lags_popped : Lags want then now told size j p popped opened pending
+  lags_popped = record {
+    up = ties.up;
+    store = store_popped;
+    serves = ties.serves;
+    agrees = ties.agrees;
+    pages = ties.pages;
+    dirty = ties.dirty;
+    position = ties.position;
+    knows = record {
+      images = ties.knows.images;
+      count = ties.knows.count;
+      out = (IsOut-undone p.geometry.pages (opened ++ pending) book.next o pops.others u pops.was out_first, rest_out want now told size j p book o rest is opened pending ties (opened ++ pending));
+      fresh = ties.knows.fresh;
+      alone = let e = ap (λ (l : List Out). length l) (first_alone want now told size j p book o rest is opened pending ties) in omega arith;
+    };
+    spare = record {
+      few = All-cons (λ (x : Out). length x.undos ≤ used_of j) (undone_out o pops.others) rest
+          (let e = one_more p.geometry.pages (opened ++ pending) book.next o pops.others u pops.was out_first in let h = first_few want now told size j p book o rest is opened pending ties in omega arith)
+          (rest_few want now told size j p book o rest is opened pending ties (used_of j));
+      room = let h = first_room want now told size j p book o rest is opened pending ties in omega arith;
+      gates = let h = first_gates want now told size j p book o rest is opened pending ties in omega arith;
+    };
+  }
+
+  pub Lags-pop : Lags want then now told size j p after opened pending
+  Lags-pop = subst (λ (b : Book). Lags want then now told size j p b opened pending) (sym pops.is) lags_popped
+
+-- a transaction of which a change stands is out
+pub some_first : (out : List Out) → 0 < standing_in out → (o : Out) × (rest : List Out) × (out ≡ o ∷ rest)
+some_first [] some = absurd (omega arith)
+some_first (o ∷ rest) some = (o, rest, refl)

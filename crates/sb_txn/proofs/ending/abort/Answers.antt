@@ -1,0 +1,34 @@
+use Rattle.std.proofs.Common.{◌≡◌, ℕ, false, List, ◌∷◌, length, sym, ◌∙◌, ap, subst, arith}
+use Rattle.sb_txn.specs.Book.{Out, Book, with_out}
+use Rattle.sb_txn.specs.Clauses.{parts, cut_back, Aborts}
+use Rattle.sb_txn.specs.State.{together}
+use Rattle.sb_txn.proofs.BackLemmas.{Aborts-undoes, any_first}
+use Rattle.sb_txn.proofs.KeepsLemmas.{Keeps-up, Keeps-still, Keeps-ok}
+use Rattle.sb_txn.proofs.ending.abort.Goals as goal
+
+pub returns-clause-aborts : goal.returns-clause-aborts
+returns-clause-aborts g c o rest is =
+    let undoes = c.in_ok-back_to.ensures.undoes o rest is in
+    subst (λ (b : Book). Aborts (parts g.D.Disk.told g.D.Disk.len c.args.disk.now (together c.args.journal.now c.args.pool.now c.args.book.now)) (parts g.D.Disk.told g.D.Disk.len c.back_to.new.disk (together c.back_to.new.journal c.back_to.new.pool b)) o rest)
+    (sym (c.end.ensures (cut_back o 0) rest undoes.out))
+    (Aborts-undoes (parts g.D.Disk.told g.D.Disk.len c.args.disk.now (together c.args.journal.now c.args.pool.now c.args.book.now)) (g.D.Disk.told c.back_to.new.disk) (g.D.Disk.len c.back_to.new.disk) c.back_to.new.journal c.back_to.new.pool c.back_to.new.book o rest undoes)
+
+pub end-requires : goal.end-requires
+end-requires g c =
+    let back = c.in_ok-back_to.ensures in
+    let up = Keeps-up g.D.Disk.told g.D.Disk.len g.D.Disk.faults tt c.args.disk.now c.back_to.new.disk (together c.args.journal.now c.args.pool.now c.args.book.now) (together c.back_to.new.journal c.back_to.new.pool c.back_to.new.book) back.keeps in
+    let first = any_first c.args.book.now.out (c.requires.some up) in
+    let is = ap (λ (l : List Out). length l) (back.undoes first.0 first.1 first.2).out in
+    omega arith
+
+pub returns-clause-keeps : goal.returns-clause-keeps
+returns-clause-keeps g c =
+    let back = c.in_ok-back_to.ensures in
+    let s = together c.args.journal.now c.args.pool.now c.args.book.now in
+    let up = Keeps-up g.D.Disk.told g.D.Disk.len g.D.Disk.faults tt c.args.disk.now c.back_to.new.disk s (together c.back_to.new.journal c.back_to.new.pool c.back_to.new.book) back.keeps in
+    let first = any_first c.args.book.now.out (c.requires.some up) in
+    let aborts = returns-clause-aborts g c first.0 first.1 first.2 in
+    let mid_up = Keeps-still g.D.Disk.told g.D.Disk.len g.D.Disk.faults tt c.args.disk.now c.back_to.new.disk s (together c.back_to.new.journal c.back_to.new.pool c.back_to.new.book) up back.keeps in
+    let still : c.end.new.self.down ≡ false = ap (λ (b : Book). b.down) (c.end.ensures (cut_back first.0 0) first.1 (back.undoes first.0 first.1 first.2).out) ∙ mid_up in
+    Keeps-ok g.D.Disk.told g.D.Disk.len g.D.Disk.faults tt c.args.disk.now c.back_to.new.disk s (together c.back_to.new.journal c.back_to.new.pool c.end.new.self) up still back.keeps.size back.keeps.geometry back.keeps.later
+    (λ _. let store = c.requires.ready up in (store.0, _, aborts.pages store.0 store.1 store.2))

@@ -1,0 +1,40 @@
+use Rattle.std.proofs.Common.{rules, ◌≡◌, ℕ, false, Option, List, ◌++◌, refl, sym, ◌∙◌}
+use Rattle.sb_images.proofs.StoreLemmas.{IsStoreOn-ready}
+use Rattle.sb_txn.specs.Book.{actives}
+use Rattle.sb_txn.specs.Clauses.{Loads}
+use Rattle.sb_txn.proofs.KeepsLemmas.{LeavesWanted-none, Keeps-ok}
+use Rattle.sb_txn.proofs.TiedLemmas.{IsStoreOf-kept}
+use Rattle.sb_txn.proofs.paging.load.Goals as goal
+
+pub returns-then-is_down-clause-any_moment : goal.returns-then-is_down-clause-any_moment
+returns-then-is_down-clause-any_moment g c = LeavesWanted-none _
+
+pub returns-in-Err-clause-any_moment : goal.returns-in-Err-clause-any_moment
+returns-in-Err-clause-any_moment g c = record {
+  each = λ want now store.
+      (c.load.ensures.images want store.0 store.1 (IsStoreOn-ready want now _ c.args.journal.now c.args.pool.now.geometry store.0 store.1 (actives c.args.book.now.out) store.2.store) store.2.dirty).leaves;
+}
+
+pub returns-in-Ok-clause-any_moment : goal.returns-in-Ok-clause-any_moment
+returns-in-Ok-clause-any_moment g c = record {
+  each = λ want now store.
+      (c.load.ensures.images want store.0 store.1 (IsStoreOn-ready want now _ c.args.journal.now c.args.pool.now.geometry store.0 store.1 (actives c.args.book.now.out) store.2.store) store.2.dirty).leaves;
+}
+
+pub returns-in-Ok-clause-loads : goal.returns-in-Ok-clause-loads
+returns-in-Ok-clause-loads g c = record {
+  book = refl;
+  pages = λ want now store.
+      let call = c.in-Ok.ensures in
+      let ready = IsStoreOn-ready want now (g.D.Disk.told c.args.disk.now) c.args.journal.now c.args.pool.now.geometry store.0 store.1 (actives c.args.book.now.out) store.2.store in
+      IsStoreOf-kept want now (g.D.Disk.told c.args.disk.now) (g.D.Disk.told c.load.new.disk) (g.D.Disk.len c.args.disk.now) (g.D.Disk.len c.load.new.disk) c.args.journal.now c.load.new.journal c.args.pool.now c.load.new.self c.args.book.now store.0 store.1 store.2
+      call.keeps.geometry call.held.1 call.pages call.dirty (call.images want store.0 store.1 ready store.2.dirty).ready call.journal call.keeps.serves call.keeps.agrees;
+  journal = c.in-Ok.ensures.journal;
+}
+
+pub returns-in-Ok-clause-keeps : goal.returns-in-Ok-clause-keeps
+returns-in-Ok-clause-keeps g c =
+    let up : c.args.book.now.down ≡ false = sym c.is_down.ensures ∙ c.if-is_down.false in
+    let loads = returns-in-Ok-clause-loads g c in
+    Keeps-ok g.D.Disk.told g.D.Disk.len g.D.Disk.faults tt _ _ _ _ up up c.in-Ok.ensures.keeps.size c.in-Ok.ensures.keeps.geometry c.in-Ok.ensures.keeps.later
+    (λ _. let ready = c.requires.ready up in (ready.0, ready.1, loads.pages ready.0 ready.1 ready.2))

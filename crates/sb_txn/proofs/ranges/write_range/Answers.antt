@@ -1,0 +1,42 @@
+use Rattle.std.proofs.Common.{refl, ◌∙◌}
+use Rattle.sb_images.proofs.StoreLemmas.{IsStoreOn-ready}
+use Rattle.sb_pool.specs.Pages.{with_bytes}
+use Rattle.sb_txn.specs.Book.{actives}
+use Rattle.sb_txn.proofs.AheadLemmas.{IsStoreOf-written}
+use Rattle.sb_txn.proofs.KeepsLemmas.{Keeps-ok}
+use Rattle.sb_txn.proofs.ranges.write_range.Goals as goal
+
+pub returns-in-Err-clause-any_moment : goal.returns-in-Err-clause-any_moment
+returns-in-Err-clause-any_moment g c = record {
+  each = λ want now ahead.
+      (c.write.ensures.images want ahead.opened ahead.pending
+      (IsStoreOn-ready want (with_bytes c.args.page c.args.offset c.args.bytes.now now) _ c.args.journal.now c.args.pool.now.geometry ahead.opened ahead.pending (actives c.args.book.now.out) ahead.leans.store)
+      ahead.leans.dirty ahead.covered).leaves;
+}
+
+pub returns-in-Ok-clause-any_moment : goal.returns-in-Ok-clause-any_moment
+returns-in-Ok-clause-any_moment g c = record {
+  each = λ want now ahead.
+      (c.write.ensures.images want ahead.opened ahead.pending
+      (IsStoreOn-ready want (with_bytes c.args.page c.args.offset c.args.bytes.now now) _ c.args.journal.now c.args.pool.now.geometry ahead.opened ahead.pending (actives c.args.book.now.out) ahead.leans.store)
+      ahead.leans.dirty ahead.covered).leaves;
+}
+
+pub returns-in-Ok-clause-written : goal.returns-in-Ok-clause-written
+returns-in-Ok-clause-written g c = record {
+  book = refl;
+  journal = c.in-Ok.ensures.journal;
+  pages = λ want now ahead.
+      let call = c.in-Ok.ensures in
+      let ready = IsStoreOn-ready want (with_bytes c.args.page c.args.offset c.args.bytes.now now) (g.D.Disk.told c.args.disk.now) c.args.journal.now c.args.pool.now.geometry ahead.opened ahead.pending (actives c.args.book.now.out) ahead.leans.store in
+      IsStoreOf-written want now (g.D.Disk.told c.args.disk.now) (g.D.Disk.told c.write.new.disk) (g.D.Disk.len c.args.disk.now) (g.D.Disk.len c.write.new.disk) c.args.journal.now c.write.new.journal c.args.pool.now c.write.new.self c.args.book.now
+      ahead.opened ahead.pending c.args.page c.args.offset c.args.bytes.now ahead.leans ahead.covered
+      call.keeps.geometry (call.dirty.1 ∙ c.used-position.ensures) call.written call.others (call.images want ahead.opened ahead.pending ready ahead.leans.dirty ahead.covered).ready call.journal call.keeps.serves call.keeps.agrees;
+}
+
+pub returns-in-Ok-clause-keeps : goal.returns-in-Ok-clause-keeps
+returns-in-Ok-clause-keeps g c =
+    let written = returns-in-Ok-clause-written g c in
+    let ahead = c.requires.ahead in
+    Keeps-ok g.D.Disk.told g.D.Disk.len g.D.Disk.faults tt _ _ _ _ c.requires.up c.requires.up c.in-Ok.ensures.keeps.size c.in-Ok.ensures.keeps.geometry c.in-Ok.ensures.keeps.later
+    (λ _. (ahead.0, with_bytes c.args.page c.args.offset c.args.bytes.now ahead.1, written.pages ahead.0 ahead.1 ahead.2))

@@ -1,0 +1,90 @@
+-- What a store has in memory of its log.
+use Rattle.std.specs.Prelude.{◌≡◌, ℕ, ◌+◌, ◌*◌, Bool, true, false, cond, not, List, [], ◌∷◌, ◌++◌, length, replicate, slice_index_or, slice_set}
+use Rattle.sb_log.specs.Views.{Active, active_with}
+use Rattle.sb_txn.specs.declared.changing.Wants.{Wants}
+
+-- a change that can be undone: its place, and the bytes before it
+pub record Undo : Type 0 where
+  pub page : ℕ
+  pub offset : ℕ
+  pub before : List ℕ
+
+-- A transaction that is out: its number, its changes that stand, the first of them first, whether the log has a record of it, and whether changes of it were undone since its last record.
+pub record Out : Type 0 where
+  pub tx : ℕ
+  pub undos : List Undo
+  pub begun : Bool
+  pub undone : Bool
+
+-- The number of the next transaction, which pages have an Image in the log, the transactions that are out, and whether a call has failed.
+pub record Book : Type 0 where
+  pub next : ℕ
+  pub imaged : List Bool
+  pub out : List Out
+  pub down : Bool
+
+-- the transactions that are out, by how many of their changes stand
+abbrev pub actives : List Out → List Active
+actives [] = []
+actives (o ∷ os) = active_with o.tx (length o.undos) ∷ actives os
+
+-- the book of a store of so many pages whose log is empty
+abbrev pub empty_book : ℕ → Book
+empty_book pages = record { next = 0; imaged = replicate pages false; out = []; down = false }
+
+-- a transaction that has changed nothing
+abbrev pub new_out : ℕ → Out
+new_out tx = record { tx = tx; undos = []; begun = false; undone = false }
+
+-- the book with a transaction more
+abbrev pub begun_book : Book → Book
+begun_book book = record book { next = book.next + 1; out = book.out ++ new_out book.next ∷ [] }
+
+-- the book of a log that was emptied
+abbrev pub emptied_book : Book → Book
+emptied_book book = record (empty_book (length book.imaged)) { out = book.out; down = book.down }
+
+-- the transaction with a change more
+abbrev pub changed_out : Out → Undo → Out
+changed_out o u = record { tx = o.tx; undos = o.undos ++ u ∷ []; begun = true; undone = false }
+
+-- the records that are wanted before a change of the page: a Begin at the first record of the transaction, a Back where something was undone since the last one, an Image where the log has none
+abbrev pub wants_of : Book → Out → ℕ → Wants
+wants_of book o page = record { begin = not o.begun; back = o.undone; image = not (slice_index_or book.imaged page false) }
+
+-- the bytes of the records before a change
+abbrev pub wants_len : Wants → ℕ
+wants_len w = cond w.begin 5 0 + cond w.back 9 0 + cond w.image 4101 0
+
+-- the bytes of the records of a change of so many bytes, those before it among them
+abbrev pub change_len : Wants → ℕ → ℕ
+change_len w count = wants_len w + (15 + 2 * count)
+
+-- ---- the transaction of a call
+-- it is the first of those that are out
+abbrev pub IsFirst : ℕ → List Out → Type 0
+IsFirst tx [] = ⊥
+IsFirst tx (o ∷ os) = o.tx ≡ tx
+
+-- how many changes of the first one stand
+abbrev pub standing_in : List Out → ℕ
+standing_in [] = 0
+standing_in (o ∷ os) = length o.undos
+
+-- the book with these transactions out
+abbrev pub with_out : Book → List Out → Book
+with_out book out = record book { out = out }
+
+-- the book with a change more of the first transaction, of a page that has an Image now
+abbrev pub with_change : Book → Out → List Out → Undo → Book
+with_change book o rest u = record book { imaged = slice_set book.imaged u.page true; out = changed_out o u ∷ rest }
+
+-- the transaction with these changes alone, since the others were undone
+abbrev pub undone_out : Out → List Undo → Out
+undone_out o undos = record o { undos = undos; undone = true }
+
+-- the last change of the first transaction is undone
+pub record Pops (o : Out) (rest : List Out) (old new : Book) (u : Undo) : Type 0 where
+  pub others : List Undo
+  pub was : o.undos ≡ others ++ u ∷ []
+  pub is : new ≡ record old { out = undone_out o others ∷ rest }

@@ -1,0 +1,33 @@
+-- What the steps of a change want and leave.
+use Rattle.std.specs.Prelude.{◌≡◌, ℕ, ◌+◌, ◌<◌, ◌≤◌, Option, List, [], ◌∷◌, length, take, drop}
+use Rattle.sb_journal.specs.State.{used_of}
+use Rattle.sb_journal.specs.State as journal
+use Rattle.sb_pool.specs.Pages.{bytes_or}
+use Rattle.sb_pool.specs.State.{Held}
+use Rattle.sb_txn.specs.Book.{Undo, Out, Book, with_change}
+use Rattle.sb_txn.specs.Clauses.{Parts, need_of}
+use Rattle.sb_txn.specs.declared.fault.StoreFault.{StoreFault}
+use Rattle.sb_txn.specs.declared.fault.StoreFault.TheVariants.{Fault, LogFull, GatesFull, NoMemory}
+
+-- the range of a page that is held, as it can be given back
+abbrev pub undo_at : Option Held → ℕ → ℕ → ℕ → Undo
+undo_at h page offset count = record { page = page; offset = offset; before = take count (drop offset (bytes_or [] h)) }
+
+-- the book with that change more
+abbrev pub AddsUndo : Option Held → Book → Book → ℕ → ℕ → ℕ → Type 0
+AddsUndo h old new page offset count =
+    (o : Out) (rest : List Out) → old.out ≡ o ∷ rest → new ≡ with_change old o rest (undo_at h page offset count)
+
+-- Why there is no room for a change of so many bytes: the log hasn't the bytes, or else no gate is left.
+abbrev pub NoRoom : journal.State → Book → Out → ℕ → ℕ → StoreFault → Type 0
+NoRoom j book o page count (LogFull used need total) =
+    (used ≡ used_of j) × (need ≡ need_of book o page count) × (total ≡ j.log.len) × (total < used + need)
+NoRoom j book o page count (GatesFull used total) =
+    (used ≡ length j.lens) × (total ≡ j.gates.len) × (65535 < used + length book.out)
+NoRoom j book o page count e = ⊥
+
+-- why a change with room for it is refused; where memory is wanting all is as it was
+abbrev pub AddErr : Parts → Parts → StoreFault → Type 0
+AddErr old new NoMemory = new ≡ old
+AddErr old new Fault = Unit {0}
+AddErr old new e = ⊥

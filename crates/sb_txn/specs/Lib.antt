@@ -1,0 +1,13 @@
+pub mod Faults
+pub mod Steps
+pub mod Book
+pub mod View
+pub mod State
+pub mod Tied
+pub mod Clauses
+pub mod Opened
+pub mod Changing
+pub mod Logging
+pub mod Ahead
+pub mod Changes
+pub mod Laws

@@ -1,0 +1,247 @@
+//! What a store has in memory of its log.
+
+ghost use Rattle.std.specs.Prelude.{◌≡◌, ◌+◌, ◌-◌, ◌^◌, ◌<◌, ◌≤◌, ◌∷◌, ◌++◌, [], ℕ, List, suc, true, length, map, take, drop, IfOk, OnOk, OnErr};
+ghost use Rattle.sb_txn.specs.Book.{Out as Outs, empty_book, new_out, begun_book, emptied_book, changed_out, with_change, wants_of, standing_in, with_out, Pops};
+ghost use Rattle.sb_txn.specs.View.{undo_of, out_of};
+
+use crate::changing::Wants;
+use std::alloc::{AllocError, Global};
+use std::marker::Model;
+
+/// The most transactions that may be out at once.
+const MOST_OUT: usize = 8;
+
+/// A change that can be undone: its place, and the bytes before it.
+#[derive(Drop)]
+pub(crate) struct Undo {
+    pub page: u32,
+    pub offset: u16,
+    pub before: Vec<u8>,
+}
+
+/// A transaction that is out.
+#[derive(Drop)]
+pub(crate) struct Out {
+    tx: u32,
+    /// Its changes that stand, the first of them first.
+    undos: Vec<Undo>,
+    /// Whether the log has a record of it.
+    begun: bool,
+    /// Whether something was undone since its last record.
+    undone: bool,
+}
+
+impl Out {
+    /// A transaction that has changed nothing.
+    fn new(alloc: Global, tx: u32) -> Out
+        ensures { out_of result ≡ new_out tx }
+    {
+        Out {
+            tx,
+            undos: Vec::new(alloc),
+            begun: false,
+            undone: false,
+        }
+    }
+
+    /// A change more, which is in the log.
+    fn add(&mut self, undo: Undo) -> Result<(), AllocError>
+        ensures ok { OnOk result (out_of self.new ≡ changed_out (out_of self.old) (undo_of undo)) }
+        ensures err { OnErr result (out_of self.new ≡ out_of self.old) }
+    {
+        self.undos.push(undo)?;
+        self.begun = true;
+        self.undone = false;
+        Ok(())
+    }
+
+    /// The last change, which is undone.
+    fn pop(&mut self) -> Undo
+        requires { 0 < length self.old.undos.items }
+        ensures undos { self.old.undos.items ≡ self.new.undos.items ++ result ∷ [] }
+        ensures undone { self.new.undone ≡ true }
+        ensures begun { self.new.begun ≡ self.old.begun }
+        ensures tx { self.new.tx ≡ self.old.tx }
+    {
+        self.undone = true;
+        self.undos.pop().unwrap()
+    }
+}
+
+/// The number of the next transaction, the pages that have an Image in the log, and the transactions that are out.
+#[derive(Drop)]
+pub(crate) struct Book {
+    next: u32,
+    imaged: Vec<bool>,
+    out: Vec<Out>,
+    down: bool,
+}
+
+impl Model for Book {
+    ghost use Rattle.std.specs.Prelude.{◌≤◌, length, vec_capacity};
+    ghost use Rattle.sb_txn.specs.Book.{Book as Books};
+
+    ghost Value = { Books };
+
+    ghost use Rattle.sb_txn.specs.View.{book_of};
+
+    ghost view = { book_of };
+
+    ghost invariant = { λ b. 8 ≤ vec_capacity b.out };
+}
+
+impl Book {
+    /// The book of a store whose log is empty.
+    pub fn new(alloc: Global, pages: u32) -> Result<Book, AllocError>
+        ensures { IfOk result (λ book. book ≡ empty_book pages) }
+    {
+        let imaged = vec![in alloc; false; pages as usize]?;
+        let out = Vec::with_capacity(alloc, MOST_OUT)?;
+        Ok(Book {
+            next: 0,
+            imaged,
+            out,
+            down: false,
+        })
+    }
+
+    /// Whether a call has failed.
+    pub fn is_down(&self) -> bool
+        ensures { result ≡ self.now.down }
+    {
+        self.down
+    }
+
+    /// A call has failed.
+    pub fn fail(&mut self)
+        ensures { self.new ≡ record self.old { down = true } }
+    {
+        self.down = true;
+    }
+
+    /// The number of the next transaction.
+    pub fn next(&self) -> u32
+        ensures { result ≡ self.now.next }
+    {
+        self.next
+    }
+
+    /// How many transactions are out.
+    pub fn out(&self) -> usize
+        ensures { result ≡ length self.now.out }
+    {
+        self.out.len()
+    }
+
+    /// The log is empty now: no page has an Image, and the numbers begin anew.
+    pub fn empty(&mut self)
+        ensures { self.new ≡ emptied_book self.old }
+    {
+        self.next = 0;
+        self.imaged.fill(false);
+    }
+
+    /// A transaction more, which has changed nothing, and its number.
+    pub fn begin(&mut self) -> u32
+        requires room { length self.old.out < 8 }
+        requires number { self.old.next < 2 ^ 32 - 1 }
+        ensures number { result ≡ self.old.next }
+        ensures out { self.new ≡ begun_book self.old }
+    {
+        let tx = self.next;
+        let alloc = *self.imaged.allocator();
+        self.next += 1;
+        self.out.push(Out::new(alloc, tx)).unwrap();
+        tx
+    }
+
+    /// Whether the log has a record of the first transaction.
+    pub fn is_begun(&self) -> bool
+        requires { 0 < length self.now.out }
+        ensures { (o : Outs) (rest : List Outs) → self.now.out ≡ o ∷ rest → result ≡ o.begun }
+    {
+        self.out[0].begun
+    }
+
+    /// Whether changes of the first transaction were undone since its last record.
+    pub fn is_undone(&self) -> bool
+        requires { 0 < length self.now.out }
+        ensures { (o : Outs) (rest : List Outs) → self.now.out ≡ o ∷ rest → result ≡ o.undone }
+    {
+        self.out[0].undone
+    }
+
+    /// How many changes of the first transaction stand.
+    pub fn standing(&self) -> usize
+        ensures { result ≡ standing_in self.now.out }
+    {
+        match self.out.first() {
+            Some(out) => out.undos.len(),
+            None => 0,
+        }
+    }
+
+    /// The records that are wanted before a change of the page by the first transaction.
+    pub fn wants(&self, page: u32) -> Wants
+        requires page { page < length self.now.imaged }
+        requires some { 0 < length self.now.out }
+        ensures { (o : Outs) (rest : List Outs) → self.now.out ≡ o ∷ rest → result ≡ wants_of self.now o page }
+    {
+        let out = &self.out[0];
+        Wants {
+            begin: !out.begun,
+            back: out.undone,
+            image: !self.imaged[page as usize],
+        }
+    }
+
+    /// What undoes a change of so many bytes of this page from a place on.
+    pub fn undo(
+        &self,
+        page: u32,
+        offset: u16,
+        count: usize,
+        image: &[u8],
+    ) -> Result<Undo, AllocError>
+        requires { offset + count ≤ length image.now }
+        ensures { IfOk result (λ u. undo_of u ≡ record { page = page; offset = offset; before = take count (drop offset image.now) }) }
+    {
+        let at = offset as usize;
+        let before = image[at..at + count].to_vec(*self.imaged.allocator())?;
+        Ok(Undo {
+            page,
+            offset,
+            before,
+        })
+    }
+
+    /// A change more of the first transaction, of a page that has an Image now.
+    pub fn add(&mut self, undo: Undo) -> Result<(), AllocError>
+        requires page { undo.page < length self.old.imaged }
+        requires some { 0 < length self.old.out }
+        ensures ok { OnOk result ((o : Outs) (rest : List Outs) → self.old.out ≡ o ∷ rest
+            → self.new ≡ with_change self.old o rest (undo_of undo)) }
+        ensures err { OnErr result (self.new ≡ self.old) }
+    {
+        let page = undo.page as usize;
+        self.out[0].add(undo)?;
+        self.imaged[page] = true;
+        Ok(())
+    }
+
+    /// The last change of the first transaction, which is undone.
+    pub fn pop(&mut self) -> Undo
+        requires { 0 < standing_in self.old.out }
+        ensures { (o : Outs) (rest : List Outs) → self.old.out ≡ o ∷ rest → Pops o rest self.old self.new (undo_of result) }
+    {
+        self.out[0].pop()
+    }
+
+    /// The first transaction ends.
+    pub fn end(&mut self)
+        requires { 0 < length self.old.out }
+        ensures { (o : Outs) (rest : List Outs) → self.old.out ≡ o ∷ rest → self.new ≡ with_out self.old rest }
+    {
+        self.out.remove(0);
+    }
+}

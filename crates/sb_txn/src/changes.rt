@@ -1,0 +1,249 @@
+//! How a transaction changes a range of a page.
+
+ghost use Rattle.std.specs.Prelude.{◌≡◌, ◌∷◌, ◌+◌, ◌<◌, ◌≤◌, ◌^◌, ℕ, List, cond, false, length, IfErr, OnErr, OnOk};
+ghost use Rattle.sb_journal.specs.State.{used_of};
+ghost use Rattle.sb_pool.specs.State.{IsHeld, held};
+ghost use Rattle.sb_txn.specs.Book.{Out as Outs, IsFirst, change_len as len_of_change};
+ghost use Rattle.sb_txn.specs.Changes.{AddsUndo, NoRoom, AddErr};
+ghost use Rattle.sb_txn.specs.Clauses.{parts, IsReady, IsFaultOrDown, Keeps, LeavesWanted, Changes, ChangeErr, HasRoom};
+ghost use Rattle.sb_txn.specs.State.{together};
+
+use crate::StoreFault;
+use crate::book::Book;
+use crate::changing::{Wants, log_change};
+use crate::paging::load;
+use crate::ranges::write_range;
+use crate::store::{Store, Tx};
+use sb_disk::Disk;
+use sb_journal::Journal;
+use sb_log::Rec;
+use sb_pool::Pool;
+use std::alloc::AllocError;
+
+/// The bytes of the log that are kept for what ends a transaction.
+const RESERVE: u64 = 1024;
+
+/// The gates of the chunks.
+const GATES: u32 = 65536;
+
+/// A range of a page, as a transaction wants it.
+#[derive(Clone, Copy)]
+struct Edit<'a> {
+    tx: u32,
+    owner: u16,
+    page: u32,
+    offset: u16,
+    bytes: &'a [u8],
+}
+
+impl Store {
+    /// Changes a range of a page. First it takes the memory that undoing the change will need.
+    ///
+    /// `LogFull` and `GatesFull` come before anything has changed, with the numbers as they are then; where both would come it is `LogFull`.
+    pub fn change<D: Disk>(
+        &mut self,
+        disk: &mut D,
+        tx: &Tx,
+        owner: u16,
+        page: u32,
+        offset: u16,
+        bytes: &[u8],
+    ) -> Result<(), StoreFault>
+        requires ready { IsReady (parts D.told D.len disk.old self.old) }
+        requires first { self.old.book.down ≡ false → IsFirst tx.now.number self.old.book.out }
+        requires page { page < self.old.pool.geometry.pages }
+        requires some { 0 < length bytes.now }
+        requires range { offset + length bytes.now ≤ 4096 }
+
+        ensures changes { OnOk result ((o : Outs) (rest : List Outs) → self.old.book.out ≡ o ∷ rest
+            → Changes (parts D.told D.len disk.old self.old) (parts D.told D.len disk.new self.new) o rest page offset bytes.now) }
+        ensures room { OnOk result ((o : Outs) (rest : List Outs) → self.old.book.out ≡ o ∷ rest
+            → HasRoom self.old o page (length bytes.now)) }
+        ensures refused { IfErr result (λ e. (o : Outs) (rest : List Outs) → self.old.book.out ≡ o ∷ rest
+            → ChangeErr (parts D.told D.len disk.old self.old) (parts D.told D.len disk.new self.new) o page (length bytes.now) e) }
+        ensures any_moment { LeavesWanted (parts D.told D.len disk.old self.old) (parts D.told D.len disk.new self.new) }
+        ensures keeps { Keeps D.told D.len D.faults disk.old disk.new self.old self.new result }
+    {
+        let edit = Edit {
+            tx: tx.number,
+            owner,
+            page,
+            offset,
+            bytes,
+        };
+        change(
+            disk,
+            &mut self.journal,
+            &mut self.pool,
+            &mut self.book,
+            &edit,
+        )
+    }
+}
+
+/// Changes the range, where there is room for it.
+fn change<D: Disk>(
+    disk: &mut D,
+    journal: &mut Journal,
+    pool: &mut Pool,
+    book: &mut Book,
+    edit: &Edit<'_>,
+) -> Result<(), StoreFault>
+    requires ready { IsReady (parts D.told D.len disk.old (together journal.old pool.old book.old)) }
+    requires first { book.old.down ≡ false → IsFirst edit.now.tx book.old.out }
+    requires page { edit.now.page < pool.old.geometry.pages }
+    requires some { 0 < length edit.now.bytes.now }
+    requires range { edit.now.offset + length edit.now.bytes.now ≤ 4096 }
+
+    ensures changes { OnOk result ((o : Outs) (rest : List Outs) → book.old.out ≡ o ∷ rest
+        → Changes (parts D.told D.len disk.old (together journal.old pool.old book.old))
+        (parts D.told D.len disk.new (together journal.new pool.new book.new)) o rest edit.now.page edit.now.offset edit.now.bytes.now) }
+    ensures room { OnOk result ((o : Outs) (rest : List Outs) → book.old.out ≡ o ∷ rest
+        → HasRoom (together journal.old pool.old book.old) o edit.now.page (length edit.now.bytes.now)) }
+    ensures refused { IfErr result (λ e. (o : Outs) (rest : List Outs) → book.old.out ≡ o ∷ rest
+        → ChangeErr (parts D.told D.len disk.old (together journal.old pool.old book.old))
+        (parts D.told D.len disk.new (together journal.new pool.new book.new)) o edit.now.page (length edit.now.bytes.now) e) }
+    ensures any_moment { LeavesWanted (parts D.told D.len disk.old (together journal.old pool.old book.old))
+        (parts D.told D.len disk.new (together journal.new pool.new book.new)) }
+    ensures keeps { Keeps D.told D.len D.faults disk.old disk.new
+        (together journal.old pool.old book.old) (together journal.new pool.new book.new) result }
+{
+    load(disk, journal, pool, book, edit.page)?;
+    check_room(journal, pool, book, edit.page, edit.bytes.len())?;
+    add_change(disk, journal, pool, book, edit)
+}
+
+/// Refuses a change of so many bytes for which the log has no room.
+fn check_room(
+    journal: &Journal,
+    pool: &Pool,
+    book: &Book,
+    page: u32,
+    count: usize,
+) -> Result<(), StoreFault>
+    requires log { pool.now.geometry.log ≡ journal.now.log.len }
+    requires short { journal.now.log.len < 2 ^ 32 }
+    requires used { used_of journal.now ≤ journal.now.log.len }
+    requires gates { journal.now.gates.len ≡ 65536 }
+    requires page { page < length book.now.imaged }
+    requires some { 0 < length book.now.out }
+    requires alone { length book.now.out ≤ 1 }
+    requires count { count ≤ 4096 }
+
+    ensures ok { OnOk result ((o : Outs) (rest : List Outs) → book.now.out ≡ o ∷ rest
+        → HasRoom (together journal.now pool.now book.now) o page count) }
+    ensures err { IfErr result (λ e. (o : Outs) (rest : List Outs) → book.now.out ≡ o ∷ rest → NoRoom journal.now book.now o page count e) }
+{
+    let used = journal.used();
+    let need = change_len(book.wants(page), count) + 4 + RESERVE * book.out() as u64;
+    let total = pool.geometry().log;
+    if used + need > total {
+        return Err(StoreFault::LogFull { used, need, total });
+    }
+    let chunks = journal.chunks();
+    if chunks as usize + book.out() >= GATES as usize {
+        return Err(StoreFault::GatesFull {
+            used: chunks,
+            total: GATES,
+        });
+    }
+    Ok(())
+}
+
+/// The bytes of the records of a change of so many bytes.
+fn change_len(wants: Wants, count: usize) -> u64
+    requires { count ≤ 4096 }
+    ensures { result ≡ len_of_change wants count }
+{
+    len_if(wants.begin, 5)
+        + len_if(wants.back, 9)
+        + len_if(wants.image, 4101)
+        + 15
+        + 2 * count as u64
+}
+
+/// So many bytes, where they are wanted.
+fn len_if(wanted: bool, len: u64) -> u64
+    ensures { result ≡ cond wanted len 0 }
+{
+    if wanted { len } else { 0 }
+}
+
+/// Changes a range of a page that is held, where there is room for it.
+fn add_change<D: Disk>(
+    disk: &mut D,
+    journal: &mut Journal,
+    pool: &mut Pool,
+    book: &mut Book,
+    edit: &Edit<'_>,
+) -> Result<(), StoreFault>
+    requires ready { IsReady (parts D.told D.len disk.old (together journal.old pool.old book.old)) }
+    requires up { book.old.down ≡ false }
+    requires first { IsFirst edit.now.tx book.old.out }
+    requires room { (o : Outs) (rest : List Outs) → book.old.out ≡ o ∷ rest
+        → HasRoom (together journal.old pool.old book.old) o edit.now.page (length edit.now.bytes.now) }
+    requires held { IsHeld pool.old edit.now.page }
+    requires page { edit.now.page < pool.old.geometry.pages }
+    requires some { 0 < length edit.now.bytes.now }
+    requires range { edit.now.offset + length edit.now.bytes.now ≤ 4096 }
+
+    ensures changes { OnOk result ((o : Outs) (rest : List Outs) → book.old.out ≡ o ∷ rest
+        → Changes (parts D.told D.len disk.old (together journal.old pool.old book.old))
+        (parts D.told D.len disk.new (together journal.new pool.new book.new)) o rest edit.now.page edit.now.offset edit.now.bytes.now) }
+    ensures chunks { OnOk result (length journal.new.lens ≤ length journal.old.lens + 1) }
+    ensures refused { IfErr result (AddErr (parts D.told D.len disk.old (together journal.old pool.old book.old))
+        (parts D.told D.len disk.new (together journal.new pool.new book.new))) }
+    ensures any_moment { LeavesWanted (parts D.told D.len disk.old (together journal.old pool.old book.old))
+        (parts D.told D.len disk.new (together journal.new pool.new book.new)) }
+    ensures keeps { Keeps D.told D.len D.faults disk.old disk.new
+        (together journal.old pool.old book.old) (together journal.new pool.new book.new) result }
+{
+    let wants = book.wants(edit.page);
+    let n = book.standing() as u32;
+    add_undo(book, pool, edit.page, edit.offset, edit.bytes.len())?;
+    let image = pool.page(edit.page);
+    let at = edit.offset as usize;
+    let change = Rec::Change {
+        tx: edit.tx,
+        owner: edit.owner,
+        page: edit.page,
+        offset: edit.offset,
+        before: &image[at..at + edit.bytes.len()],
+        after: edit.bytes,
+    };
+    match log_change(disk, journal, wants, edit.tx, n, edit.page, image, &change) {
+        Ok(()) => write_range(
+            disk,
+            journal,
+            pool,
+            book,
+            edit.page,
+            edit.offset,
+            edit.bytes,
+        ),
+        Err(_) => {
+            book.fail();
+            Err(StoreFault::Fault)
+        }
+    }
+}
+
+/// Takes into the book what a range of a page that is held can be given back.
+fn add_undo(
+    book: &mut Book,
+    pool: &Pool,
+    page: u32,
+    offset: u16,
+    count: usize,
+) -> Result<(), AllocError>
+    requires held { IsHeld pool.now page }
+    requires range { offset + count ≤ 4096 }
+    requires page { page < length book.old.imaged }
+    requires some { 0 < length book.old.out }
+
+    ensures ok { OnOk result (AddsUndo (held pool.now page) book.old book.new page offset count) }
+    ensures err { OnErr result (book.new ≡ book.old) }
+{
+    let undo = book.undo(page, offset, count, pool.page(page))?;
+    book.add(undo)
+}

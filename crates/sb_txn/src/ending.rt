@@ -1,0 +1,127 @@
+//! How a transaction ends.
+
+ghost use Rattle.std.specs.Prelude.{◌≡◌, ◌⊎◌, ◌+◌, ◌<◌, ◌≤◌, ◌∷◌, ◌++◌, [], true, false, cond, ℕ, List, length, OnOk, IfErr, IsErrOf};
+ghost use Rattle.sb_disk.specs.Causes.{Rose};
+ghost use Rattle.sb_disk.specs.Moments.{LeavesOnly};
+ghost use Rattle.sb_images.specs.Images.{IsOldOrNew};
+ghost use Rattle.sb_images.specs.Store.{IsStoreOn, own_of, with_changes};
+ghost use Rattle.sb_journal.specs.State.{Lies, StandsOn, after_append, after_force};
+ghost use Rattle.sb_log.specs.declared.geometry.Geometry.{Geometry};
+ghost use Rattle.sb_log.specs.Records.{Record, Back, Commit};
+ghost use Rattle.sb_log.specs.Standing.{standing, count_of};
+ghost use Rattle.sb_log.specs.Views.{Active, active_with};
+ghost use Rattle.sb_pool.specs.State.{State as Pages};
+ghost use Rattle.sb_txn.specs.Book.{Out as Outs, IsFirst};
+ghost use Rattle.sb_txn.specs.Clauses.{parts, IsReady, IsFaultOrDown, Keeps, LeavesWanted, Commits, LeavesCommit, IsIdle, Aborts};
+ghost use Rattle.sb_txn.specs.State.{together};
+ghost use Rattle.sb_txn.specs.Steps.{KeepsDisk, Stays, some, filled};
+
+use crate::book::Book;
+use crate::changing::append_if;
+use crate::writing::back_to;
+use crate::{StoreFault, steps};
+use sb_disk::Disk;
+use sb_journal::Journal;
+use sb_log::Rec;
+use sb_pool::Pool;
+
+/// Makes a chunk of what is pending and a Commit of the transaction, behind a Back where changes of it were undone.
+fn finish<D: Disk>(
+    disk: &mut D,
+    journal: &mut Journal,
+    tx: u32,
+    undone: bool,
+    n: u32,
+) -> Result<(), StoreFault>
+    requires lies { Lies (D.len disk.old) journal.old.gates journal.old.log }
+    requires stands { StandsOn (D.told disk.old) journal.old }
+    requires clean { journal.old.clean ≡ true }
+
+    ensures done { OnOk result (journal.new ≡ after_force (after_append (cond undone 9 0 + 5) journal.old)) }
+    ensures pages { OnOk result (KeepsDisk journal.old (D.told disk.old) (D.told disk.new)) }
+    ensures err { filled journal.old + 14 ≤ journal.old.log.len → length journal.old.lens < journal.old.gates.len
+        → IfErr result (λ e. e ≡ StoreFault.Fault) }
+    ensures cause { IsErrOf result StoreFault.Fault → (journal.old.failed ≡ true) ⊎ Rose (D.faults disk.old) (D.faults disk.new) }
+    ensures stays { Stays D.told D.len D.faults disk.old disk.new journal.old journal.new }
+
+    // After it the pages wanted have the changes of the transaction that stand, and the others are active still.
+    ensures store { OnOk result ((want now : ℕ → List ℕ) (g : Geometry) (opened pending : List Record) (rest : List Active)
+        → IsStoreOn want now (D.told disk.old) journal.old g opened pending (active_with tx n ∷ rest)
+        → (undone ≡ false → count_of tx (standing (opened ++ pending)) ≤ n)
+        → IsStoreOn (with_changes (own_of (opened ++ pending) (active_with tx n)) want) now (D.told disk.new) journal.new g
+        (opened ++ ((pending ++ some undone (Back tx n)) ++ Commit tx ∷ [])) [] rest) }
+
+    // A crash at any moment of the call leaves the old pages wanted or the new ones.
+    ensures any_moment { (want now : ℕ → List ℕ) (g : Geometry) (opened pending : List Record) (rest : List Active)
+        → IsStoreOn want now (D.told disk.old) journal.old g opened pending (active_with tx n ∷ rest)
+        → (undone ≡ false → count_of tx (standing (opened ++ pending)) ≤ n)
+        → LeavesOnly (D.told disk.old) (D.told disk.new)
+        (IsOldOrNew g want (with_changes (own_of (opened ++ pending) (active_with tx n)) want)) }
+{
+    append_if(disk, journal, undone, &Rec::Back { tx, n })?;
+    steps::commit(disk, journal, tx)?;
+    Ok(())
+}
+
+/// Commits the first transaction. One that has no record in the log ends without a call on the disk.
+pub(crate) fn commit<D: Disk>(
+    disk: &mut D,
+    journal: &mut Journal,
+    book: &mut Book,
+    tx: u32,
+) -> Result<(), StoreFault>
+    requires ready { book.old.down ≡ false → (p : Pages) × IsReady (parts D.told D.len disk.old (together journal.old p book.old)) }
+    requires first { book.old.down ≡ false → IsFirst tx book.old.out }
+
+    ensures commits { OnOk result ((p : Pages) (o : Outs) (rest : List Outs) → book.old.out ≡ o ∷ rest
+        → Commits (parts D.told D.len disk.old (together journal.old p book.old)) (parts D.told D.len disk.new (together journal.new p book.new)) o rest) }
+    ensures any_moment { (p : Pages) (o : Outs) (rest : List Outs) → book.old.out ≡ o ∷ rest
+        → LeavesCommit (parts D.told D.len disk.old (together journal.old p book.old)) (parts D.told D.len disk.new (together journal.new p book.new)) o }
+    ensures idle { (p : Pages) (o : Outs) (rest : List Outs) → book.old.out ≡ o ∷ rest
+        → IsIdle o disk.old disk.new (together journal.old p book.old) (together journal.new p book.new) }
+    ensures err { IfErr result IsFaultOrDown }
+    ensures keeps { (p : Pages) → IsReady (parts D.told D.len disk.old (together journal.old p book.old))
+        → Keeps D.told D.len D.faults disk.old disk.new (together journal.old p book.old) (together journal.new p book.new) result }
+{
+    if book.is_down() {
+        return Err(StoreFault::Down);
+    }
+    if !book.is_begun() {
+        book.end();
+        return Ok(());
+    }
+    match finish(disk, journal, tx, book.is_undone(), book.standing() as u32) {
+        Ok(()) => {
+            book.end();
+            Ok(())
+        }
+        Err(_) => {
+            book.fail();
+            Err(StoreFault::Fault)
+        }
+    }
+}
+
+/// Takes the changes of the first transaction out again, and ends it.
+pub(crate) fn abort<D: Disk>(
+    disk: &mut D,
+    journal: &mut Journal,
+    pool: &mut Pool,
+    book: &mut Book,
+) -> Result<(), StoreFault>
+    requires ready { IsReady (parts D.told D.len disk.old (together journal.old pool.old book.old)) }
+    requires some { book.old.down ≡ false → 0 < length book.old.out }
+
+    ensures aborts { OnOk result ((o : Outs) (rest : List Outs) → book.old.out ≡ o ∷ rest
+        → Aborts (parts D.told D.len disk.old (together journal.old pool.old book.old))
+        (parts D.told D.len disk.new (together journal.new pool.new book.new)) o rest) }
+    ensures any_moment { LeavesWanted (parts D.told D.len disk.old (together journal.old pool.old book.old))
+        (parts D.told D.len disk.new (together journal.new pool.new book.new)) }
+    ensures err { IfErr result IsFaultOrDown }
+    ensures keeps { Keeps D.told D.len D.faults disk.old disk.new
+        (together journal.old pool.old book.old) (together journal.new pool.new book.new) result }
+{
+    back_to(disk, journal, pool, book, 0)?;
+    book.end();
+    Ok(())
+}

@@ -1,0 +1,23 @@
+//! Transactions over the pages of a store.
+#![tactic(auto)]
+
+mod beginning;
+mod book;
+mod changes;
+mod changing;
+mod ending;
+mod fault;
+mod laws;
+mod logging;
+mod opening;
+mod paging;
+mod ranges;
+mod steps;
+mod store;
+#[cfg(test)]
+mod tests;
+mod writing;
+
+pub use fault::StoreFault;
+pub use laws::back_gives_what_was;
+pub use store::{Mark, Store, Tx};

@@ -1,0 +1,233 @@
+//! The store and its calls.
+
+ghost use Rattle.std.specs.Prelude.{◌≡◌, ◌<◌, ◌≤◌, ◌∷◌, [], false, ℕ, List, Some, length, IfOk, IfErr, IsErrOf, OnOk};
+ghost use Rattle.sb_disk.specs.Causes.{Rose};
+ghost use Rattle.sb_disk.specs.Moments.{LeavesOnly};
+ghost use Rattle.sb_log.specs.declared.geometry.Geometry.{Geometry};
+ghost use Rattle.sb_images.specs.Images.{Restores};
+ghost use Rattle.sb_images.specs.Store.{IfTold, IsMounted};
+ghost use Rattle.sb_pool.specs.State.{held, IsHeld, is_dirty};
+ghost use Rattle.sb_txn.specs.Book.{Out, IsFirst, standing_in};
+ghost use Rattle.sb_txn.specs.Clauses.{parts, IsReady, IsStoreOf, Keeps, IsFaultOrDown, LeavesWanted, Loads, IsPaged, Begins, GoesBack, Aborts, Commits, LeavesCommit, LeavesOne, IsIdle, Checkpoints};
+ghost use Rattle.sb_txn.specs.Opened.{IsOpened, OpenErr};
+
+use crate::StoreFault;
+use crate::beginning::{begin, checkpoint};
+use crate::book::Book;
+use crate::ending::{abort, commit};
+use crate::opening::{new_pool, open_journal};
+use crate::paging::load;
+use crate::writing::back_to;
+use sb_disk::Disk;
+use sb_journal::Journal;
+use sb_pool::Pool;
+use sb_recover::{OpenFault, restart};
+use std::alloc::Global;
+use std::marker::Model;
+
+/// A transaction that is out. It is spent by `commit` or `abort`.
+pub struct Tx {
+    pub(crate) number: u32,
+}
+
+/// How many changes of a transaction stood.
+#[derive(Clone, Copy, Debug, PartialEq, Eq)]
+pub struct Mark {
+    changes: usize,
+}
+
+/// Pages that change by transactions, on a disk that every call is given.
+///
+/// A change is in memory and in the log at once, and in the disk's pages at a checkpoint (Härder and Reuter 1983). After a call that answered `Fault` every later one answers `Down` and touches no device.
+#[derive(Drop)]
+pub struct Store {
+    pub(crate) journal: Journal,
+    pub(crate) pool: Pool,
+    pub(crate) book: Book,
+}
+
+impl Model for Store {
+    ghost use Rattle.sb_txn.specs.State.{State};
+
+    ghost Value = { State };
+
+    ghost use Rattle.sb_txn.specs.State.{together};
+
+    ghost view = { λ s. together s.journal s.pool s.book };
+}
+
+impl Store {
+    ghost use Rattle.std.specs.Prelude.{⊤};
+    ghost use Rattle.std.specs.Borrow.{sem};
+    ghost use Rattle.sb_txn.specs.contracts.store.Store.{the_row};
+    ghost use mathlib.Core.Option.{none};
+    ghost use denote.Follow.{follows_so};
+
+    /// Restarts the store that the disk holds, and opens it. It takes all memory that the pages want. The number of frames has no effect yet.
+    ///
+    /// It refuses what `restart` refuses; `BadLog` of chunk 0 at offset 0 too where the disk doesn't give back what was written to it. Where memory is wanting the disk may be restarted all the same.
+    pub fn open<D: Disk>(alloc: Global, disk: &mut D, frames: u32) -> Result<Store, OpenFault>
+        requires frames { (8 ≤ frames) × (frames ≤ 65536) }
+
+        ensures opened { IfOk result (λ store. IsOpened (parts D.told D.len disk.old store) (parts D.told D.len disk.new store)) }
+
+        // A crash at any moment of the call leaves pages that are restored as before.
+        ensures any_moment { (want : ℕ → List ℕ) (g : Geometry) → IsMounted want (D.told disk.old) g
+            → LeavesOnly (D.told disk.old) (D.told disk.new) (Restores g want) }
+
+        ensures refused { IfErr result (λ e. OpenErr e (D.told disk.old) (D.told disk.new)) }
+        ensures fault { IsErrOf result OpenFault.Fault → Rose (D.faults disk.old) (D.faults disk.new) }
+        ensures len { D.len disk.new ≡ D.len disk.old }
+        ensures later { D.faults disk.old ≤ D.faults disk.new }
+    {
+        let sizes = restart(alloc, disk)?;
+        let journal = open_journal(alloc, disk, &sizes)?;
+        let pool = new_pool(alloc, frames, sizes)?;
+        let book = Book::new(alloc, sizes.pages)?;
+        Ok(Store {
+            journal,
+            pool,
+            book,
+        })
+    }
+
+    /// How many pages the store has.
+    pub fn pages(&self) -> u32
+        ensures { result ≡ self.now.pool.geometry.pages }
+    {
+        self.pool.pages()
+    }
+
+    /// Begins a transaction. A checkpoint is taken first where the log or its gates are more than half used, or the numbers of transactions are.
+    pub fn begin<D: Disk>(&mut self, disk: &mut D) -> Result<Tx, StoreFault>
+        requires ready { IsReady (parts D.told D.len disk.old self.old) }
+        requires none { self.old.book.out ≡ [] }
+
+        ensures begins { IfOk result (λ tx. Begins (parts D.told D.len disk.old self.old) (parts D.told D.len disk.new self.new) tx.number) }
+        ensures any_moment { LeavesWanted (parts D.told D.len disk.old self.old) (parts D.told D.len disk.new self.new) }
+        ensures err { IfErr result IsFaultOrDown }
+        ensures keeps { Keeps D.told D.len D.faults disk.old disk.new self.old self.new result }
+    {
+        match begin(disk, &mut self.journal, &mut self.pool, &mut self.book) {
+            Ok(number) => Ok(Tx { number }),
+            Err(fault) => Err(fault),
+        }
+    }
+
+    /// How many changes of the transaction stand now.
+    pub fn mark(&self, tx: &Tx) -> Mark
+        requires first { IsFirst tx.now.number self.now.book.out }
+        ensures { result.changes ≡ standing_in self.now.book.out }
+    {
+        Mark {
+            changes: self.book.standing(),
+        }
+    }
+
+    /// The bytes of a page as it is now, 4,096 of them.
+    pub fn page<D: Disk>(&mut self, disk: &mut D, n: u32) -> Result<&[u8], StoreFault>
+        requires ready { IsReady (parts D.told D.len disk.old self.old) }
+        requires page { n < self.old.pool.geometry.pages }
+
+        ensures page { IfOk result (λ bytes. (want now : ℕ → List ℕ) → IsStoreOf want now (parts D.told D.len disk.old self.old)
+            → IfTold (D.told disk.old) (bytes.now ≡ now n)) }
+        ensures long { IfOk result (λ bytes. length bytes.now ≡ 4096) }
+
+        // The store is left as it was, but for a call that failed.
+        ensures* after { sem 𝓛 (follows_so the_row the_row self.entry.ghost_name none (λ _ _. ⊤) (λ store.
+            IsPaged D.told D.len D.faults disk.old disk.new self.old store result)) }
+    {
+        self.load(disk, n)?;
+        Ok(self.held(n))
+    }
+
+    /// Takes back the changes of the transaction that were made behind the mark. The mark must not have been rolled past. The log gets no record of it: the next change or the commit of the transaction writes a Back first.
+    pub fn back_to<D: Disk>(&mut self, disk: &mut D, tx: &Tx, mark: Mark) -> Result<(), StoreFault>
+        requires ready { IsReady (parts D.told D.len disk.old self.old) }
+        requires first { self.old.book.down ≡ false → IsFirst tx.now.number self.old.book.out }
+        requires mark { self.old.book.down ≡ false → mark.changes ≤ standing_in self.old.book.out }
+
+        ensures back { OnOk result ((o : Out) (rest : List Out) → self.old.book.out ≡ o ∷ rest
+            → GoesBack (parts D.told D.len disk.old self.old) (parts D.told D.len disk.new self.new) o rest mark.changes) }
+        ensures any_moment { LeavesWanted (parts D.told D.len disk.old self.old) (parts D.told D.len disk.new self.new) }
+        ensures err { IfErr result IsFaultOrDown }
+        ensures keeps { Keeps D.told D.len D.faults disk.old disk.new self.old self.new result }
+    {
+        back_to(
+            disk,
+            &mut self.journal,
+            &mut self.pool,
+            &mut self.book,
+            mark.changes,
+        )
+    }
+
+    /// Commits the transaction: when it answers Ok, the changes that stand are there after any crash. One that made no change makes no call on the disk.
+    pub fn commit<D: Disk>(&mut self, disk: &mut D, tx: Tx) -> Result<(), StoreFault>
+        requires ready { IsReady (parts D.told D.len disk.old self.old) }
+        requires first { self.old.book.down ≡ false → IsFirst tx.number self.old.book.out }
+
+        ensures commits { OnOk result ((o : Out) (rest : List Out) → self.old.book.out ≡ o ∷ rest
+            → Commits (parts D.told D.len disk.old self.old) (parts D.told D.len disk.new self.new) o rest) }
+        ensures any_moment { (o : Out) (rest : List Out) → self.old.book.out ≡ o ∷ rest
+            → LeavesCommit (parts D.told D.len disk.old self.old) (parts D.told D.len disk.new self.new) o }
+        ensures alone { (o : Out) → self.old.book.out ≡ o ∷ [] → LeavesOne (parts D.told D.len disk.old self.old) (parts D.told D.len disk.new self.new) }
+        ensures idle { (o : Out) (rest : List Out) → self.old.book.out ≡ o ∷ rest → IsIdle o disk.old disk.new self.old self.new }
+        ensures err { IfErr result IsFaultOrDown }
+        ensures keeps { Keeps D.told D.len D.faults disk.old disk.new self.old self.new result }
+    {
+        let Tx { number } = tx;
+        commit(disk, &mut self.journal, &mut self.book, number)
+    }
+
+    /// Takes the changes of the transaction out again.
+    pub fn abort<D: Disk>(&mut self, disk: &mut D, tx: Tx) -> Result<(), StoreFault>
+        requires ready { IsReady (parts D.told D.len disk.old self.old) }
+        requires first { self.old.book.down ≡ false → IsFirst tx.number self.old.book.out }
+
+        ensures aborts { OnOk result ((o : Out) (rest : List Out) → self.old.book.out ≡ o ∷ rest
+            → Aborts (parts D.told D.len disk.old self.old) (parts D.told D.len disk.new self.new) o rest) }
+        ensures any_moment { LeavesWanted (parts D.told D.len disk.old self.old) (parts D.told D.len disk.new self.new) }
+        ensures err { IfErr result IsFaultOrDown }
+        ensures keeps { Keeps D.told D.len D.faults disk.old disk.new self.old self.new result }
+    {
+        let Tx { number: _ } = tx;
+        abort(disk, &mut self.journal, &mut self.pool, &mut self.book)
+    }
+
+    /// Writes the changed pages to the disk and empties the log.
+    pub fn checkpoint<D: Disk>(&mut self, disk: &mut D) -> Result<(), StoreFault>
+        requires ready { IsReady (parts D.told D.len disk.old self.old) }
+        requires none { self.old.book.out ≡ [] }
+
+        ensures checkpoints { OnOk result (Checkpoints (parts D.told D.len disk.old self.old) (parts D.told D.len disk.new self.new)) }
+        ensures any_moment { LeavesWanted (parts D.told D.len disk.old self.old) (parts D.told D.len disk.new self.new) }
+        ensures err { IfErr result IsFaultOrDown }
+        ensures keeps { Keeps D.told D.len D.faults disk.old disk.new self.old self.new result }
+    {
+        checkpoint(disk, &mut self.journal, &mut self.pool, &mut self.book)
+    }
+
+    // Brings the page into memory, where it isn't held.
+    fn load<D: Disk>(&mut self, disk: &mut D, n: u32) -> Result<(), StoreFault>
+        requires ready { IsReady (parts D.told D.len disk.old self.old) }
+        requires page { n < self.old.pool.geometry.pages }
+
+        ensures held { OnOk result (IsHeld self.new.pool n) }
+        ensures loads { OnOk result (Loads (parts D.told D.len disk.old self.old) (parts D.told D.len disk.new self.new)) }
+        ensures any_moment { LeavesWanted (parts D.told D.len disk.old self.old) (parts D.told D.len disk.new self.new) }
+        ensures err { IfErr result IsFaultOrDown }
+        ensures keeps { Keeps D.told D.len D.faults disk.old disk.new self.old self.new result }
+    {
+        load(disk, &mut self.journal, &mut self.pool, &mut self.book, n)
+    }
+
+    // The bytes of a page that is held.
+    fn held(&self, n: u32) -> &[u8]
+        requires { IsHeld self.now.pool n }
+        ensures bytes { held self.now.pool n ≡ Some (record { bytes = result.now; dirty = is_dirty (held self.now.pool n) }) }
+        ensures long { length result.now ≡ 4096 }
+    {
+        self.pool.page(n)
+    }
+}
