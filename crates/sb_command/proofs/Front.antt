@@ -47,20 +47,20 @@ abbrev pub Parted : {T A B : Type 0} → (A → List T → Type 0) → (B → Li
 Parted {T} {A} {B} P Q = (a a2 : A) (b : B) (us : List T) (h : T) (m n : List T) → P a us → P a2 (us ++ h ∷ m) → Q b (h ∷ n) → ⊥
 
 -- ---- lists
-tails : {T : Type 0} (x u : T) (xs us : List T) → x ∷ xs ≡ u ∷ us → xs ≡ us
+pub tails : {T : Type 0} (x u : T) (xs us : List T) → x ∷ xs ≡ u ∷ us → xs ≡ us
 tails x u xs us e = cc
 
-heads : {T : Type 0} (x u : T) (xs us : List T) → x ∷ xs ≡ u ∷ us → x ≡ u
+pub heads : {T : Type 0} (x u : T) (xs us : List T) → x ∷ xs ≡ u ∷ us → x ≡ u
 heads x u xs us e = cc
 
-abbrev Longer : {T : Type 0} → (xs ys us vs : List T) → Type 0
+abbrev pub Longer : {T : Type 0} → (xs ys us vs : List T) → Type 0
 Longer {T} xs ys us vs = (d : List T) × (xs ≡ us ++ d) × (d ++ ys ≡ vs)
 
-abbrev Shorter : {T : Type 0} → (xs ys us vs : List T) → Type 0
+abbrev pub Shorter : {T : Type 0} → (xs ys us vs : List T) → Type 0
 Shorter {T} xs ys us vs = (h : T) × (d : List T) × (us ≡ xs ++ h ∷ d) × (ys ≡ h ∷ (d ++ vs))
 
 -- of two fronts of one list, one is the longer
-cut : {T : Type 0} (xs ys us vs : List T) → xs ++ ys ≡ us ++ vs → Longer xs ys us vs ⊎ Shorter xs ys us vs
+pub cut : {T : Type 0} (xs ys us vs : List T) → xs ++ ys ≡ us ++ vs → Longer xs ys us vs ⊎ Shorter xs ys us vs
 cut xs ys [] vs e = inl (xs, refl, e)
 cut [] ys (u ∷ us) vs e = inr (u, us, refl, e)
 cut (x ∷ xs) ys (u ∷ us) vs e =
@@ -143,18 +143,20 @@ then_read P Q ts rest a (Err l) parted f g = record {
   only = λ b more n h. g.only b.1 more n (behind P Q ts rest a (Err l) b more parted f g n h).second;
 }
 
-then_any : {T A B : Type 0} (P : A → List T → Type 0) (Q : B → List T → Type 0) (S : List T → Read T B) (ts : List T) (r : Read T A) → Parted P Q → Reads Q S → Front P ts r → Front (λ (x : A × B). P x.0 ⨾ Q x.1) ts (and_then r S)
-then_any P Q S ts (Ok x) parted g f = then_read P Q ts x.1 x.0 (S x.1) parted f (g.front x.1)
-then_any P Q S ts (Err l) parted g f = then_fault P Q ts l parted g.some f
+-- what stands behind the first is read as the second
+pub then_at : {T A B : Type 0} (P : A → List T → Type 0) (Q : B → List T → Type 0) (ts : List T) (r : Read T A) (S : List T → Read T B) → Parted P Q → Begins Q [] → Front P ts r →
+    ((a : A) (us taken : List T) → ts ≡ taken ++ us → P a taken → Front Q us (S us)) → Front (λ (x : A × B). P x.0 ⨾ Q x.1) ts (and_then r S)
+then_at P Q ts (Ok x) S parted some f g = then_read P Q ts x.1 x.0 (S x.1) parted f (g x.0 x.1 f.taken f.whole f.made)
+then_at P Q ts (Err l) S parted some f g = then_fault P Q ts l parted some f
 
-some_then : {T A B : Type 0} (P : A → List T → Type 0) (Q : B → List T → Type 0) → Begins P [] → Begins Q [] → Begins (λ (x : A × B). P x.0 ⨾ Q x.1) []
+pub some_then : {T A B : Type 0} (P : A → List T → Type 0) (Q : B → List T → Type 0) → Begins P [] → Begins Q [] → Begins (λ (x : A × B). P x.0 ⨾ Q x.1) []
 some_then P Q f g = record { value = (f.value, g.value); more = f.more ++ g.more; spelled = record { front = f.more; back = g.more; is_front = f.spelled; is_back = g.spelled; whole = refl } }
 
 pub reads_then : {T A B : Type 0} (P : A → List T → Type 0) (Q : B → List T → Type 0) (R : List T → Read T A) (S : List T → Read T B) → Parted P Q → Reads P R → Reads Q S → Reads (λ (x : A × B). P x.0 ⨾ Q x.1) (λ ts. and_then (R ts) S)
-reads_then P Q R S parted f g = record { front = λ ts. then_any P Q S ts (R ts) parted g (f.front ts); some = some_then P Q f.some g.some }
+reads_then P Q R S parted f g = record { front = λ ts. then_at P Q ts (R ts) S parted g.some (f.front ts) (λ a us taken w e. g.front us); some = some_then P Q f.some g.some }
 
 -- ---- the values of one language as those of another
-as_read : {T A B : Type 0} (P : A → List T → Type 0) (Q : B → List T → Type 0) (f : A → B) (ts : List T) (r : Read T A) →
+pub as_read : {T A B : Type 0} (P : A → List T → Type 0) (Q : B → List T → Type 0) (f : A → B) (ts : List T) (r : Read T A) →
     ((a : A) (us : List T) → P a us → Q (f a) us) → ((b : B) (us : List T) → Q b us → (a : A) × (b ≡ f a) × P a us) → Front P ts r → Front Q ts (mapped f r)
 as_read P Q f ts (Ok x) to from g = record {
   taken = g.taken;
@@ -222,7 +224,7 @@ reads_sign p t h = reads_token (λ _. just t) (passing p) (record { value = tt; 
 abbrev pub Single : {T A : Type 0} → (A → List T → Type 0) → Type 0
 Single {T} {A} P = (a : A) (us : List T) → P a us → (t : T) × (us ≡ t ∷ [])
 
-longer_single : {T : Type 0} (us : List T) (t s h : T) (m : List T) → us ≡ t ∷ [] → us ++ h ∷ m ≡ s ∷ [] → ⊥
+pub longer_single : {T : Type 0} (us : List T) (t s h : T) (m : List T) → us ≡ t ∷ [] → us ++ h ∷ m ≡ s ∷ [] → ⊥
 longer_single [] t s h m e f = cc
 longer_single (u ∷ []) t s h m e f = let g = tails u s (h ∷ m) [] f in cc
 longer_single (u ∷ v ∷ us) t s h m e f = let g = tails u t (v ∷ us) [] e in cc

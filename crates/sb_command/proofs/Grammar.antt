@@ -1,140 +1,176 @@
 -- Reading commands reads the grammar.
-use Rattle.std.proofs.Common.{◌≡◌, ℕ, List, [], ◌∷◌, codes, refl, sym, ◌∙◌, ap, subst, Bool, true, false, cond, Some, None, Ok, Err, IfSome, pos}
-use Rattle.std.specs.Str.{bytes_eq}
+use Rattle.std.proofs.Common.{◌≡◌, ℕ, List, [], ◌∷◌, codes, refl, sym, ◌∙◌, ap, subst, inl, inr, true, false, Ok, Err}
 use Rattle.std.proofs.lemmas.List.{append-nil}
-use Rattle.std.proofs.lemmas.Slice.Eq.{bytes_eq-Decides}
 use Rattle.sb_value.specs.declared.value.Value.{Value}
-use Rattle.sb_value.specs.declared.value.Value.TheVariants as value
-use Rattle.sb_plain.specs.declared.token.Sign.{Sign}
-use Rattle.sb_plain.specs.declared.token.Sign.TheVariants.{Open, Close}
+use Rattle.sb_pred.specs.Tree.{Tree}
+use Rattle.sb_rule.specs.declared.rule.Rule.{Rule}
+use Rattle.sb_rule.specs.declared.rule.Rule.TheVariants.{TreeIndex, HashIndex, JoinIndex, Stats, Check, Refers, Trigger, Foreign}
+use Rattle.sb_plain.specs.declared.token.Sign.TheVariants.{Open, Close, Comma}
 use Rattle.sb_plain.specs.declared.token.Token.{Token}
 use Rattle.sb_plain.specs.declared.token.Token.TheVariants as token
 use Rattle.sb_plain.specs.declared.command.Command.{Command}
-use Rattle.sb_plain.specs.declared.command.Command.TheVariants.{Insert}
-use Rattle.sb_plain.specs.Lang.{◌⨾◌}
-use Rattle.sb_plain.specs.Grammar.{word, mark, name_r, int, one_int, values_list, Spells}
-use Rattle.sb_command.specs.Reading.{Read, and_then}
-use Rattle.sb_command.specs.Commands.{is_word, is_same_sign, is_mark, name_r_in, int_in, word_at, mark_at, name_r_at, int_at, one_int_at, values_list_at, insert_at, command_at}
-use Rattle.sb_command.proofs.Front.{Front, left, Reads, Single, Tests, reads_then, reads_as, reads_token, reads_sign, parted_single, reads_whole}
+use Rattle.sb_plain.specs.declared.command.Command.TheVariants.{Attach, Insert, Scan}
+use Rattle.sb_plain.specs.Lang.{◌⨾◌, ◌∣◌, items_up_to}
+use Rattle.sb_plain.specs.Grammar.{word, mark, name, constant, values_list, predicate, Spells}
+use Rattle.sb_command.specs.Reading.{Read, and_then, or_else}
+use Rattle.sb_command.specs.Commands.{is_word, is_mark, word_at, mark_at, name_at, constant_at, constants_at, values_list_at, disjunction_at, unit_at, attach_at, insert_at, scan_at, command_at}
+use Rattle.sb_command.proofs.Front.{Front, left, Reads, reads_then, reads_as, reads_whole}
+use Rattle.sb_command.proofs.Choice.{Marked, Avoids, Image, reads_or, reads_same, reads_image, marked_image, marked_sign, avoids_image, avoids_or, avoids_sign}
+use Rattle.sb_command.proofs.Lists.{reads_items, parted_items}
+use Rattle.sb_command.proofs.PiecesRead.{tests_word, tests_mark, Word, Mark, part_word, part_mark, part_name, part_constant, reads_behind}
+use Rattle.sb_command.proofs.PredicatesRead.{reads_predicate}
 
--- ---- words and signs
-word_alone : (text : List ℕ) (t : Token) → is_word text t ≡ true → t ≡ token.Word text
-word_alone text (token.Word found) e = ap (λ s. token.Word s) ((bytes_eq-Decides found text).0 e)
-word_alone text (token.Int n) e = cc
-word_alone text (token.Sign sign) e = cc
+-- ---- what stands behind a word
+abbrev Keyed : {B : Type 0} → List ℕ → (B → List Token → Type 0) → Unit {0} × B → List Token → Type 0
+Keyed text Q x = word text ⨾ Q x.1
 
-tests_word : (text : List ℕ) → Tests (is_word text) (token.Word text)
-tests_word text = record { here = (bytes_eq-Decides text text).1 refl; alone = word_alone text }
+abbrev keyed_at : {B : Type 0} → List ℕ → (List Token → Read Token B) → List Token → Read Token (Unit {0} × B)
+keyed_at text S ts = and_then (word_at text ts) S
 
-same_sign : (s t : Sign) → is_same_sign s t ≡ true → s ≡ t
-same_sign Open Open e = refl
-same_sign Open Close e = cc
-same_sign Close Open e = cc
-same_sign Close Close e = refl
+reads_keyed : {B : Type 0} (text : List ℕ) (Q : B → List Token → Type 0) (S : List Token → Read Token B) → Reads Q S → Reads (Keyed text Q) (keyed_at text S)
+reads_keyed text Q S f = reads_behind (Word text) Q (word_at text) S (part_word text) f
 
-own_sign : (s : Sign) → is_same_sign s s ≡ true
-own_sign Open = refl
-own_sign Close = refl
+-- a name, and what stands behind it
+abbrev Named : {B : Type 0} → (B → List Token → Type 0) → List ℕ × B → List Token → Type 0
+Named Q x = name x.0 ⨾ Q x.1
 
-mark_alone : (sign : Sign) (t : Token) → is_mark sign t ≡ true → t ≡ token.Sign sign
-mark_alone sign (token.Word found) e = cc
-mark_alone sign (token.Int n) e = cc
-mark_alone sign (token.Sign found) e = ap (λ s. token.Sign s) (same_sign found sign e)
+abbrev named_at : {B : Type 0} → (List Token → Read Token B) → List Token → Read Token (List ℕ × B)
+named_at S ts = and_then (name_at ts) S
 
-tests_mark : (sign : Sign) → Tests (is_mark sign) (token.Sign sign)
-tests_mark sign = record { here = own_sign sign; alone = mark_alone sign }
+reads_named : {B : Type 0} (Q : B → List Token → Type 0) (S : List Token → Read Token B) → Reads Q S → Reads (Named Q) (named_at S)
+reads_named Q S f = reads_behind name Q name_at S part_name f
 
-abbrev Word : List ℕ → Unit {0} → List Token → Type 0
-Word text _ = word text
+-- ---- ( VALUE {, VALUE} )
+abbrev Constants : List Value → List Token → Type 0
+Constants = items_up_to 15 (token.Sign Comma) constant
 
-abbrev Mark : Sign → Unit {0} → List Token → Type 0
-Mark sign _ = mark sign
+abbrev Closed : List Value × Unit {0} → List Token → Type 0
+Closed x = Constants x.0 ⨾ mark Close
 
-reads_word : (text : List ℕ) → Reads (Word text) (word_at text)
-reads_word text = reads_sign (is_word text) (token.Word text) (tests_word text)
+abbrev closed_at : List Token → Read Token (List Value × Unit {0})
+closed_at us = and_then (constants_at us) (mark_at Close)
 
-reads_mark : (sign : Sign) → Reads (Mark sign) (mark_at sign)
-reads_mark sign = reads_sign (is_mark sign) (token.Sign sign) (tests_mark sign)
+close_is_no_comma : token.Sign Close ≡ token.Sign Comma → ⊥
+close_is_no_comma e = cc
 
--- a word, and Q behind it
-reads_word_then : {B : Type 0} (text : List ℕ) (Q : B → List Token → Type 0) (S : List Token → Read Token B) → Reads Q S → Reads (λ (x : Unit {0} × B). word text ⨾ Q x.1) (λ ts. and_then (word_at text ts) S)
-reads_word_then text Q S g = reads_then (Word text) Q (word_at text) S (parted_single (Word text) Q (λ a us e. (token.Word text, e))) (reads_word text) g
-
--- a sign, and Q behind it
-reads_mark_then : {B : Type 0} (sign : Sign) (Q : B → List Token → Type 0) (S : List Token → Read Token B) → Reads Q S → Reads (λ (x : Unit {0} × B). mark sign ⨾ Q x.1) (λ ts. and_then (mark_at sign ts) S)
-reads_mark_then sign Q S g = reads_then (Mark sign) Q (mark_at sign) S (parted_single (Mark sign) Q (λ a us e. (token.Sign sign, e))) (reads_mark sign) g
-
--- ---- the name
-given_name_at : (found : List ℕ) (b : Bool) → bytes_eq found (codes "r") ≡ b → IfSome (cond b (Some found) None) (λ name. name_r name (token.Word found ∷ []))
-given_name_at found true e = ((bytes_eq-Decides found (codes "r")).0 e, refl)
-given_name_at found false e = tt
-
-given_name : (t : Token) → IfSome (name_r_in t) (λ name. name_r name (t ∷ []))
-given_name (token.Word found) = given_name_at found (bytes_eq found (codes "r")) refl
-given_name (token.Int n) = tt
-given_name (token.Sign sign) = tt
-
-picks_name : (name : List ℕ) (us : List Token) → name_r name us → (t : Token) × (us ≡ t ∷ []) × (name_r_in t ≡ Some name)
-picks_name name us x = (token.Word name, x.1, ap (λ b. cond b (Some name) None) ((bytes_eq-Decides name (codes "r")).1 x.0))
-
-reads_name : Reads name_r name_r_at
-reads_name = reads_token name_r name_r_in (record { value = codes "r"; more = token.Word (codes "r") ∷ []; spelled = (refl, refl) }) given_name picks_name
-
--- ---- values
-given_int : (t : Token) → IfSome (int_in t) (λ v. int v (t ∷ []))
-given_int (token.Word found) = tt
-given_int (token.Int n) = refl
-given_int (token.Sign sign) = tt
-
-picks_int : (v : Value) (us : List Token) → int v us → (t : Token) × (us ≡ t ∷ []) × (int_in t ≡ Some v)
-picks_int (value.Int n) us x = (token.Int n, x, refl)
-picks_int (value.Text s) us x = absurd x
-
-one_back : (vs : List Value) (us : List Token) → one_int vs us → (v : Value) × (vs ≡ v ∷ []) × int v us
-one_back [] us x = absurd x
-one_back (v ∷ []) us x = (v, refl, x)
-one_back (v ∷ w ∷ vs) us x = absurd x
-
-reads_one_int : Reads one_int one_int_at
-reads_one_int = reads_as int one_int int_at (λ v. v ∷ []) (λ v us x. x) one_back
-    (reads_token int int_in (record { value = value.Int (pos 0); more = token.Int (pos 0) ∷ []; spelled = refl }) given_int picks_int)
-
-single_one_int : Single one_int
-single_one_int vs us x = let w = one_back vs us x in let p = picks_int w.0 us w.2 in (p.0, p.1)
-
-abbrev OneClosed : List Value × Unit {0} → List Token → Type 0
-OneClosed x = one_int x.0 ⨾ mark Close
-
-abbrev one_closed_at : List Token → Read Token (List Value × Unit {0})
-one_closed_at us = and_then (one_int_at us) (mark_at Close)
+reads_closed : Reads Closed closed_at
+reads_closed = reads_then Constants (Mark Close) constants_at (mark_at Close) (parted_items 15 (token.Sign Comma) (token.Sign Close) constant part_constant.closed close_is_no_comma)
+    (reads_items 15 (is_mark Comma) (token.Sign Comma) constant constant_at (tests_mark Comma) part_constant) (part_mark Close).reads
 
 reads_values_list : Reads values_list values_list_at
 unfolding values_list_at
-reads_values_list = reads_as (λ (x : Unit {0} × (List Value × Unit {0})). mark Open ⨾ OneClosed x.1) values_list (λ ts. and_then (mark_at Open ts) one_closed_at) (λ x. x.1.0) (λ x us s. s) (λ vs us s. ((tt, (vs, tt)), refl, s))
-    (reads_mark_then Open OneClosed one_closed_at (reads_then one_int (Mark Close) one_int_at (mark_at Close) (parted_single one_int (Mark Close) single_one_int) reads_one_int (reads_mark Close)))
+reads_values_list = reads_as (λ (x : Unit {0} × (List Value × Unit {0})). mark Open ⨾ Closed x.1) values_list (λ ts. and_then (mark_at Open ts) closed_at) (λ x. x.1.0) (λ x us s. s) (λ vs us s. ((tt, (vs, tt)), refl, s))
+    (reads_behind (Mark Open) Closed (mark_at Open) closed_at (part_mark Open) reads_closed)
 
--- ---- the commands
+-- ---- attach
+abbrev predicate_at : List Token → Read Token Tree
+predicate_at = disjunction_at (unit_at 16)
+
+abbrev Target : Unit {0} × (List ℕ × Tree) → List Token → Type 0
+Target = Keyed (codes "on") (Named predicate)
+
+abbrev target_at : List Token → Read Token (Unit {0} × (List ℕ × Tree))
+target_at = keyed_at (codes "on") (named_at predicate_at)
+
+abbrev Attached : Type 0
+Attached = Unit {0} × (Unit {0} × (List ℕ × (Unit {0} × (List ℕ × Tree))))
+
+abbrev CheckLine : Unit {0} × (List ℕ × (Unit {0} × (List ℕ × Tree))) → List Token → Type 0
+CheckLine = Keyed (codes "check") (Named Target)
+
+abbrev attached : Attached → Command
+attached x = Attach x.1.1.1.1.0 x.1.1.0 (Check x.1.1.1.1.1 false)
+
+abbrev AttachLine : Attached → List Token → Type 0
+AttachLine = Keyed (codes "attach") CheckLine
+
+reads_check : Reads CheckLine (keyed_at (codes "check") (named_at target_at))
+reads_check = reads_keyed (codes "check") (Named Target) (named_at target_at)
+    (reads_named Target target_at
+    (reads_keyed (codes "on") (Named predicate) (named_at predicate_at)
+    (reads_named predicate predicate_at (reads_predicate 16))))
+
+reads_attach : Reads (Image attached AttachLine) attach_at
+unfolding attach_at
+reads_attach = reads_image attached AttachLine (keyed_at (codes "attach") (keyed_at (codes "check") (named_at target_at))) (reads_keyed (codes "attach") CheckLine (keyed_at (codes "check") (named_at target_at)) reads_check)
+
+-- ---- insert
 abbrev Values : Unit {0} × List Value → List Token → Type 0
-Values x = word (codes "values") ⨾ values_list x.1
+Values = Keyed (codes "values") values_list
 
-abbrev values_at : List Token → Read Token (Unit {0} × List Value)
-values_at vs = and_then (word_at (codes "values") vs) values_list_at
+abbrev Inserted : Type 0
+Inserted = Unit {0} × (List ℕ × (Unit {0} × List Value))
 
-abbrev Named : List ℕ × (Unit {0} × List Value) → List Token → Type 0
-Named x = name_r x.0 ⨾ Values x.1
+abbrev inserted : Inserted → Command
+inserted x = Insert x.1.0 x.1.1.1
 
-abbrev named_at : List Token → Read Token (List ℕ × (Unit {0} × List Value))
-named_at us = and_then (name_r_at us) values_at
+abbrev InsertLine : Inserted → List Token → Type 0
+InsertLine = Keyed (codes "insert") (Named Values)
 
-from_insert : (c : Command) (us : List Token) → Spells c us → (x : Unit {0} × (List ℕ × (Unit {0} × List Value))) × (c ≡ Insert x.1.0 x.1.1.1) × (word (codes "insert") ⨾ Named x.1) us
-from_insert (Insert relation values) us s = ((tt, (relation, (tt, values))), refl, s)
+reads_values : Reads (Named Values) (named_at (keyed_at (codes "values") values_list_at))
+reads_values = reads_named Values (keyed_at (codes "values") values_list_at) (reads_keyed (codes "values") values_list values_list_at reads_values_list)
+
+reads_insert : Reads (Image inserted InsertLine) insert_at
+unfolding insert_at
+reads_insert = reads_image inserted InsertLine (keyed_at (codes "insert") (named_at (keyed_at (codes "values") values_list_at))) (reads_keyed (codes "insert") (Named Values) (named_at (keyed_at (codes "values") values_list_at)) reads_values)
+
+-- ---- scan
+abbrev scanned : Unit {0} × List ℕ → Command
+scanned x = Scan x.1
+
+abbrev ScanLine : Unit {0} × List ℕ → List Token → Type 0
+ScanLine = Keyed (codes "scan") name
+
+reads_scan : Reads (Image scanned ScanLine) scan_at
+unfolding scan_at
+reads_scan = reads_image scanned ScanLine (keyed_at (codes "scan") name_at) (reads_keyed (codes "scan") name name_at part_name.reads)
+
+-- ---- all commands
+abbrev Others : Command → List Token → Type 0
+Others c = Image inserted InsertLine c ∣ Image scanned ScanLine c
+
+abbrev Commands : Command → List Token → Type 0
+Commands c = Image attached AttachLine c ∣ Others c
+
+to_spells : (c : Command) (us : List Token) → Commands c us → Spells c us
+to_spells c us (inl x) = subst (λ d. Spells d us) (sym x.is) x.spelled
+to_spells c us (inr (inl x)) = subst (λ d. Spells d us) (sym x.is) x.spelled
+to_spells c us (inr (inr x)) = subst (λ d. Spells d us) (sym x.is) x.spelled
+
+from_attach : (relation label : List ℕ) (rule : Rule) (us : List Token) → Spells (Attach relation label rule) us → Commands (Attach relation label rule) us
+from_attach relation label (TreeIndex columns unique) us x = absurd x.is_back
+from_attach relation label (HashIndex columns) us x = absurd x.is_back
+from_attach relation label (JoinIndex side columns other others) us x = absurd x.is_back
+from_attach relation label (Stats column low width) us x = absurd x.is_back
+from_attach relation label (Check p false) us x = inl (record { source = (tt, (tt, (label, (tt, (relation, p))))); is = refl; spelled = x })
+from_attach relation label (Check p true) us x = absurd x.is_back
+from_attach relation label (Refers side columns other others mode deferred) us x = absurd x.is_back
+from_attach relation label (Trigger event pred action deferred) us x = absurd x.is_back
+from_attach relation label (Foreign code desc) us x = absurd x.is_back
+
+from_spells : (c : Command) (us : List Token) → Spells c us → Commands c us
+from_spells (Attach relation label rule) us x = from_attach relation label rule us x
+from_spells (Insert relation values) us x = inr (inl (record { source = (tt, (relation, (tt, values))); is = refl; spelled = x }))
+from_spells (Scan relation) us x = inr (inr (record { source = (tt, relation); is = refl; spelled = x }))
+
+marked_keyed : {B : Type 0} (text : List ℕ) (Q : B → List Token → Type 0) (S : List Token → Read Token B) (f : Unit {0} × B → Command) → Reads Q S → Marked (Image f (Keyed text Q)) (is_word text)
+marked_keyed text Q S f reads = marked_image f (Keyed text Q) (is_word text) (marked_sign (is_word text) (token.Word text) Q (tests_word text) reads.some)
+
+avoids_keyed : {B : Type 0} (text other : List ℕ) (Q : B → List Token → Type 0) (f : Unit {0} × B → Command) → is_word text (token.Word other) ≡ false → Avoids (Image f (Keyed other Q)) (is_word text)
+avoids_keyed text other Q f e = avoids_image f (Keyed other Q) (is_word text) (avoids_sign (is_word text) (token.Word other) Q e)
+
+reads_others : Reads Others (or_else (is_word (codes "insert")) insert_at scan_at)
+reads_others = reads_or (Image inserted InsertLine) (Image scanned ScanLine) (is_word (codes "insert")) insert_at scan_at
+    (marked_keyed (codes "insert") (Named Values) (named_at (keyed_at (codes "values") values_list_at)) inserted reads_values) (avoids_keyed (codes "insert") (codes "scan") name scanned refl) reads_insert reads_scan
 
 pub reads_command : Reads Spells command_at
-unfolding insert_at
-reads_command = reads_as (λ (x : Unit {0} × (List ℕ × (Unit {0} × List Value))). word (codes "insert") ⨾ Named x.1) Spells (λ ts. and_then (word_at (codes "insert") ts) named_at) (λ x. Insert x.1.0 x.1.1.1) (λ x us s. s) from_insert
-    (reads_word_then (codes "insert") Named named_at
-    (reads_then name_r Values name_r_at values_at (parted_single name_r Values (λ name us x. (token.Word name, x.1))) reads_name
-    (reads_word_then (codes "values") values_list values_list_at reads_values_list)))
+unfolding command_at
+reads_command = reads_same Commands Spells command_at (record { to = to_spells; from = from_spells })
+    (reads_or (Image attached AttachLine) Others (is_word (codes "attach")) attach_at (or_else (is_word (codes "insert")) insert_at scan_at)
+    (marked_keyed (codes "attach") CheckLine (keyed_at (codes "check") (named_at target_at)) attached reads_check)
+    (avoids_or (Image inserted InsertLine) (Image scanned ScanLine) (is_word (codes "attach"))
+    (avoids_keyed (codes "attach") (codes "insert") (Named Values) inserted refl) (avoids_keyed (codes "attach") (codes "scan") name scanned refl))
+    reads_attach reads_others)
 
 -- ---- all of the tokens
 pub whole_found : (ts : List Token) (c : Command) → command_at ts ≡ Ok (c, []) → Spells c ts

@@ -1,5 +1,12 @@
 pub mod Front
+pub mod Choice
+pub mod Parts
+pub mod Lists
+pub mod Stops
+pub mod PiecesRead
+pub mod PredicatesRead
 pub mod Grammar
 pub mod Scan
 pub mod Items
 pub mod Texts
+pub mod Loops

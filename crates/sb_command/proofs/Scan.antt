@@ -1,16 +1,18 @@
 -- Facts for reading tokens.
-use Rattle.std.proofs.Common.{◌≡◌, ◌≢◌, ℕ, zero, suc, ◌+◌, ◌-◌, ◌*◌, ◌^◌, ◌<◌, ◌≤◌, List, [], ◌∷◌, ◌++◌, refl, sym, ◌∙◌, ap, subst, ◌⊎◌, inl, inr, Bool, true, false, cond, Some, None, IfSome, pos, nat_le, nat_lt, length, drop, take, take_while, arith, get_or, length-drop, drop-cons, append_assoc}
+use Rattle.std.proofs.Common.{◌≡◌, ◌≢◌, ℕ, zero, suc, ◌+◌, ◌-◌, ◌*◌, ◌^◌, ◌<◌, ◌≤◌, List, [], ◌∷◌, ◌++◌, refl, sym, ◌∙◌, ap, subst, ◌⊎◌, inl, inr, Bool, true, false, cond, Option, Some, None, IfOk, IfSome, Result, Ok, Err, pos, nat_le, nat_lt, length, drop, take, take_while, arith, get_or, length-drop, drop-cons, add-one, append_assoc}
 use Rattle.std.specs.Prelude.{◌==◌, ◌&&◌, ◌||◌}
 use Rattle.std.specs.List.{prefix_len}
-use Rattle.std.specs.Str.{IsAscii}
+use Rattle.std.specs.Str.{IsAscii, IsUtf8, is_utf8}
 use Rattle.std.proofs.lemmas.List.{append-nil, length-take}
+use Rattle.std.proofs.lemmas.Str.{IsUtf8-from_is_utf8, is_utf8-from_IsUtf8}
 use Rattle.std.proofs.lemmas.List.Folds.{length-prefix_len}
 use Rattle.std.proofs.lemmas.List.Sums.{take_while-cons}
 use Rattle.std.proofs.lemmas.Bool.Decides.{nat_tests}
-use Rattle.sb_plain.specs.declared.token.Sign.TheVariants.{Close}
+use Rattle.sb_plain.specs.declared.token.Sign.{Sign}
+use Rattle.sb_plain.specs.declared.token.Sign.TheVariants.{Open, Close, Comma, Equal, Unequal, Less, LessOrEqual, Greater, GreaterOrEqual}
 use Rattle.sb_plain.specs.declared.token.Token.{Token}
 use Rattle.sb_plain.specs.declared.token.Token.TheVariants as token
-use Rattle.sb_plain.specs.Tokens.{is_letter, is_digit, is_word_byte, is_blank, Found, value_behind, minus, number_token, starts_with_digit, digits_of, front_token, behind_blanks, IsTokens}
+use Rattle.sb_plain.specs.Tokens.{is_letter, is_digit, is_word_byte, is_blank, Found, value_behind, minus, number_token, starts, digits_of, one, two, less_token, greater_token, sign_token, text_behind, up_to_quote, text_token, front_token, behind_blanks, IsTokens}
 
 abbrev found_or : Token × ℕ → Found → Token × ℕ
 found_or default None = default
@@ -67,6 +69,113 @@ some_taken p b bytes e = let w : take_while p (b ∷ bytes) ≡ b ∷ take_while
 taken_within : (p : ℕ → Bool) (bytes : List ℕ) → length (take_while p bytes) ≤ length bytes
 taken_within p bytes = omega (arith, length-take (prefix_len p bytes) bytes)
 
+-- ---- texts
+behind_within : (front : List ℕ) (n : ℕ) (found : Option (List ℕ × ℕ)) → IfSome found (λ f. f.1 ≤ n) → IfSome (text_behind front 1 found) (λ f. f.1 ≤ suc n)
+behind_within front n None h = tt
+behind_within front n (Some f) h = omega arith
+
+quote_within : (is_behind : Bool) (bytes : List ℕ) → IfSome (up_to_quote is_behind bytes) (λ f. f.1 ≤ length bytes)
+quote_within false [] = tt
+quote_within true [] = omega arith
+quote_within false (b ∷ bytes) = behind_within (cond (b == 39) [] (b ∷ [])) (length bytes) (up_to_quote (b == 39) bytes) (quote_within (b == 39) bytes)
+quote_within true (b ∷ bytes) =
+    elim (b == 39) as (λ t. IfSome (cond t (text_behind (39 ∷ []) 1 (up_to_quote false bytes)) (Some ([], 0))) (λ f. f.1 ≤ suc (length bytes))) [
+      | true ↦ behind_within (39 ∷ []) (length bytes) (up_to_quote false bytes) (quote_within false bytes)
+      | false ↦ omega arith
+    ]
+
+text_within : (n : ℕ) (found : Option (List ℕ × ℕ)) → IfSome found (λ f. f.1 ≤ n) → Within (suc n) (text_token found)
+text_within n None h = tt
+text_within n (Some f) h = some_within (suc n) (is_utf8 f.0) (token.Text f.0) (1 + f.1) (omega arith) (omega arith)
+
+behind_twice : (a b : List ℕ) (m n : ℕ) (found : Option (List ℕ × ℕ)) → text_behind a m (text_behind b n found) ≡ text_behind (a ++ b) (m + n) found
+behind_twice a b m n None = refl
+behind_twice a b m n (Some f) = let s = append_assoc a b f.0 in let l : m + (n + f.1) ≡ (m + n) + f.1 = omega arith in λ i. Some (sym s i, l i)
+
+no_quote : (b : ℕ) → b ≢ 39 → (b == 39) ≡ false
+no_quote b n = grind (arith, nat_tests)
+
+opens : (text : List ℕ) (i : ℕ) (rest : List ℕ) → text_behind text i (up_to_quote false (39 ∷ rest)) ≡ text_behind text (i + 1) (up_to_quote true rest)
+opens text i rest = behind_twice text [] i 1 (up_to_quote true rest) ∙ ap (λ s. text_behind s (i + 1) (up_to_quote true rest)) (append-nil text)
+
+doubles : (text : List ℕ) (i : ℕ) (rest : List ℕ) → text_behind text i (up_to_quote true (39 ∷ rest)) ≡ text_behind (text ++ 39 ∷ []) (i + 1) (up_to_quote false rest)
+doubles text i rest = behind_twice text (39 ∷ []) i 1 (up_to_quote false rest)
+
+goes_on : (text : List ℕ) (i b : ℕ) (rest : List ℕ) → (b == 39) ≡ false → text_behind text i (up_to_quote false (b ∷ rest)) ≡ text_behind (text ++ b ∷ []) (i + 1) (up_to_quote false rest)
+goes_on text i b rest e = ap (λ t. text_behind text i (text_behind (cond t [] (b ∷ [])) 1 (up_to_quote t rest))) e ∙ behind_twice text (b ∷ []) i 1 (up_to_quote false rest)
+
+ends : (text : List ℕ) (i b : ℕ) (rest : List ℕ) → (b == 39) ≡ false → text_behind text i (up_to_quote true (b ∷ rest)) ≡ Some (text, i)
+ends text i b rest e =
+    ap (λ t. text_behind text i (cond t (text_behind (39 ∷ []) 1 (up_to_quote false rest)) (Some ([], 0)))) e
+    ∙ (let s = append-nil text in let l : i + 0 ≡ i = omega arith in λ j. Some (s j, l j))
+
+-- the text so far, where the byte at a place is read
+next_byte : (bytes text : List ℕ) (i : ℕ) (is_behind : Bool) → i < length bytes → text_behind text i (up_to_quote is_behind (drop i bytes)) ≡ text_behind text i (up_to_quote is_behind (get_or bytes i 0 ∷ drop (i + 1) bytes))
+next_byte bytes text i is_behind h = ap (λ s. text_behind text i (up_to_quote is_behind s)) (drop-cons bytes i 0 h ∙ ap (λ n. get_or bytes i 0 ∷ drop n bytes) (sym (add-one i)))
+
+pub quote_opens : (bytes text : List ℕ) (i : ℕ) → i < length bytes → get_or bytes i 0 ≡ 39 → text_behind text i (up_to_quote false (drop i bytes)) ≡ text_behind text (i + 1) (up_to_quote true (drop (i + 1) bytes))
+quote_opens bytes text i h e = next_byte bytes text i false h ∙ ap (λ b. text_behind text i (up_to_quote false (b ∷ drop (i + 1) bytes))) e ∙ opens text i (drop (i + 1) bytes)
+
+pub quote_kept : (bytes text : List ℕ) (i : ℕ) → i < length bytes → get_or bytes i 0 ≡ 39 → text_behind text i (up_to_quote true (drop i bytes)) ≡ text_behind (text ++ 39 ∷ []) (i + 1) (up_to_quote false (drop (i + 1) bytes))
+quote_kept bytes text i h e = next_byte bytes text i true h ∙ ap (λ b. text_behind text i (up_to_quote true (b ∷ drop (i + 1) bytes))) e ∙ doubles text i (drop (i + 1) bytes)
+
+pub byte_kept : (bytes text : List ℕ) (i : ℕ) → i < length bytes → get_or bytes i 0 ≢ 39 → text_behind text i (up_to_quote false (drop i bytes)) ≡ text_behind (text ++ get_or bytes i 0 ∷ []) (i + 1) (up_to_quote false (drop (i + 1) bytes))
+byte_kept bytes text i h n = next_byte bytes text i false h ∙ goes_on text i (get_or bytes i 0) (drop (i + 1) bytes) (no_quote (get_or bytes i 0) n)
+
+pub quote_ends : (bytes text : List ℕ) (i : ℕ) → i < length bytes → get_or bytes i 0 ≢ 39 → text_behind text i (up_to_quote true (drop i bytes)) ≡ Some (text, i)
+quote_ends bytes text i h n = next_byte bytes text i true h ∙ ends text i (get_or bytes i 0) (drop (i + 1) bytes) (no_quote (get_or bytes i 0) n)
+
+-- a text that was read
+pub quote_short : (bytes text : List ℕ) (len : ℕ) → up_to_quote false bytes ≡ Some (text, len) → len ≤ length bytes
+quote_short bytes text len e = subst (λ found. IfSome found (λ f. f.1 ≤ length bytes)) e (quote_within false bytes)
+
+pub text_made : (bytes text made : List ℕ) (len : ℕ) → up_to_quote false bytes ≡ Some (text, len) → IsUtf8 text → made ≡ text → Some (token.Text made, 1 + len) ≡ text_token (up_to_quote false bytes)
+text_made bytes text made len e u same =
+    ap (λ s. Some (token.Text s, 1 + len)) same
+    ∙ sym (ap text_token e ∙ ap (λ b. cond b (Some (token.Text text, 1 + len)) None) (is_utf8-from_IsUtf8 text u))
+
+not_utf8 : (text : List ℕ) (is : Bool) → is_utf8 text ≡ is → (IsUtf8 text → ⊥) → is_utf8 text ≡ false
+not_utf8 text true e n = absurd (n (IsUtf8-from_is_utf8 text e))
+not_utf8 text false e n = e
+
+pub no_text : (bytes text : List ℕ) (len : ℕ) → up_to_quote false bytes ≡ Some (text, len) → (IsUtf8 text → ⊥) → None ≡ text_token (up_to_quote false bytes)
+no_text bytes text len e n = sym (ap text_token e ∙ ap (λ b. cond b (Some (token.Text text, 1 + len)) None) (not_utf8 text (is_utf8 text) refl n))
+
+pub text_taken : {E : Type 0} (r : Result Found E) (bytes : List ℕ) → 0 < length bytes → IfOk r (λ found. found ≡ text_token (up_to_quote false (drop 1 bytes))) → IfOk r (λ found. Within (length bytes) found)
+text_taken (Ok found) [] h e = absurd (omega arith)
+text_taken (Ok found) (b ∷ bytes) h e = subst (Within (suc (length bytes))) (sym e) (text_within (length bytes) (up_to_quote false bytes) (quote_within false bytes))
+text_taken (Err fault) bytes h e = tt
+
+-- ---- signs
+two_within : (n : ℕ) (sign : Sign) → Within (suc (suc n)) (two sign)
+two_within n sign = (omega arith, omega arith)
+
+one_within : (n : ℕ) (sign : Sign) → Within (suc n) (one sign)
+one_within n sign = (omega arith, omega arith)
+
+less_within : (bytes : List ℕ) → Within (suc (length bytes)) (less_token bytes)
+less_within [] = one_within 0 Less
+less_within (b ∷ bytes) =
+    let n = length bytes in
+    either_within (suc (suc n)) (b == 62) _ _ (λ _. two_within n Unequal)
+    (λ _. either_within (suc (suc n)) (b == 61) _ _ (λ _. two_within n LessOrEqual) (λ _. one_within (suc n) Less))
+
+greater_within : (bytes : List ℕ) → Within (suc (length bytes)) (greater_token bytes)
+greater_within [] = one_within 0 Greater
+greater_within (b ∷ bytes) =
+    let n = length bytes in
+    either_within (suc (suc n)) (b == 61) _ _ (λ _. two_within n GreaterOrEqual) (λ _. one_within (suc n) Greater)
+
+sign_within : (b : ℕ) (bytes : List ℕ) → Within (suc (length bytes)) (sign_token b bytes)
+sign_within b bytes =
+    let n = length bytes in
+    either_within (suc n) (b == 40) _ _ (λ _. one_within n Open)
+    (λ _. either_within (suc n) (b == 41) _ _ (λ _. one_within n Close)
+    (λ _. either_within (suc n) (b == 44) _ _ (λ _. one_within n Comma)
+    (λ _. either_within (suc n) (b == 61) _ _ (λ _. one_within n Equal)
+    (λ _. either_within (suc n) (b == 60) _ _ (λ _. less_within bytes)
+    (λ _. either_within (suc n) (b == 62) _ _ (λ _. greater_within bytes) (λ _. tt))))))
+
 pub front_within : (bytes : List ℕ) → Within (length bytes) (front_token bytes)
 front_within [] = tt
 front_within (b ∷ bytes) =
@@ -79,9 +188,11 @@ front_within (b ∷ bytes) =
     (λ e. some_within n (nat_le (length word) 32) (token.Word word) (length word) (some_taken is_word_byte b bytes (ap (λ v. v || is_digit b) e)) (taken_within is_word_byte (b ∷ bytes)))
     (λ _. either_within n (is_digit b) _ _
     (λ e. number_within n false (value_behind 0 digits) (length digits) (some_taken is_digit b bytes e) (taken_within is_digit (b ∷ bytes)))
-    (λ _. either_within n (b == 45 && starts_with_digit bytes) _ _
+    (λ _. either_within n (b == 45 && starts is_digit bytes) _ _
     (λ _. number_within n true (value_behind 0 after) (1 + length after) (omega arith) (omega arith))
-    (λ _. either_within n (b == 40) _ _ (λ _. (omega arith, omega arith)) (λ _. some_within n (b == 41) (token.Sign Close) 1 (omega arith) (omega arith)))))
+    (λ _. either_within n (b == 39) _ _
+    (λ _. text_within (length bytes) (up_to_quote false bytes) (quote_within false bytes))
+    (λ _. sign_within b bytes))))
 
 -- ---- rows of tokens
 -- the tokens of bytes that begin with no blank

@@ -1,5 +1,6 @@
 -- Reading from the left: a value and the tokens behind it, or the tokens from the first that fits nowhere on.
-use Rattle.std.specs.Prelude.{List, [], ◌∷◌, Bool, cond, Option, Some, None, Result, Ok, Err}
+use Rattle.std.specs.Prelude.{ℕ, zero, suc, List, [], ◌∷◌, length, Bool, false, cond, Option, Some, None, Result, Ok, Err}
+use Rattle.std.specs.List.{fold}
 
 -- what reading tokens for a value gives
 abbrev pub Read : Type 0 → Type 0 → Type 0
@@ -37,3 +38,26 @@ passing p t = cond (p t) (Some tt) None
 -- one token that passes a test
 abbrev pub sign_at : {T : Type 0} → (T → Bool) → List T → Read T (Unit {0})
 sign_at p = token_at (passing p)
+
+-- whether the first token passes a test
+abbrev pub starts : {T : Type 0} → (T → Bool) → List T → Bool
+starts p [] = false
+starts p (t ∷ ts) = p t
+
+-- by the one reader where the first token passes, and else by the other
+abbrev pub or_else : {T A : Type 0} → (T → Bool) → (List T → Read T A) → (List T → Read T A) → List T → Read T A
+or_else p one other ts = cond (starts p ts) (one ts) (other ts)
+
+-- up to n items, each behind a sign that passes
+unfoldable pub more_at : {T A : Type 0} → ℕ → (T → Bool) → (List T → Read T A) → List T → Read T (List A)
+more_at zero p reader = λ ts. Ok ([], ts)
+more_at (suc n) p reader =
+    or_else p (λ ts. mapped (λ x. x.1.0 ∷ x.1.1) (and_then (sign_at p ts) (λ us. and_then (reader us) (more_at n p reader)))) (λ ts. Ok ([], ts))
+
+-- an item, and up to n more behind it
+abbrev pub items_at : {T A : Type 0} → ℕ → (T → Bool) → (List T → Read T A) → List T → Read T (List A)
+items_at n p reader ts = mapped (λ x. x.0 ∷ x.1) (and_then (reader ts) (more_at n p reader))
+
+-- an item and any number of others, which are no more than the tokens behind it, grouped from the left
+abbrev pub grouped_at : {T A : Type 0} → (A → A → A) → (T → Bool) → (List T → Read T A) → List T → Read T A
+grouped_at group p reader ts = mapped (λ x. fold group x.0 x.1) (and_then (reader ts) (λ us. more_at (length us) p reader us))

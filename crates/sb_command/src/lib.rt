@@ -2,11 +2,14 @@
 #![tactic(auto)]
 
 mod line;
+mod pieces;
+mod predicates;
 mod printing;
 mod reading;
 mod scanner;
 #[cfg(test)]
 mod tests;
+mod words;
 
 pub use line::{LineFault, one_item, parse_line};
 pub use printing::print_reply;

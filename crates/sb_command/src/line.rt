@@ -5,7 +5,8 @@ ghost use Rattle.sb_plain.specs.Grammar.{IsCommand};
 ghost use Rattle.sb_plain.specs.declared.command.Command.{Command as Order};
 ghost use Rattle.sb_command.specs.Line.{IsRead, IsOrMemory, SaysOneThing};
 
-use crate::reading::{Fault, read_command};
+use crate::pieces::Fault;
+use crate::reading::read_command;
 use crate::scanner::scan;
 use sb_plain::Command;
 use std::alloc::{AllocError, Global};

@@ -1,85 +1,50 @@
 //! Reading commands from the left.
 
-ghost use Rattle.std.specs.Prelude.{◌≡◌};
-ghost use Rattle.sb_command.specs.Gives.{Gives, IsReadFrom, behind, beside};
-ghost use Rattle.sb_command.specs.Commands.{is_word, is_mark, word_at, mark_at, name_r_at, int_at, one_int_at, values_list_at, insert_at, command_at};
+ghost use Rattle.std.specs.Prelude.{◌∷◌};
+ghost use Rattle.sb_command.specs.Reading.{mapped, more_at};
+ghost use Rattle.sb_command.specs.Gives.{Gives, IsReadFrom, beside, items_beside};
+ghost use Rattle.sb_command.specs.Commands as spec;
+ghost use Rattle.sb_plain.specs.declared.token.Sign.TheVariants.{Comma};
 
+use crate::pieces::{
+    Fault, behind_mark, is_word_next, read_constant, read_mark, read_name, read_word,
+};
+use crate::predicates::read_predicate;
 use sb_plain::{Command, Sign, Token};
-use sb_value::{Str, Tuple, Value};
-use std::alloc::{AllocError, AllocFailed, Global};
+use sb_rule::Rule;
+use sb_value::{Tuple, Value};
+use std::alloc::Global;
 
-/// Why tokens are no command.
-#[derive(Drop)]
-pub enum Fault<'a> {
-    NoMemory,
-    /// The tokens from the first one on with which no command goes on.
-    Misfit(&'a [Token]),
-}
-
-impl<'a> From<AllocError> for Fault<'a> {
-    ghost use Rattle.sb_command.specs.declared.reading.Fault.TheVariants.{NoMemory};
-
-    ghost from_gives = { λ _ fault. fault ≡ NoMemory };
-
-    fn from(_error: AllocError) -> Fault<'a> {
-        Fault::NoMemory
-    }
-}
-
-impl<'a, T: Drop> From<AllocFailed<T>> for Fault<'a> {
-    ghost use Rattle.sb_command.specs.declared.reading.Fault.TheVariants.{NoMemory};
-
-    ghost from_gives = { λ _ fault. fault ≡ NoMemory };
-
-    fn from(_error: AllocFailed<T>) -> Fault<'a> {
-        Fault::NoMemory
-    }
-}
-
-fn read_word<'a>(text: &[u8], tokens: &'a [Token]) -> Result<&'a [Token], Fault<'a>>
-    ensures { Gives behind result (word_at text.now tokens.now) }
+/// Up to so many values behind a first one.
+fn read_more_constants<'a>(
+    alloc: Global,
+    count: u8,
+    first: Value,
+    tokens: &'a [Token],
+) -> Result<(Vec<Value>, &'a [Token]), Fault<'a>>
+    ensures { Gives items_beside result (mapped (λ values. first ∷ values) (more_at count (spec.is_mark Comma) spec.constant_at tokens.now)) }
 {
-    match tokens {
-        [Token::Word(found), rest @ ..] if found.as_bytes() == text => Ok(rest),
-        _ => Err(Fault::Misfit(tokens)),
+    let mut values = vec![in alloc; first]?;
+    let mut rest = tokens;
+    for _ in 0..count {
+        let Some(behind) = behind_mark(Sign::Comma, rest) else {
+            return Ok((values, rest));
+        };
+        let (value, after) = read_constant(behind)?;
+        values.push(value)?;
+        rest = after;
     }
+    Ok((values, rest))
 }
 
-fn read_mark<'a>(sign: Sign, tokens: &'a [Token]) -> Result<&'a [Token], Fault<'a>>
-    ensures { Gives behind result (mark_at sign tokens.now) }
-{
-    match tokens {
-        [Token::Sign(found), rest @ ..] if *found == sign => Ok(rest),
-        _ => Err(Fault::Misfit(tokens)),
-    }
-}
-
-fn read_name_r<'a>(tokens: &'a [Token]) -> Result<(Str, &'a [Token]), Fault<'a>>
-    ensures { Gives beside result (name_r_at tokens.now) }
-{
-    match tokens {
-        [Token::Word(found), rest @ ..] if found.as_str() == "r" => Ok((found.copy()?, rest)),
-        _ => Err(Fault::Misfit(tokens)),
-    }
-}
-
-fn read_int<'a>(tokens: &'a [Token]) -> Result<(Value, &'a [Token]), Fault<'a>>
-    ensures { Gives beside result (int_at tokens.now) }
-{
-    match tokens {
-        [Token::Int(number), rest @ ..] => Ok((Value::Int(*number), rest)),
-        _ => Err(Fault::Misfit(tokens)),
-    }
-}
-
-fn read_one_int<'a>(
+fn read_constants<'a>(
     alloc: Global,
     tokens: &'a [Token],
 ) -> Result<(Vec<Value>, &'a [Token]), Fault<'a>>
-    ensures { Gives (λ read. (read.0.items, read.1.now)) result (one_int_at tokens.now) }
+    ensures { Gives items_beside result (spec.constants_at tokens.now) }
 {
-    let (value, rest) = read_int(tokens)?;
-    Ok((vec![in alloc; value]?, rest))
+    let (first, rest) = read_constant(tokens)?;
+    read_more_constants(alloc, 15, first, rest)
 }
 
 #[tactic(auto, unfolding(crate::specs::Commands::values_list_at))]
@@ -87,30 +52,76 @@ fn read_values_list<'a>(
     alloc: Global,
     tokens: &'a [Token],
 ) -> Result<(Tuple, &'a [Token]), Fault<'a>>
-    ensures { Gives beside result (values_list_at tokens.now) }
+    ensures { Gives beside result (spec.values_list_at tokens.now) }
 {
     let rest = read_mark(Sign::Open, tokens)?;
-    let (values, rest) = read_one_int(alloc, rest)?;
+    let (values, rest) = read_constants(alloc, rest)?;
     let rest = read_mark(Sign::Close, rest)?;
     Ok((Tuple::from_vec(values), rest))
 }
 
+#[tactic(auto, unfolding(crate::specs::Commands::attach_at))]
+fn read_attach<'a>(alloc: Global, tokens: &'a [Token]) -> Result<(Command, &'a [Token]), Fault<'a>>
+    ensures { Gives beside result (spec.attach_at tokens.now) }
+{
+    let rest = read_word(b"attach", tokens)?;
+    let rest = read_word(b"check", rest)?;
+    let (name, rest) = read_name(rest)?;
+    let rest = read_word(b"on", rest)?;
+    let (relation, rest) = read_name(rest)?;
+    let (pred, rest) = read_predicate(alloc, rest)?;
+    let rule = Rule::Check {
+        pred,
+        deferred: false,
+    };
+    Ok((
+        Command::Attach {
+            relation,
+            name,
+            rule,
+        },
+        rest,
+    ))
+}
+
 #[tactic(auto, unfolding(crate::specs::Commands::insert_at))]
 fn read_insert<'a>(alloc: Global, tokens: &'a [Token]) -> Result<(Command, &'a [Token]), Fault<'a>>
-    ensures { Gives beside result (insert_at tokens.now) }
+    ensures { Gives beside result (spec.insert_at tokens.now) }
 {
     let rest = read_word(b"insert", tokens)?;
-    let (relation, rest) = read_name_r(rest)?;
+    let (relation, rest) = read_name(rest)?;
     let rest = read_word(b"values", rest)?;
     let (values, rest) = read_values_list(alloc, rest)?;
     Ok((Command::Insert { relation, values }, rest))
+}
+
+#[tactic(auto, unfolding(crate::specs::Commands::scan_at))]
+fn read_scan<'a>(tokens: &'a [Token]) -> Result<(Command, &'a [Token]), Fault<'a>>
+    ensures { Gives beside result (spec.scan_at tokens.now) }
+{
+    let rest = read_word(b"scan", tokens)?;
+    let (relation, rest) = read_name(rest)?;
+    Ok((Command::Scan { relation }, rest))
+}
+
+#[tactic(auto, unfolding(crate::specs::Commands::command_at))]
+fn read_front<'a>(alloc: Global, tokens: &'a [Token]) -> Result<(Command, &'a [Token]), Fault<'a>>
+    ensures { Gives beside result (spec.command_at tokens.now) }
+{
+    if is_word_next(b"attach", tokens) {
+        return read_attach(alloc, tokens);
+    }
+    if is_word_next(b"insert", tokens) {
+        return read_insert(alloc, tokens);
+    }
+    read_scan(tokens)
 }
 
 /// The command that the tokens spell.
 pub fn read_command<'a>(alloc: Global, tokens: &'a [Token]) -> Result<Command, Fault<'a>>
     ensures { IsReadFrom tokens.now result }
 {
-    let (command, rest) = read_insert(alloc, tokens)?;
+    let (command, rest) = read_front(alloc, tokens)?;
     if rest.is_empty() {
         Ok(command)
     } else {

@@ -1,12 +1,12 @@
 //! The tokens of a line.
 
-ghost use Rattle.std.specs.Prelude.{◌≡◌, ℕ, ◌<◌, ◌≤◌, ◌^◌, length, take_while, IfOk, IfSome};
+ghost use Rattle.std.specs.Prelude.{◌≡◌, ℕ, ◌<◌, ◌≤◌, ◌^◌, false, length, take_while, IfOk, IfSome, option_map};
 ghost use Rattle.std.specs.Option.{SomeIff};
 ghost use Rattle.sb_plain.specs.Tokens as spec;
 ghost use Rattle.sb_command.specs.Scanned.{IsScanned};
 
 use sb_plain::{Sign, Token};
-use sb_value::Str;
+use sb_value::{Bytes, Str};
 use std::alloc::{AllocError, Global};
 
 /// The longest word in bytes.
@@ -110,13 +110,73 @@ fn number_token(is_negative: bool, digits: &[u8], len: usize) -> Option<(Token, 
     Some((Token::Int(number), len))
 }
 
-fn sign_token(byte: u8) -> Option<(Token, usize)>
-    ensures { result ≡ spec.sign_token byte }
+fn less_token(rest: &[u8]) -> (Token, usize)
+    ensures { Some result ≡ spec.less_token rest.now }
 {
-    match byte {
+    match rest {
+        [b'>', ..] => (Token::Sign(Sign::Unequal), 2),
+        [b'=', ..] => (Token::Sign(Sign::LessOrEqual), 2),
+        _ => (Token::Sign(Sign::Less), 1),
+    }
+}
+
+fn greater_token(rest: &[u8]) -> (Token, usize)
+    ensures { Some result ≡ spec.greater_token rest.now }
+{
+    match rest {
+        [b'=', ..] => (Token::Sign(Sign::GreaterOrEqual), 2),
+        _ => (Token::Sign(Sign::Greater), 1),
+    }
+}
+
+fn sign_token(first: u8, rest: &[u8]) -> Option<(Token, usize)>
+    ensures { result ≡ spec.sign_token first rest.now }
+{
+    match first {
         b'(' => Some((Token::Sign(Sign::Open), 1)),
         b')' => Some((Token::Sign(Sign::Close), 1)),
+        b',' => Some((Token::Sign(Sign::Comma), 1)),
+        b'=' => Some((Token::Sign(Sign::Equal), 1)),
+        b'<' => Some(less_token(rest)),
+        b'>' => Some(greater_token(rest)),
         _ => None,
+    }
+}
+
+/// What stands up to the quote that ends a text, with each doubled quote as one, and how many bytes were read with that quote.
+fn up_to_quote(alloc: Global, bytes: &[u8]) -> Result<Option<(Bytes, usize)>, AllocError>
+    ensures { IfOk result (λ found. found ≡ spec.up_to_quote false bytes.now) }
+{
+    let mut text = Bytes::new(alloc);
+    let mut is_behind_quote = false;
+    for (index, byte) in bytes.iter().enumerate() {
+        if *byte == b'\'' {
+            if is_behind_quote {
+                text.push(b'\'')?;
+            }
+            is_behind_quote = !is_behind_quote;
+        } else if is_behind_quote {
+            return Ok(Some((text, index)));
+        } else {
+            text.push(*byte)?;
+        }
+    }
+    if is_behind_quote {
+        Ok(Some((text, bytes.len())))
+    } else {
+        Ok(None)
+    }
+}
+
+fn text_token(alloc: Global, rest: &[u8]) -> Result<Option<(Token, usize)>, AllocError>
+    ensures { IfOk result (λ found. found ≡ spec.text_token (spec.up_to_quote false rest.now)) }
+{
+    let Some((bytes, len)) = up_to_quote(alloc, rest)? else {
+        return Ok(None);
+    };
+    match Str::from_utf8(alloc, bytes.as_slice())? {
+        Some(text) => Ok(Some((Token::Text(text), 1 + len))),
+        None => Ok(None),
     }
 }
 
@@ -140,7 +200,10 @@ fn front_token(alloc: Global, bytes: &[u8]) -> Result<Option<(Token, usize)>, Al
             return Ok(number_token(true, digits, 1 + digits.len()));
         }
     }
-    Ok(sign_token(*first))
+    if *first == b'\'' {
+        return text_token(alloc, rest);
+    }
+    Ok(sign_token(*first, rest))
 }
 
 /// The tokens of a line, or `None` where at some place no token can be read.

@@ -1,4 +1,5 @@
-pub mod Inserts
 pub mod LinesLemmas
 pub mod PlaysLemmas
 mod Worked
+mod WorkedChecks
+mod WorkedLines

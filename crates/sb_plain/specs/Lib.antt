@@ -1,5 +1,7 @@
-pub mod Held
+pub mod Refusing
 pub mod Step
+pub mod First
+pub mod Words
 pub mod Lang
 pub mod Tokens
 pub mod Grammar

@@ -1,14 +1,22 @@
 -- What a command makes of a state.
-use Rattle.std.specs.Prelude.{List, [], ◌∷◌, ◌++◌, Option, Some, None}
+use Rattle.std.specs.Prelude.{Bool, true, false, cond, List, [], ◌∷◌, ◌++◌, Option, Some, None}
 use Rattle.std.specs.List.{last_or}
+use Rattle.sb_rule.specs.declared.change.Change.{Change}
+use Rattle.sb_rule.specs.declared.change.Change.TheVariants as change
+use Rattle.sb_rule.specs.declared.rule.Rule.{Rule}
+use Rattle.sb_relation.specs.Build.{with_rule}
+use Rattle.sb_relation.specs.Changes.{changed}
+use Rattle.sb_relation.specs.Db.{Name, Key, Row, Relation, Attached, Db, relation_at, rows_at, key_of}
+use Rattle.sb_relation.specs.Foreign.{Boxes}
+use Rattle.sb_relation.specs.Keys.{NewKeys, AnyOf, Just, Taken, NoGreater, keying_of, new_keys}
+use Rattle.sb_relation.specs.Rules.{admits, holds}
 use Rattle.sb_plain.specs.declared.command.Command.{Command}
-use Rattle.sb_plain.specs.declared.command.Command.TheVariants.{Insert}
+use Rattle.sb_plain.specs.declared.command.Command.TheVariants.{Attach, Insert, Scan}
 use Rattle.sb_plain.specs.declared.reply.Refusal.{Refusal}
-use Rattle.sb_plain.specs.declared.reply.Refusal.TheVariants.{Duplicate}
+use Rattle.sb_plain.specs.declared.reply.Refusal.TheVariants.{Duplicate, Veto}
 use Rattle.sb_plain.specs.declared.reply.Reply.{Reply}
-use Rattle.sb_plain.specs.declared.reply.Reply.TheVariants.{Done, Refused}
-use Rattle.sb_plain.specs.Held.{first_db}
-use Rattle.sb_relation.specs.Db.{Name, Key, Row, Relation, Db, relation_at, with_relation, row_at, with_row, key_of}
+use Rattle.sb_plain.specs.declared.reply.Reply.TheVariants.{Done, Rows, Refused}
+use Rattle.sb_plain.specs.Refusing.{Codes, attachments_at, box_of, refused}
 
 -- what comes of a piece of work: a value, a refusal, or nothing where these picks give no step
 pub data Outcome (A : Type 0) : Type 0 where
@@ -28,25 +36,67 @@ pub record Going : Type 0 where
   pub db : Db
   pub picks : List Key
 
--- the row under its record key, where no other row has it
-abbrev pub new_row : Name → Relation → Key → Row → Going → Outcome (Key × Going)
-new_row name r key row going = elim (row_at r.rows key) [
-  | None ↦ Made (key, record going { db = with_relation going.db name (record r { rows = with_row r.rows key row }) })
-  | Some other ↦ Stopped (Duplicate name)
+-- ---- one change
+-- the first pick, where it may be picked
+abbrev pub pick : (Key → Bool) → Going → Outcome (Key × Going)
+pick may going = elim going.picks [
+  | [] ↦ NoStep
+  | key ∷ picks ↦ cond (may key) (Made (key, record going { picks = picks })) NoStep
 ]
 
-abbrev pub insert_row : Name → Row → Going → Outcome (Key × Going)
-insert_row name row going = elim (relation_at going.db name) [
+-- The record key of a new row. No relation counts its keys yet.
+abbrev pub take_key : Name → NewKeys → Going → Outcome (Key × Going)
+take_key name (AnyOf may) going = pick may going
+take_key name (Just key) going = Made (key, going)
+take_key name Taken going = Stopped (Duplicate name)
+take_key name NoGreater going = NoStep
+
+-- the first attachment in call order that doesn't admit the change, over the changed database
+abbrev pub vetoing : Boxes → Db → Name → Change → List Attached → Option Name
+vetoing boxes db name c [] = None
+vetoing boxes db name c (a ∷ others) = cond (admits (box_of boxes a.rule) db name a.rule c) (vetoing boxes db name c others) (Some a.name)
+
+abbrev pub if_admitted : Name → Option Name → Going → Outcome Going
+if_admitted name None going = Made going
+if_admitted name (Some attachment) going = Stopped (Veto name attachment)
+
+-- the change is made, where all attachments of the relation admit it
+abbrev pub make_change : Boxes → Name → Change → Going → Outcome Going
+make_change boxes name c going =
+    let db = changed going.db name c in if_admitted name (vetoing boxes db name c (attachments_at db name)) (record going { db = db })
+
+abbrev pub insert_into : Boxes → Name → Relation → Row → Going → Outcome (Key × Going)
+insert_into boxes name r row going =
+    take_key name (new_keys (keying_of r.method) r.rows None (key_of r row)) going
+    >>= λ keyed. make_change boxes name (change.Insert keyed.0 row) keyed.1
+    >>= λ made. Made (keyed.0, made)
+
+abbrev pub insert_row : Boxes → Name → Row → Going → Outcome (Key × Going)
+insert_row boxes name row going = elim (relation_at going.db name) [
   | None ↦ NoStep
-  | Some r ↦ new_row name r (key_of r row) row going
+  | Some r ↦ insert_into boxes name r row going
 ]
+
+-- ---- commands
+-- a rule is attached where it holds of the rows that stand
+abbrev pub build : Boxes → Name → Name → Rule → Going → Outcome Going
+build boxes relation name rule going =
+    cond (holds (box_of boxes rule) going.db relation rule) (Made (record going { db = with_rule going.db relation name rule })) (Stopped (Veto relation name))
 
 -- what a command does and answers
-abbrev pub work : Command → Going → Outcome (Reply × Going)
-work (Insert relation values) going = insert_row relation values going >>= λ made. Made (Done (Some made.0) [], made.1)
+abbrev pub work : Boxes → Command → Going → Outcome (Reply × Going)
+work boxes (Attach relation name rule) going = build boxes relation name rule going >>= λ made. Made (Done None [], made)
+work boxes (Insert relation values) going = insert_row boxes relation values going >>= λ made. Made (Done (Some made.0) [], made.1)
+work boxes (Scan relation) going = Made (Rows (rows_at going.db relation), going)
 
--- the databases of the commits so far, the first that of the opening
+abbrev pub is_changing : Command → Bool
+is_changing (Attach relation name rule) = true
+is_changing (Insert relation values) = true
+is_changing (Scan relation) = false
+
+-- the codes that are live, and the databases of the commits so far, the first that of the opening
 pub record State : Type 0 where
+  pub live : Codes
   pub commits : List Db
 
 abbrev pub db_or_empty : Option Db → Db
@@ -60,25 +110,27 @@ committed s = db_or_empty (last_or None s.commits)
 abbrev pub with_commit : State → Db → State
 with_commit s db = record s { commits = s.commits ++ db ∷ [] }
 
--- the state in which a run begins
-abbrev pub first_state : State
-first_state = record { commits = first_db ∷ [] }
-
 -- a reply, or none where these picks give no step, and the state after it
 pub record Turn : Type 0 where
   pub reply : Option Reply
   pub state : State
+
+abbrev pub refusing : State → Refusal → Turn
+refusing s refusal = record { reply = Some (Refused refusal); state = s }
 
 -- a command that is carried out has used all picks
 abbrev pub if_used : List Key → Reply → Option Reply
 if_used [] reply = Some reply
 if_used (pick ∷ picks) reply = None
 
--- each command is a transaction of its own; a refused one changes nothing
-abbrev pub turn_of : State → Outcome (Reply × Going) → Turn
-turn_of s (Made x) = record { reply = if_used x.1.picks x.0; state = with_commit s x.1.db }
-turn_of s (Stopped refusal) = record { reply = Some (Refused refusal); state = s }
-turn_of s NoStep = record { reply = None; state = s }
+-- each changing command is a transaction of its own; a refused one changes nothing
+abbrev pub turn_of : State → Bool → Outcome (Reply × Going) → Turn
+turn_of s changing (Made x) = record { reply = if_used x.1.picks x.0; state = cond changing (with_commit s x.1.db) s }
+turn_of s changing (Stopped refusal) = refusing s refusal
+turn_of s changing NoStep = record { reply = None; state = s }
 
-abbrev pub step : State → Command → List Key → Turn
-step s c picks = turn_of s (work c (record { db = committed s; picks = picks }))
+abbrev pub step : Boxes → State → Command → List Key → Turn
+step boxes s c picks = elim (refused boxes s.live (committed s) c) [
+  | Some refusal ↦ refusing s refusal
+  | None ↦ turn_of s (is_changing c) (work boxes c (record { db = committed s; picks = picks }))
+]

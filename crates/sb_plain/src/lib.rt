@@ -2,13 +2,11 @@
 #![tactic(auto)]
 
 mod command;
-mod database;
 mod reply;
 mod token;
 
 pub use command::Command;
-pub use database::Database;
-pub use reply::{Picks, Refusal, Reply};
+pub use reply::{Picks, Refusal, Reply, Rows};
 pub use sb_relation::{
     Action, Change, Entries, Event, Image, Mode, Pairs, Rule, Side, Sums, Terms, bind, read_rule,
     write_rule,

@@ -6,6 +6,13 @@ use sb_value::Str;
 pub enum Sign {
     Open,
     Close,
+    Comma,
+    Equal,
+    Unequal,
+    Less,
+    LessOrEqual,
+    Greater,
+    GreaterOrEqual,
 }
 
 /// A word is a keyword or a name: which of them, the grammar says.
@@ -13,5 +20,7 @@ pub enum Sign {
 pub enum Token {
     Word(Str),
     Int(i64),
+    /// Without its quotes, and with each doubled quote as one.
+    Text(Str),
     Sign(Sign),
 }

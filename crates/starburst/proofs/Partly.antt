@@ -1,10 +1,10 @@
 -- Bytes of which a sink has taken a front.
-use Rattle.std.proofs.Common.{◌≡◌, ℕ, ◌<◌, Option, List, [], ◌∷◌, ◌++◌, length, take, drop, refl, sym, ◌∙◌, ap, subst, arith, append_assoc}
+use Rattle.std.proofs.Common.{◌≡◌, ℕ, ◌<◌, Option, Result, Ok, Err, List, [], ◌∷◌, ◌++◌, length, take, drop, refl, sym, ◌∙◌, ap, subst, arith, append_assoc}
 use Rattle.std.proofs.lemmas.List.{append-nil, take-append-drop}
 use Rattle.sb_disk.specs.Streams.{Given, Held}
 use Rattle.sb_disk.proofs.StreamLemmas.{Given-none, Given-more, Given-held}
 use Rattle.starburst.specs.Ending.{BreaksOff}
-use Rattle.starburst.specs.Writing.{GivenFront}
+use Rattle.starburst.specs.Writing.{GivenFront, Wrote}
 
 -- the bytes before the rest were given
 pub record Partly (old new : Option (List ℕ)) (bytes rest : List ℕ) : Type 0 where
@@ -36,3 +36,33 @@ GivenFront-partly old middle new bytes rest partly some stays = record {
   is_written = subst (λ (h : Option (List ℕ)). Given old h partly.written) (sym stays) partly.is_written;
   front = breaks_off bytes partly.written rest some partly.whole;
 }
+
+-- ---- bytes that are written part by part
+front-behind : (old middle new : Option (List ℕ)) (bytes more : List ℕ) → Given old middle bytes → GivenFront middle new more → GivenFront old new (bytes ++ more)
+front-behind old middle new bytes more given front = record {
+  written = bytes ++ front.written;
+  is_written = Given-more old middle new bytes front.written given front.is_written;
+  front = record {
+    next = front.front.next;
+    others = front.front.others;
+    whole = ap (λ (l : List ℕ). bytes ++ l) front.front.whole ∙ sym (append_assoc bytes front.written (front.front.next ∷ front.front.others));
+  };
+}
+
+front-before : (old new : Option (List ℕ)) (bytes more : List ℕ) → GivenFront old new bytes → GivenFront old new (bytes ++ more)
+front-before old new bytes more front = record {
+  written = front.written;
+  is_written = front.is_written;
+  front = record {
+    next = front.front.next;
+    others = front.front.others ++ more;
+    whole = ap (λ (l : List ℕ). l ++ more) front.front.whole ∙ append_assoc front.written (front.front.next ∷ front.front.others) more;
+  };
+}
+
+pub Wrote-behind : {E : Type 0} (old middle new : Option (List ℕ)) (bytes more : List ℕ) (result : Result (Unit {0}) E) → Given old middle bytes → Wrote middle new more result → Wrote old new (bytes ++ more) result
+Wrote-behind old middle new bytes more (Ok x) given wrote = Given-more old middle new bytes more given wrote
+Wrote-behind old middle new bytes more (Err e) given wrote = front-behind old middle new bytes more given wrote
+
+pub front-between : (old middle new : Option (List ℕ)) (bytes more others : List ℕ) → Given old middle bytes → GivenFront middle new more → GivenFront old new (bytes ++ more ++ others)
+front-between old middle new bytes more others given front = front-before old new (bytes ++ more) others (front-behind old middle new bytes more given front)

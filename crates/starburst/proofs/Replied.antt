@@ -3,12 +3,15 @@ use Rattle.std.proofs.Common.{◌≡◌, ℕ, suc, ◌≤◌, Option, List, [], 
 use Rattle.std.proofs.lemmas.List.{append-nil, take-append-drop, length-take-le}
 use Rattle.std.proofs.lemmas.Grind.{flat_map-append}
 use Rattle.sb_plain.specs.declared.reply.Reply.{Reply}
-use Rattle.sb_relation.specs.Db.{Db}
-use Rattle.sb_plain.specs.Step.{State, first_state}
+use Rattle.sb_relation.specs.Foreign.{Boxes}
+use Rattle.sb_plain.specs.First.{first_state}
+use Rattle.sb_plain.specs.Step.{State}
 use Rattle.sb_plain.specs.Lines.{Item, asking, AreItems}
 use Rattle.sb_plain.specs.Plays.{Plays}
 use Rattle.sb_plain.specs.Text.{reply_text, text_of}
 use Rattle.sb_plain.proofs.LinesLemmas.{asking-append}
+use Rattle.sb_registry.specs.Boxes.{Meanings}
+use Rattle.sb_kernel.specs.Boxes.{boxes_of, codes_of}
 use Rattle.starburst.specs.Ending.{AreReplied}
 use Rattle.starburst.specs.Session.{HasAnswered}
 
@@ -19,21 +22,21 @@ AreItems-length [] (item ∷ items) are = absurd are
 AreItems-length (line ∷ lines) [] are = absurd are
 AreItems-length (line ∷ lines) (item ∷ items) are = ap suc (AreItems-length lines items are.1)
 
-Plays-length : (s : State) (items : List Item) (replies : List Reply) (states : List State) → Plays s items replies states → length replies ≡ length items
-Plays-length s [] [] [] plays = refl
-Plays-length s (item ∷ items) (reply ∷ replies) (t ∷ states) plays = ap suc (Plays-length t items replies states plays.1)
-Plays-length s [] [] (t ∷ states) plays = absurd plays
-Plays-length s [] (reply ∷ replies) states plays = absurd plays
-Plays-length s (item ∷ items) [] states plays = absurd plays
-Plays-length s (item ∷ items) (reply ∷ replies) [] plays = absurd plays
+Plays-length : (boxes : Boxes) (s : State) (items : List Item) (replies : List Reply) (states : List State) → Plays boxes s items replies states → length replies ≡ length items
+Plays-length boxes s [] [] [] plays = refl
+Plays-length boxes s (item ∷ items) (reply ∷ replies) (t ∷ states) plays = ap suc (Plays-length boxes t items replies states plays.1)
+Plays-length boxes s [] [] (t ∷ states) plays = absurd plays
+Plays-length boxes s [] (reply ∷ replies) states plays = absurd plays
+Plays-length boxes s (item ∷ items) [] states plays = absurd plays
+Plays-length boxes s (item ∷ items) (reply ∷ replies) [] plays = absurd plays
 
 -- ---- replied lines
-pub all_replied : (lines : List (List ℕ)) (first held : Option (List ℕ)) (starts : List ℕ) (db : Db) → (a : HasAnswered lines first held starts db) → AreReplied lines a.replies a.written
-all_replied lines first held starts db a = record {
+pub all_replied : (m : Meanings) (IsNow : State → Type 0) (lines : List (List ℕ)) (first held : Option (List ℕ)) (starts : List ℕ) → (a : HasAnswered m IsNow lines first held starts) → AreReplied lines a.replies a.written
+all_replied m IsNow lines first held starts a = record {
   first = a.replies;
   others = [];
   are = sym (append-nil a.replies);
-  each = Plays-length first_state a.items a.replies a.states a.plays ∙ AreItems-length (asking lines) a.items a.are_items;
+  each = Plays-length (boxes_of m) (first_state (codes_of m)) a.items a.replies a.states a.plays ∙ AreItems-length (asking lines) a.items a.are_items;
   front = record { others = []; whole = a.writes ∙ sym (append-nil (text_of a.replies)) };
 }
 

@@ -4,5 +4,7 @@ pub mod Writing
 pub mod Replying
 pub mod Causes
 pub mod Session
+pub mod Starting
+pub mod Refusing
 pub mod Run
 pub mod Serving

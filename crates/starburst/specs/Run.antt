@@ -3,13 +3,18 @@ use Rattle.std.specs.Prelude.{◌≡◌, ◌⊎◌, ℕ, ◌<◌, ◌≤◌, Boo
 use Rattle.sb_disk.specs.Streams.{Taken, Given}
 use Rattle.sb_plain.specs.declared.reply.Reply.{Reply}
 use Rattle.sb_plain.specs.Lines.{Item, whole_lines, lines_of, asking, AreItems, AreFirstItems, Commands}
-use Rattle.sb_plain.specs.Step.{State, first_state}
+use Rattle.sb_plain.specs.First.{first_state}
+use Rattle.sb_plain.specs.Step.{State}
 use Rattle.sb_plain.specs.Plays.{Plays}
+use Rattle.sb_registry.specs.Boxes.{Meanings}
+use Rattle.sb_kernel.specs.Boxes.{boxes_of, codes_of}
 use Rattle.starburst.specs.declared.report.Report.{Report}
 use Rattle.starburst.specs.declared.ending.Ending.{Ending}
 use Rattle.starburst.specs.declared.ending.Ending.TheVariants.{InputEnded, SourceFailed, MostTaken, Stopped}
 use Rattle.starburst.specs.Words.{are_words, words_line}
-use Rattle.starburst.specs.Ending.{status_of, BreaksOff, AreReplied, WritesAtEnd}
+use Rattle.starburst.specs.Ending.{status_of, AreReplied, WritesAtEnd}
+use Rattle.starburst.specs.Starting.{CanStart, refusal_line}
+use Rattle.starburst.specs.Refusing.{WritesRefusal}
 
 -- what the source has left and the sink holds, where they tell it
 pub record Told : Type 0 where
@@ -52,7 +57,7 @@ WritesInTime (Stopped stop) taken replies written = KeepsUp taken replies writte
 WritesInTime _ taken replies written = Unit {0}
 
 -- a run that has begun, with the items begun, their replies and the states after them
-pub record HasPlayed (most : ℕ) (old new : Told) (ending : Ending) (starts : List ℕ) : Type 0 where
+pub record HasPlayed (m : Meanings) (most : ℕ) (old new : Told) (ending : Ending) (starts : List ℕ) : Type 0 where
   pub taken : List ℕ
   pub written : List ℕ
   pub items : List Item
@@ -64,32 +69,38 @@ pub record HasPlayed (most : ℕ) (old new : Told) (ending : Ending) (starts : L
   pub answers : Answers ending taken items
   pub leaves : Leaves ending new.left
   pub within : TakesUpTo most ending (length taken)
-  pub plays : Plays first_state items replies states
+  pub plays : Plays (boxes_of m) (first_state (codes_of m)) items replies states
   pub writes : WritesAtEnd ending replies written
   pub in_time : WritesInTime ending taken replies written
 
--- a run with words that the program takes
-pub record HasRun (most : ℕ) (old new : Told) (report : Report) : Type 0 where
-  pub ending : Ending
-  pub status : report.status ≡ status_of ending
-  pub played : HasPlayed most old new ending report.starts
-
--- the line that refuses the words was written, or a front that lacks its end to a sink that failed
-pub record WritesRefusal (held new : Option (List ℕ)) (report : Report) : Type 0 where
+-- memory was wanting before anything was read
+pub record RanOut (old new : Told) (report : Report) : Type 0 where
+  pub status : report.status ≡ 7
   pub starts : report.starts ≡ []
-  pub written : List ℕ
-  pub is_written : Given held new written
-  pub status : ((report.status ≡ 2) × (written ≡ words_line)) ⊎ ((report.status ≡ 5) × BreaksOff written words_line)
+  pub same : new ≡ old
 
--- a run with other words, which reads nothing
-pub record HasRefused (old new : Told) (report : Report) : Type 0 where
+-- a run that has begun, with boxes with which a kernel starts, or that ended before anything was read
+pub record HasRun (m : Meanings) (most : ℕ) (old new : Told) (report : Report) : Type 0 where
+  pub ending : Ending
+  pub started : CanStart m ⊎ RanOut old new report
+  pub status : report.status ≡ status_of ending
+  pub played : HasPlayed m most old new ending report.starts
+
+-- a run that is refused with this status and this line, and reads nothing
+pub record HasRefused (refused : ℕ) (line : List ℕ) (old new : Told) (report : Report) : Type 0 where
   pub reads : new.left ≡ old.left
-  pub writes : WritesRefusal old.held new.held report
+  pub writes : WritesRefusal refused line old.held new.held report
 
-abbrev pub RunsBy : Bool → ℕ → Told → Told → Report → Type 0
-RunsBy true most old new report = HasRun most old new report
-RunsBy false most old new report = HasRefused old new report
+-- a run that the boxes don't let begin
+pub record HasNotStarted (m : Meanings) (old new : Told) (report : Report) : Type 0 where
+  pub line : List ℕ
+  pub is_line : refusal_line m ≡ Some line
+  pub refused : HasRefused 6 line old new report
 
--- a run with these words, which takes at most so many bytes
-abbrev pub IsRun : List (List ℕ) → ℕ → Told → Told → Report → Type 0
-IsRun words most old new report = RunsBy (are_words words) most old new report
+abbrev pub RunsBy : Bool → Meanings → ℕ → Told → Told → Report → Type 0
+RunsBy true m most old new report = HasRun m most old new report ⊎ HasNotStarted m old new report
+RunsBy false m most old new report = HasRefused 2 words_line old new report
+
+-- a run with these words and boxes, which takes at most so many bytes
+abbrev pub IsRun : List (List ℕ) → Meanings → ℕ → Told → Told → Report → Type 0
+IsRun words m most old new report = RunsBy (are_words words) m most old new report

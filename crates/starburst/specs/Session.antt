@@ -2,17 +2,22 @@
 use Rattle.std.specs.Prelude.{◌≡◌, ℕ, Option, List, length, Result, Ok, Err}
 use Rattle.sb_disk.specs.Streams.{Given}
 use Rattle.sb_plain.specs.declared.reply.Reply.{Reply}
-use Rattle.sb_relation.specs.Db.{Db}
-use Rattle.sb_plain.specs.Step.{State, committed, first_state}
+use Rattle.sb_plain.specs.First.{first_state}
+use Rattle.sb_plain.specs.Step.{State}
 use Rattle.sb_plain.specs.Lines.{Item, cut, asking, AreItems, AreFirstItems, whole_lines}
 use Rattle.sb_plain.specs.Plays.{Plays, last_state}
 use Rattle.sb_plain.specs.Text.{text_of}
+use Rattle.sb_ctx.specs.Method.{Method}
+use Rattle.sb_ctx.specs.Attachment.{Attachment}
+use Rattle.sb_registry.specs.Boxes.{Meanings}
+use Rattle.sb_kernel.specs.Boxes.{boxes_of, codes_of}
 use Rattle.starburst.specs.declared.ending.Stop.{Stop}
 use Rattle.starburst.specs.declared.session.Session.{Session}
 use Rattle.starburst.specs.Ending.{AreReplied, WritesAtStop}
+use Rattle.starburst.specs.Replying.{IsAt}
 
--- All asking lines were answered: the items with their replies, written in full, and the database that they lead to.
-pub record HasAnswered (lines : List (List ℕ)) (first held : Option (List ℕ)) (starts : List ℕ) (db : Db) : Type 0 where
+-- All asking lines were answered: the items with their replies, written in full, and the state that they lead to.
+pub record HasAnswered (m : Meanings) (IsNow : State → Type 0) (lines : List (List ℕ)) (first held : Option (List ℕ)) (starts : List ℕ) : Type 0 where
   pub items : List Item
   pub replies : List Reply
   pub states : List State
@@ -20,12 +25,12 @@ pub record HasAnswered (lines : List (List ℕ)) (first held : Option (List ℕ)
   pub is_written : Given first held written
   pub begun : length items ≡ length starts
   pub are_items : AreItems (asking lines) items
-  pub plays : Plays first_state items replies states
-  pub stands : committed (last_state first_state states) ≡ db
+  pub plays : Plays (boxes_of m) (first_state (codes_of m)) items replies states
+  pub now : IsNow (last_state (first_state (codes_of m)) states)
   pub writes : written ≡ text_of replies
 
 -- The first asking lines were answered, all early lines among them, and then a line couldn't be.
-pub record HasStopped (stop : Stop) (early lines : List (List ℕ)) (first held : Option (List ℕ)) (starts : List ℕ) : Type 0 where
+pub record HasStopped (m : Meanings) (stop : Stop) (early lines : List (List ℕ)) (first held : Option (List ℕ)) (starts : List ℕ) : Type 0 where
   pub items : List Item
   pub replies : List Reply
   pub states : List State
@@ -33,21 +38,25 @@ pub record HasStopped (stop : Stop) (early lines : List (List ℕ)) (first held 
   pub is_written : Given first held written
   pub begun : length items ≡ length starts
   pub are_items : AreFirstItems (asking lines) items
-  pub plays : Plays first_state items replies states
+  pub plays : Plays (boxes_of m) (first_state (codes_of m)) items replies states
   pub replied : AreReplied early replies written
   pub writes : WritesAtStop stop replies written
 
--- All whole lines of the bytes were answered, and the session holds the line that has begun.
-pub record Stands (bytes : List ℕ) (first held : Option (List ℕ)) (session : Session) : Type 0 where
-  pub answered : HasAnswered (whole_lines bytes) first held session.starts session.database
+-- All whole lines of the bytes were answered, the kernel is where they lead, and the session holds the line that has begun.
+pub record Stands {I J : Type 0} {F : I → Type 0} {G : J → Type 0} (of_method : (i : I) → F i → Method) (of_attachment : (j : J) → G j → Attachment)
+    (m : Meanings) (bytes : List ℕ) (first held : Option (List ℕ)) (session : Session I J F G) : Type 0 where
+  pub answered : HasAnswered m (IsAt of_method of_attachment m session.kernel) (whole_lines bytes) first held session.starts
   pub line : session.line ≡ (cut bytes).begun
 
 -- What comes of answering some lines, of which the early ones were answered before.
-abbrev pub LinesLead : Result (Unit {0}) Stop → List (List ℕ) → List (List ℕ) → Option (List ℕ) → Option (List ℕ) → Session → Type 0
-LinesLead (Ok x) early lines first held session = HasAnswered lines first held session.starts session.database
-LinesLead (Err stop) early lines first held session = HasStopped stop early lines first held session.starts
+abbrev pub LinesLead : Meanings → (State → Type 0) → Result (Unit {0}) Stop → List (List ℕ) → List (List ℕ) → Option (List ℕ) → Option (List ℕ)
+    → List ℕ → Type 0
+LinesLead m IsNow (Ok x) early lines first held starts = HasAnswered m IsNow lines first held starts
+LinesLead m IsNow (Err stop) early lines first held starts = HasStopped m stop early lines first held starts
 
 -- What comes of taking some bytes, of which the early ones were taken before.
-abbrev pub BytesLead : Result (Unit {0}) Stop → List ℕ → List ℕ → Option (List ℕ) → Option (List ℕ) → Session → Type 0
-BytesLead (Ok x) early bytes first held session = Stands bytes first held session
-BytesLead (Err stop) early bytes first held session = HasStopped stop (whole_lines early) (whole_lines bytes) first held session.starts
+abbrev pub BytesLead : {I J : Type 0} {F : I → Type 0} {G : J → Type 0} → ((i : I) → F i → Method) → ((j : J) → G j → Attachment)
+    → Meanings → Result (Unit {0}) Stop → List ℕ → List ℕ → Option (List ℕ) → Option (List ℕ) → Session I J F G → Type 0
+BytesLead of_method of_attachment m (Ok x) early bytes first held session = Stands of_method of_attachment m bytes first held session
+BytesLead of_method of_attachment m (Err stop) early bytes first held session =
+    HasStopped m stop (whole_lines early) (whole_lines bytes) first held session.starts

@@ -3,6 +3,7 @@
 
 mod ending;
 mod lines;
+mod refusing;
 mod report;
 mod run;
 mod session;
@@ -12,8 +13,11 @@ mod writing;
 pub use report::{Report, Starts};
 pub use run::{run, run_to};
 use sb_filedisk::{ReadSource, WriteSink};
+use sb_listmethod::ListMethod;
+use sb_registry::Extensions;
+use sb_rules::Check;
 use sb_value::Str;
-use std::alloc::{AllocError, Global};
+use std::alloc::AllocError;
 use std::process::ExitCode;
 use std::rt::Env;
 use std::{env, io};
@@ -27,14 +31,26 @@ fn given_words(rt: &(impl Env + AllocGlobal)) -> Result<Vec<Str>, AllocError> {
     Ok(words)
 }
 
-fn main(rt: HostRuntime) -> ExitCode {
-    let Ok(words) = given_words(&rt) else {
-        return ExitCode::from(7);
+/// Runs the program with a storage method of code 2 and the checks: the exit status.
+fn answer(rt: &HostRuntime) -> Result<u8, AllocError> {
+    let alloc = rt.alloc();
+    let words = given_words(rt)?;
+    let mut exts = Extensions {
+        methods: Vec::new(alloc),
+        attachments: Vec::new(alloc),
+        spare_methods: Vec::new(alloc),
+        spare_attachments: Vec::new(alloc),
     };
+    exts.methods.push(Box::new(alloc, ListMethod::new())?)?;
+    exts.attachments.push(Box::new(alloc, Check::new())?)?;
     let mut source = ReadSource::new(rt.reader());
-    let mut sink = WriteSink::new(io::writer(&rt));
-    let report = run(rt.alloc(), &words, &mut source, &mut sink);
-    ExitCode::from(report.status)
+    let mut sink = WriteSink::new(io::writer(rt));
+    let report = run(alloc, &words, exts, &mut source, &mut sink);
+    Ok(report.status)
+}
+
+fn main(rt: HostRuntime) -> ExitCode {
+    ExitCode::from(answer(&rt).unwrap_or(7))
 }
 
 #[cfg(test)]

@@ -2,15 +2,21 @@
 
 ghost use Rattle.std.specs.Prelude.{◌≡◌, ◌<◌, ◌≤◌, ◌^◌, [], List, ℕ, length};
 ghost use Rattle.sb_disk.specs.Causes.{Rose};
-ghost use Rattle.starburst.specs.Run.{Told, told, HasPlayed, WritesRefusal, IsRun};
+ghost use Rattle.sb_plain.specs.Step.{State};
+ghost use Rattle.sb_registry.specs.Boxes.{Meanings, meanings};
+ghost use Rattle.sb_kernel.specs.Stepping.{IsFor};
+ghost use Rattle.starburst.specs.Run.{Told, told, HasPlayed, IsRun};
 ghost use Rattle.starburst.specs.Serving.{counted, Serves, PieceLeads, ContinuesWithin, NeverFall, HasCause, BreaksWithCause};
 
-use crate::ending::{Ending, Stop};
-use crate::report::{Report, Starts};
+use crate::ending::Ending;
+use crate::refusing::{refuse_boxes, refuse_words};
+use crate::report::Report;
 use crate::session::Session;
 use crate::words::is_creating;
-use crate::writing::write_all;
+use sb_ctx::{Attachment, StorageMethod};
 use sb_disk::{Sink, Source};
+use sb_kernel::Kernel;
+use sb_registry::Extensions;
 use sb_value::Str;
 use std::alloc::Global;
 use std::ops::ControlFlow;
@@ -25,14 +31,20 @@ fn serve_piece<S: Source, K: Sink>(
 ) -> ControlFlow<Ending, u64>
     requires some { 0 < length buffer.old }
     requires short { length buffer.old ≤ 4096 }
-    ensures leads { (bytes : List ℕ) (first : Told) (room : ℕ) → length buffer.old ≤ room
-        → Serves bytes first (told (S.left source.old) (K.held sink.old)) session.old
-        → PieceLeads result room bytes first (told (S.left source.new) (K.held sink.new)) session.new }
+    requires stands { (s : State) × IsFor (λ i. (⟦<dyn StorageMethod as StorageMethod>⟧ i).method)
+        (λ j. (⟦<dyn Attachment as Attachment>⟧ j).attachment) session.old.kernel s }
+    ensures leads { (m : Meanings) (bytes : List ℕ) (first : Told) (room : ℕ) → length buffer.old ≤ room
+        → Serves (λ i. (⟦<dyn StorageMethod as StorageMethod>⟧ i).method)
+        (λ j. (⟦<dyn Attachment as Attachment>⟧ j).attachment) m bytes first (told (S.left source.old) (K.held sink.old)) session.old
+        → PieceLeads (λ i. (⟦<dyn StorageMethod as StorageMethod>⟧ i).method)
+        (λ j. (⟦<dyn Attachment as Attachment>⟧ j).attachment) m result room bytes first (told (S.left source.new) (K.held sink.new)) session.new }
     ensures progress { ContinuesWithin result (length buffer.old) }
     ensures counts { NeverFall (counted (S.faults source.old) (K.faults sink.old))
         (counted (S.faults source.new) (K.faults sink.new)) }
     ensures cause { BreaksWithCause result (counted (S.faults source.old) (K.faults sink.old))
         (counted (S.faults source.new) (K.faults sink.new)) }
+    ensures stands { (s : State) × IsFor (λ i. (⟦<dyn StorageMethod as StorageMethod>⟧ i).method)
+        (λ j. (⟦<dyn Attachment as Attachment>⟧ j).attachment) session.new.kernel s }
 {
     let Ok(count) = source.read(buffer) else {
         return ControlFlow::Break(Ending::SourceFailed);
@@ -57,8 +69,12 @@ fn serve<S: Source, K: Sink>(
     most: u64,
     session: &mut Session,
 ) -> Ending
-    ensures played { (first : Told) → Serves [] first (told (S.left source.old) (K.held sink.old)) session.old
-        → HasPlayed most first (told (S.left source.new) (K.held sink.new)) result session.new.starts }
+    requires stands { (s : State) × IsFor (λ i. (⟦<dyn StorageMethod as StorageMethod>⟧ i).method)
+        (λ j. (⟦<dyn Attachment as Attachment>⟧ j).attachment) session.old.kernel s }
+    ensures played { (m : Meanings) (first : Told)
+        → Serves (λ i. (⟦<dyn StorageMethod as StorageMethod>⟧ i).method)
+        (λ j. (⟦<dyn Attachment as Attachment>⟧ j).attachment) m [] first (told (S.left source.old) (K.held sink.old)) session.old
+        → HasPlayed m most first (told (S.left source.new) (K.held sink.new)) result session.new.starts }
     ensures counts { NeverFall (counted (S.faults source.old) (K.faults sink.old))
         (counted (S.faults source.new) (K.faults sink.new)) }
     ensures cause { HasCause result (counted (S.faults source.old) (K.faults sink.old))
@@ -76,34 +92,24 @@ fn serve<S: Source, K: Sink>(
     Ending::MostTaken
 }
 
-/// Writes that the words are refused.
-fn refuse<K: Sink>(alloc: Global, sink: &mut K) -> Report
-    ensures writes { WritesRefusal (K.held sink.old) (K.held sink.new) result }
-    ensures cause { result.status ≡ 5 → Rose (K.faults sink.old) (K.faults sink.new) }
-{
-    let status = match write_all(sink, b"? words\n") {
-        Ok(()) => 2,
-        Err(_) => 5,
-    };
-    Report {
-        status,
-        starts: Starts::new(alloc),
-    }
-}
-
 /// Answers the commands of the source on the sink, one line at a time, until the source ends or `most` bytes were taken.
+/// The boxes carry the commands out; spare ones aren't reached.
 ///
-/// The words are `--store`, a name and `--create`; others are refused with the line `? words`. The status of the report
-/// says what ended the run: 0 the end of the source, 2 the words, 4 a failed source, 5 a failed sink, 7 want of memory
-/// outside a command, 8 that `most` bytes were taken before the end was seen.
+/// The words are `--store`, a name and `--create`; others are refused with the line `? words`. Where two boxes of a kind
+/// bear one code, live or spare, the line is `? badextensions` with the first code that repeats, and else, where no live
+/// storage method has the code 2, `? missingextension 2`. The status of the report says what ended the run: 0 the end of
+/// the source, 2 the words, 4 a failed source, 5 a failed sink, 6 the boxes, 7 want of memory outside a command, 8 that
+/// `most` bytes were taken before the end was seen.
 pub fn run_to<S: Source, K: Sink>(
     alloc: Global,
     words: &[Str],
+    exts: Extensions,
     source: &mut S,
     sink: &mut K,
     most: u64,
 ) -> Report
-    ensures run { IsRun words.now most (told (S.left source.old) (K.held sink.old))
+    ensures run { IsRun words.now (meanings (λ i. (⟦<dyn StorageMethod as StorageMethod>⟧ i).method)
+        (λ j. (⟦<dyn Attachment as Attachment>⟧ j).attachment) exts) most (told (S.left source.old) (K.held sink.old))
         (told (S.left source.new) (K.held sink.new)) result }
 
     // A failure is told only where the object has failed in this run.
@@ -111,9 +117,13 @@ pub fn run_to<S: Source, K: Sink>(
     ensures sink_failed { result.status ≡ 5 → Rose (K.faults sink.old) (K.faults sink.new) }
 {
     if !is_creating(words) {
-        return refuse(alloc, sink);
+        return refuse_words(alloc, sink);
     }
-    let mut session = Session::new(alloc);
+    let kernel = match Kernel::start(alloc, exts) {
+        Ok(kernel) => kernel,
+        Err(fault) => return refuse_boxes(alloc, sink, fault),
+    };
+    let mut session = Session::new(alloc, kernel);
     let ending = serve(alloc, source, sink, most, &mut session);
     Report {
         status: ending.status(),
@@ -122,11 +132,18 @@ pub fn run_to<S: Source, K: Sink>(
 }
 
 /// [`run_to`] with 2^32 bytes at most.
-pub fn run<S: Source, K: Sink>(alloc: Global, words: &[Str], source: &mut S, sink: &mut K) -> Report
-    ensures run { IsRun words.now (2 ^ 32) (told (S.left source.old) (K.held sink.old))
+pub fn run<S: Source, K: Sink>(
+    alloc: Global,
+    words: &[Str],
+    exts: Extensions,
+    source: &mut S,
+    sink: &mut K,
+) -> Report
+    ensures run { IsRun words.now (meanings (λ i. (⟦<dyn StorageMethod as StorageMethod>⟧ i).method)
+        (λ j. (⟦<dyn Attachment as Attachment>⟧ j).attachment) exts) (2 ^ 32) (told (S.left source.old) (K.held sink.old))
         (told (S.left source.new) (K.held sink.new)) result }
     ensures source_failed { result.status ≡ 4 → Rose (S.faults source.old) (S.faults source.new) }
     ensures sink_failed { result.status ≡ 5 → Rose (K.faults sink.old) (K.faults sink.new) }
 {
-    run_to(alloc, words, source, sink, 1 << 32)
+    run_to(alloc, words, exts, source, sink, 1 << 32)
 }

@@ -2,8 +2,13 @@
 
 ghost use Rattle.std.specs.Prelude.{◌<◌, Some, None};
 
-use crate::{run, run_to};
+use crate::report::Report;
+use crate::run_to;
+use sb_ctx::{Attachment, StorageMethod};
 use sb_disk::{Failed, Sink, Source};
+use sb_listmethod::ListMethod;
+use sb_registry::Extensions;
+use sb_rules::Check;
 use sb_value::Str;
 use std::alloc::{AllocError, Global};
 use std::cell::Cell;
@@ -78,6 +83,9 @@ impl Sink for MemorySink {
     }
 }
 
+/// As many bytes as a run takes where no other number is given.
+const MOST: u64 = 1 << 32;
+
 /// No call has this number.
 const NEVER: u64 = u64::MAX;
 
@@ -101,12 +109,60 @@ const PLAIN: Script = Script {
     piece: 64,
     source_fails_at: NEVER,
     sink_fails_at: NEVER,
-    most: 1 << 32,
+    most: MOST,
     status: 0,
     output: b"",
     left: b"",
     begun: 0,
 };
+
+/// How many boxes of the storage method of code 2 and of checks a run gets.
+struct Boxes {
+    methods: usize,
+    checks: usize,
+    spare_methods: usize,
+    spare_checks: usize,
+}
+
+const BOTH: Boxes = Boxes {
+    methods: 1,
+    checks: 1,
+    spare_methods: 0,
+    spare_checks: 0,
+};
+
+fn run_boxed<S: Source, K: Sink>(
+    alloc: Global,
+    words: &[Str],
+    boxes: &Boxes,
+    source: &mut S,
+    sink: &mut K,
+    most: u64,
+) -> Result<Report, AllocError> {
+    let mut methods: Vec<Box<dyn StorageMethod>> = Vec::new(alloc);
+    for _ in 0..boxes.methods {
+        methods.push(Box::new(alloc, ListMethod::new())?)?;
+    }
+    let mut attachments: Vec<Box<dyn Attachment>> = Vec::new(alloc);
+    for _ in 0..boxes.checks {
+        attachments.push(Box::new(alloc, Check::new())?)?;
+    }
+    let mut spare_methods: Vec<Box<dyn StorageMethod>> = Vec::new(alloc);
+    for _ in 0..boxes.spare_methods {
+        spare_methods.push(Box::new(alloc, ListMethod::new())?)?;
+    }
+    let mut spare_attachments: Vec<Box<dyn Attachment>> = Vec::new(alloc);
+    for _ in 0..boxes.spare_checks {
+        spare_attachments.push(Box::new(alloc, Check::new())?)?;
+    }
+    let exts = Extensions {
+        methods,
+        attachments,
+        spare_methods,
+        spare_attachments,
+    };
+    Ok(run_to(alloc, words, exts, source, sink, most))
+}
 
 fn creating(alloc: Global) -> Result<Vec<Str>, AllocError> {
     let mut words = Vec::new(alloc);
@@ -116,18 +172,18 @@ fn creating(alloc: Global) -> Result<Vec<Str>, AllocError> {
     Ok(words)
 }
 
-const SCRIPTS: [Script; 19] = [
+const SCRIPTS: [Script; 21] = [
     PLAIN,
     Script {
-        input: b"insert r values (5)\ninsert r values (5)\n",
-        output: b"ok @8000000000000005\n! duplicate r\n",
-        begun: 2,
+        input: b"insert r values (5)\ninsert r values (5)\nscan r\n",
+        output: b"ok @8000000000000005\n! duplicate r\n@8000000000000005 (5)\nok 1\n",
+        begun: 3,
         ..PLAIN
     },
     Script {
-        input: b"insert r 5\ninsert r values (9223372036854775808)\n",
-        output: b"! syntax 1\n! syntax 1\n",
-        begun: 2,
+        input: b"insert r 5\ninsert r values (9223372036854775808)\nscan r\n",
+        output: b"! syntax 1\n! syntax 1\nok 0\n",
+        begun: 3,
         ..PLAIN
     },
     Script {
@@ -143,34 +199,66 @@ const SCRIPTS: [Script; 19] = [
         ..PLAIN
     },
     Script {
-        input: b"# a comment\r\n \t \r\n\r\n\t#\ninsert r values (5)\r\n",
-        output: b"ok @8000000000000005\n",
-        begun: 1,
-        ..PLAIN
-    },
-    Script {
-        input: b"insert r values (-0)\ninsert r values(000)\n",
-        output: b"ok @8000000000000000\n! duplicate r\n",
+        input: b"insert r values (-1)\nscan r\r",
+        output: b"ok @7fffffffffffffff\n@7fffffffffffffff (-1)\nok 1\n",
         begun: 2,
         ..PLAIN
     },
     Script {
-        input: b"insert r values (9223372036854775807)\ninsert r values (-9223372036854775808)\ninsert r values (9223372036854775808)\ninsert r values (-9223372036854775809)\n",
-        output: b"ok @ffffffffffffffff\nok @0000000000000000\n! syntax 1\n! syntax 1\n",
-        begun: 4,
+        input: b"# a comment\r\n \t \r\n\r\n\t#\ninsert r values (5)\r\nscan r\r\n",
+        output: b"ok @8000000000000005\n@8000000000000005 (5)\nok 1\n",
+        begun: 2,
         ..PLAIN
     },
     Script {
-        input: b"insert r values (5)\ninsert r values (-1)\n",
+        input: b"insert r values (-0)\ninsert r values(000)\nscan r\n",
+        output: b"ok @8000000000000000\n! duplicate r\n@8000000000000000 (0)\nok 1\n",
+        begun: 3,
+        ..PLAIN
+    },
+    Script {
+        input: b"insert r values (9223372036854775807)\ninsert r values (-9223372036854775808)\ninsert r values (9223372036854775808)\ninsert r values (-9223372036854775809)\nscan r\n",
+        output: b"ok @ffffffffffffffff\nok @0000000000000000\n! syntax 1\n! syntax 1\n@0000000000000000 (-9223372036854775808)\n@ffffffffffffffff (9223372036854775807)\nok 2\n",
+        begun: 5,
+        ..PLAIN
+    },
+    Script {
+        input: b"insert r values (5)\ninsert r values (-1)\nscan r\n",
         piece: 1,
-        output: b"ok @8000000000000005\nok @7fffffffffffffff\n",
-        begun: 2,
+        output: b"ok @8000000000000005\nok @7fffffffffffffff\n@7fffffffffffffff (-1)\n@8000000000000005 (5)\nok 2\n",
+        begun: 3,
         ..PLAIN
     },
     Script {
-        input: b"\xff\xfe\ninsert r values (7)\n",
-        output: b"! syntax 1\nok @8000000000000007\n",
-        begun: 2,
+        input: b"\xff\xfe\ninsert r values (7)\nscan r\n",
+        output: b"! syntax 1\nok @8000000000000007\n@8000000000000007 (7)\nok 1\n",
+        begun: 3,
+        ..PLAIN
+    },
+    Script {
+        input: b"attach check pos on r k >= 0\n\
+            insert r values (-1)\n\
+            scan r\n\
+            insert r values (7)\n\
+            scan r\n\
+            attach check pos on r always\n\
+            attach check big on r j > 1\n\
+            attach check few on r k < 7\n\
+            insert q values (1)\n\
+            insert r values (-5)\n\
+            scan r\n",
+        output: b"ok\n\
+            ! veto r pos\n\
+            ok 0\n\
+            ok @8000000000000007\n\
+            @8000000000000007 (7)\nok 1\n\
+            ! exists pos\n\
+            ! noname j\n\
+            ! veto r few\n\
+            ! norelation q\n\
+            ! veto r pos\n\
+            @8000000000000007 (7)\nok 1\n",
+        begun: 11,
         ..PLAIN
     },
     Script {
@@ -268,7 +356,7 @@ fn scripts_are_answered(rt: HostRuntime) -> Result<(), Fail> {
             fails_at: script.sink_fails_at,
             faults: 0,
         };
-        let report = run_to(alloc, &words, &mut source, &mut sink, script.most);
+        let report = run_boxed(alloc, &words, &BOTH, &mut source, &mut sink, script.most)?;
         assert_eq!(rt; report.status, script.status, "script {number}");
         assert_eq!(rt; sink.held.as_slice(), script.output, "script {number}");
         assert_eq!(rt; source.left, script.left, "script {number}");
@@ -313,11 +401,169 @@ fn other_words_are_refused(rt: HostRuntime) -> Result<(), Fail> {
             fails_at: *fails_at,
             faults: 0,
         };
-        let report = run(alloc, &words, &mut source, &mut sink);
+        let report = run_boxed(alloc, &words, &BOTH, &mut source, &mut sink, MOST)?;
         assert_eq!(rt; report.status, *status, "words {number}");
         assert_eq!(rt; sink.held.as_slice(), *output, "words {number}");
         assert!(rt; report.starts.as_slice().is_empty(), "words {number}");
     }
+    Ok(())
+}
+
+/// Boxes with the status and the output of a run over one insert; the sink fails at the call with this number.
+struct Refused {
+    boxes: Boxes,
+    fails_at: u64,
+    status: u8,
+    output: &'static [u8],
+}
+
+const REFUSED: [Refused; 7] = [
+    Refused {
+        boxes: Boxes { methods: 0, ..BOTH },
+        fails_at: NEVER,
+        status: 6,
+        output: b"? missingextension 2\n",
+    },
+    Refused {
+        boxes: Boxes {
+            methods: 0,
+            spare_methods: 1,
+            ..BOTH
+        },
+        fails_at: NEVER,
+        status: 6,
+        output: b"? missingextension 2\n",
+    },
+    Refused {
+        boxes: Boxes { checks: 2, ..BOTH },
+        fails_at: NEVER,
+        status: 6,
+        output: b"? badextensions 5\n",
+    },
+    Refused {
+        boxes: Boxes {
+            methods: 0,
+            spare_checks: 1,
+            ..BOTH
+        },
+        fails_at: NEVER,
+        status: 6,
+        output: b"? badextensions 5\n",
+    },
+    Refused {
+        boxes: Boxes {
+            spare_methods: 1,
+            spare_checks: 1,
+            ..BOTH
+        },
+        fails_at: NEVER,
+        status: 6,
+        output: b"? badextensions 2\n",
+    },
+    Refused {
+        boxes: Boxes { methods: 0, ..BOTH },
+        fails_at: 2,
+        status: 5,
+        output: b"? missingextensi",
+    },
+    Refused {
+        boxes: Boxes { checks: 2, ..BOTH },
+        fails_at: 3,
+        status: 5,
+        output: b"? badextensions 5",
+    },
+];
+
+#[test]
+fn other_boxes_are_refused(rt: HostRuntime) -> Result<(), Fail> {
+    let alloc = rt.alloc();
+    let words = creating(alloc)?;
+    for (number, refused) in REFUSED.iter().enumerate() {
+        let input = b"insert r values (5)\n";
+        let mut source = MemorySource {
+            left: input,
+            piece: 64,
+            calls: 0,
+            fails_at: NEVER,
+            faults: 0,
+        };
+        let mut sink = MemorySink {
+            held: Vec::new(alloc),
+            piece: 8,
+            calls: 0,
+            fails_at: refused.fails_at,
+            faults: 0,
+        };
+        let report = run_boxed(alloc, &words, &refused.boxes, &mut source, &mut sink, MOST)?;
+        assert_eq!(rt; report.status, refused.status, "boxes {number}");
+        assert_eq!(rt; sink.held.as_slice(), refused.output, "boxes {number}");
+        assert_eq!(rt; source.calls, 0, "boxes {number}");
+        assert!(rt; report.starts.as_slice().is_empty(), "boxes {number}");
+    }
+    Ok(())
+}
+
+/// How many rows are put into pages that hold about five hundred each.
+const MANY: u64 = 1000;
+
+/// The number in this place among those that are put, which are from -500 on.
+fn number_at(place: u64) -> i64 {
+    (place % MANY) as i64 - 500
+}
+
+/// Each number once, in an order that goes back and forth, and a scan.
+fn scrambled(alloc: Global) -> Result<String, AllocError> {
+    let mut input = String::new(alloc);
+    for turn in 0..MANY {
+        let number = number_at(turn * 617);
+        let line = format!(in alloc; "insert r values ({number})\n")?;
+        input.push_str(&line)?;
+    }
+    input.push_str("scan r\n")?;
+    Ok(input)
+}
+
+/// The replies: keys are the numbers above the least one of 64 bits, and the scan has them from the least to the greatest.
+fn replies_to_scrambled(alloc: Global) -> Result<String, AllocError> {
+    let mut output = String::new(alloc);
+    for turn in 0..MANY {
+        let key = (1 << 63) - 500 + (turn * 617) % MANY;
+        let line = format!(in alloc; "ok @{key:016x}\n")?;
+        output.push_str(&line)?;
+    }
+    for place in 0..MANY {
+        let (key, number) = ((1 << 63) - 500 + place, number_at(place));
+        let line = format!(in alloc; "@{key:016x} ({number})\n")?;
+        output.push_str(&line)?;
+    }
+    output.push_str("ok 1000\n")?;
+    Ok(output)
+}
+
+#[test]
+fn many_rows_are_in_order(rt: HostRuntime) -> Result<(), Fail> {
+    let alloc = rt.alloc();
+    let words = creating(alloc)?;
+    let input = scrambled(alloc)?;
+    let output = replies_to_scrambled(alloc)?;
+    let mut source = MemorySource {
+        left: input.as_bytes(),
+        piece: 4096,
+        calls: 0,
+        fails_at: NEVER,
+        faults: 0,
+    };
+    let mut sink = MemorySink {
+        held: Vec::new(alloc),
+        piece: 4096,
+        calls: 0,
+        fails_at: NEVER,
+        faults: 0,
+    };
+    let report = run_boxed(alloc, &words, &BOTH, &mut source, &mut sink, MOST)?;
+    assert_eq!(rt; report.status, 0);
+    assert!(rt; sink.held.as_slice() == output.as_bytes());
+    assert_eq!(rt; report.starts.as_slice().len(), 1001);
     Ok(())
 }
 
@@ -406,7 +652,7 @@ fn replies_are_written_before_more_is_read(rt: HostRuntime) -> Result<(), Fail> 
         written: &written,
         faults: 0,
     };
-    let report = run(alloc, &words, &mut source, &mut sink);
+    let report = run_boxed(alloc, &words, &BOTH, &mut source, &mut sink, MOST)?;
     assert_eq!(rt; report.status, 0);
     assert_eq!(rt; source.untimely, 0);
     assert_eq!(rt; source.given, TALK.len());
@@ -465,7 +711,7 @@ fn passed_input_is_not_kept(rt: HostRuntime) -> Result<(), Fail> {
         faults: 0,
     };
     let before = peak_memory(&rt);
-    let report = run(alloc, &words, &mut source, &mut sink);
+    let report = run_boxed(alloc, &words, &BOTH, &mut source, &mut sink, MOST)?;
     assert_eq!(rt; report.status, 0);
     assert_eq!(rt; source.left, 0);
     if let (Some(before), Some(after)) = (before, peak_memory(&rt)) {

@@ -4,8 +4,8 @@ use Rattle.std.proofs.lemmas.Result.{err_from_is_err_and}
 use Rattle.sb_plain.specs.declared.token.Token.{Token}
 use Rattle.sb_plain.specs.declared.command.Command.{Command}
 use Rattle.sb_plain.specs.Grammar.{Spells}
-use Rattle.sb_command.specs.declared.reading.Fault.{Fault}
-use Rattle.sb_command.specs.declared.reading.Fault.TheVariants.{NoMemory, Misfit}
+use Rattle.sb_command.specs.declared.pieces.Fault.{Fault}
+use Rattle.sb_command.specs.declared.pieces.Fault.TheVariants.{NoMemory, Misfit}
 use Rattle.sb_command.specs.Gives.{Fails, IsReadFrom}
 use Rattle.sb_command.specs.Commands.{command_at}
 use Rattle.sb_command.proofs.Grammar.{whole_found, none_over, no_fault}

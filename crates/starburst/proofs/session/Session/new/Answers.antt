@@ -2,19 +2,19 @@ use Rattle.std.proofs.Common.{[], sym, length, refl, ap}
 use Rattle.sb_disk.proofs.StreamLemmas.{Given-none}
 use Rattle.starburst.proofs.session.Session.new.Goals as goal
 
-pub returns : goal.returns
-returns c = λ held. record {
+pub returns-clause-stands : goal.returns-clause-stands
+returns-clause-stands g c = λ m held at. record {
   answered = record {
     items = [];
     replies = [];
     states = [];
     written = [];
     is_written = Given-none held;
-    begun = sym (ap length c.new-2.ensures);
+    begun = sym (ap length c.new.ensures);
     are_items = tt;
     plays = tt;
-    stands = sym c.new.ensures;
+    now = at;
     writes = refl;
   };
-  line = c.new-3.ensures;
+  line = c.new-2.ensures;
 }

@@ -5,18 +5,18 @@ use Rattle.starburst.proofs.Taking.{goes_on, stops_on, ends, stops_at_end}
 use Rattle.starburst.proofs.session.Session.take.Goals as goal
 
 pub returns-in_err-push-clause-leads : goal.returns-in_err-push-clause-leads
-returns-in_err-push-clause-leads g c = λ bytes first stands.
+returns-in_err-push-clause-leads g c = λ m bytes first stands.
     let p = err_from_is_err_and c.from_residual.result c.from_residual.ensures.1 in
-    rw (p.1, p.2) (stops_on bytes c.args.byte first _ c.args.self.now _ c.if-byte-ne10.true refl stands)
+    rw (p.1, p.2) (stops_on _ _ m bytes c.args.byte first _ c.args.self.now _ c.if-byte-ne10.true refl stands)
 
 pub returns-then-byte-ne10-clause-leads : goal.returns-then-byte-ne10-clause-leads
-returns-then-byte-ne10-clause-leads g c = λ bytes first stands. goes_on bytes c.args.byte first _ c.args.self.now _ c.if-byte-ne10.true c.in_ok-push.ensures.ok refl refl stands
+returns-then-byte-ne10-clause-leads g c = λ m bytes first stands. goes_on _ _ m bytes c.args.byte first _ c.args.self.now _ c.if-byte-ne10.true c.in_ok-push.ensures.ok refl refl stands
 
 pub returns-in_err-answer-clause-leads : goal.returns-in_err-answer-clause-leads
-returns-in_err-answer-clause-leads g c = λ bytes first stands.
+returns-in_err-answer-clause-leads g c = λ m bytes first stands.
     let p = err_from_is_err_and c.from_residual-in_err-answer.result c.from_residual-in_err-answer.ensures.1 in
-    rw (p.1, p.2) (stops_at_end bytes c.args.byte first _ c.args.self.now.line _ _ c.if-byte-ne10.false stands.line (c.in_err-answer.ensures.leads (whole_lines bytes) first stands.answered))
+    rw (p.1, p.2) (stops_at_end m bytes c.args.byte first _ c.args.self.now.line _ _ c.if-byte-ne10.false stands.line (c.in_err-answer.ensures.leads m (whole_lines bytes) first stands.answered))
 
 pub returns-clause-leads : goal.returns-clause-leads
-returns-clause-leads g c = λ bytes first stands.
-    ends bytes c.args.byte first _ c.args.self.now.line _ c.if-byte-ne10.false stands.line c.truncate.ensures (c.in_ok-answer.ensures.leads (whole_lines bytes) first stands.answered)
+returns-clause-leads g c = λ m bytes first stands.
+    ends _ _ m bytes c.args.byte first _ c.args.self.now.line _ c.if-byte-ne10.false stands.line c.truncate.ensures (c.in_ok-answer.ensures.leads m (whole_lines bytes) first stands.answered)

@@ -1,0 +1,13 @@
+pub mod Kept
+pub mod Boxes
+pub mod Refusing
+pub mod Finding
+pub mod Asking
+pub mod Standing
+pub mod Changing
+pub mod Carrying
+pub mod Attaching
+pub mod Stepping
+pub mod First
+pub mod Starting
+pub mod Examples
