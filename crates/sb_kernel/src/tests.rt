@@ -96,18 +96,6 @@ impl Attachment for Plain {
 #[derive(Debug, Drop)]
 struct Repeated;
 
-fn registry(alloc: Global, code: u16) -> Result<Registry, Fail> {
-    let mut attachments: Vec<Box<dyn Attachment>> = Vec::new(alloc);
-    attachments.push(Box::new(alloc, Plain { code })?)?;
-    let exts = Extensions {
-        methods: Vec::new(alloc),
-        attachments,
-        spare_methods: Vec::new(alloc),
-        spare_attachments: Vec::new(alloc),
-    };
-    Ok(Registry::take(exts).map_err(|_| Repeated)?)
-}
-
 fn text(alloc: Global, text: &str) -> Result<Str, AllocError>
     ensures { IfOk result (λ s. s ≡ text.now) }
 {
@@ -265,8 +253,17 @@ fn rule_of(alloc: Global, row: &Row) -> Result<Rule, AllocError>
     })
 }
 
+/// The refusal where one attachment is live, of the row's code.
 fn attached(alloc: Global, row: &Row) -> Result<Option<Refusal>, Fail> {
-    let registry = registry(alloc, row.live)?;
+    let mut attachments: Vec<Box<dyn Attachment>> = Vec::new(alloc);
+    attachments.push(Box::new(alloc, Plain { code: row.live })?)?;
+    let exts = Extensions {
+        methods: Vec::new(alloc),
+        attachments,
+        spare_methods: Vec::new(alloc),
+        spare_attachments: Vec::new(alloc),
+    };
+    let registry = Registry::take(exts).map_err(|_| Repeated)?;
     Ok(refusal_of(alloc, &registry, row)?)
 }
 
