@@ -13,7 +13,7 @@ use Rattle.sb_forms.specs.Pages.{Pages}
 use Rattle.sb_ctx.specs.declared.calls.AttachCall.TheVariants as call
 use Rattle.sb_ctx.specs.declared.moves.Move.{Move}
 use Rattle.sb_ctx.specs.Attachment.{Attachment, IsInstance, MayMeet}
-use Rattle.sb_ctx.specs.AttachAnswers.{Holds as Contains, content_over}
+use Rattle.sb_ctx.specs.AttachAnswers.{Holds as HasContent, content_over}
 use Rattle.sb_ctx.specs.Method.{Method}
 use Rattle.sb_ctx.specs.MethodAnswers.{Holds}
 use Rattle.sb_registry.specs.Boxes.{Meanings, attachment_of}
@@ -94,7 +94,7 @@ KeepsOver-pages m s t kept rows placed same over = record {
     live = over.rule.live;
     attachable = over.rule.attachable;
     stands = over.rule.stands;
-    holds = subst (λ (P : Pages). Contains over.rule.box placed.inst P (content_over over.rule.box placed.inst placed.rule (db_of kept rows))) (sym same) over.rule.holds;
+    holds = subst (λ (P : Pages). HasContent over.rule.box placed.inst P (content_over over.rule.box placed.inst placed.rule (db_of kept rows))) (sym same) over.rule.holds;
   };
 }
 

@@ -21,7 +21,7 @@ use Rattle.sb_plain.specs.Step.{Made, Stopped, ◌>>=◌, Going}
 use Rattle.sb_forms.specs.Pages.{Pages}
 use Rattle.sb_ctx.specs.declared.instance.Instance.{Instance}
 use Rattle.sb_ctx.specs.Attachment.{Attachment, StandsOn}
-use Rattle.sb_ctx.specs.AttachAnswers.{Holds as Contains, content_over}
+use Rattle.sb_ctx.specs.AttachAnswers.{Holds as HasContent, content_over}
 use Rattle.sb_ctx.specs.Laws.{IsMethod}
 use Rattle.sb_ctx.specs.Method.{Method}
 use Rattle.sb_ctx.specs.MethodAnswers.{Holds}
@@ -154,8 +154,8 @@ IsKept-grown m old after owner kept new rows placed keeps apart lawful same (on,
         live = rule.live;
         attachable = rule.attachable;
         stands = StandsOn-grown rule.box inst placed.rule kept new rows rule.stands rule.attachable on lawful same;
-        holds = subst (λ (P : Pages). Contains rule.box inst P (content_over rule.box inst placed.rule (db_of new rows))) (sym (pages-kept owner inst.owner old after keeps apart))
-            (subst (λ (i : Image). Contains rule.box inst (pages_of old.now inst.owner) i) (content-same rule.box inst placed.rule kept new rows rule.attachable same) rule.holds);
+        holds = subst (λ (P : Pages). HasContent rule.box inst P (content_over rule.box inst placed.rule (db_of new rows))) (sym (pages-kept owner inst.owner old after keeps apart))
+            (subst (λ (i : Image). HasContent rule.box inst (pages_of old.now inst.owner) i) (content-same rule.box inst placed.rule kept new rows rule.attachable same) rule.holds);
       },
     )
 
@@ -219,7 +219,7 @@ IsKept-new m old mid after kept new rows name rule box a inst met made over same
         live = ap (λ (code : ℕ). attachment_of code m.attachments) made.code ∙ sym met.lives;
         attachable = met.may;
         stands = StandsOn-grown a inst rule kept new rows may.stands met.may made.relation lawful same;
-        holds = subst (λ (i : Image). Contains a inst (pages_of after.now inst.owner) i) (content-same a inst rule kept new rows met.may same) over;
+        holds = subst (λ (i : Image). HasContent a inst (pages_of after.now inst.owner) i) (content-same a inst rule kept new rows met.may same) over;
       },
     )
 

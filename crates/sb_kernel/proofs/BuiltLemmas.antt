@@ -19,7 +19,7 @@ use Rattle.sb_ctx.specs.declared.calls.AttachCall.TheVariants as call
 use Rattle.sb_ctx.specs.declared.moves.Move.{Move}
 use Rattle.sb_ctx.specs.declared.moves.Move.TheVariants.{Done, Acts, Need, Fresh, After, Find, Veto, NoRecord, Duplicate, Range, Key as Keyed, Row as Rowed, Entry, Sums, End, Broken, NoMemory}
 use Rattle.sb_ctx.specs.Attachment.{Attachment, IsInstance}
-use Rattle.sb_ctx.specs.AttachAnswers.{AreBuilt, Built, Prepared, Holds as Contains, admits_built, content_over, pages_of_new}
+use Rattle.sb_ctx.specs.AttachAnswers.{AreBuilt, Built, Prepared, Holds as HasContent, admits_built, content_over, pages_of_new}
 use Rattle.sb_ctx.specs.Method.{Method}
 use Rattle.sb_ctx.specs.MethodAnswers.{Holds}
 use Rattle.sb_drive.specs.AttachCalls.{Fits}
@@ -71,7 +71,7 @@ rows_there kept rows name on = ap (rows_at (db_of kept rows)) on ∙ rows_at-own
 rows_with : (kept : Kept) (rows after : Rows) (name : Name) → name ≡ kept.method.relation → with_rows (db_of kept rows) name after ≡ db_of kept after
 rows_with kept rows after name on = ap (λ (n : Name). with_rows (db_of kept rows) n after) on ∙ with_rows-own kept rows after
 
-prepared_over : (a : Attachment) (inst : Instance) (rule : Rule) (db : Db) (after : Pages) (move : Move) → Prepared a inst rule db after move → Contains a inst after (image (Some a.rules) (with_rows db inst.relation []) inst.relation rule)
+prepared_over : (a : Attachment) (inst : Instance) (rule : Rule) (db : Db) (after : Pages) (move : Move) → Prepared a inst rule db after move → HasContent a inst after (image (Some a.rules) (with_rows db inst.relation []) inst.relation rule)
 prepared_over a inst rule db after Done prepared = prepared
 prepared_over a inst rule db after (Acts now late checks) prepared = absurd prepared
 prepared_over a inst rule db after (Need n) prepared = absurd prepared
@@ -94,7 +94,7 @@ pub HoldsOver-prepared : (box : Method) (a : Attachment) (s t : List Slot) (kept
     → ((n : ℕ) → pages_of s inst.owner n ≡ pages_of_new inst n) → IsAsked a inst call.Prepare (db_of kept rows) (pages_of s inst.owner) (pages_of t inst.owner) move → HoldsOver a t kept inst rule []
 HoldsOver-prepared box a s t kept rows inst rule move may new asked =
     let ends = ends_of a inst call.Prepare asked.view (pages_of s inst.owner) (pages_of t inst.owner) move asked.final asked.answers in
-    subst (λ (i : Image). Contains a inst (pages_of t inst.owner) i)
+    subst (λ (i : Image). HasContent a inst (pages_of t inst.owner) i)
     (image_of_page (Some a.rules) (with_rows (db_of kept rows) inst.relation []) inst.relation rule may.attachable
     ∙ ap (λ (db : Db). content_over a inst rule db) (rows_with kept rows [] inst.relation may.relation))
     (prepared_over a inst rule (db_of kept rows) (pages_of t inst.owner) move (ends new rule (db_of kept rows) may.stands))
@@ -120,7 +120,7 @@ admits_any a inst (Trigger event pred action deferred) db built c may = absurd m
 -- what is so where the row was built
 record HasBuilt (a : Attachment) (inst : Instance) (rule : Rule) (db : Db) (built : Rows) (row : Key × Row) (after : Pages) (admitted : Bool) : Type 0 where
   pub says : admitted ≡ admits_built a inst rule db built (change.Insert row.0 row.1)
-  pub keeps : admitted ≡ true → Contains a inst after (content_over a inst rule (with_rows db inst.relation (with_row built row.0 row.1)))
+  pub keeps : admitted ≡ true → HasContent a inst after (content_over a inst rule (with_rows db inst.relation (with_row built row.0 row.1)))
 
 has_built : (a : Attachment) (inst : Instance) (rule : Rule) (db : Db) (built : Rows) (row : Key × Row) (after : Pages) (move : Move) → Built a inst rule db built row.0 row.1 after move → HasBuilt a inst rule db built row after (is_done move)
 has_built a inst rule db built row after Done made = record { says = sym made.0; keeps = λ _. made.1 }
@@ -149,10 +149,10 @@ IsBuiltRow-asked box a s t kept rows built inst rule row move may next over aske
     let made = has_built a inst rule (db_of kept rows) built row (pages_of t inst.owner) move (ends rule (db_of kept rows) may.stands built
     (subst (λ (r : Rows). AreBuilt r built row.0 row.1) (sym (rows_there kept rows inst.relation may.relation)) (AreBuilt-next inst.schema rows built row may.lawful next))
     (AreRows-built inst.schema rows built row may.lawful next) asked.found
-    (subst (λ (db : Db). Contains a inst (pages_of s inst.owner) (content_over a inst rule db)) (sym (rows_with kept rows built inst.relation may.relation)) over)) in
+    (subst (λ (db : Db). HasContent a inst (pages_of s inst.owner) (content_over a inst rule db)) (sym (rows_with kept rows built inst.relation may.relation)) over)) in
     record {
       says = made.says ∙ admits_any a inst rule (db_of kept rows) built (change.Insert row.0 row.1) may.attachable;
-      keeps = λ yes. subst (λ (db : Db). Contains a inst (pages_of t inst.owner) (content_over a inst rule db))
+      keeps = λ yes. subst (λ (db : Db). HasContent a inst (pages_of t inst.owner) (content_over a inst rule db))
           (rows_with kept rows (with_row built row.0 row.1) inst.relation may.relation ∙ ap (db_of kept) (with_row-built inst.schema rows built row may.lawful next)) (made.keeps yes);
     }
 

@@ -16,7 +16,7 @@ use Rattle.sb_ctx.specs.declared.moves.Move.TheVariants.{Done}
 use Rattle.sb_ctx.specs.Method.{Method, IsInstance}
 use Rattle.sb_ctx.specs.MethodAnswers.{Holds}
 use Rattle.sb_ctx.specs.Attachment.{Attachment, StandsOn}
-use Rattle.sb_ctx.specs.AttachAnswers.{Holds as Contains, admits_built, content_over}
+use Rattle.sb_ctx.specs.AttachAnswers.{Holds as HasContent, admits_built, content_over}
 use Rattle.sb_registry.specs.Boxes.{Meanings}
 use Rattle.sb_kernel.specs.declared.kept.Placed.{Placed}
 use Rattle.sb_kernel.specs.declared.kept.Kept.{Kept}
@@ -64,7 +64,7 @@ pub record MayBuild (box : Method) (a : Attachment) (s : List Slot) (kept : Kept
 
 -- the pages hold the content that the rule has over these rows
 abbrev pub HoldsOver : Attachment → List Slot → Kept → Instance → Rule → Rows → Type 0
-HoldsOver a s kept inst rule rows = Contains a inst (pages_of s inst.owner) (content_over a inst rule (db_of kept rows))
+HoldsOver a s kept inst rule rows = HasContent a inst (pages_of s inst.owner) (content_over a inst rule (db_of kept rows))
 
 -- these are the first ones of the rows, and this one comes next
 pub record IsNextOf (rows built : Rows) (row : Key × Row) : Type 0 where

@@ -7,7 +7,7 @@ use Rattle.sb_ctx.specs.declared.instance.Instance.{Instance}
 use Rattle.sb_ctx.specs.Method.{Method, IsInstance}
 use Rattle.sb_ctx.specs.MethodAnswers.{Holds}
 use Rattle.sb_ctx.specs.Attachment.{Attachment, StandsOn}
-use Rattle.sb_ctx.specs.AttachAnswers.{Holds as Contains, content_over}
+use Rattle.sb_ctx.specs.AttachAnswers.{Holds as HasContent, content_over}
 use Rattle.sb_registry.specs.Boxes.{Meanings, method_of, attachment_of}
 use Rattle.sb_kernel.specs.declared.kept.Placed.{Placed}
 use Rattle.sb_kernel.specs.declared.kept.Kept.{Kept}
@@ -33,7 +33,7 @@ pub record KeepsRule (m : Meanings) (s : List Slot) (db : Db) (placed : Placed) 
   pub live : attachment_of placed.inst.code m.attachments ≡ Some box
   pub attachable : IsAttachable placed.rule
   pub stands : StandsOn box placed.inst placed.rule db
-  pub holds : Contains box placed.inst (pages_of s placed.inst.owner) (content_over box placed.inst placed.rule db)
+  pub holds : HasContent box placed.inst (pages_of s placed.inst.owner) (content_over box placed.inst placed.rule db)
 
 -- no two instances have one owner, but for those that have none
 abbrev pub AreApart : List ℕ → Type 0
