@@ -1,19 +1,17 @@
 -- What going back to a mark leaves of a store.
-use Rattle.std.proofs.Common.{◌≡◌, ℕ, zero, suc, ◌+◌, ◌<◌, ◌≤◌, Bool, true, false, ◌||◌, Option, Result, Ok, List, [], ◌∷◌, ◌++◌, length, take, drop, get_or, nat_lt, refl, sym, ◌∙◌, ap, subst, arith}
+use Rattle.std.proofs.Common.{◌≡◌, ℕ, zero, suc, ◌<◌, ◌≤◌, Bool, true, false, ◌||◌, Option, Result, Ok, List, [], ◌∷◌, ◌++◌, length, take, drop, get_or, nat_lt, refl, sym, ◌∙◌, ap, subst, arith}
 use Rattle.std.proofs.Math.Seq.{take-suc, drop-cons, take-length, drop-length}
 use Rattle.std.proofs.lemmas.Bool.{lt-ltb, le-ltb}
 use Rattle.std.proofs.lemmas.List.{length_push, length-take-le}
 use Rattle.sb_disk.specs.Disk.{Story}
-use Rattle.sb_log.specs.Records.{Record}
 use Rattle.sb_log.proofs.StandingLemmas.{or_false}
 use Rattle.sb_journal.specs.State as journal
 use Rattle.sb_journal.specs.State.{sealed, counted, after_force}
 use Rattle.sb_pool.specs.Calls.{IsSameOrForced}
-use Rattle.sb_pool.specs.Pages.{with_bytes}
-use Rattle.std.proofs.Common.{◌⊎◌, inl, inr, ⊎_elim}
+use Rattle.std.proofs.Common.{inl, inr, ⊎_elim}
 use Rattle.sb_pool.specs.State as pool
-use Rattle.sb_txn.specs.Book.{Undo, Out, Book, standing_in, undone_out, with_out}
-use Rattle.sb_txn.specs.Clauses.{Parts, parts, IsReady, IsStoreOf, Leads, LeavesWanted, Keeps, unwound, cut_back, Grows, UndoesLast, Undoes, GoesBack, Aborts}
+use Rattle.sb_txn.specs.Book.{Undo, Out, Book, standing_in, with_out}
+use Rattle.sb_txn.specs.Clauses.{Parts, parts, IsReady, IsStoreOf, LeavesWanted, Keeps, unwound, cut_back, Grows, UndoesLast, Undoes, GoesBack, Aborts}
 use Rattle.sb_txn.specs.State.{State, together}
 use Rattle.sb_txn.specs.declared.fault.StoreFault.{StoreFault}
 use Rattle.sb_txn.proofs.KeepsLemmas.{LeavesWanted-none, LeavesWanted-then, Keeps-ok, Keeps-then, Keeps-still}

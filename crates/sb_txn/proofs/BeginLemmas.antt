@@ -1,6 +1,5 @@
 -- What a checkpoint and a begin leave of a store.
-use Rattle.std.proofs.Common.{◌≡◌, ℕ, zero, suc, ◌+◌, ◌*◌, ◌^◌, ◌<◌, ◌≤◌, Bool, false, true, Option, Some, None, List, [], ◌∷◌, ◌++◌, length, replicate, refl, sym, ◌∙◌, ap, subst, arith}
-use Rattle.std.specs.List.{All}
+use Rattle.std.proofs.Common.{◌≡◌, ℕ, ◌+◌, ◌<◌, ◌≤◌, false, Option, Some, None, List, [], ◌∷◌, ◌++◌, length, replicate, refl, sym, ◌∙◌, ap, subst, arith}
 use Rattle.std.proofs.lemmas.List.{get_or-replicate, length-replicate}
 use Rattle.std.proofs.lemmas.List.Elements.{All-nil, All-cons}
 use Rattle.std.proofs.lemmas.Bool.{false≢true}
@@ -22,7 +21,7 @@ use Rattle.sb_pool.specs.State as pool
 use Rattle.std.proofs.Math.ListN as list
 use Rattle.sb_txn.specs.Book.{Out, Book, actives, with_out, new_out, begun_book, emptied_book}
 use Rattle.sb_txn.specs.Steps.{HasHalf}
-use Rattle.sb_txn.specs.Tied.{AreUndos, IsOut, AreOut, IsBookOf, HasReserve, Ties, gates_used}
+use Rattle.sb_txn.specs.Tied.{AreUndos, IsOut, AreOut, IsBookOf, HasReserve, Ties}
 use Rattle.sb_txn.proofs.RoomLemmas.{gates-lens}
 
 -- ---- a checkpoint
@@ -39,7 +38,8 @@ IsBookOf-emptied count recs book none knows = record {
   count = length-replicate (length book.imaged) false ∙ knows.count;
   out = subst (λ (l : List Out). AreOut count [] 0 l) (sym none) tt;
   fresh = tt;
-  alone = knows.alone;
+  once = knows.once;
+  most = knows.most;
 }
 
 HasReserve-emptied : (j : journal.State) (book : Book) → book.out ≡ [] → HasReserve (after_close j) (emptied_book book)
@@ -67,9 +67,6 @@ module _ (want now : ℕ → List ℕ) (told new : Option Story) (size len : ℕ
         knows = subst (λ (g : Geometry). IsBookOf g.pages [] (emptied_book book)) (sym same) (IsBookOf-emptied p.geometry.pages (opened ++ pending) book none ties.knows);
         spare = subst (λ (k : journal.State). HasReserve k (emptied_book book)) (sym done) (HasReserve-emptied (after_force j) book none);
       }
-
-pub HasHalf-emptied : (j l : journal.State) (book : Book) → l ≡ after_close j → HasHalf l (emptied_book book)
-HasHalf-emptied j l book done = subst (λ (k : journal.State). HasHalf k (emptied_book book)) (sym done) (record { bytes = omega arith; chunks = omega arith; next = omega arith })
 
 pub used-closed : (j l : journal.State) → l ≡ after_close j → used_of l ≡ 0
 used-closed j l done = ap (λ (k : journal.State). used_of k) done
@@ -107,7 +104,8 @@ module _ (want now : ℕ → List ℕ) (told : Option Story) (size : ℕ) (j : j
           count = ties.knows.count;
           out = (IsOut-new p.geometry.pages book.next (opened ++ pending) (book.next + 1) (omega arith) none, tt);
           fresh = AreBelow-higher book.next (book.next + 1) (opened ++ pending) (omega arith) fresh;
-          alone = omega arith;
+          once = (tt, tt);
+          most = omega arith;
         };
         spare = record {
           few = All-cons (λ (o : Out). length o.undos ≤ used_of j) (new_out book.next) [] (omega arith) (All-nil (λ (o : Out). length o.undos ≤ used_of j));

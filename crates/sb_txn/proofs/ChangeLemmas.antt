@@ -1,29 +1,22 @@
 -- A change with the records before it.
-use Rattle.std.proofs.Common.{◌≡◌, ℕ, suc, ◌+◌, ◌<◌, ◌≤◌, Bool, true, false, ◌||◌, not, Option, Some, None, List, [], ◌∷◌, ◌++◌, length, refl, sym, ◌∙◌, ap, subst, append_assoc}
+use Rattle.std.proofs.Common.{◌≡◌, ℕ, suc, ◌≤◌, Bool, true, false, ◌||◌, not, List, [], ◌∷◌, ◌++◌, refl, sym, ◌∙◌, ap, subst, append_assoc}
 use Rattle.std.proofs.lemmas.Bool.{eq-eqb}
 use Rattle.std.proofs.lemmas.List.{append-nil}
-use Rattle.sb_disk.specs.Disk.{Story}
-use Rattle.sb_journal.specs.State as journal
 use Rattle.sb_log.specs.declared.geometry.Geometry.{Geometry}
 use Rattle.sb_log.specs.Records.{Change, Record, Begin, Image, Changed, Back}
 use Rattle.sb_log.specs.Standing.{stood, standing, count_of}
 use Rattle.sb_log.specs.Restored.{imaged}
-use Rattle.sb_log.specs.Undoing.{IsBeneath, IsFree}
+use Rattle.sb_log.specs.Undoing.{IsFree}
 use Rattle.sb_log.specs.Views.{Active, active_with, is_active, changes}
 use Rattle.sb_log.specs.Whole.{IsWhole, with_range}
 use Rattle.sb_log.proofs.RestoredLemmas.{imaged-append}
 use Rattle.sb_log.proofs.StandingLemmas.{stood_all-append}
 use Rattle.sb_log.proofs.WholeLemmas.{IsWhole-begin, IsWhole-image, IsWhole-back, IsWhole-change, count_of-back, imaged-image}
-use Rattle.sb_images.specs.Store.{IsStoreOn}
 use Rattle.sb_txn.specs.declared.changing.Wants.{Wants}
 use Rattle.sb_txn.specs.Changing.{IsNext, behind}
 use Rattle.sb_txn.specs.Steps.{Steps, some}
 
 -- ---- a record that isn't wanted
-pub IsStoreOn-none : (want now : ℕ → List ℕ) (told : Option Story) (j : journal.State) (g : Geometry) (opened pending : List Record) (active : List Active)
-    → IsStoreOn want now told j g opened pending active → IsStoreOn want now told j g opened (pending ++ []) active
-IsStoreOn-none want now told j g opened pending active store = subst (λ (l : List Record). IsStoreOn want now told j g opened l active) (sym (append-nil pending)) store
-
 -- ---- what the records before a change leave as it was
 module _ (opened pending : List Record) where
   parts : (more : List Record) → opened ++ (pending ++ more) ≡ (opened ++ pending) ++ more

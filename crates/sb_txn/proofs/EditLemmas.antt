@@ -1,9 +1,7 @@
 -- A change, from the store before it to that behind it.
-use Rattle.std.proofs.Common.{◌≡◌, inr, ⊎_elim, ℕ, suc, ◌+◌, ◌-◌, ◌<◌, ◌≤◌, true, false, Option, Some, None, is_some, Result, Ok, Err, IfErr, IsErrOf, List, [], ◌∷◌, ◌++◌, length, take, drop, refl, sym, ◌∙◌, ap, subst, arith}
-use Rattle.std.proofs.lemmas.Bool.{false≢true}
+use Rattle.std.proofs.Common.{◌≡◌, ℕ, suc, ◌+◌, ◌-◌, ◌<◌, ◌≤◌, false, Option, Some, None, is_some, Result, Ok, Err, IfErr, IsErrOf, List, [], ◌∷◌, ◌++◌, length, take, drop, refl, sym, ◌∙◌, ap, subst, arith}
 use Rattle.sb_disk.specs.Disk.{Story, WhereTold, AgreesBut}
 use Rattle.sb_disk.specs.Moments.{LeavesOnly}
-use Rattle.sb_disk.proofs.CauseLemmas.{Rose-later}
 use Rattle.sb_disk.proofs.MomentLemmas.{and_then}
 use Rattle.sb_journal.specs.State.{StandsOn, used_of, after_append}
 use Rattle.sb_journal.specs.State as journal
@@ -20,12 +18,12 @@ use Rattle.sb_txn.specs.declared.changing.Wants.{Wants}
 use Rattle.sb_txn.specs.declared.fault.StoreFault.{StoreFault}
 use Rattle.sb_txn.specs.declared.fault.StoreFault.TheVariants.{Fault, LogFull, GatesFull, Down, NoMemory}
 use Rattle.sb_txn.specs.Ahead.{IsAhead, CatchesUp, LeavesAhead}
-use Rattle.sb_txn.specs.Book.{Undo, Out, Book, with_change, wants_of, actives, IsFirst, standing_in}
+use Rattle.sb_txn.specs.Book.{Undo, Out, Book, AreClear, with_change, wants_of, actives, IsFirst, standing_in}
 use Rattle.sb_txn.specs.Changes.{AddErr}
 use Rattle.sb_txn.specs.Changing.{IsNext, behind}
-use Rattle.sb_txn.specs.Clauses.{Parts, IsStoreOf, IsFaultOrDown, LeavesWanted, Keeps, Changes, HasRoom}
+use Rattle.sb_txn.specs.Clauses.{Parts, IsStoreOf, IsFaultOrDown, LeavesWanted, Changes, HasRoom}
 use Rattle.sb_txn.specs.Logging.{HasSpace, records_len}
-use Rattle.sb_txn.specs.State.{State, together}
+use Rattle.sb_txn.specs.State.{together}
 use Rattle.sb_txn.proofs.LoggedLemmas.{is_now, edit_space, edit_leaves, IsAhead-logged, used-logged, used-logged_most}
 use Rattle.sb_txn.proofs.RoomLemmas.{SameRoom-forced, lens-same}
 
@@ -46,7 +44,7 @@ four P a x b y c z d w e f g h p = subst (λ v. P x y z v) h (subst (λ v. P x y
 -- ---- one change
 module _ (told : Option Story) (size : ℕ) (j : journal.State) (p : pool.State) (book : Book) (o : Out) (rest : List Out) (owner page offset : ℕ) (image bytes : List ℕ)
     (is : book.out ≡ o ∷ rest) (lt : page < p.geometry.pages) (range : offset + length bytes ≤ 4096) (long : length image ≡ 4096)
-    (has : IsHeld p page) (bytes_held : bytes_or [] (held p page) ≡ image) (room : HasRoom (together j p book) o page (length bytes)) where
+    (has : IsHeld p page) (bytes_held : bytes_or [] (held p page) ≡ image) (room : HasRoom (together j p book) o page (length bytes)) (clear : AreClear page offset (length bytes) rest) where
   abbrev w : Wants
   w = wants_of book o page
 
@@ -60,11 +58,11 @@ module _ (told : Option Story) (size : ℕ) (j : journal.State) (p : pool.State)
   old = record { told = told; size = size; store = together j p book }
 
   pub HasSpace-edit : (want now : ℕ → List ℕ) → IsStoreOf want now old → HasSpace (records_len w (length (spelling (Changed the_change)))) j
-  HasSpace-edit want now store = edit_space want now told size j p book store.0 store.1 o rest owner page offset image bytes store.2 is lt range long has bytes_held room
+  HasSpace-edit want now store = edit_space want now told size j p book store.0 store.1 o rest owner page offset image bytes store.2 is lt range long has bytes_held room clear
 
   module _ (new : Option Story) (tells : is_some told ≡ is_some new) (leaves_change : LeavesChange told new j p.geometry page image w o.tx (length o.undos) the_change) where
     leaves_edit : (want now : ℕ → List ℕ) → IsStoreOf want now old → LeavesOnly told new (Restores p.geometry want)
-    leaves_edit want now store = edit_leaves want now told size j p book store.0 store.1 o rest owner page offset image bytes store.2 is lt range long has bytes_held room new tells
+    leaves_edit want now store = edit_leaves want now told size j p book store.0 store.1 o rest owner page offset image bytes store.2 is lt range long has bytes_held room clear new tells
         (λ next at. leaves_change.each want now store.0 store.1 (actives rest) next at)
 
     pub LeavesWanted-edit : (len : ℕ) (k : journal.State) (b : Book) → LeavesWanted old (record { told = new; size = len; store = together k p b })
@@ -77,7 +75,7 @@ module _ (told : Option Story) (size : ℕ) (j : journal.State) (p : pool.State)
 
       pub IsAhead-edit : (want now : ℕ → List ℕ) → IsStoreOf want now old → IsAhead want now page offset bytes mid
       IsAhead-edit want now store = subst (λ (x : Book). IsAhead want now page offset bytes (record { told = new; size = len; store = together k p x })) (sym added)
-          (IsAhead-logged want now told size j p book store.0 store.1 o rest owner page offset image bytes store.2 is lt range long has bytes_held room new tells len k done same stands sized
+          (IsAhead-logged want now told size j p book store.0 store.1 o rest owner page offset image bytes store.2 is lt range long has bytes_held room clear new tells len k done same stands sized
           (λ next at. stores.each want now store.0 store.1 (actives rest) next at))
 
       was_at : (a : Option Story) (now : ℕ → List ℕ) → j.failed ≡ false → ArePagesOn now a j p → IfTold a (take (length bytes) (drop offset image) ≡ take (length bytes) (drop offset (now page)))
@@ -105,13 +103,13 @@ module _ (told : Option Story) (size : ℕ) (j : journal.State) (p : pool.State)
               pages = λ wanted then at. caught.pages wanted then (IsAhead-edit wanted then at);
               grows = record {
                 bytes =
-                    let a = used-logged_most want now told size j p book store.0 store.1 o rest owner page offset image bytes store.2 is lt range long has bytes_held room new tells len k done same stands sized in
+                    let a = used-logged_most want now told size j p book store.0 store.1 o rest owner page offset image bytes store.2 is lt range long has bytes_held room clear new tells len k done same stands sized in
                     let e = room_same.used in
                     omega arith;
                 gates = let a = lens-edited caught in omega arith;
               };
               least =
-                  let a = used-logged want now told size j p book store.0 store.1 o rest owner page offset image bytes store.2 is lt range long has bytes_held room new tells len k done same stands sized in
+                  let a = used-logged want now told size j p book store.0 store.1 o rest owner page offset image bytes store.2 is lt range long has bytes_held room clear new tells len k done same stands sized in
                   let e = room_same.used in
                   omega arith;
             }
@@ -156,21 +154,6 @@ module _ (owner page offset : ℕ) (image bytes : List ℕ) (w : Wants) (tx n : 
       → P (wants_of book o page) o.tx (length o.undos) (record { tx = o.tx; owner = owner; page = page; offset = offset; before = take (length bytes) (drop offset image); after = bytes })
   as_edit P has = four P w (wants_of book o page) tx o.tx n (length o.undos) (code_change tx owner page offset image bytes) (record { tx = o.tx; owner = owner; page = page; offset = offset; before = take (length bytes) (drop offset image); after = bytes })
       wants own n_is c_is has
-
--- ---- the call's other facts
--- a call goes on from a store that is up but not ready
-pub Keeps-after : {D T : Type 0} (told : D → Option Story) (len faults : D → ℕ) (result : Result T StoreFault) (old mid new : D) (s m t : State) → s.book.down ≡ false → m.book.down ≡ false → m.pool.geometry ≡ s.pool.geometry → len mid ≡ len old
-    → faults old ≤ faults mid → Keeps told len faults mid new m t result → Keeps told len faults old new s t result
-Keeps-after told len faults result old mid new s m t up up_m same sized before kept = record {
-  size = kept.size ∙ sized;
-  geometry = kept.geometry ∙ same;
-  later = let a = kept.later in omega arith;
-  ready = kept.ready;
-  down = λ on. absurd (false≢true (sym up ∙ on));
-  only = λ e. absurd (false≢true (sym up_m ∙ kept.only e));
-  fault = λ e. (Rose-later (faults old) (faults mid) (faults new) before (kept.fault e).0, (kept.fault e).1);
-  up = λ on. ⊎_elim (λ (was : m.book.down ≡ true). absurd (false≢true (sym up_m ∙ was))) (λ (e : IsErrOf result Fault). inr e) (kept.up on);
-}
 
 -- the write fails only with a fault
 pub AddErr-write : {T : Type 0} (result : Result T StoreFault) (a b : Parts) → IfErr result IsFaultOrDown → (IsErrOf result Down → ⊥) → IfErr result (AddErr a b)

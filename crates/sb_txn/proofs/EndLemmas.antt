@@ -1,9 +1,9 @@
 -- What the end of a transaction leaves of a store.
-use Rattle.std.proofs.Common.{◌≡◌, ℕ, ◌+◌, ◌*◌, ◌<◌, ◌≤◌, Bool, false, true, cond, ◌||◌, Option, Some, None, List, [], ◌∷◌, ◌++◌, length, refl, sym, ◌∙◌, ap, subst, arith, append_assoc}
+use Rattle.std.proofs.Common.{◌≡◌, ℕ, suc, ◌+◌, ◌*◌, ◌<◌, ◌≤◌, Bool, false, true, cond, ◌||◌, Option, Some, None, List, [], ◌∷◌, ◌++◌, length, refl, sym, ◌∙◌, ap, subst, arith, append_assoc}
 use Rattle.std.specs.List.{All}
 use Rattle.std.proofs.lemmas.Bool.{false≢true}
 use Rattle.std.proofs.lemmas.List.{append-nil}
-use Rattle.std.proofs.lemmas.List.Elements.{All-nil, All-head}
+use Rattle.std.proofs.lemmas.List.Elements.{All-nil, All-cons, All-head, All-tail}
 use Rattle.sb_disk.specs.Disk.{Range, Story, WhereTold}
 use Rattle.sb_disk.specs.Moments.{LeavesOnly}
 use Rattle.sb_disk.proofs.MomentLemmas.{weaker}
@@ -13,11 +13,11 @@ use Rattle.sb_log.specs.declared.geometry.Geometry.{Geometry}
 use Rattle.sb_log.specs.Records.{Change, Record, Back, Commit}
 use Rattle.sb_log.specs.Restored.{imaged}
 use Rattle.sb_log.specs.Standing.{keep, standing, own_changes, count_of, AreBelow}
-use Rattle.sb_log.specs.Views.{Active, active_with}
+use Rattle.sb_log.specs.Views.{Active, active_with, IsIdle}
 use Rattle.sb_log.proofs.RestoredLemmas.{imaged-append}
 use Rattle.sb_log.proofs.StandingLemmas.{or_false, stood_all-append, keep-again, own_changes-keep, AreBelow-append}
 use Rattle.sb_log.proofs.WholeLemmas.{IsWhole-drop}
-use Rattle.sb_images.specs.Images.{Restores, IsOldOrNew}
+use Rattle.sb_images.specs.Images.{IsOldOrNew}
 use Rattle.sb_images.specs.Store.{IsStoreOn, own_of, with_changes}
 use Rattle.sb_images.proofs.CallLemmas.{LeavesOnly-idle, IsReadyOn-as}
 use Rattle.sb_images.proofs.CommitLemmas.{LeavesOnly-old}
@@ -30,8 +30,9 @@ use Rattle.sb_txn.specs.Book.{Undo, Out, Book, actives, with_out, IsFirst, stand
 use Rattle.sb_txn.specs.Clauses.{Parts, committed_pages, Commits, LeavesCommit, LeavesOne}
 use Rattle.sb_txn.specs.State.{together}
 use Rattle.sb_txn.specs.Steps.{some, KeepsDisk, filled}
-use Rattle.sb_txn.specs.Tied.{IsOut, AreOut, IsBookOf, Ties, reserve, gates_used}
+use Rattle.sb_txn.specs.Tied.{IsOut, AreOut, AreOnce, IsBookOf, Ties, reserve, gates_used}
 use Rattle.sb_txn.proofs.LogLemmas.{SamePages-as}
+use Rattle.sb_txn.proofs.OthersLemmas.{own-ended, AreOut-still}
 use Rattle.sb_txn.proofs.RoomLemmas.{SameRoom-force, lens-gates, filled-used, used-append, gates-append}
 
 -- ---- a Back in front
@@ -44,9 +45,10 @@ own_of-back true opened pending tx n =
 own_of-back false opened pending tx n = ap (λ (l : List Record). own_of (opened ++ l) (active_with tx n)) (append-nil pending)
 
 -- ---- the first transaction that is out
-one_at_most : (os : List Out) (n : ℕ) → n + length os ≤ 1 → 0 < n → os ≡ []
-one_at_most [] n most some = refl
-one_at_most (o ∷ os) n most some = absurd (omega arith)
+pub few_more : (n m : ℕ) (os : List Out) → n ≤ m → All (λ (x : Out). length x.undos ≤ n) os → All (λ (x : Out). length x.undos ≤ m) os
+few_more n m [] more few = All-nil (λ (x : Out). length x.undos ≤ m)
+few_more n m (o ∷ os) more few =
+    All-cons (λ (x : Out). length x.undos ≤ m) o os (let h = All-head (λ (x : Out). length x.undos ≤ n) o os few in omega arith) (few_more n m os more (All-tail (λ (x : Out). length x.undos ≤ n) o os few))
 
 module _ (want now : ℕ → List ℕ) (told : Option Story) (size : ℕ) (j : journal.State) (p : pool.State) (book : Book) (o : Out) (rest : List Out) (is : book.out ≡ o ∷ rest) (opened pending : List Record)
     (ties : Ties want now told size j p book opened pending) where
@@ -56,8 +58,11 @@ module _ (want now : ℕ → List ℕ) (told : Option Story) (size : ℕ) (j : j
   pub first_store : IsStoreOn want now told j p.geometry opened pending (active_with o.tx (length o.undos) ∷ actives rest)
   first_store = subst (λ (l : List Out). IsStoreOn want now told j p.geometry opened pending (actives l)) is ties.store
 
-  pub first_alone : rest ≡ []
-  first_alone = one_at_most rest 1 (let e = ap (λ (l : List Out). length l) is in let h = ties.knows.alone in omega arith) (omega arith)
+  pub first_once : IsIdle o.tx (actives rest) × AreOnce rest
+  first_once = subst (λ (l : List Out). AreOnce l) is ties.knows.once
+
+  pub rest_most : suc (length rest) ≤ 8
+  rest_most = let e = ap (λ (l : List Out). length l) is in let h = ties.knows.most in omega arith
 
   pub first_room : used_of j + reserve * (1 + length rest) ≤ j.log.len
   first_room = let e = ap (λ (l : List Out). length l) is in let h = ties.spare.room in omega arith
@@ -68,11 +73,11 @@ module _ (want now : ℕ → List ℕ) (told : Option Story) (size : ℕ) (j : j
   pub first_few : length o.undos ≤ used_of j
   first_few = All-head (λ (x : Out). length x.undos ≤ used_of j) o rest (subst (λ (l : List Out). All (λ (x : Out). length x.undos ≤ used_of j) l) is ties.spare.few)
 
-  pub rest_few : (n : ℕ) → All (λ (x : Out). length x.undos ≤ n) rest
-  rest_few n = subst (λ (l : List Out). All (λ (x : Out). length x.undos ≤ n) l) (sym first_alone) (All-nil (λ (x : Out). length x.undos ≤ n))
+  pub rest_few : (n : ℕ) → used_of j ≤ n → All (λ (x : Out). length x.undos ≤ n) rest
+  rest_few n more = few_more (used_of j) n rest more (All-tail (λ (x : Out). length x.undos ≤ used_of j) o rest (subst (λ (l : List Out). All (λ (x : Out). length x.undos ≤ used_of j) l) is ties.spare.few))
 
-  pub rest_out : (recs : List Record) → AreOut p.geometry.pages recs book.next rest
-  rest_out recs = subst (λ (l : List Out). AreOut p.geometry.pages recs book.next l) (sym first_alone) tt
+  pub rest_out : AreOut p.geometry.pages (opened ++ pending) book.next rest
+  rest_out = (subst (λ (l : List Out). AreOut p.geometry.pages (opened ++ pending) book.next l) is ties.knows.out).1
 
   -- none of its changes stands
   pub Ties-drop : o.undos ≡ [] → Ties want now told size j p (with_out book rest) opened pending
@@ -86,8 +91,8 @@ module _ (want now : ℕ → List ℕ) (told : Option Story) (size : ℕ) (j : j
     pages = ties.pages;
     dirty = ties.dirty;
     position = ties.position;
-    knows = record { images = ties.knows.images; count = ties.knows.count; out = rest_out (opened ++ pending); fresh = ties.knows.fresh; alone = let e = ap (λ (l : List Out). length l) first_alone in omega arith };
-    spare = record { few = rest_few (used_of j); room = let h = first_room in omega arith; gates = let h = first_gates in omega arith };
+    knows = record { images = ties.knows.images; count = ties.knows.count; out = rest_out; fresh = ties.knows.fresh; once = first_once.1; most = let h = rest_most in omega arith };
+    spare = record { few = rest_few (used_of j) (omega arith); room = let h = first_room in omega arith; gates = let h = first_gates in omega arith };
   }
 
 -- ---- where none is out
@@ -269,12 +274,15 @@ module _ (told new : Option Story) (size len : ℕ) (j k : journal.State) (p : p
       knows = subst (λ (l : List Record). IsBookOf p.geometry.pages l (with_out book rest)) all (record {
         images = λ q lt. ties.knows.images q lt ∙ sym (no_image (opened ++ pending) o.undone o.tx (length o.undos) q);
         count = ties.knows.count;
-        out = rest_out want now told size j p book o rest is opened pending ties recs;
+        out = AreOut-still p.geometry.pages (opened ++ pending) recs book.next o.tx rest (first_once want now told size j p book o rest is opened pending ties).0
+            (λ t other. ap (λ (l : List Record). own_changes t (standing l)) (sym (same_records opened pending o.undone o.tx (length o.undos))) ∙ own-ended opened pending t o.tx other o.undone (length o.undos))
+            (λ q has. no_image (opened ++ pending) o.undone o.tx (length o.undos) q ∙ has) (rest_out want now told size j p book o rest is opened pending ties);
         fresh = AreBelow-append book.next (opened ++ pending) tail ties.knows.fresh (ends-below o.undone o.tx (length o.undos) book.next out.number);
-        alone = let e = ap (λ (l : List Out). length l) (first_alone want now told size j p book o rest is opened pending ties) in omega arith;
+        once = (first_once want now told size j p book o rest is opened pending ties).1;
+        most = let h = rest_most want now told size j p book o rest is opened pending ties in omega arith;
       });
       spare = record {
-        few = rest_few want now told size j p book o rest is opened pending ties (used_of k);
+        few = rest_few want now told size j p book o rest is opened pending ties (used_of k) finish_more;
         room = let h = first_room want now told size j p book o rest is opened pending ties in let m = finish_bytes in let l = ap (λ (r : Range). r.len) finished.log_is in omega arith;
         gates = let h = first_gates want now told size j p book o rest is opened pending ties in let e = finished.gates in let m = lens-gates j in let l = ap (λ (r : Range). r.len) finished.gates_is in omega arith;
       };

@@ -1,17 +1,17 @@
 -- What the calls of a store keep.
-use Rattle.std.proofs.Common.{◌≡◌, ◌⊎◌, inl, inr, ⊎_elim, ℕ, ◌≤◌, Bool, true, false, Option, Result, Ok, Err, OnOk, IsErrOf, List, refl, sym, ◌∙◌, ap, subst, arith}
+use Rattle.std.proofs.Common.{◌≡◌, inl, inr, ⊎_elim, ℕ, ◌≤◌, Bool, true, false, Option, Result, Ok, Err, OnOk, IsErrOf, List, refl, sym, ◌∙◌, subst, arith}
 use Rattle.std.proofs.lemmas.Bool.{false≢true}
 use Rattle.sb_disk.specs.Causes.{Rose}
 use Rattle.sb_disk.specs.Disk.{Story}
 use Rattle.sb_disk.specs.Moments.{LeavesOnly}
-use Rattle.sb_disk.proofs.CauseLemmas.{Rose-later, Rose-before}
+use Rattle.sb_disk.proofs.CauseLemmas.{Rose-later}
 use Rattle.sb_disk.proofs.MomentLemmas.{and_then}
 use Rattle.sb_log.specs.declared.geometry.Geometry.{Geometry}
 use Rattle.sb_images.specs.Images.{Restores}
 use Rattle.sb_images.proofs.CallLemmas.{LeavesOnly-idle}
 use Rattle.sb_images.proofs.StoreLemmas.{IsStoreOn-ready}
 use Rattle.sb_txn.specs.Book.{actives}
-use Rattle.sb_txn.specs.Clauses.{Parts, parts, IsReady, IsStoreOf, Leads, LeavesWanted, IsDown, Keeps}
+use Rattle.sb_txn.specs.Clauses.{Parts, parts, IsReady, Leads, LeavesWanted, Keeps}
 use Rattle.sb_txn.specs.State.{State}
 use Rattle.sb_txn.specs.declared.fault.StoreFault.{StoreFault}
 use Rattle.sb_txn.specs.declared.fault.StoreFault.TheVariants.{Fault, Down}
@@ -28,19 +28,6 @@ on_ok_map (Err e) A B f has = tt
 
 -- ---- one call
 module _ {D : Type 0} (told : D → Option Story) (len faults : D → ℕ) where
-  -- a call of a store that is down
-  pub Keeps-down : {T : Type 0} (d : D) (s : State) → s.book.down ≡ true → Keeps {T = T} told len faults d d s s (Err Down)
-  Keeps-down d s is = record {
-    size = refl;
-    geometry = refl;
-    later = omega arith;
-    ready = λ off. not_both s.book.down off is;
-    down = λ _. record { answer = refl; disk = refl; store = refl };
-    only = λ _. is;
-    fault = λ e. absurd (cc);
-    up = λ _. inl is;
-  }
-
   -- a call of the pool or the journal failed
   pub Keeps-fault : {T : Type 0} (old new : D) (s t : State) → s.book.down ≡ false → t.book.down ≡ true → len new ≡ len old → t.pool.geometry ≡ s.pool.geometry → faults old ≤ faults new → Rose (faults old) (faults new)
       → Keeps {T = T} told len faults old new s t (Err Fault)
@@ -89,6 +76,20 @@ module _ {D : Type 0} (told : D → Option Story) (len faults : D → ℕ) where
     where
       was_down : m.book.down ≡ true → s.book.down ≡ true
       was_down is = ⊎_elim (λ (on : s.book.down ≡ true). on) (λ (e : IsErrOf (Ok x) Fault). ok_err x Fault e) (one.up is)
+
+  -- a call goes on from a store that is up but not ready
+  pub Keeps-after : {T : Type 0} (result : Result T StoreFault) (old mid new : D) (s m t : State) → s.book.down ≡ false → m.book.down ≡ false → m.pool.geometry ≡ s.pool.geometry → len mid ≡ len old → faults old ≤ faults mid
+      → Keeps told len faults mid new m t result → Keeps told len faults old new s t result
+  Keeps-after result old mid new s m t up up_m same sized before kept = record {
+    size = kept.size ∙ sized;
+    geometry = kept.geometry ∙ same;
+    later = let a = kept.later in omega arith;
+    ready = kept.ready;
+    down = λ on. not_both s.book.down up on;
+    only = λ e. not_both m.book.down up_m (kept.only e);
+    fault = λ e. (Rose-later (faults old) (faults mid) (faults new) before (kept.fault e).0, (kept.fault e).1);
+    up = λ on. ⊎_elim (λ (was : m.book.down ≡ true). not_both m.book.down up_m was) (λ (e : IsErrOf result Fault). inr e) (kept.up on);
+  }
 
   -- where a call was made, the store was not down
   pub Keeps-up : {T : Type 0} (x : T) (old new : D) (s t : State) → Keeps told len faults old new s t (Ok x) → s.book.down ≡ false

@@ -5,9 +5,9 @@ pub mod ChangeLemmas
 pub mod KeepsLemmas
 pub mod TiedLemmas
 pub mod BeginLemmas
+pub mod OthersLemmas
 pub mod EndLemmas
 pub mod OpenLemmas
-pub mod PutLemmas
 pub mod UndoLemmas
 pub mod BackLemmas
 pub mod ResultLemmas
@@ -17,4 +17,7 @@ pub mod LoggedLemmas
 pub mod EditLemmas
 pub mod LoadedLemmas
 pub mod LawLemmas
-pub mod FirstLemmas
+pub mod PlaceLemmas
+pub mod OnlyLemmas
+pub mod CalledLemmas
+pub mod CallLemmas

@@ -1,5 +1,5 @@
 -- A change of a page that was brought into memory first.
-use Rattle.std.proofs.Common.{◌≡◌, ⊎_elim, ℕ, ◌+◌, ◌≤◌, Option, Some, None, is_some, List, length, take, drop, sym, ◌∙◌, ap, subst, arith}
+use Rattle.std.proofs.Common.{◌≡◌, ⊎_elim, ℕ, ◌+◌, ◌≤◌, Option, Some, None, is_some, List, ◌∷◌, length, take, drop, sym, ◌∙◌, ap, subst, arith}
 use Rattle.std.proofs.lemmas.Bool.{false≢true}
 use Rattle.sb_disk.specs.Disk.{Story, Range}
 use Rattle.sb_journal.specs.State.{used_of, after_force}
@@ -48,25 +48,29 @@ module _ (old mid : Parts) (loads : Loads old mid) where
         omega arith;
   }
 
-  pub ChangeErr-room : (o : Out) (page count : ℕ) (e : StoreFault) → NoRoom mid.store.journal mid.store.book o page count e → ChangeErr old mid o page count e
-  ChangeErr-room o page count (LogFull used need total) none =
+  pub ChangeErr-room : (o : Out) (rest : List Out) (page count : ℕ) (e : StoreFault) → old.store.book.out ≡ o ∷ rest → NoRoom mid.store.journal mid.store.book o page count e → ChangeErr old mid o page count e
+  ChangeErr-room o rest page count (LogFull used need total) is none =
       let l = ap (λ (r : Range). r.len) room_same.log_is in
-      (none.0 ∙ room_same.used, none.1 ∙ need_same o page count, none.2 ∙ l, none.3, Refused-loads old mid loads)
-  ChangeErr-room o page count (GatesFull used total) none =
+      (none.0 ∙ room_same.used, none.1 ∙ need_same o page count, none.2 ∙ l, none.3, Refused-loads old mid o rest is loads)
+  ChangeErr-room o rest page count (GatesFull used total) is none =
+      let l = ap (λ (r : Range). r.len) room_same.log_is in
       let g = ap (λ (r : Range). r.len) room_same.gates_is in
       let b = ap (λ (x : Book). length x.out) loads.book in
-      let over = none.2 in
-      (none.0, none.1 ∙ g, omega arith, Refused-loads old mid loads)
-  ChangeErr-room o page count Fault none = absurd none
-  ChangeErr-room o page count Down none = absurd none
-  ChangeErr-room o page count NoMemory none = absurd none
+      let bytes = none.0 in
+      let u = room_same.used in
+      let n = need_same o page count in
+      let over = none.3 in
+      (omega arith, none.1, none.2 ∙ g, omega arith, Refused-loads old mid o rest is loads)
+  ChangeErr-room o rest page count Fault is none = absurd none
+  ChangeErr-room o rest page count Down is none = absurd none
+  ChangeErr-room o rest page count NoMemory is none = absurd none
 
-  pub ChangeErr-add : (new : Parts) (o : Out) (page count : ℕ) (e : StoreFault) → AddErr mid new e → ChangeErr old new o page count e
-  ChangeErr-add new o page count NoMemory err = subst (λ (p : Parts). Refused old p) (sym err) (Refused-loads old mid loads)
-  ChangeErr-add new o page count Fault err = tt
-  ChangeErr-add new o page count (LogFull used need total) err = absurd err
-  ChangeErr-add new o page count (GatesFull used total) err = absurd err
-  ChangeErr-add new o page count Down err = absurd err
+  pub ChangeErr-add : (new : Parts) (o : Out) (rest : List Out) (page count : ℕ) (e : StoreFault) → old.store.book.out ≡ o ∷ rest → AddErr mid new e → ChangeErr old new o page count e
+  ChangeErr-add new o rest page count NoMemory is err = subst (λ (p : Parts). Refused o.tx old p) (sym err) (Refused-loads old mid o rest is loads)
+  ChangeErr-add new o rest page count Fault is err = tt
+  ChangeErr-add new o rest page count (LogFull used need total) is err = absurd err
+  ChangeErr-add new o rest page count (GatesFull used total) is err = absurd err
+  ChangeErr-add new o rest page count Down is err = absurd err
 
   pub Changes-loaded : (new : Parts) (o : Out) (rest : List Out) (page offset : ℕ) (bytes : List ℕ) → LeavesWanted old mid → Changes mid new o rest page offset bytes → length new.store.journal.lens ≤ length mid.store.journal.lens + 1
       → Changes old new o rest page offset bytes

@@ -1,21 +1,18 @@
 -- One record more in the log of a store.
-use Rattle.std.proofs.Common.{◌≡◌, ℕ, ◌+◌, ◌^◌, ◌<◌, ◌≤◌, Option, Some, None, Result, Ok, Err, OnOk, IfErr, IsErrOf, ◌↔◌, List, [], ◌∷◌, ◌++◌, length, refl, sym, ◌∙◌, ap, subst, arith}
+use Rattle.std.proofs.Common.{◌≡◌, ℕ, ◌+◌, ◌<◌, ◌≤◌, Option, Some, None, Result, Ok, Err, OnOk, IfErr, IsErrOf, ◌↔◌, List, [], ◌∷◌, ◌++◌, length, refl, sym, ◌∙◌, ap, subst, arith}
 use Rattle.std.proofs.lemmas.List.{append-nil}
 use Rattle.sb_disk.specs.Disk.{Story, WhereTold}
-use Rattle.sb_disk.specs.Moments.{LeavesOnly}
 use Rattle.sb_journal.specs.Calls.{IsLogFull, log_full, AppendErr}
 use Rattle.sb_journal.specs.declared.fault.JournalFault.{JournalFault}
 use Rattle.sb_journal.specs.declared.fault.JournalFault.TheVariants.{Fault, LogFull, GatesFull, BadChunk, NoMemory}
-use Rattle.sb_journal.specs.State.{State, Sound, IsKeptOn, Appended, after_append}
+use Rattle.sb_journal.specs.State.{State, Sound, Appended, after_append}
 use Rattle.sb_log.specs.declared.geometry.Geometry.{Geometry}
-use Rattle.sb_log.specs.Records.{Record, Begin, Image, Changed, Back, Commit, IsRecord, spelling, spelled}
+use Rattle.sb_log.specs.Records.{Record, Begin, Image, Changed, Back, Commit, IsRecord, spelling}
 use Rattle.sb_log.specs.Views.{Active}
 use Rattle.sb_log.proofs.RecordLemmas.{length-image, length-change}
-use Rattle.sb_images.specs.Images.{Restores}
-use Rattle.sb_images.specs.Store.{IsReadyOn, IsStoreOn}
-use Rattle.sb_images.proofs.CallLemmas.{LeavesOnly-append}
+use Rattle.sb_images.specs.Store.{IsStoreOn}
 use Rattle.sb_images.proofs.StoreLemmas.{IsStoreOn-append}
-use Rattle.sb_pool.proofs.StoreLemmas.{SamePages, SamePages-append, SamePages-force}
+use Rattle.sb_pool.proofs.StoreLemmas.{SamePages, SamePages-append}
 use Rattle.sb_txn.proofs.RoomLemmas.{need_filled}
 use Rattle.sb_txn.specs.Steps.{Steps, HasSamePages, KeepsDisk, filled}
 

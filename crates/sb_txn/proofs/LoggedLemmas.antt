@@ -3,7 +3,7 @@ use Rattle.std.proofs.Common.{◌≡◌, ⊎_elim, ℕ, zero, suc, ◌+◌, ◌<
 use Rattle.std.specs.List.{All}
 use Rattle.std.proofs.lemmas.Bool.{false≢true, cases_eq}
 use Rattle.std.proofs.lemmas.List.{length_push, length-set, length-take, length-drop, get_or-set_same, get_or-set_other}
-use Rattle.std.proofs.lemmas.List.Elements.{All-head, All-nil, All-cons}
+use Rattle.std.proofs.lemmas.List.Elements.{All-head, All-tail, All-cons}
 use Rattle.sb_disk.specs.Disk.{Story, Range, WhereTold, AgreesBut}
 use Rattle.sb_disk.specs.Moments.{LeavesOnly}
 use Rattle.sb_journal.specs.Chunks.{bytes_of}
@@ -13,11 +13,9 @@ use Rattle.sb_journal.proofs.RegionLemmas.{none_sure}
 use Rattle.sb_log.specs.declared.geometry.Geometry.{Geometry}
 use Rattle.sb_log.specs.Records.{Change, Record, Changed, spelling}
 use Rattle.sb_log.specs.Restored.{imaged}
-use Rattle.sb_log.specs.Undoing.{IsFree}
-use Rattle.sb_log.specs.Views.{Active, active_with, is_active, changes}
+use Rattle.sb_log.specs.Views.{Active, active_with, IsIdle}
 use Rattle.sb_log.specs.Whole.{with_range}
 use Rattle.sb_log.proofs.RecordLemmas.{length-change}
-use Rattle.sb_log.proofs.ViewLemmas.{IsFree-alone}
 use Rattle.sb_images.specs.Images.{Restores}
 use Rattle.sb_images.specs.Layout.{page_at, gates_of, log_of, place_of}
 use Rattle.sb_images.specs.Store.{IsStoreOn}
@@ -29,13 +27,15 @@ use Rattle.sb_pool.specs.State as pool
 use Rattle.sb_pool.proofs.StoreLemmas.{SamePages, AgreesOn-same, ArePagesOn-same}
 use Rattle.sb_txn.specs.declared.changing.Wants.{Wants}
 use Rattle.sb_txn.specs.Ahead.{IsAhead}
-use Rattle.sb_txn.specs.Book.{Undo, Out, Book, actives, changed_out, with_change, wants_of, change_len}
-use Rattle.sb_txn.specs.Changing.{IsNext, behind}
+use Rattle.sb_txn.specs.Book.{Undo, Out, Book, AreClear, actives, changed_out, with_change, wants_of, change_len}
+use Rattle.sb_txn.specs.Changing.{IsNext}
 use Rattle.sb_txn.specs.Clauses.{HasRoom}
 use Rattle.sb_txn.specs.Logging.{HasSpace, records_len}
 use Rattle.sb_txn.specs.State.{together}
-use Rattle.sb_txn.specs.Tied.{Fits, AreOut, IsBookOf, HasReserve, Ties}
+use Rattle.sb_txn.specs.Tied.{Fits, AreOut, AreOnce, IsBookOf, HasReserve, Ties}
 use Rattle.sb_txn.proofs.ChangesLemmas.{changed, imaged-changed, imaged-other, imaged-page, AreBelow-changed, IsOut-changed}
+use Rattle.sb_txn.proofs.EndLemmas.{few_more}
+use Rattle.sb_txn.proofs.OthersLemmas.{own-changed, AreOut-still, IsFree-others}
 use Rattle.sb_txn.proofs.RoomLemmas.{gates-lens}
 
 -- ---- room
@@ -74,7 +74,7 @@ module _ (g : Geometry) (j : journal.State) (gates : j.gates ≡ gates_of g) (lo
   SamePages-log (Some s) (Some t) same = record { pages = λ p. page_at-AgreesBut g p (j.log ∷ []) s.now.reads t.now.reads same (page_off_log g j gates log p [] (none_sure (place_of g p) 4096)) }
 
 -- ---- the change may come next
--- the only transaction that is out changes a range of a page
+-- the first transaction changes a range of a page
 module _ (now : ℕ → List ℕ) (p : pool.State) (book : Book) (opened pending : List Record) (o : Out) (rest : List Out) (owner page offset : ℕ) (image bytes : List ℕ)
     (knows : IsBookOf p.geometry.pages (opened ++ pending) book) (is : book.out ≡ o ∷ rest) (lt : page < p.geometry.pages) (range : offset + length bytes ≤ 4096) (long : length image ≡ 4096) where
   abbrev recs : List Record
@@ -92,15 +92,11 @@ module _ (now : ℕ → List ℕ) (p : pool.State) (book : Book) (opened pending
   abbrev pub edit_book : Book
   edit_book = with_change book o rest edit_undo
 
-  none_of : (xs : List Out) → length xs ≡ 0 → xs ≡ []
-  none_of [] e = refl
-  none_of (x ∷ xs) e = absurd (omega arith)
-
-  none_else : rest ≡ []
-  none_else = none_of rest (let e = ap (λ (l : List Out). length l) is in let a = knows.alone in omega arith)
-
   outs : AreOut p.geometry.pages recs book.next (o ∷ rest)
   outs = subst (λ (l : List Out). AreOut p.geometry.pages recs book.next l) is knows.out
+
+  once : IsIdle o.tx (actives rest) × AreOnce rest
+  once = subst (λ (l : List Out). AreOnce l) is knows.once
 
   size_before : length (take (length bytes) (drop offset image)) ≡ length bytes
   size_before = let a = length-take (length bytes) (drop offset image) in let b = length-drop offset image in omega arith
@@ -112,8 +108,8 @@ module _ (now : ℕ → List ℕ) (p : pool.State) (book : Book) (opened pending
   covered : imaged recs page ≡ not (not (slice_index_or book.imaged page false))
   covered = sym (knows.images page lt) ∙ sym (not_not (slice_index_or book.imaged page false))
 
-  pub edit_next : image ≡ now page → IsNext (wants_of book o page) o.tx (length o.undos) page image now opened pending (actives rest) edit_change
-  edit_next here = record {
+  pub edit_next : AreClear page offset (length bytes) rest → image ≡ now page → IsNext (wants_of book o page) o.tx (length o.undos) page image now opened pending (actives rest) edit_change
+  edit_next clear here = record {
     of_tx = refl;
     of_page = refl;
     is = here;
@@ -121,8 +117,7 @@ module _ (now : ℕ → List ℕ) (p : pool.State) (book : Book) (opened pending
     beneath = record { size = size_before; is = ap (λ (l : List ℕ). take (length bytes) (drop offset l)) here };
     logged = outs.0.logged;
     covered = covered;
-    free = subst (λ (r : List Out). IsFree (is_active (active_with o.tx (length o.undos) ∷ actives r)) edit_change (changes (opened ++ behind pending (wants_of book o page) o.tx (length o.undos) page image) (active_with o.tx (length o.undos) ∷ actives r) page))
-        (sym none_else) (IsFree-alone edit_change (length o.undos) _);
+    free = IsFree-others p.geometry.pages book.next opened pending edit_change (length o.undos) rest (wants_of book o page) page image outs.1 once.0 once.1 clear;
   }
 
   is_imaged : imaged (opened ++ edit_records) page ≡ true
@@ -144,16 +139,21 @@ module _ (now : ℕ → List ℕ) (p : pool.State) (book : Book) (opened pending
   edit_knows = record {
     images = images_now;
     count = length-set book.imaged page true ∙ knows.count;
-    out = subst (λ (r : List Out). AreOut p.geometry.pages (opened ++ edit_records) book.next (changed_out o edit_undo ∷ r)) (sym none_else)
-        (IsOut-changed p.geometry.pages opened pending book.next page image o (wants_of book o page) edit_undo edit_change refl refl (record { page = refl; offset = refl; before = refl }) outs.0 edit_fits, tt);
+    out = (
+      IsOut-changed p.geometry.pages opened pending book.next page image o (wants_of book o page) edit_undo edit_change refl refl (record { page = refl; offset = refl; before = refl; size = size_before }) outs.0 edit_fits,
+      AreOut-still p.geometry.pages recs (opened ++ edit_records) book.next o.tx rest once.0
+          (λ t other. own-changed opened pending t o.tx other (wants_of book o page) (length o.undos) page image edit_change refl)
+          (λ q has. imaged-changed opened pending (wants_of book o page) o.tx (length o.undos) page image edit_change q has) outs.1,
+    );
     fresh = AreBelow-changed opened pending (wants_of book o page) o.tx (length o.undos) page image edit_change book.next outs.0.number refl knows.fresh;
-    alone = let e = ap (λ (l : List Out). length l) is in let a = knows.alone in omega arith;
+    once = once;
+    most = let e = ap (λ (l : List Out). length l) is in let a = knows.most in omega arith;
   }
 
 -- ---- with room
 module _ (want now : ℕ → List ℕ) (told : Option Story) (size : ℕ) (j : journal.State) (p : pool.State) (book : Book) (opened pending : List Record) (o : Out) (rest : List Out) (owner page offset : ℕ) (image bytes : List ℕ)
     (ties : Ties want now told size j p book opened pending) (is : book.out ≡ o ∷ rest) (lt : page < p.geometry.pages) (range : offset + length bytes ≤ 4096) (long : length image ≡ 4096)
-    (has : IsHeld p page) (bytes_held : bytes_or [] (held p page) ≡ image) (room : HasRoom (together j p book) o page (length bytes)) where
+    (has : IsHeld p page) (bytes_held : bytes_or [] (held p page) ≡ image) (room : HasRoom (together j p book) o page (length bytes)) (clear : AreClear page offset (length bytes) rest) where
   abbrev w : Wants
   w = wants_of book o page
 
@@ -193,7 +193,7 @@ module _ (want now : ℕ → List ℕ) (told : Option Story) (size : ℕ) (j : j
   store_at = subst (λ (l : List Out). IsStoreOn want now told j p.geometry opened pending (actives l)) is ties.store
 
   next : (s : Story) → ArePagesOn now (Some s) j p → IsNext w o.tx (length o.undos) page image now opened pending (actives rest) c
-  next s pages = edit_next now p book opened pending o rest owner page offset image bytes ties.knows is lt range long (is_now now s j p page image ties.up has bytes_held lt pages)
+  next s pages = edit_next now p book opened pending o rest owner page offset image bytes ties.knows is lt range long clear (is_now now s j p page image ties.up has bytes_held lt pages)
 
   -- a disk that tells nothing has any store
   by_told : (a b : Option Story) (P : Type 0) → is_some a ≡ is_some b → ArePagesOn now a j p → (a ≡ None → b ≡ None → P) → (IsNext w o.tx (length o.undos) page image now opened pending (actives rest) c → P) → P
@@ -257,7 +257,8 @@ module _ (want now : ℕ → List ℕ) (told : Option Story) (size : ℕ) (j : j
           record {
             few = All-cons (λ (x : Out). length x.undos ≤ used_of k) (changed_out o u) rest
                 (let a = All-head (λ (x : Out). length x.undos ≤ used_of j) o rest (subst (λ (l : List Out). All (λ (x : Out). length x.undos ≤ used_of j) l) is ties.spare.few) in let b = length_push o.undos u in omega arith)
-                (subst (λ (l : List Out). All (λ (x : Out). length x.undos ≤ used_of k) l) (sym (none_else now p book opened pending o rest owner page offset image bytes ties.knows is lt range long)) (All-nil (λ (x : Out). length x.undos ≤ used_of k)));
+                (few_more (used_of j) (used_of k) rest (let a = room.bytes in let b = room_of-most j.pending in omega arith)
+                (All-tail (λ (x : Out). length x.undos ≤ used_of j) o rest (subst (λ (l : List Out). All (λ (x : Out). length x.undos ≤ used_of j) l) is ties.spare.few)));
             room = let a = room.bytes in let l = ap (λ (x : journal.State). x.log.len) done in omega arith;
             gates =
                 let a = room.gates in
@@ -301,6 +302,3 @@ module _ (want now : ℕ → List ℕ) (told : Option Story) (size : ℕ) (j : j
           let y = cond-most w.back 9 in
           let z = cond-most w.image 4101 in
           omega arith
-
-      pub lens-logged : length k.lens ≡ length j.lens
-      lens-logged = ap (λ (x : journal.State). length x.lens) done

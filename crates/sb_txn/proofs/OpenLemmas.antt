@@ -1,15 +1,14 @@
 -- A store that is opened.
-use Rattle.std.proofs.Common.{◌≡◌, ◌⊎◌, inl, inr, ℕ, zero, suc, ◌+◌, ◌<◌, ◌≤◌, true, false, Option, Some, None, List, [], ◌∷◌, length, replicate, get_or, refl, sym, ◌∙◌, ap, subst, arith}
+use Rattle.std.proofs.Common.{◌≡◌, ℕ, zero, suc, ◌<◌, ◌≤◌, true, false, Option, Some, None, List, [], ◌∷◌, length, replicate, get_or, refl, sym, ◌∙◌, ap, subst, arith}
 use Rattle.std.proofs.lemmas.Bool.{false≢true}
 use Rattle.std.proofs.lemmas.List.{get_or-replicate, length-replicate}
 use Rattle.std.proofs.lemmas.List.Elements.{All-nil}
-use Rattle.sb_disk.specs.Disk.{Range, Story, WhereTold}
-use Rattle.sb_disk.specs.Moments.{IsSettled, contents}
-use Rattle.sb_journal.specs.Opening.{Opened, ReadAll, AllShut, opened}
+use Rattle.sb_disk.specs.Disk.{Story, WhereTold}
+use Rattle.sb_disk.specs.Moments.{contents}
+use Rattle.sb_journal.specs.Opening.{Opened, ReadAll, opened}
 use Rattle.sb_journal.specs.State.{StandsOn, Sound, used_of}
 use Rattle.sb_journal.specs.State as journal
 use Rattle.sb_log.specs.declared.geometry.Geometry.{Geometry}
-use Rattle.sb_images.specs.Images.{Restores}
 use Rattle.sb_images.specs.Layout.{need, IsGeometry, gates_of, log_of, page_at}
 use Rattle.sb_images.specs.Store.{IfTold, IsMounted, IsReadyOn, AreShut}
 use Rattle.sb_images.proofs.LayoutLemmas.{one_geometry}
@@ -17,12 +16,10 @@ use Rattle.sb_images.proofs.StoreLemmas.{IsStoreOn-empty}
 use Rattle.sb_pool.specs.Pages.{bytes_or, AgreesOn, ArePagesOn}
 use Rattle.sb_pool.specs.State.{Held, held, IsWritten, IsDirty, empty_pool}
 use Rattle.sb_pool.specs.State as pool
-use Rattle.sb_recover.specs.Restarted.{IsRestarted, HasSameBytes, RestartErr}
-use Rattle.sb_recover.specs.declared.fault.OpenFault.{OpenFault}
-use Rattle.sb_recover.specs.declared.fault.OpenFault.TheVariants.{Fault, TooSmall, NotStore, BadLog, MissingExtension, Damaged, BadExtensions, AlreadyStore, NoMemory}
+use Rattle.sb_recover.specs.Restarted.{IsRestarted}
 use Rattle.sb_recover.proofs.MountLemmas.{IsMounted-pages, IsMounted-restarted, IsReadyOn-restarted}
 use Rattle.sb_txn.specs.Book.{Out, Book, empty_book}
-use Rattle.sb_txn.specs.Opened.{IsOpened, OpenErr, NotOpened}
+use Rattle.sb_txn.specs.Opened.{IsOpened}
 use Rattle.sb_txn.specs.State.{together}
 use Rattle.sb_txn.specs.Tied.{IsBookOf, HasReserve, Ties}
 
@@ -78,7 +75,8 @@ IsBookOf-empty count = record {
   count = length-replicate count false;
   out = tt;
   fresh = tt;
-  alone = omega arith;
+  once = tt;
+  most = omega arith;
 }
 
 HasReserve-empty : (g : Geometry) → HasReserve (opened (gates_of g) (log_of g) [] true) (empty_book g.pages)

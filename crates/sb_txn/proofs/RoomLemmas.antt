@@ -1,7 +1,6 @@
 -- The bytes and the gates that a journal's chunks take.
-use Rattle.std.proofs.Common.{◌≡◌, ◌⊎◌, ⊎_elim, ℕ, zero, suc, ◌+◌, ◌<◌, ◌≤◌, Bool, List, [], ◌∷◌, ◌++◌, length, refl, sym, ◌∙◌, ap, subst, arith}
+use Rattle.std.proofs.Common.{◌≡◌, ⊎_elim, ℕ, zero, suc, ◌+◌, ◌<◌, ◌≤◌, List, length, refl, sym, subst, arith}
 use Rattle.std.proofs.lemmas.List.{length_push}
-use Rattle.sb_disk.specs.Disk.{Range}
 use Rattle.sb_journal.specs.Chunks.{bytes_of}
 use Rattle.sb_journal.specs.State.{State, room_of, used_of, need_of, sealed, after_append, after_force}
 use Rattle.sb_journal.proofs.ChunkLemmas.{bytes_of_more}
@@ -24,15 +23,6 @@ pub record SameRoom (j k : State) : Type 0 where
 
 pub SameRoom-none : (j : State) → SameRoom j j
 SameRoom-none j = record { used = refl; gates = refl; gates_is = refl; log_is = refl; up = refl }
-
-pub SameRoom-then : (j k l : State) → SameRoom j k → SameRoom k l → SameRoom j l
-SameRoom-then j k l one two = record {
-  used = two.used ∙ one.used;
-  gates = two.gates ∙ one.gates;
-  gates_is = two.gates_is ∙ one.gates_is;
-  log_is = two.log_is ∙ one.log_is;
-  up = two.up ∙ one.up;
-}
 
 pub SameRoom-force : (j : State) → SameRoom j (after_force j)
 SameRoom-force j = record { used = used_force j.lens j.pending; gates = refl; gates_is = refl; log_is = refl; up = refl }
@@ -71,9 +61,6 @@ need_more (suc p) n = omega arith
 pub need_filled : (j : State) (n : ℕ) → used_of j + need_of j.pending n ≡ filled j + n
 need_filled j n = let e = need_more j.pending n in omega arith
 
-pub filled-append : (j : State) (n : ℕ) → filled (after_append n j) ≡ filled j + n
-filled-append j n = omega arith
-
 room_of-suc : (n : ℕ) → 0 < n → room_of n ≡ 4 + n
 room_of-suc zero some = absurd (omega arith)
 room_of-suc (suc n) some = refl
@@ -88,12 +75,6 @@ filled-used j = let e = room_of-most j.pending in (omega arith, omega arith)
 -- so many bytes more, which are some
 pub used-append : (j : State) (n : ℕ) → 0 < n → used_of (after_append n j) ≡ filled j + n
 used-append j n some = let e = room_of-suc (j.pending + n) (omega arith) in omega arith
-
-pub used-more : (j : State) (n : ℕ) → 0 < n → used_of j + n ≤ used_of (after_append n j)
-used-more j n some = let e = used-append j n some in let m = room_of_within j.pending in omega arith
-  where
-    room_of_within : (p : ℕ) → room_of p ≤ 4 + p
-    room_of_within p = (room_of-most p).0
 
 -- with something pending the chunks will be one more
 pub gates-append : (j : State) (n : ℕ) → 0 < n → gates_used (after_append n j) ≡ length j.lens + 1

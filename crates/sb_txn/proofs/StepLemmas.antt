@@ -11,7 +11,7 @@ use Rattle.sb_log.specs.Records.{Record, Commit, spelling}
 use Rattle.sb_log.specs.Standing.{standing, count_of}
 use Rattle.sb_log.specs.Views.{Active, active_with}
 use Rattle.sb_images.specs.Images.{Restores, IsOldOrNew}
-use Rattle.sb_images.specs.Store.{IsReadyOn, IsStoreOn, OnDisk, own_of, with_changes}
+use Rattle.sb_images.specs.Store.{IsStoreOn, OnDisk, own_of, with_changes}
 use Rattle.sb_images.proofs.CallLemmas.{LeavesOnly-close}
 use Rattle.sb_images.proofs.CommitLemmas.{LeavesOnly-commit}
 use Rattle.sb_images.proofs.PageLemmas.{IsWhole-commit_only}

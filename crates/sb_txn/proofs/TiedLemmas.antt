@@ -1,23 +1,23 @@
 -- What each step leaves of a store.
-use Rattle.std.proofs.Common.{◌≡◌, ℕ, ◌+◌, ◌*◌, ◌<◌, ◌≤◌, Bool, false, Option, Some, None, is_some, Result, Ok, OnOk, List, [], ◌∷◌, ◌++◌, length, refl, sym, ◌∙◌, ap, subst, arith}
+use Rattle.std.proofs.Common.{◌≡◌, ℕ, ◌<◌, ◌≤◌, Bool, false, Option, Some, None, is_some, List, ◌∷◌, ◌++◌, length, refl, sym, ◌∙◌, ap, subst, arith}
 use Rattle.std.specs.List.{All}
 use Rattle.sb_disk.specs.Disk.{Story, Range}
 use Rattle.sb_journal.specs.State.{used_of}
 use Rattle.sb_journal.specs.State as journal
 use Rattle.sb_log.specs.declared.geometry.Geometry.{Geometry}
 use Rattle.sb_log.specs.Records.{Record}
-use Rattle.std.proofs.lemmas.Bool.{false≢true}
+use Rattle.std.proofs.lemmas.Bool.{false≢true, eq-eqb}
 use Rattle.sb_images.specs.Layout.{page_at}
 use Rattle.sb_images.specs.Store.{IfTold, IsStoreOn}
-use Rattle.sb_pool.specs.Calls.{Serves, AreImaged, IsSameOrForced, InStore, KeepsImages, IsReadyWith}
+use Rattle.sb_pool.specs.Calls.{Serves, AreImaged, IsSameOrForced, IsReadyWith}
 use Rattle.sb_pool.specs.Pages.{bytes_or, AgreesOn, ArePagesOn, KeepsPages}
 use Rattle.sb_pool.specs.State.{Held, held, NoneMoreDirty}
 use Rattle.sb_pool.specs.State as pool
-use Rattle.sb_pool.proofs.StoreLemmas.{ArePagesOn-kept, IsStoreOn-with, GoesOn}
-use Rattle.sb_txn.specs.Book.{Out, Book, actives}
+use Rattle.sb_pool.proofs.StoreLemmas.{ArePagesOn-kept, IsStoreOn-with}
+use Rattle.sb_txn.specs.Book.{Out, Book, actives, called, with_out}
 use Rattle.sb_txn.specs.Clauses.{Parts, IsStoreOf, Loads, Refused}
 use Rattle.sb_txn.specs.State.{together}
-use Rattle.sb_txn.specs.Tied.{IsBookOf, HasReserve, Ties, reserve, gates_used}
+use Rattle.sb_txn.specs.Tied.{IsBookOf, HasReserve, Ties}
 use Rattle.sb_txn.proofs.RoomLemmas.{SameRoom, SameRoom-forced, lens-same}
 
 -- ---- room
@@ -53,11 +53,15 @@ module _ (want now : ℕ → List ℕ) (told new : Option Story) (size len : ℕ
       )
 
 -- ---- what the calls say of it
-pub Refused-loads : (old new : Parts) → Loads old new → Refused old new
-Refused-loads old new loads =
+-- a transaction that is the first already
+called-first : (book : Book) (o : Out) (rest : List Out) → book.out ≡ o ∷ rest → called o.tx book ≡ book
+called-first book o rest is = subst (λ (l : List Out). called o.tx (with_out book l) ≡ with_out book l) (sym is) (rw (eq-eqb o.tx o.tx refl) refl)
+
+pub Refused-loads : (old new : Parts) (o : Out) (rest : List Out) → old.store.book.out ≡ o ∷ rest → Loads old new → Refused o.tx old new
+Refused-loads old new o rest is loads =
     let room = SameRoom-forced old.store.journal new.store.journal loads.journal in
     record {
-      book = loads.book;
+      book = loads.book ∙ sym (called-first old.store.book o rest is);
       pages = loads.pages;
       grows = record { bytes = let e = room.used in omega arith; gates = lens-same old.store.journal new.store.journal room };
     }

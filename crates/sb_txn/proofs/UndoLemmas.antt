@@ -1,14 +1,12 @@
 -- What the undoing of changes leaves of a store.
-use Rattle.std.proofs.Common.{◌≡◌, ℕ, zero, suc, ◌+◌, ◌*◌, ◌<◌, ◌≤◌, Bool, true, false, cond, ◌||◌, ◌==◌, Option, Some, None, List, [], ◌∷◌, ◌++◌, length, take, drop, nat_lt, refl, sym, ◌∙◌, ap, subst, arith}
-use Rattle.std.specs.List.{All}
+use Rattle.std.proofs.Common.{◌≡◌, ℕ, suc, ◌+◌, ◌<◌, ◌≤◌, Option, List, [], ◌∷◌, ◌++◌, length, refl, sym, ◌∙◌, ap, subst, arith}
 use Rattle.std.proofs.lemmas.Bool.{false≢true}
 use Rattle.std.proofs.lemmas.List.{length_push, length-take}
-use Rattle.std.proofs.lemmas.List.Elements.{All-nil, All-cons}
-use Rattle.sb_disk.specs.Disk.{Story, splice}
+use Rattle.std.proofs.lemmas.List.Elements.{All-cons}
+use Rattle.sb_disk.specs.Disk.{Story}
 use Rattle.sb_journal.specs.State.{used_of}
 use Rattle.sb_journal.specs.State as journal
 use Rattle.sb_log.specs.Records.{Change, Record}
-use Rattle.sb_log.specs.Restored.{imaged}
 use Rattle.sb_log.specs.Standing.{keep, standing, own_changes, count_of}
 use Rattle.sb_log.specs.Views.{active_with}
 use Rattle.sb_log.specs.Whole.{with_range}
@@ -19,9 +17,12 @@ use Rattle.sb_images.specs.Store.{IsStoreOn}
 use Rattle.sb_images.proofs.StoreLemmas.{IsStoreOn-step}
 use Rattle.sb_pool.specs.Pages.{with_bytes}
 use Rattle.sb_pool.specs.State as pool
+use Rattle.sb_txn.specs.Ahead.{Leans, IsAhead, CatchesUp, LeavesAhead}
 use Rattle.sb_txn.specs.Book.{Undo, Out, Book, actives, undone_out, standing_in, Pops}
-use Rattle.sb_txn.specs.Tied.{IsUndo, AreUndos, Fits, AllFit, IsOut, AreOut, IsBookOf, HasReserve, Ties, Lags, reserve, gates_used}
-use Rattle.sb_txn.proofs.EndLemmas.{first_out, first_store, first_alone, first_room, first_gates, first_few, rest_out, rest_few}
+use Rattle.sb_txn.specs.Clauses.{Parts, IsStoreOf, LeavesWanted, UndoesLast}
+use Rattle.sb_txn.specs.State.{together}
+use Rattle.sb_txn.specs.Tied.{IsUndo, AreUndos, Fits, AllFit, IsOut, Ties}
+use Rattle.sb_txn.proofs.EndLemmas.{first_out, first_store, first_once, rest_most, first_room, first_gates, first_few, rest_out, rest_few}
 
 -- ---- undos and changes
 pub length-AreUndos : (us : List Undo) (cs : List Change) → AreUndos us cs → length cs ≡ length us
@@ -105,7 +106,7 @@ module _ (want now : ℕ → List ℕ) (told : Option Story) (size : ℕ) (j : j
   out_first : IsOut p.geometry.pages (opened ++ pending) book.next o
   out_first = first_out want now told size j p book o rest is opened pending ties
 
-  pub fits_popped : Fits p.geometry.pages (opened ++ pending) u
+  fits_popped : Fits p.geometry.pages (opened ++ pending) u
   fits_popped = fits_last p.geometry.pages (opened ++ pending) book.next o pops.others u pops.was out_first
 
   store_popped : IsStoreOn want then told j p.geometry opened pending (actives popped.out)
@@ -118,8 +119,8 @@ module _ (want now : ℕ → List ℕ) (told : Option Story) (size : ℕ) (j : j
       (IsStoreOn-step want now j p.geometry opened pending (active_with o.tx (suc (length pops.others)) ∷ actives rest) (with_range last.c last.c.before now) (active_with o.tx (length pops.others) ∷ actives rest) told
       (λ disk whole. IsWhole-undo p.geometry.pages disk now opened pending o.tx (length pops.others) (actives rest) last whole) was)
 
-  lags_popped : Lags want then now told size j p popped opened pending
-  lags_popped = record {
+  leans_popped : Leans want now then told size j p popped opened pending
+  leans_popped = record {
     up = ties.up;
     store = store_popped;
     serves = ties.serves;
@@ -130,21 +131,63 @@ module _ (want now : ℕ → List ℕ) (told : Option Story) (size : ℕ) (j : j
     knows = record {
       images = ties.knows.images;
       count = ties.knows.count;
-      out = (IsOut-undone p.geometry.pages (opened ++ pending) book.next o pops.others u pops.was out_first, rest_out want now told size j p book o rest is opened pending ties (opened ++ pending));
+      out = (IsOut-undone p.geometry.pages (opened ++ pending) book.next o pops.others u pops.was out_first, rest_out want now told size j p book o rest is opened pending ties);
       fresh = ties.knows.fresh;
-      alone = let e = ap (λ (l : List Out). length l) (first_alone want now told size j p book o rest is opened pending ties) in omega arith;
+      once = first_once want now told size j p book o rest is opened pending ties;
+      most = rest_most want now told size j p book o rest is opened pending ties;
     };
     spare = record {
       few = All-cons (λ (x : Out). length x.undos ≤ used_of j) (undone_out o pops.others) rest
           (let e = one_more p.geometry.pages (opened ++ pending) book.next o pops.others u pops.was out_first in let h = first_few want now told size j p book o rest is opened pending ties in omega arith)
-          (rest_few want now told size j p book o rest is opened pending ties (used_of j));
+          (rest_few want now told size j p book o rest is opened pending ties (used_of j) (omega arith));
       room = let h = first_room want now told size j p book o rest is opened pending ties in omega arith;
       gates = let h = first_gates want now told size j p book o rest is opened pending ties in omega arith;
     };
   }
 
-  pub Lags-pop : Lags want then now told size j p after opened pending
-  Lags-pop = subst (λ (b : Book). Lags want then now told size j p b opened pending) (sym pops.is) lags_popped
+  -- the pool wants just its bytes before
+  IsAhead-popped : IsAhead want now u.page u.offset u.before (record { told = told; size = size; store = together j p after })
+  IsAhead-popped = record {
+    opened = opened;
+    pending = pending;
+    leans = subst (λ (b : Book). Leans want now then told size j p b opened pending) (sym pops.is) leans_popped;
+    covered = fits_popped.covered;
+  }
+
+-- ---- the write of the bytes before it, as the call has them
+module _ (told : Option Story) (size : ℕ) (j : journal.State) (p : pool.State) (book after : Book) (o : Out) (rest : List Out) (is : book.out ≡ o ∷ rest) (u : Undo) (pops : Pops o rest book after u) (bytes : List ℕ) (same : bytes ≡ u.before) where
+  abbrev old : Parts
+  old = record { told = told; size = size; store = together j p book }
+
+  abbrev mid : Parts
+  mid = record { told = told; size = size; store = together j p after }
+
+  -- they lie in a page of the store
+  pub Fits-undo : (want now : ℕ → List ℕ) → IsStoreOf want now old → (u.page < p.geometry.pages) × (u.offset + length bytes ≤ 4096)
+  Fits-undo want now store =
+      let fits = fits_popped want now told size j p book after o rest is u pops store.0 store.1 store.2 in
+      (fits.page, subst (λ (l : List ℕ). u.offset + length l ≤ 4096) (sym same) fits.within)
+
+  -- the pool wants just them
+  pub IsAhead-undo : (want now : ℕ → List ℕ) → IsStoreOf want now old → IsAhead want now u.page u.offset bytes mid
+  IsAhead-undo want now store = subst (λ (l : List ℕ). IsAhead want now u.page u.offset l mid) (sym same)
+      (IsAhead-popped want now told size j p book after o rest is u pops store.0 store.1 store.2)
+
+  -- a crash meanwhile leaves what was wanted
+  pub LeavesWanted-undo : (end : Parts) → LeavesAhead mid end u.page u.offset bytes → LeavesWanted old end
+  LeavesWanted-undo end leaves = record { each = λ want now store. leaves.each want now (IsAhead-undo want now store) }
+
+  -- and with them the change is undone
+  pub UndoesLast-undo : (end : Parts) → CatchesUp mid end u.page u.offset bytes → UndoesLast old end o rest
+  UndoesLast-undo end caught = record {
+    others = pops.others;
+    last = u;
+    was = pops.was;
+    out = ap (λ (b : Book). b.out) (caught.book ∙ pops.is);
+    pages = λ want now store.
+        subst (λ (l : List ℕ). IsStoreOf want (with_bytes u.page u.offset l now) end) same (caught.pages want now (IsAhead-undo want now store));
+    journal = caught.journal;
+  }
 
 -- a transaction of which a change stands is out
 pub some_first : (out : List Out) → 0 < standing_in out → (o : Out) × (rest : List Out) × (out ≡ o ∷ rest)

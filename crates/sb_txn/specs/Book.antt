@@ -1,5 +1,6 @@
 -- What a store has in memory of its log.
-use Rattle.std.specs.Prelude.{◌≡◌, ℕ, ◌+◌, ◌*◌, Bool, true, false, cond, not, List, [], ◌∷◌, ◌++◌, length, replicate, slice_index_or, slice_set}
+use Rattle.std.specs.Prelude.{◌≡◌, ◌⊎◌, ℕ, ◌+◌, ◌*◌, ◌≤◌, ◌==◌, Bool, true, false, cond, not, Option, Some, None, IsSome, List, [], ◌∷◌, ◌++◌, length, replicate, slice_index_or, slice_set}
+use Rattle.std.specs.List.{All}
 use Rattle.sb_log.specs.Views.{Active, active_with}
 use Rattle.sb_txn.specs.declared.changing.Wants.{Wants}
 
@@ -61,12 +62,44 @@ abbrev pub change_len : Wants → ℕ → ℕ
 change_len w count = wants_len w + (15 + 2 * count)
 
 -- ---- the transaction of a call
--- it is the first of those that are out
+-- the one of this number, where it is out
+abbrev pub out_with : ℕ → List Out → Option Out
+out_with tx [] = None
+out_with tx (o ∷ os) = cond (o.tx == tx) (Some o) (out_with tx os)
+
+-- it is out
+abbrev pub IsAmong : ℕ → List Out → Type 0
+IsAmong tx out = IsSome (out_with tx out)
+
+-- the others that are out
+abbrev pub others : ℕ → List Out → List Out
+others tx [] = []
+others tx (o ∷ os) = cond (o.tx == tx) os (o ∷ others tx os)
+
+-- no other one is out
+abbrev pub IsOnly : ℕ → List Out → Type 0
+IsOnly tx out = IsAmong tx out × (others tx out ≡ [])
+
+-- how many changes of the transaction stand
+abbrev pub standing_of : ℕ → List Out → ℕ
+standing_of tx [] = 0
+standing_of tx (o ∷ os) = cond (o.tx == tx) (length o.undos) (standing_of tx os)
+
+-- the change is of another page, or its range ends before this one, or begins behind it
+abbrev pub IsClear : ℕ → ℕ → ℕ → Undo → Type 0
+IsClear page offset count u = u.page ≡ page → (u.offset + length u.before ≤ offset) ⊎ (offset + count ≤ u.offset)
+
+-- so it is with each change of these transactions that stands
+abbrev pub AreClear : ℕ → ℕ → ℕ → List Out → Type 0
+AreClear page offset count out = All (λ o. All (IsClear page offset count) o.undos) out
+
+-- ---- the first transaction
+-- it has this number
 abbrev pub IsFirst : ℕ → List Out → Type 0
 IsFirst tx [] = ⊥
 IsFirst tx (o ∷ os) = o.tx ≡ tx
 
--- how many changes of the first one stand
+-- how many of its changes stand
 abbrev pub standing_in : List Out → ℕ
 standing_in [] = 0
 standing_in (o ∷ os) = length o.undos
@@ -74,6 +107,15 @@ standing_in (o ∷ os) = length o.undos
 -- the book with these transactions out
 abbrev pub with_out : Book → List Out → Book
 with_out book out = record book { out = out }
+
+-- a transaction, if it is there, and those behind it
+abbrev pub leading : Option Out → List Out → List Out
+leading None os = os
+leading (Some o) os = o ∷ os
+
+-- the book with the transaction of a call first
+abbrev pub called : ℕ → Book → Book
+called tx book = with_out book (leading (out_with tx book.out) (others tx book.out))
 
 -- the book with a change more of the first transaction, of a page that has an Image now
 abbrev pub with_change : Book → Out → List Out → Undo → Book

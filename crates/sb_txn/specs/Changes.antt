@@ -18,12 +18,12 @@ abbrev pub AddsUndo : Option Held → Book → Book → ℕ → ℕ → ℕ → 
 AddsUndo h old new page offset count =
     (o : Out) (rest : List Out) → old.out ≡ o ∷ rest → new ≡ with_change old o rest (undo_at h page offset count)
 
--- Why there is no room for a change of so many bytes: the log hasn't the bytes, or else no gate is left.
+-- Why there is no room for a change of so many bytes: the log hasn't the bytes, or it has them and no gate is left.
 abbrev pub NoRoom : journal.State → Book → Out → ℕ → ℕ → StoreFault → Type 0
 NoRoom j book o page count (LogFull used need total) =
     (used ≡ used_of j) × (need ≡ need_of book o page count) × (total ≡ j.log.len) × (total < used + need)
 NoRoom j book o page count (GatesFull used total) =
-    (used ≡ length j.lens) × (total ≡ j.gates.len) × (65535 < used + length book.out)
+    (used_of j + need_of book o page count ≤ j.log.len) × (used ≡ length j.lens) × (total ≡ j.gates.len) × (65535 < used + length book.out)
 NoRoom j book o page count e = ⊥
 
 -- why a change with room for it is refused; where memory is wanting all is as it was

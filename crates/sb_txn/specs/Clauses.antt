@@ -1,5 +1,5 @@
 -- What the calls of a store leave of it.
-use Rattle.std.specs.Prelude.{◌≡◌, ◌⊎◌, ℕ, ◌+◌, ◌*◌, ◌-◌, ◌<◌, ◌≤◌, ◌||◌, nat_lt, true, false, Option, Result, OnOk, IfErr, IsErrOf, List, [], ◌∷◌, ◌++◌, length, take, drop}
+use Rattle.std.specs.Prelude.{◌≡◌, ◌⊎◌, ℕ, ◌+◌, ◌*◌, ◌<◌, ◌≤◌, ◌||◌, nat_lt, true, false, Option, Result, OnOk, IfErr, IsErrOf, List, [], ◌∷◌, ◌++◌, length, take, drop}
 use Rattle.sb_disk.specs.Causes.{Rose}
 use Rattle.sb_disk.specs.Disk.{Story}
 use Rattle.sb_disk.specs.Moments.{LeavesOnly}
@@ -10,7 +10,7 @@ use Rattle.sb_images.specs.Images.{Restores, IsOldOrNew}
 use Rattle.sb_images.specs.Store.{IfTold, own_of, with_changes}
 use Rattle.sb_pool.specs.Calls.{IsSameOrForced}
 use Rattle.sb_pool.specs.Pages.{with_bytes}
-use Rattle.sb_txn.specs.Book.{Undo, Out, Book, new_out, changed_out, undone_out, wants_of, change_len}
+use Rattle.sb_txn.specs.Book.{Undo, Out, Book, called, new_out, changed_out, undone_out, wants_of, change_len}
 use Rattle.sb_txn.specs.State.{State}
 use Rattle.sb_txn.specs.Tied.{Ties, reserve}
 use Rattle.sb_txn.specs.declared.fault.StoreFault.{StoreFault}
@@ -75,9 +75,9 @@ pub record Grows (s t : State) (more_bytes more_gates : ℕ) : Type 0 where
   pub bytes : used_of t.journal ≤ used_of s.journal + more_bytes
   pub gates : length t.journal.lens ≤ length s.journal.lens + more_gates
 
--- The call has changed nothing.
-pub record Refused (old new : Parts) : Type 0 where
-  pub book : new.store.book ≡ old.store.book
+-- The call of this transaction has changed nothing.
+pub record Refused (tx : ℕ) (old new : Parts) : Type 0 where
+  pub book : new.store.book ≡ called tx old.store.book
   pub pages : Leads old new (λ now. now)
   pub grows : Grows old.store new.store 0 1
 
@@ -91,7 +91,7 @@ pub record Loads (old new : Parts) : Type 0 where
 -- What `page` leaves: nothing has changed.
 pub record IsPaged {D T : Type 0} (told : D → Option Story) (len faults : D → ℕ) (old new : D) (s t : State) (result : Result T StoreFault)
     : Type 0 where
-  pub same : OnOk result (Refused (parts told len old s) (parts told len new t))
+  pub same : OnOk result (Loads (parts told len old s) (parts told len new t))
   pub leaves : LeavesWanted (parts told len old s) (parts told len new t)
   pub err : IfErr result IsFaultOrDown
   pub keeps : Keeps told len faults old new s t result
@@ -116,14 +116,15 @@ pub record Changes (old new : Parts) (o : Out) (rest : List Out) (page offset : 
   pub grows : Grows old.store new.store 12400 3
   pub least : used_of old.store.journal + change_len (wants_of old.store.book o page) (length bytes) ≤ used_of new.store.journal
 
--- Why a change is refused: the log hasn't the bytes that it wants, or else no gate is left beside those that end the transactions that are out. Both numbers are those before any record of it.
+-- Why a change is refused: the log hasn't the bytes that it wants; or it has them, and no gate is left beside those that end the transactions that are out. Both numbers are those before any record of it.
 abbrev pub ChangeErr : Parts → Parts → Out → ℕ → ℕ → StoreFault → Type 0
 ChangeErr old new o page count (LogFull used need total) =
     (used ≡ used_of old.store.journal) × (need ≡ need_of old.store.book o page count) × (total ≡ old.store.journal.log.len)
-    × (total < used + need) × Refused old new
+    × (total < used + need) × Refused o.tx old new
 ChangeErr old new o page count (GatesFull used total) =
-    (used ≡ length new.store.journal.lens) × (total ≡ old.store.journal.gates.len) × (65535 < used + length old.store.book.out) × Refused old new
-ChangeErr old new o page count NoMemory = Refused old new
+    (used_of old.store.journal + need_of old.store.book o page count ≤ old.store.journal.log.len)
+    × (used ≡ length new.store.journal.lens) × (total ≡ old.store.journal.gates.len) × (65535 < used + length old.store.book.out) × Refused o.tx old new
+ChangeErr old new o page count NoMemory = Refused o.tx old new
 ChangeErr old new o page count e = IsFaultOrDown e
 
 -- there is room for a change: each that isn't refused had it

@@ -1,5 +1,5 @@
 -- What records more leave of a journal and its disk.
-use Rattle.std.specs.Prelude.{◌≡◌, ℕ, ◌+◌, ◌≤◌, cond, false, Option, is_some, Result, OnOk, OnErr, List, [], ◌∷◌}
+use Rattle.std.specs.Prelude.{◌≡◌, ℕ, ◌+◌, ◌≤◌, cond, false, Option, is_some, Result, OnOk, OnErr, [], ◌∷◌}
 use Rattle.sb_disk.specs.Causes.{Rose}
 use Rattle.sb_disk.specs.Disk.{Story, WhereTold, AgreesBut}
 use Rattle.sb_journal.specs.Chunks.{bytes_of}

@@ -1,5 +1,5 @@
 -- What the steps of a store make of its records and its pages.
-use Rattle.std.specs.Prelude.{◌≡◌, ◌⊎◌, ℕ, ◌+◌, ◌*◌, ◌^◌, ◌<◌, ◌≤◌, length, Result, OnOk, OnErr, IfErr, Bool, true, false, Option, List, [], ◌∷◌, ◌++◌}
+use Rattle.std.specs.Prelude.{◌≡◌, ◌⊎◌, ℕ, ◌+◌, ◌*◌, ◌^◌, ◌<◌, ◌≤◌, length, Result, OnErr, IfErr, Bool, true, false, Option, List, [], ◌∷◌, ◌++◌}
 use Rattle.sb_disk.specs.Causes.{Rose}
 use Rattle.sb_disk.specs.Disk.{Story, WhereTold}
 use Rattle.sb_journal.specs.Chunks.{bytes_of}
@@ -10,7 +10,6 @@ use Rattle.sb_log.specs.Records.{Record}
 use Rattle.sb_log.specs.Views.{Active}
 use Rattle.sb_log.specs.Whole.{IsWhole}
 use Rattle.sb_images.specs.Layout.{gates_of, log_of, page_at}
-use Rattle.sb_pool.specs.Calls.{IsSameOrForced}
 use Rattle.sb_pool.specs.State as pool
 use Rattle.sb_txn.specs.Book.{Book}
 use Rattle.sb_txn.specs.declared.fault.StoreFault.{StoreFault}
@@ -53,15 +52,6 @@ pub record KeepsSizes {D T : Type 0} (len faults : D → ℕ) (old new : D) (j :
   pub geometry : after.geometry ≡ p.geometry
   pub later : faults old ≤ faults new
   pub err : IfErr result (λ e. e ≡ Fault)
-  pub cause : OnErr result ((j.failed ≡ true) ⊎ Rose (faults old) (faults new))
-
--- What a write of a page keeps: the sizes; what was pending may be forced. It fails only where a call on the disk failed, in this call or an earlier one of the journal.
-pub record Puts {D T E : Type 0} (len faults : D → ℕ) (old new : D) (j k : journal.State) (p after : pool.State) (result : Result T E)
-    : Type 0 where
-  pub size : len new ≡ len old
-  pub geometry : after.geometry ≡ p.geometry
-  pub later : faults old ≤ faults new
-  pub journal : OnOk result (IsSameOrForced j k)
   pub cause : OnErr result ((j.failed ≡ true) ⊎ Rose (faults old) (faults new))
 
 -- No more than half of the log is used, of its gates, or of the numbers of transactions.

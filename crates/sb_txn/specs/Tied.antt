@@ -7,17 +7,19 @@ use Rattle.sb_journal.specs.State as journal
 use Rattle.sb_log.specs.Records.{Change, Record}
 use Rattle.sb_log.specs.Standing.{keep, standing, own_changes, count_of, AreBelow}
 use Rattle.sb_log.specs.Restored.{imaged}
+use Rattle.sb_log.specs.Views.{IsIdle}
 use Rattle.sb_images.specs.Store.{IsStoreOn}
 use Rattle.sb_pool.specs.Calls.{Serves, AreImaged}
 use Rattle.sb_pool.specs.Pages.{AgreesOn, ArePagesOn}
 use Rattle.sb_pool.specs.State as pool
 use Rattle.sb_txn.specs.Book.{Undo, Out, Book, actives}
 
--- the undo says where the change is, and what was there
+-- the undo says where the change is, and the bytes that were there, as many as it wrote
 pub record IsUndo (u : Undo) (c : Change) : Type 0 where
   pub page : u.page ≡ c.page
   pub offset : u.offset ≡ c.offset
   pub before : u.before ≡ c.before
+  pub size : length u.before ≡ length c.after
 
 -- so it is with each of them
 abbrev pub AreUndos : List Undo → List Change → Type 0
@@ -50,13 +52,19 @@ abbrev pub AreOut : ℕ → List Record → ℕ → List Out → Type 0
 AreOut count recs next [] = Unit {0}
 AreOut count recs next (o ∷ os) = IsOut count recs next o × AreOut count recs next os
 
--- Of a store of so many pages with these records the book says which pages have an Image, and what stands of the transactions that are out, of which there is one at most. Its next number is in no record.
+-- no two of them have one number
+abbrev pub AreOnce : List Out → Type 0
+AreOnce [] = Unit {0}
+AreOnce (o ∷ os) = IsIdle o.tx (actives os) × AreOnce os
+
+-- Of a store of so many pages with these records the book says which pages have an Image, and what stands of the transactions that are out, of which there are eight at most. Its next number is in no record.
 pub record IsBookOf (pages : ℕ) (recs : List Record) (book : Book) : Type 0 where
   pub images : (q : ℕ) → q < pages → slice_index_or book.imaged q false ≡ imaged recs q
   pub count : length book.imaged ≡ pages
   pub out : AreOut pages recs book.next book.out
   pub fresh : AreBelow book.next recs
-  pub alone : length book.out ≤ 1
+  pub once : AreOnce book.out
+  pub most : length book.out ≤ 8
 
 -- the bytes of the log that are kept for what ends each transaction that is out
 abbrev pub reserve : ℕ
@@ -80,19 +88,6 @@ pub record Ties (want now : ℕ → List ℕ) (told : Option Story) (size : ℕ)
   pub serves : Serves told size j p.geometry
   pub agrees : AgreesOn told j p
   pub pages : ArePagesOn now told j p
-  pub dirty : AreImaged p (opened ++ pending)
-  pub position : p.position ≤ used_of j
-  pub knows : IsBookOf p.geometry.pages (opened ++ pending) book
-  pub spare : HasReserve j book
-
--- So it is but for the pool, whose pages are still these: a range of one of them is written next.
-pub record Lags (want now : ℕ → List ℕ) (pages_yet : ℕ → List ℕ) (told : Option Story) (size : ℕ) (j : journal.State) (p : pool.State)
-    (book : Book) (opened pending : List Record) : Type 0 where
-  pub up : j.failed ≡ false
-  pub store : IsStoreOn want now told j p.geometry opened pending (actives book.out)
-  pub serves : Serves told size j p.geometry
-  pub agrees : AgreesOn told j p
-  pub pages : ArePagesOn pages_yet told j p
   pub dirty : AreImaged p (opened ++ pending)
   pub position : p.position ≤ used_of j
   pub knows : IsBookOf p.geometry.pages (opened ++ pending) book

@@ -1,9 +1,10 @@
 //! What a store has in memory of its log.
 
-ghost use Rattle.std.specs.Prelude.{◌≡◌, ◌+◌, ◌-◌, ◌^◌, ◌<◌, ◌≤◌, ◌∷◌, ◌++◌, [], ℕ, List, suc, true, length, map, take, drop, IfOk, OnOk, OnErr};
-ghost use Rattle.sb_txn.specs.Book.{Out as Outs, empty_book, new_out, begun_book, emptied_book, changed_out, with_change, wants_of, standing_in, with_out, Pops};
+ghost use Rattle.std.specs.Prelude.{◌≡◌, ◌==◌, ◌+◌, ◌-◌, ◌^◌, ◌<◌, ◌≤◌, ◌∷◌, ◌++◌, [], ℕ, List, suc, true, false, Some, length, map, take, drop, position, IfOk, IfErr, OnOk, OnErr};
+ghost use Rattle.sb_txn.specs.Book.{Out as Outs, IsAmong, standing_of as count_of, called, empty_book, new_out, begun_book, emptied_book, changed_out, with_change, wants_of, standing_in, with_out, Pops};
 ghost use Rattle.sb_txn.specs.View.{undo_of, out_of};
 
+use crate::StoreFault;
 use crate::changing::Wants;
 use std::alloc::{AllocError, Global};
 use std::marker::Model;
@@ -155,6 +156,41 @@ impl Book {
         tx
     }
 
+    /// Brings the transaction of a call to the front. A store that is down is left as it is.
+    pub fn call(&mut self, tx: u32) -> Result<(), StoreFault>
+        requires among { self.old.down ≡ false → IsAmong tx self.old.out }
+        requires most { self.old.down ≡ false → length self.old.out ≤ 8 }
+
+        ensures first { OnOk result (self.new ≡ called tx self.old) }
+        ensures up { OnOk result (self.old.down ≡ false) }
+        ensures err { IfErr result (λ e. e ≡ StoreFault.Down) }
+        ensures down { OnErr result ((self.old.down ≡ true) × (self.new ≡ self.old)) }
+    {
+        if self.down {
+            return Err(StoreFault::Down);
+        }
+        let at = self.place(tx);
+        let out = self.out.remove(at);
+        self.out.insert(0, out).unwrap();
+        Ok(())
+    }
+
+    /// How many changes of a transaction that is out stand.
+    pub fn standing_of(&self, tx: u32) -> usize
+        requires { IsAmong tx self.now.out }
+        ensures { result ≡ count_of tx self.now.out }
+    {
+        self.out[self.place(tx)].undos.len()
+    }
+
+    /// The place of a transaction among those that are out.
+    fn place(&self, tx: u32) -> usize
+        requires { IsAmong tx self.now.out }
+        ensures { position (λ o. o.tx == tx) self.now.out ≡ Some result }
+    {
+        place_of(&self.out, tx).unwrap()
+    }
+
     /// Whether the log has a record of the first transaction.
     pub fn is_begun(&self) -> bool
         requires { 0 < length self.now.out }
@@ -244,4 +280,11 @@ impl Book {
     {
         self.out.remove(0);
     }
+}
+
+/// Where the first transaction of this number stands.
+fn place_of(out: &[Out], tx: u32) -> Option<usize>
+    ensures { result ≡ position (λ o. o.tx == tx) out.now }
+{
+    out.iter().position(|out| out.tx == tx)
 }

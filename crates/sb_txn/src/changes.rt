@@ -1,9 +1,9 @@
 //! How a transaction changes a range of a page.
 
-ghost use Rattle.std.specs.Prelude.{◌≡◌, ◌∷◌, ◌+◌, ◌<◌, ◌≤◌, ◌^◌, ℕ, List, cond, false, length, IfErr, OnErr, OnOk};
+ghost use Rattle.std.specs.Prelude.{◌≡◌, ◌∷◌, ◌+◌, ◌<◌, ◌≤◌, ◌^◌, ℕ, List, Some, cond, false, length, IfErr, OnErr, OnOk};
 ghost use Rattle.sb_journal.specs.State.{used_of};
 ghost use Rattle.sb_pool.specs.State.{IsHeld, held};
-ghost use Rattle.sb_txn.specs.Book.{Out as Outs, IsFirst, change_len as len_of_change};
+ghost use Rattle.sb_txn.specs.Book.{Out as Outs, IsAmong, out_with, others, AreClear, IsFirst, change_len as len_of_change};
 ghost use Rattle.sb_txn.specs.Changes.{AddsUndo, NoRoom, AddErr};
 ghost use Rattle.sb_txn.specs.Clauses.{parts, IsReady, IsFaultOrDown, Keeps, LeavesWanted, Changes, ChangeErr, HasRoom};
 ghost use Rattle.sb_txn.specs.State.{together};
@@ -39,7 +39,7 @@ struct Edit<'a> {
 impl Store {
     /// Changes a range of a page. First it takes the memory that undoing the change will need.
     ///
-    /// `LogFull` and `GatesFull` come before anything has changed, with the numbers as they are then; where both would come it is `LogFull`.
+    /// `LogFull` and `GatesFull` come before anything has changed, with the numbers as they are then; where both would come it is `LogFull`. No standing change of another transaction may meet the range.
     pub fn change<D: Disk>(
         &mut self,
         disk: &mut D,
@@ -50,20 +50,23 @@ impl Store {
         bytes: &[u8],
     ) -> Result<(), StoreFault>
         requires ready { IsReady (parts D.told D.len disk.old self.old) }
-        requires first { self.old.book.down ≡ false → IsFirst tx.now.number self.old.book.out }
+        requires among { self.old.book.down ≡ false → IsAmong tx.now.number self.old.book.out }
         requires page { page < self.old.pool.geometry.pages }
         requires some { 0 < length bytes.now }
         requires range { offset + length bytes.now ≤ 4096 }
+        requires apart { self.old.book.down ≡ false → AreClear page offset (length bytes.now) (others tx.now.number self.old.book.out) }
 
-        ensures changes { OnOk result ((o : Outs) (rest : List Outs) → self.old.book.out ≡ o ∷ rest
-            → Changes (parts D.told D.len disk.old self.old) (parts D.told D.len disk.new self.new) o rest page offset bytes.now) }
-        ensures room { OnOk result ((o : Outs) (rest : List Outs) → self.old.book.out ≡ o ∷ rest
+        ensures changes { OnOk result ((o : Outs) → out_with tx.now.number self.old.book.out ≡ Some o
+            → Changes (parts D.told D.len disk.old self.old) (parts D.told D.len disk.new self.new)
+            o (others tx.now.number self.old.book.out) page offset bytes.now) }
+        ensures room { OnOk result ((o : Outs) → out_with tx.now.number self.old.book.out ≡ Some o
             → HasRoom self.old o page (length bytes.now)) }
-        ensures refused { IfErr result (λ e. (o : Outs) (rest : List Outs) → self.old.book.out ≡ o ∷ rest
+        ensures refused { IfErr result (λ e. (o : Outs) → out_with tx.now.number self.old.book.out ≡ Some o
             → ChangeErr (parts D.told D.len disk.old self.old) (parts D.told D.len disk.new self.new) o page (length bytes.now) e) }
         ensures any_moment { LeavesWanted (parts D.told D.len disk.old self.old) (parts D.told D.len disk.new self.new) }
         ensures keeps { Keeps D.told D.len D.faults disk.old disk.new self.old self.new result }
     {
+        self.book.call(tx.number)?;
         let edit = Edit {
             tx: tx.number,
             owner,
@@ -94,6 +97,8 @@ fn change<D: Disk>(
     requires page { edit.now.page < pool.old.geometry.pages }
     requires some { 0 < length edit.now.bytes.now }
     requires range { edit.now.offset + length edit.now.bytes.now ≤ 4096 }
+    requires apart { book.old.down ≡ false → (o : Outs) (rest : List Outs) → book.old.out ≡ o ∷ rest
+        → AreClear edit.now.page edit.now.offset (length edit.now.bytes.now) rest }
 
     ensures changes { OnOk result ((o : Outs) (rest : List Outs) → book.old.out ≡ o ∷ rest
         → Changes (parts D.told D.len disk.old (together journal.old pool.old book.old))
@@ -127,7 +132,7 @@ fn check_room(
     requires gates { journal.now.gates.len ≡ 65536 }
     requires page { page < length book.now.imaged }
     requires some { 0 < length book.now.out }
-    requires alone { length book.now.out ≤ 1 }
+    requires most { length book.now.out ≤ 8 }
     requires count { count ≤ 4096 }
 
     ensures ok { OnOk result ((o : Outs) (rest : List Outs) → book.now.out ≡ o ∷ rest
@@ -186,6 +191,8 @@ fn add_change<D: Disk>(
     requires page { edit.now.page < pool.old.geometry.pages }
     requires some { 0 < length edit.now.bytes.now }
     requires range { edit.now.offset + length edit.now.bytes.now ≤ 4096 }
+    requires apart { (o : Outs) (rest : List Outs) → book.old.out ≡ o ∷ rest
+        → AreClear edit.now.page edit.now.offset (length edit.now.bytes.now) rest }
 
     ensures changes { OnOk result ((o : Outs) (rest : List Outs) → book.old.out ≡ o ∷ rest
         → Changes (parts D.told D.len disk.old (together journal.old pool.old book.old))

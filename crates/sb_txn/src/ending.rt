@@ -70,8 +70,9 @@ pub(crate) fn commit<D: Disk>(
     book: &mut Book,
     tx: u32,
 ) -> Result<(), StoreFault>
-    requires ready { book.old.down ≡ false → (p : Pages) × IsReady (parts D.told D.len disk.old (together journal.old p book.old)) }
-    requires first { book.old.down ≡ false → IsFirst tx book.old.out }
+    requires ready { (p : Pages) × IsReady (parts D.told D.len disk.old (together journal.old p book.old)) }
+    requires up { book.old.down ≡ false }
+    requires first { IsFirst tx book.old.out }
 
     ensures commits { OnOk result ((p : Pages) (o : Outs) (rest : List Outs) → book.old.out ≡ o ∷ rest
         → Commits (parts D.told D.len disk.old (together journal.old p book.old)) (parts D.told D.len disk.new (together journal.new p book.new)) o rest) }
@@ -83,9 +84,6 @@ pub(crate) fn commit<D: Disk>(
     ensures keeps { (p : Pages) → IsReady (parts D.told D.len disk.old (together journal.old p book.old))
         → Keeps D.told D.len D.faults disk.old disk.new (together journal.old p book.old) (together journal.new p book.new) result }
 {
-    if book.is_down() {
-        return Err(StoreFault::Down);
-    }
     if !book.is_begun() {
         book.end();
         return Ok(());
@@ -110,7 +108,8 @@ pub(crate) fn abort<D: Disk>(
     book: &mut Book,
 ) -> Result<(), StoreFault>
     requires ready { IsReady (parts D.told D.len disk.old (together journal.old pool.old book.old)) }
-    requires some { book.old.down ≡ false → 0 < length book.old.out }
+    requires up { book.old.down ≡ false }
+    requires some { 0 < length book.old.out }
 
     ensures aborts { OnOk result ((o : Outs) (rest : List Outs) → book.old.out ≡ o ∷ rest
         → Aborts (parts D.told D.len disk.old (together journal.old pool.old book.old))

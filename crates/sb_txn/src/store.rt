@@ -7,7 +7,7 @@ ghost use Rattle.sb_log.specs.declared.geometry.Geometry.{Geometry};
 ghost use Rattle.sb_images.specs.Images.{Restores};
 ghost use Rattle.sb_images.specs.Store.{IfTold, IsMounted};
 ghost use Rattle.sb_pool.specs.State.{held, IsHeld, is_dirty};
-ghost use Rattle.sb_txn.specs.Book.{Out, IsFirst, standing_in};
+ghost use Rattle.sb_txn.specs.Book.{Out, IsAmong, out_with, others, standing_of};
 ghost use Rattle.sb_txn.specs.Clauses.{parts, IsReady, IsStoreOf, Keeps, IsFaultOrDown, LeavesWanted, Loads, IsPaged, Begins, GoesBack, Aborts, Commits, LeavesCommit, LeavesOne, IsIdle, Checkpoints};
 ghost use Rattle.sb_txn.specs.Opened.{IsOpened, OpenErr};
 
@@ -116,11 +116,11 @@ impl Store {
 
     /// How many changes of the transaction stand now.
     pub fn mark(&self, tx: &Tx) -> Mark
-        requires first { IsFirst tx.now.number self.now.book.out }
-        ensures { result.changes ≡ standing_in self.now.book.out }
+        requires among { IsAmong tx.now.number self.now.book.out }
+        ensures { result.changes ≡ standing_of tx.now.number self.now.book.out }
     {
         Mark {
-            changes: self.book.standing(),
+            changes: self.book.standing_of(tx.number),
         }
     }
 
@@ -144,15 +144,17 @@ impl Store {
     /// Takes back the changes of the transaction that were made behind the mark. The mark must not have been rolled past. The log gets no record of it: the next change or the commit of the transaction writes a Back first.
     pub fn back_to<D: Disk>(&mut self, disk: &mut D, tx: &Tx, mark: Mark) -> Result<(), StoreFault>
         requires ready { IsReady (parts D.told D.len disk.old self.old) }
-        requires first { self.old.book.down ≡ false → IsFirst tx.now.number self.old.book.out }
-        requires mark { self.old.book.down ≡ false → mark.changes ≤ standing_in self.old.book.out }
+        requires among { self.old.book.down ≡ false → IsAmong tx.now.number self.old.book.out }
+        requires mark { self.old.book.down ≡ false → mark.changes ≤ standing_of tx.now.number self.old.book.out }
 
-        ensures back { OnOk result ((o : Out) (rest : List Out) → self.old.book.out ≡ o ∷ rest
-            → GoesBack (parts D.told D.len disk.old self.old) (parts D.told D.len disk.new self.new) o rest mark.changes) }
+        ensures back { OnOk result ((o : Out) → out_with tx.now.number self.old.book.out ≡ Some o
+            → GoesBack (parts D.told D.len disk.old self.old) (parts D.told D.len disk.new self.new)
+            o (others tx.now.number self.old.book.out) mark.changes) }
         ensures any_moment { LeavesWanted (parts D.told D.len disk.old self.old) (parts D.told D.len disk.new self.new) }
         ensures err { IfErr result IsFaultOrDown }
         ensures keeps { Keeps D.told D.len D.faults disk.old disk.new self.old self.new result }
     {
+        self.book.call(tx.number)?;
         back_to(
             disk,
             &mut self.journal,
@@ -165,33 +167,35 @@ impl Store {
     /// Commits the transaction: when it answers Ok, the changes that stand are there after any crash. One that made no change makes no call on the disk.
     pub fn commit<D: Disk>(&mut self, disk: &mut D, tx: Tx) -> Result<(), StoreFault>
         requires ready { IsReady (parts D.told D.len disk.old self.old) }
-        requires first { self.old.book.down ≡ false → IsFirst tx.number self.old.book.out }
+        requires among { self.old.book.down ≡ false → IsAmong tx.number self.old.book.out }
 
-        ensures commits { OnOk result ((o : Out) (rest : List Out) → self.old.book.out ≡ o ∷ rest
-            → Commits (parts D.told D.len disk.old self.old) (parts D.told D.len disk.new self.new) o rest) }
-        ensures any_moment { (o : Out) (rest : List Out) → self.old.book.out ≡ o ∷ rest
+        ensures commits { OnOk result ((o : Out) → out_with tx.number self.old.book.out ≡ Some o
+            → Commits (parts D.told D.len disk.old self.old) (parts D.told D.len disk.new self.new) o (others tx.number self.old.book.out)) }
+        ensures any_moment { (o : Out) → out_with tx.number self.old.book.out ≡ Some o
             → LeavesCommit (parts D.told D.len disk.old self.old) (parts D.told D.len disk.new self.new) o }
         ensures alone { (o : Out) → self.old.book.out ≡ o ∷ [] → LeavesOne (parts D.told D.len disk.old self.old) (parts D.told D.len disk.new self.new) }
-        ensures idle { (o : Out) (rest : List Out) → self.old.book.out ≡ o ∷ rest → IsIdle o disk.old disk.new self.old self.new }
+        ensures idle { (o : Out) → out_with tx.number self.old.book.out ≡ Some o → IsIdle o disk.old disk.new self.old self.new }
         ensures err { IfErr result IsFaultOrDown }
         ensures keeps { Keeps D.told D.len D.faults disk.old disk.new self.old self.new result }
     {
         let Tx { number } = tx;
+        self.book.call(number)?;
         commit(disk, &mut self.journal, &mut self.book, number)
     }
 
     /// Takes the changes of the transaction out again.
     pub fn abort<D: Disk>(&mut self, disk: &mut D, tx: Tx) -> Result<(), StoreFault>
         requires ready { IsReady (parts D.told D.len disk.old self.old) }
-        requires first { self.old.book.down ≡ false → IsFirst tx.number self.old.book.out }
+        requires among { self.old.book.down ≡ false → IsAmong tx.number self.old.book.out }
 
-        ensures aborts { OnOk result ((o : Out) (rest : List Out) → self.old.book.out ≡ o ∷ rest
-            → Aborts (parts D.told D.len disk.old self.old) (parts D.told D.len disk.new self.new) o rest) }
+        ensures aborts { OnOk result ((o : Out) → out_with tx.number self.old.book.out ≡ Some o
+            → Aborts (parts D.told D.len disk.old self.old) (parts D.told D.len disk.new self.new) o (others tx.number self.old.book.out)) }
         ensures any_moment { LeavesWanted (parts D.told D.len disk.old self.old) (parts D.told D.len disk.new self.new) }
         ensures err { IfErr result IsFaultOrDown }
         ensures keeps { Keeps D.told D.len D.faults disk.old disk.new self.old self.new result }
     {
-        let Tx { number: _ } = tx;
+        let Tx { number } = tx;
+        self.book.call(number)?;
         abort(disk, &mut self.journal, &mut self.pool, &mut self.book)
     }
 

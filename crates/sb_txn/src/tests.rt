@@ -1,7 +1,7 @@
 //! Three transactions over four pages, stopped at each call and restarted, and with each call failing in turn. And a log that fills.
 
 ghost use Rattle.std.specs.Prelude.{◌≡◌, ◌<◌, ◌≤◌, [], false, length, IfSome, OnOk, OnErr};
-ghost use Rattle.sb_txn.specs.Book.{IsFirst, standing_in};
+ghost use Rattle.sb_txn.specs.Book.{IsOnly, standing_of};
 ghost use Rattle.sb_txn.specs.Clauses.{parts, IsReady};
 
 use crate::{Mark, Store, StoreFault, Tx};
@@ -87,14 +87,14 @@ fn put<D: Disk>(
     bytes: &[u8],
 ) -> Result<(), StoreFault>
     requires ready { IsReady (parts D.told D.len disk.old store.old) }
-    requires first { store.old.book.down ≡ false → IsFirst tx.now.number store.old.book.out }
+    requires only { store.old.book.down ≡ false → IsOnly tx.now.number store.old.book.out }
     requires pages { 64 ≤ store.old.pool.geometry.pages }
     requires page { page < 64 }
     requires some { 0 < length bytes.now }
     requires few { length bytes.now ≤ 4000 }
     ensures ready { IsReady (parts D.told D.len disk.new store.new) }
-    ensures first { store.new.book.down ≡ false → IsFirst tx.now.number store.new.book.out }
-    ensures standing { OnOk result (standing_in store.old.book.out ≤ standing_in store.new.book.out) }
+    ensures only { store.new.book.down ≡ false → IsOnly tx.now.number store.new.book.out }
+    ensures standing { OnOk result (standing_of tx.now.number store.old.book.out ≤ standing_of tx.now.number store.new.book.out) }
     ensures pages { 64 ≤ store.new.pool.geometry.pages }
 {
     store.change(disk, tx, 1, page, 5, bytes)
@@ -108,11 +108,11 @@ fn take_back<D: Disk>(
     mark: Mark,
 ) -> Result<(), StoreFault>
     requires ready { IsReady (parts D.told D.len disk.old store.old) }
-    requires first { store.old.book.down ≡ false → IsFirst tx.now.number store.old.book.out }
-    requires mark { store.old.book.down ≡ false → mark.changes ≤ standing_in store.old.book.out }
+    requires only { store.old.book.down ≡ false → IsOnly tx.now.number store.old.book.out }
+    requires mark { store.old.book.down ≡ false → mark.changes ≤ standing_of tx.now.number store.old.book.out }
     requires pages { 64 ≤ store.old.pool.geometry.pages }
     ensures ready { IsReady (parts D.told D.len disk.new store.new) }
-    ensures first { store.new.book.down ≡ false → IsFirst tx.now.number store.new.book.out }
+    ensures only { store.new.book.down ≡ false → IsOnly tx.now.number store.new.book.out }
     ensures pages { 64 ≤ store.new.pool.geometry.pages }
 {
     store.back_to(disk, tx, mark)
@@ -126,7 +126,7 @@ fn finish<D: Disk>(
     done: Result<(), StoreFault>,
 ) -> Result<(), StoreFault>
     requires ready { IsReady (parts D.told D.len disk.old store.old) }
-    requires first { store.old.book.down ≡ false → IsFirst tx.number store.old.book.out }
+    requires only { store.old.book.down ≡ false → IsOnly tx.number store.old.book.out }
     requires pages { 64 ≤ store.old.pool.geometry.pages }
     ensures ready { IsReady (parts D.told D.len disk.new store.new) }
     ensures none { OnOk result (store.new.book.out ≡ []) }
@@ -144,10 +144,10 @@ fn finish<D: Disk>(
 // What the first transaction does.
 fn change_two<D: Disk>(store: &mut Store, disk: &mut D, tx: &Tx) -> Result<(), StoreFault>
     requires ready { IsReady (parts D.told D.len disk.old store.old) }
-    requires first { store.old.book.down ≡ false → IsFirst tx.now.number store.old.book.out }
+    requires only { store.old.book.down ≡ false → IsOnly tx.now.number store.old.book.out }
     requires pages { 64 ≤ store.old.pool.geometry.pages }
     ensures ready { IsReady (parts D.told D.len disk.new store.new) }
-    ensures first { store.new.book.down ≡ false → IsFirst tx.now.number store.new.book.out }
+    ensures only { store.new.book.down ≡ false → IsOnly tx.now.number store.new.book.out }
     ensures pages { 64 ≤ store.new.pool.geometry.pages }
 {
     put(store, disk, tx, 0, b"aaa")?;
@@ -157,11 +157,11 @@ fn change_two<D: Disk>(store: &mut Store, disk: &mut D, tx: &Tx) -> Result<(), S
 // What is taken back again.
 fn change_twice<D: Disk>(store: &mut Store, disk: &mut D, tx: &Tx) -> Result<(), StoreFault>
     requires ready { IsReady (parts D.told D.len disk.old store.old) }
-    requires first { store.old.book.down ≡ false → IsFirst tx.now.number store.old.book.out }
-    requires some { IsFirst tx.now.number store.old.book.out }
+    requires only { store.old.book.down ≡ false → IsOnly tx.now.number store.old.book.out }
+    requires some { IsOnly tx.now.number store.old.book.out }
     requires pages { 64 ≤ store.old.pool.geometry.pages }
     ensures ready { IsReady (parts D.told D.len disk.new store.new) }
-    ensures first { store.new.book.down ≡ false → IsFirst tx.now.number store.new.book.out }
+    ensures only { store.new.book.down ≡ false → IsOnly tx.now.number store.new.book.out }
     ensures pages { 64 ≤ store.new.pool.geometry.pages }
 {
     let mark = store.mark(tx);
@@ -173,11 +173,11 @@ fn change_twice<D: Disk>(store: &mut Store, disk: &mut D, tx: &Tx) -> Result<(),
 // What the second transaction does.
 fn change_three<D: Disk>(store: &mut Store, disk: &mut D, tx: &Tx) -> Result<(), StoreFault>
     requires ready { IsReady (parts D.told D.len disk.old store.old) }
-    requires first { store.old.book.down ≡ false → IsFirst tx.now.number store.old.book.out }
-    requires some { IsFirst tx.now.number store.old.book.out }
+    requires only { store.old.book.down ≡ false → IsOnly tx.now.number store.old.book.out }
+    requires some { IsOnly tx.now.number store.old.book.out }
     requires pages { 64 ≤ store.old.pool.geometry.pages }
     ensures ready { IsReady (parts D.told D.len disk.new store.new) }
-    ensures first { store.new.book.down ≡ false → IsFirst tx.now.number store.new.book.out }
+    ensures only { store.new.book.down ≡ false → IsOnly tx.now.number store.new.book.out }
     ensures pages { 64 ≤ store.new.pool.geometry.pages }
 {
     change_twice(store, disk, tx)?;
@@ -368,10 +368,10 @@ fn after_a_failed_call_the_store_is_down(rt: HostRuntime) -> Result<(), Fail> {
 // Changes of 4,000 bytes until one is refused: how many were made, and why no more.
 fn fill<D: Disk>(store: &mut Store, disk: &mut D, tx: &Tx) -> (u32, Option<StoreFault>)
     requires ready { IsReady (parts D.told D.len disk.old store.old) }
-    requires first { store.old.book.down ≡ false → IsFirst tx.now.number store.old.book.out }
+    requires only { store.old.book.down ≡ false → IsOnly tx.now.number store.old.book.out }
     requires pages { 64 ≤ store.old.pool.geometry.pages }
     ensures ready { IsReady (parts D.told D.len disk.new store.new) }
-    ensures first { store.new.book.down ≡ false → IsFirst tx.now.number store.new.book.out }
+    ensures only { store.new.book.down ≡ false → IsOnly tx.now.number store.new.book.out }
     ensures pages { 64 ≤ store.new.pool.geometry.pages }
 {
     let bytes = [7u8; 4000];
@@ -386,7 +386,7 @@ fn fill<D: Disk>(store: &mut Store, disk: &mut D, tx: &Tx) -> (u32, Option<Store
 // Takes all changes out again.
 fn leave<D: Disk>(store: &mut Store, disk: &mut D, tx: Tx) -> Result<(), StoreFault>
     requires ready { IsReady (parts D.told D.len disk.old store.old) }
-    requires first { store.old.book.down ≡ false → IsFirst tx.number store.old.book.out }
+    requires only { store.old.book.down ≡ false → IsOnly tx.number store.old.book.out }
     requires pages { 64 ≤ store.old.pool.geometry.pages }
     ensures ready { IsReady (parts D.told D.len disk.new store.new) }
     ensures none { OnOk result (store.new.book.out ≡ []) }

@@ -1,6 +1,5 @@
 use Rattle.std.proofs.Common.{◌≡◌, ℕ, false, List, [], ◌∷◌, ◌++◌, sym, ◌∙◌, ap, subst}
-use Rattle.sb_txn.specs.Book.{Out, Book, new_out, begun_book}
-use Rattle.sb_txn.specs.Clauses.{Begins, IsStoreOf, parts}
+use Rattle.sb_txn.specs.Book.{Out, Book, new_out}
 use Rattle.sb_txn.specs.State.{together}
 use Rattle.sb_txn.specs.Tied.{Ties}
 use Rattle.sb_txn.proofs.BeginLemmas.{Ties-begin}

@@ -1,9 +1,7 @@
-use Rattle.std.proofs.Common.{◌≡◌, ℕ, false, List, [], sym, ◌∙◌, ap, subst}
+use Rattle.std.proofs.Common.{◌≡◌, false, List, [], sym, ◌∙◌, ap, subst}
 use Rattle.sb_journal.specs.State.{after_force}
-use Rattle.sb_log.specs.Records.{Record}
 use Rattle.sb_images.specs.Store.{IsStoreOn}
-use Rattle.sb_txn.specs.Book.{Out, Book, actives, emptied_book}
-use Rattle.sb_txn.specs.Clauses.{Holds, IsStoreOf, parts}
+use Rattle.sb_txn.specs.Book.{Out, Book, actives}
 use Rattle.sb_txn.specs.State.{together}
 use Rattle.sb_txn.specs.Tied.{Ties}
 use Rattle.sb_txn.proofs.BeginLemmas.{Ties-checkpoint, used-closed}

@@ -8,8 +8,8 @@ use Rattle.sb_txn.specs.Book.{Book, with_change}
 use Rattle.sb_txn.specs.Clauses.{parts, LeavesWanted, Changes}
 use Rattle.sb_txn.specs.Logging.{HasSpace, records_len}
 use Rattle.sb_txn.specs.State.{together}
-use Rattle.sb_txn.proofs.EditLemmas.{LeavesChange, StoresChange, HasSpace-edit, LeavesWanted-edit, IsAhead-edit, LeavesWanted-edited, lens-edited, Changes-edited, first_with, one_first, code_change, as_edit, Keeps-after, AddErr-write}
-use Rattle.sb_txn.proofs.KeepsLemmas.{LeavesWanted-none, Keeps-fault}
+use Rattle.sb_txn.proofs.EditLemmas.{LeavesChange, StoresChange, HasSpace-edit, LeavesWanted-edit, IsAhead-edit, LeavesWanted-edited, lens-edited, Changes-edited, first_with, one_first, code_change, as_edit, AddErr-write}
+use Rattle.sb_txn.proofs.KeepsLemmas.{LeavesWanted-none, Keeps-fault, Keeps-after}
 use Rattle.sb_txn.proofs.ResultLemmas.{OnOk-map}
 use Rattle.sb_txn.proofs.changes.add_change.Goals as goal
 
@@ -32,7 +32,7 @@ returns-in-Err-clause-any_moment g c =
     (LeavesChange told new c.args.journal.now c.args.pool.now.geometry edit.page image)
     (record { each = λ want now opened pending rest. c.log_change.ensures.any_moment want now c.args.pool.now.geometry opened pending rest change refl }) in
     LeavesWanted-edit told (g.D.Disk.len c.args.disk.now) c.args.journal.now c.args.pool.now c.args.book.now first.o first.rest edit.owner edit.page edit.offset image edit.bytes.now
-    first.is c.requires.page c.requires.range c.page-image.ensures.long c.requires.held (ap (λ h. bytes_or [] h) c.page-image.ensures.bytes) (c.requires.room first.o first.rest first.is)
+    first.is c.requires.page c.requires.range c.page-image.ensures.long c.requires.held (ap (λ h. bytes_or [] h) c.page-image.ensures.bytes) (c.requires.room first.o first.rest first.is) (c.requires.apart first.o first.rest first.is)
     new c.log_change.ensures.logs.tells leaves (g.D.Disk.len c.log_change.new.disk) c.log_change.new.journal c.fail.new.self
 
 pub returns-in-Err-clause-keeps : goal.returns-in-Err-clause-keeps
@@ -48,7 +48,7 @@ returns-in-Err-clause-keeps g c =
     Keeps-fault g.D.Disk.told g.D.Disk.len g.D.Disk.faults _ _ (together c.args.journal.now c.args.pool.now c.args.book.now) (together c.log_change.new.journal c.args.pool.now c.fail.new.self) c.requires.up (ap (λ (b : Book). b.down) c.fail.ensures)
     c.log_change.ensures.stays.size refl c.log_change.ensures.stays.later
     (rose (HasSpace-edit told (g.D.Disk.len c.args.disk.now) c.args.journal.now c.args.pool.now c.args.book.now first.o first.rest edit.owner edit.page edit.offset image edit.bytes.now
-    first.is c.requires.page c.requires.range c.page-image.ensures.long c.requires.held (ap (λ h. bytes_or [] h) c.page-image.ensures.bytes) (c.requires.room first.o first.rest first.is) ready.0 ready.1 ready.2))
+    first.is c.requires.page c.requires.range c.page-image.ensures.long c.requires.held (ap (λ h. bytes_or [] h) c.page-image.ensures.bytes) (c.requires.room first.o first.rest first.is) (c.requires.apart first.o first.rest first.is) ready.0 ready.1 ready.2))
 
 -- the records are in the log, and the bytes aren't in the page yet
 pub write_range-requires-clause-up : goal.write_range-requires-clause-up
@@ -80,7 +80,7 @@ write_range-requires-clause-ahead g c =
       ready.0,
       ready.1,
       IsAhead-edit told (g.D.Disk.len c.args.disk.now) c.args.journal.now c.args.pool.now c.args.book.now first.o first.rest edit.owner edit.page edit.offset image edit.bytes.now
-          first.is c.requires.page c.requires.range c.page-image.ensures.long c.requires.held is_held (c.requires.room first.o first.rest first.is)
+          first.is c.requires.page c.requires.range c.page-image.ensures.long c.requires.held is_held (c.requires.room first.o first.rest first.is) (c.requires.apart first.o first.rest first.is)
           new call.logs.tells leaves (g.D.Disk.len c.log_change.new.disk) c.log_change.new.journal c.add_undo.new.book stores added done call.logs.elsewhere call.stays.stands call.stays.size ready.0 ready.1 ready.2,
     )
 
@@ -112,15 +112,15 @@ returns-in-Ok g c =
       changes = OnOk-map c.write_range.result _ _ (λ caught o rest is.
           one_first (λ x xs. Changes (parts g.D.Disk.told g.D.Disk.len c.args.disk.now (together c.args.journal.now c.args.pool.now c.args.book.now)) end x xs edit.page edit.offset edit.bytes.now) c.args.book.now.out first.o o first.rest rest first.is is
           (Changes-edited told (g.D.Disk.len c.args.disk.now) c.args.journal.now c.args.pool.now c.args.book.now first.o first.rest edit.owner edit.page edit.offset image edit.bytes.now
-          first.is c.requires.page c.requires.range c.page-image.ensures.long c.requires.held is_held (c.requires.room first.o first.rest first.is)
+          first.is c.requires.page c.requires.range c.page-image.ensures.long c.requires.held is_held (c.requires.room first.o first.rest first.is) (c.requires.apart first.o first.rest first.is)
           new call.logs.tells leaves (g.D.Disk.len c.log_change.new.disk) c.log_change.new.journal c.add_undo.new.book stores added done call.logs.elsewhere call.stays.stands call.stays.size end ready.0 ready.1 ready.2 caught)) c.write_range.ensures.written;
       chunks = OnOk-map c.write_range.result _ _ (λ caught.
           lens-edited told (g.D.Disk.len c.args.disk.now) c.args.journal.now c.args.pool.now c.args.book.now first.o first.rest edit.owner edit.page edit.offset image edit.bytes.now
-          first.is c.requires.page c.requires.range c.page-image.ensures.long c.requires.held is_held (c.requires.room first.o first.rest first.is)
+          first.is c.requires.page c.requires.range c.page-image.ensures.long c.requires.held is_held (c.requires.room first.o first.rest first.is) (c.requires.apart first.o first.rest first.is)
           new call.logs.tells leaves (g.D.Disk.len c.log_change.new.disk) c.log_change.new.journal c.add_undo.new.book stores added done call.logs.elsewhere call.stays.stands call.stays.size end caught) c.write_range.ensures.written;
       refused = AddErr-write c.write_range.result _ _ c.write_range.ensures.err (λ e. false≢true (sym up_now ∙ c.write_range.ensures.keeps.only e));
       any_moment = LeavesWanted-edited told (g.D.Disk.len c.args.disk.now) c.args.journal.now c.args.pool.now c.args.book.now first.o first.rest edit.owner edit.page edit.offset image edit.bytes.now
-          first.is c.requires.page c.requires.range c.page-image.ensures.long c.requires.held is_held (c.requires.room first.o first.rest first.is)
+          first.is c.requires.page c.requires.range c.page-image.ensures.long c.requires.held is_held (c.requires.room first.o first.rest first.is) (c.requires.apart first.o first.rest first.is)
           new call.logs.tells leaves (g.D.Disk.len c.log_change.new.disk) c.log_change.new.journal c.add_undo.new.book stores added done call.logs.elsewhere call.stays.stands call.stays.size end c.write_range.ensures.any_moment;
       keeps = Keeps-after g.D.Disk.told g.D.Disk.len g.D.Disk.faults c.write_range.result _ _ _ (together c.args.journal.now c.args.pool.now c.args.book.now) (together c.log_change.new.journal c.args.pool.now c.add_undo.new.book) _ c.requires.up up_now refl call.stays.size call.stays.later c.write_range.ensures.keeps;
     }

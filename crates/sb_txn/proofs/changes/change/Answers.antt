@@ -1,8 +1,8 @@
-use Rattle.std.proofs.Common.{length, ◌∙◌, ap}
+use Rattle.std.proofs.Common.{length, sym, ◌∙◌, ap}
 use Rattle.sb_txn.specs.Book.{Book}
 use Rattle.sb_txn.specs.Clauses.{parts}
 use Rattle.sb_txn.specs.State.{together}
-use Rattle.sb_txn.proofs.KeepsLemmas.{LeavesWanted-then}
+use Rattle.sb_txn.proofs.KeepsLemmas.{Keeps-up, LeavesWanted-then}
 use Rattle.sb_txn.proofs.LoadedLemmas.{HasRoom-loaded, ChangeErr-room, ChangeErr-add, Changes-loaded}
 use Rattle.sb_txn.proofs.ResultLemmas.{OnOk-both, OnOk-has, IfErr-map, IfErr-from}
 use Rattle.sb_txn.proofs.changes.change.Goals as goal
@@ -13,7 +13,7 @@ returns-in_err-check_room-clause-refused g c =
     let e = c.in_err-check_room.field-0.0 in
     IfErr-from c.from_residual-in_err-check_room.result e _ c.from_residual-in_err-check_room.ensures.1 (λ o rest is.
     ChangeErr-room (parts g.D.Disk.told g.D.Disk.len c.args.disk.now (together c.args.journal.now c.args.pool.now c.args.book.now)) (parts g.D.Disk.told g.D.Disk.len c.load.new.disk (together c.load.new.journal c.load.new.pool c.load.new.book)) loads
-    o c.args.edit.now.page (length c.args.edit.now.bytes.now) e (c.in_err-check_room.ensures.err o rest (ap (λ (b : Book). b.out) loads.book ∙ is)))
+    o rest c.args.edit.now.page (length c.args.edit.now.bytes.now) e is (c.in_err-check_room.ensures.err o rest (ap (λ (b : Book). b.out) loads.book ∙ is)))
 
 pub returns-clause-changes : goal.returns-clause-changes
 returns-clause-changes g c =
@@ -35,10 +35,16 @@ returns-clause-refused g c =
     let loads = c.in_ok-load.ensures.loads in
     IfErr-map c.add_change.result _ _ (λ e err o rest is.
     ChangeErr-add (parts g.D.Disk.told g.D.Disk.len c.args.disk.now (together c.args.journal.now c.args.pool.now c.args.book.now)) (parts g.D.Disk.told g.D.Disk.len c.load.new.disk (together c.load.new.journal c.load.new.pool c.load.new.book)) loads
-    (parts g.D.Disk.told g.D.Disk.len c.add_change.new.disk (together c.add_change.new.journal c.add_change.new.pool c.add_change.new.book)) o c.args.edit.now.page (length c.args.edit.now.bytes.now) e err) c.add_change.ensures.refused
+    (parts g.D.Disk.told g.D.Disk.len c.add_change.new.disk (together c.add_change.new.journal c.add_change.new.pool c.add_change.new.book)) o rest c.args.edit.now.page (length c.args.edit.now.bytes.now) e is err) c.add_change.ensures.refused
 
 pub returns-clause-any_moment : goal.returns-clause-any_moment
 returns-clause-any_moment g c =
     LeavesWanted-then (parts g.D.Disk.told g.D.Disk.len c.args.disk.now (together c.args.journal.now c.args.pool.now c.args.book.now)) (parts g.D.Disk.told g.D.Disk.len c.load.new.disk (together c.load.new.journal c.load.new.pool c.load.new.book))
     (parts g.D.Disk.told g.D.Disk.len c.add_change.new.disk (together c.add_change.new.journal c.add_change.new.pool c.add_change.new.book))
     (λ now. now) c.load.ensures.keeps.geometry c.in_ok-load.ensures.loads.pages c.load.ensures.any_moment c.add_change.ensures.any_moment
+
+pub add_change-requires-clause-apart : goal.add_change-requires-clause-apart
+add_change-requires-clause-apart g c o rest is =
+    let loads = c.in_ok-load.ensures.loads in
+    let up = Keeps-up g.D.Disk.told g.D.Disk.len g.D.Disk.faults tt c.args.disk.now c.load.new.disk (together c.args.journal.now c.args.pool.now c.args.book.now) (together c.load.new.journal c.load.new.pool c.load.new.book) c.in_ok-load.ensures.keeps in
+    c.requires.apart up o rest (ap (λ (b : Book). b.out) (sym loads.book) ∙ is)

@@ -1,10 +1,8 @@
-use Rattle.std.proofs.Common.{rules, ◌≡◌, ℕ, Bool, true, false, List, [], ◌∷◌, ◌++◌, subst, sym}
-use Rattle.sb_log.specs.Records.{Record}
+use Rattle.std.proofs.Common.{rules, ◌≡◌, Bool, true, ◌++◌, subst, sym}
 use Rattle.sb_log.specs.Rec.{record_of}
 use Rattle.sb_images.specs.Store.{IsStoreOn}
 use Rattle.sb_images.proofs.CallLemmas.{LeavesOnly-idle}
 use Rattle.sb_txn.specs.Steps.{some}
-use Rattle.sb_txn.proofs.ChangeLemmas.{IsStoreOn-none}
 use Rattle.sb_txn.proofs.changing.append_if.Goals as goal
 
 pub returns-then-not-wanted-clause-any_moment : goal.returns-then-not-wanted-clause-any_moment

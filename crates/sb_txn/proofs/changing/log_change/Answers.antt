@@ -1,4 +1,4 @@
-use Rattle.std.proofs.Common.{rules, ◌≡◌, ℕ, suc, List, [], ◌∷◌, ◌++◌, subst, sym, ◌∙◌}
+use Rattle.std.proofs.Common.{suc, [], ◌∷◌, ◌++◌, subst, sym, ◌∙◌}
 use Rattle.sb_disk.proofs.MomentLemmas.{and_then}
 use Rattle.sb_images.specs.Images.{Restores}
 use Rattle.sb_images.specs.Store.{IsStoreOn}

@@ -1,9 +1,9 @@
-use Rattle.std.proofs.Common.{◌≡◌, ℕ, false, List, ◌∷◌, length, sym, ◌∙◌, ap, subst, arith}
-use Rattle.sb_txn.specs.Book.{Out, Book, with_out}
+use Rattle.std.proofs.Common.{◌≡◌, false, List, length, sym, ◌∙◌, ap, subst, arith}
+use Rattle.sb_txn.specs.Book.{Out, Book}
 use Rattle.sb_txn.specs.Clauses.{parts, cut_back, Aborts}
 use Rattle.sb_txn.specs.State.{together}
 use Rattle.sb_txn.proofs.BackLemmas.{Aborts-undoes, any_first}
-use Rattle.sb_txn.proofs.KeepsLemmas.{Keeps-up, Keeps-still, Keeps-ok}
+use Rattle.sb_txn.proofs.KeepsLemmas.{Keeps-still, Keeps-ok}
 use Rattle.sb_txn.proofs.ending.abort.Goals as goal
 
 pub returns-clause-aborts : goal.returns-clause-aborts
@@ -16,8 +16,8 @@ returns-clause-aborts g c o rest is =
 pub end-requires : goal.end-requires
 end-requires g c =
     let back = c.in_ok-back_to.ensures in
-    let up = Keeps-up g.D.Disk.told g.D.Disk.len g.D.Disk.faults tt c.args.disk.now c.back_to.new.disk (together c.args.journal.now c.args.pool.now c.args.book.now) (together c.back_to.new.journal c.back_to.new.pool c.back_to.new.book) back.keeps in
-    let first = any_first c.args.book.now.out (c.requires.some up) in
+    let up = c.requires.up in
+    let first = any_first c.args.book.now.out c.requires.some in
     let is = ap (λ (l : List Out). length l) (back.undoes first.0 first.1 first.2).out in
     omega arith
 
@@ -25,8 +25,8 @@ pub returns-clause-keeps : goal.returns-clause-keeps
 returns-clause-keeps g c =
     let back = c.in_ok-back_to.ensures in
     let s = together c.args.journal.now c.args.pool.now c.args.book.now in
-    let up = Keeps-up g.D.Disk.told g.D.Disk.len g.D.Disk.faults tt c.args.disk.now c.back_to.new.disk s (together c.back_to.new.journal c.back_to.new.pool c.back_to.new.book) back.keeps in
-    let first = any_first c.args.book.now.out (c.requires.some up) in
+    let up = c.requires.up in
+    let first = any_first c.args.book.now.out c.requires.some in
     let aborts = returns-clause-aborts g c first.0 first.1 first.2 in
     let mid_up = Keeps-still g.D.Disk.told g.D.Disk.len g.D.Disk.faults tt c.args.disk.now c.back_to.new.disk s (together c.back_to.new.journal c.back_to.new.pool c.back_to.new.book) up back.keeps in
     let still : c.end.new.self.down ≡ false = ap (λ (b : Book). b.down) (c.end.ensures (cut_back first.0 0) first.1 (back.undoes first.0 first.1 first.2).out) ∙ mid_up in

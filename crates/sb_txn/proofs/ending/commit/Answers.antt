@@ -1,14 +1,10 @@
-use Rattle.std.proofs.Common.{rules, ◌≡◌, ℕ, Bool, false, Option, List, ◌∷◌, refl, sym, ◌∙◌, ap, subst}
-use Rattle.sb_disk.specs.Disk.{Story}
-use Rattle.sb_txn.specs.Book.{Out, Book, with_out}
+use Rattle.std.proofs.Common.{rules, ◌≡◌, false, refl, sym, ◌∙◌, ap, subst}
+use Rattle.sb_txn.specs.Book.{Book}
 use Rattle.sb_txn.specs.Clauses.{parts, Commits}
 use Rattle.sb_txn.specs.State.{together}
 use Rattle.sb_txn.proofs.EndLemmas.{Commits-idle, LeavesCommit-idle, Finishes, LeavesFinish, Commits-finish, LeavesCommit-finish, first_is, of_first}
 use Rattle.sb_txn.proofs.KeepsLemmas.{Keeps-ok}
 use Rattle.sb_txn.proofs.ending.commit.Goals as goal
-
-pub returns-then-is_down-clause-any_moment : goal.returns-then-is_down-clause-any_moment
-returns-then-is_down-clause-any_moment g c p o rest is = LeavesCommit-idle _ (g.D.Disk.len c.args.disk.now) c.args.journal.now p c.args.book.now c.args.book.now o
 
 -- ---- no record
 pub returns-then-not-is_begun-clause-any_moment : goal.returns-then-not-is_begun-clause-any_moment
@@ -22,8 +18,8 @@ returns-then-not-is_begun-clause-commits g c p o rest is =
 
 pub returns-then-not-is_begun-clause-keeps : goal.returns-then-not-is_begun-clause-keeps
 returns-then-not-is_begun-clause-keeps g c p ready =
-    let up : c.args.book.now.down ≡ false = sym c.is_down.ensures ∙ c.if-is_down.false in
-    let first = first_is c.args.tx c.args.book.now.out (c.requires.first up) in
+    let up = c.requires.up in
+    let first = first_is c.args.tx c.args.book.now.out c.requires.first in
     let still : c.end.new.self.down ≡ false = ap (λ (b : Book). b.down) (c.end.ensures first.0 first.1 first.2) ∙ up in
     let store = ready up in
     Keeps-ok g.D.Disk.told g.D.Disk.len g.D.Disk.faults tt c.args.disk.now c.args.disk.now (together c.args.journal.now p c.args.book.now) (together c.args.journal.now p c.end.new.self) up still refl refl (search rules)
@@ -32,31 +28,31 @@ returns-then-not-is_begun-clause-keeps g c p ready =
 -- ---- the records of its end
 pub returns-in-Err-clause-any_moment : goal.returns-in-Err-clause-any_moment
 returns-in-Err-clause-any_moment g c p o rest is =
-    let up : c.args.book.now.down ≡ false = sym c.is_down.ensures ∙ c.if-is_down.false in
+    let up = c.requires.up in
     let leaves = of_first (λ tx n undone. LeavesFinish (g.D.Disk.told c.args.disk.now) (g.D.Disk.told c.finish.new.disk) c.args.journal.now tx n undone) c.args.book.now.out o rest is c.args.tx c.standing.result c.is_undone.result
-    (c.requires.first up) c.standing.ensures (c.is_undone.ensures o rest is) (record { each = c.finish.ensures.any_moment }) in
+    c.requires.first c.standing.ensures (c.is_undone.ensures o rest is) (record { each = c.finish.ensures.any_moment }) in
     LeavesCommit-finish _ _ (g.D.Disk.len c.args.disk.now) (g.D.Disk.len c.finish.new.disk) c.args.journal.now c.finish.new.journal p c.args.book.now c.args.book.now o rest is leaves
 
 pub returns-in-Ok-clause-any_moment : goal.returns-in-Ok-clause-any_moment
 returns-in-Ok-clause-any_moment g c p o rest is =
-    let up : c.args.book.now.down ≡ false = sym c.is_down.ensures ∙ c.if-is_down.false in
+    let up = c.requires.up in
     let leaves = of_first (λ tx n undone. LeavesFinish (g.D.Disk.told c.args.disk.now) (g.D.Disk.told c.finish.new.disk) c.args.journal.now tx n undone) c.args.book.now.out o rest is c.args.tx c.standing.result c.is_undone.result
-    (c.requires.first up) c.standing.ensures (c.is_undone.ensures o rest is) (record { each = c.finish.ensures.any_moment }) in
+    c.requires.first c.standing.ensures (c.is_undone.ensures o rest is) (record { each = c.finish.ensures.any_moment }) in
     LeavesCommit-finish _ _ (g.D.Disk.len c.args.disk.now) (g.D.Disk.len c.finish.new.disk) c.args.journal.now c.finish.new.journal p c.args.book.now c.args.book.now o rest is leaves
 
 pub returns-in-Ok-clause-commits : goal.returns-in-Ok-clause-commits
 returns-in-Ok-clause-commits g c p o rest is =
-    let up : c.args.book.now.down ≡ false = sym c.is_down.ensures ∙ c.if-is_down.false in
+    let up = c.requires.up in
     let call = c.in-Ok.ensures in
     let finish = of_first (λ tx n undone. Finishes (g.D.Disk.told c.args.disk.now) (g.D.Disk.told c.finish.new.disk) c.args.journal.now c.finish.new.journal tx n undone) c.args.book.now.out o rest is c.args.tx c.standing.result c.is_undone.result
-    (c.requires.first up) c.standing.ensures (c.is_undone.ensures o rest is) (record { done = call.done; pages = call.pages; stands = call.stays.stands; store = call.store }) in
+    c.requires.first c.standing.ensures (c.is_undone.ensures o rest is) (record { done = call.done; pages = call.pages; stands = call.stays.stands; store = call.store }) in
     subst (λ (b : Book). Commits (parts g.D.Disk.told g.D.Disk.len c.args.disk.now (together c.args.journal.now p c.args.book.now)) (parts g.D.Disk.told g.D.Disk.len c.finish.new.disk (together c.finish.new.journal p b)) o rest) (sym (c.end-in-Ok.ensures o rest is))
     (Commits-finish (g.D.Disk.told c.args.disk.now) (g.D.Disk.told c.finish.new.disk) (g.D.Disk.len c.args.disk.now) (g.D.Disk.len c.finish.new.disk) c.args.journal.now c.finish.new.journal p c.args.book.now o rest is call.stays.size finish)
 
 pub returns-in-Ok-clause-keeps : goal.returns-in-Ok-clause-keeps
 returns-in-Ok-clause-keeps g c p ready =
-    let up : c.args.book.now.down ≡ false = sym c.is_down.ensures ∙ c.if-is_down.false in
-    let first = first_is c.args.tx c.args.book.now.out (c.requires.first up) in
+    let up = c.requires.up in
+    let first = first_is c.args.tx c.args.book.now.out c.requires.first in
     let still : c.end-in-Ok.new.self.down ≡ false = ap (λ (b : Book). b.down) (c.end-in-Ok.ensures first.0 first.1 first.2) ∙ up in
     let store = ready up in
     let call = c.in-Ok.ensures in

@@ -1,9 +1,7 @@
-use Rattle.std.proofs.Common.{◌≡◌, ℕ, false, Option, List, [], ◌∷◌, ◌++◌, sym, ◌∙◌, ap, subst}
-use Rattle.sb_disk.specs.Disk.{Story}
+use Rattle.std.proofs.Common.{List, [], ◌∷◌, ◌++◌, ◌∙◌, subst}
 use Rattle.sb_disk.specs.Moments.{LeavesOnly}
 use Rattle.sb_disk.proofs.MomentLemmas.{and_then}
-use Rattle.sb_log.specs.Records.{Change, Record, Back, Commit}
-use Rattle.sb_log.specs.Standing.{standing, count_of}
+use Rattle.sb_log.specs.Records.{Change, Back, Commit}
 use Rattle.sb_log.specs.Views.{active_with}
 use Rattle.sb_log.proofs.WholeLemmas.{IsWhole-back}
 use Rattle.sb_images.specs.Images.{IsOldOrNew}

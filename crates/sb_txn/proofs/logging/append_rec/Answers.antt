@@ -1,4 +1,4 @@
-use Rattle.std.proofs.Common.{rules, ◌≡◌, ◌↔◌, ℕ, Option, Result, OnOk, IfErr, IsErrOf, List, length, sym, ap, subst}
+use Rattle.std.proofs.Common.{◌≡◌, ◌↔◌, ℕ, OnOk, IfErr, IsErrOf, List, length, subst}
 use Rattle.sb_disk.specs.Disk.{WhereTold}
 use Rattle.sb_journal.specs.State.{Appended, after_append}
 use Rattle.sb_log.specs.Rec.{record_of}

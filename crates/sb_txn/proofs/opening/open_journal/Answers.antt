@@ -1,6 +1,6 @@
-use Rattle.std.proofs.Common.{◌≡◌, ◌<◌, rules, length, subst, arith}
+use Rattle.std.proofs.Common.{rules, subst}
 use Rattle.sb_disk.specs.Disk.{Range}
-use Rattle.sb_images.specs.Layout.{gates_of, log_of}
+use Rattle.sb_images.specs.Layout.{log_of}
 use Rattle.sb_journal.specs.Opening.{Opened}
 use Rattle.sb_journal.specs.View.{range_of}
 use Rattle.sb_txn.proofs.OpenLemmas.{none_told, none_told-unclean}

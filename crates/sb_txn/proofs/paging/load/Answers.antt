@@ -1,7 +1,6 @@
-use Rattle.std.proofs.Common.{rules, ◌≡◌, ℕ, false, Option, List, ◌++◌, refl, sym, ◌∙◌}
+use Rattle.std.proofs.Common.{◌≡◌, false, refl, sym, ◌∙◌}
 use Rattle.sb_images.proofs.StoreLemmas.{IsStoreOn-ready}
 use Rattle.sb_txn.specs.Book.{actives}
-use Rattle.sb_txn.specs.Clauses.{Loads}
 use Rattle.sb_txn.proofs.KeepsLemmas.{LeavesWanted-none, Keeps-ok}
 use Rattle.sb_txn.proofs.TiedLemmas.{IsStoreOf-kept}
 use Rattle.sb_txn.proofs.paging.load.Goals as goal

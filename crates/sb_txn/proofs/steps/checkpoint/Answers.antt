@@ -1,4 +1,4 @@
-use Rattle.std.proofs.Common.{◌≡◌, ℕ, false, List, [], ◌++◌, refl, sym, ◌∙◌, ap}
+use Rattle.std.proofs.Common.{◌≡◌, false, [], refl, sym, ◌∙◌, ap}
 use Rattle.sb_images.proofs.StoreLemmas.{IsStoreOn-ready}
 use Rattle.sb_txn.proofs.StepLemmas.{LeavesOnly-checkpoint, IsStoreOn-checkpoint, Serves-close, AgreesOn-close, ArePagesOn-close}
 use Rattle.sb_journal.specs.State as journal

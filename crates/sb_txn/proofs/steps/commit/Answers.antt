@@ -1,4 +1,4 @@
-use Rattle.std.proofs.Common.{rules, ◌≡◌, ℕ, List, [], ◌∷◌, ◌++◌, ◌∙◌}
+use Rattle.std.proofs.Common.{rules, ◌∷◌, ◌++◌, ◌∙◌}
 use Rattle.sb_log.specs.Views.{active_with}
 use Rattle.sb_images.specs.Store.{own_of, with_changes}
 use Rattle.sb_images.proofs.CommitLemmas.{LeavesOnly-old}

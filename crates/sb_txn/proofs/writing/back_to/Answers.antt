@@ -1,18 +1,13 @@
-use Rattle.std.proofs.Common.{◌≡◌, ◌<◌, ℕ, false, List, ◌∷◌, sym, ◌∙◌, subst, arith, rules}
-use Rattle.sb_txn.specs.Book.{Out, standing_in}
-use Rattle.sb_txn.specs.Clauses.{parts, UndoesLast, Undoes}
+use Rattle.std.proofs.Common.{◌≡◌, ◌<◌, ℕ, subst, arith}
+use Rattle.sb_txn.specs.Book.{standing_in}
+use Rattle.sb_txn.specs.Clauses.{parts, Undoes}
 use Rattle.sb_txn.specs.State.{together}
-use Rattle.sb_txn.proofs.BackLemmas.{WentBack, WentBack-none, leaves_now, WentBack-more, fewer_now, GoesBack-undoes}
-use Rattle.sb_txn.proofs.KeepsLemmas.{LeavesWanted-none}
+use Rattle.sb_txn.proofs.BackLemmas.{WentBack-none, leaves_now, WentBack-more, fewer_now, GoesBack-undoes}
 use Rattle.sb_txn.proofs.writing.back_to.Goals as goal
-
-pub returns-then-is_down-clause-any_moment : goal.returns-then-is_down-clause-any_moment
-returns-then-is_down-clause-any_moment g c = LeavesWanted-none _
 
 pub loop-disk-init : goal.loop-disk-init
 loop-disk-init g c =
-    let up : c.args.book.now.down ≡ false = sym c.is_down.ensures ∙ c.if-is_down.false in
-    WentBack-none g.D.Disk.told g.D.Disk.len g.D.Disk.faults c.args.disk.now (together c.args.journal.now c.args.pool.now c.args.book.now) c.args.n up (c.requires.mark up) c.requires.ready
+    WentBack-none g.D.Disk.told g.D.Disk.len g.D.Disk.faults c.args.disk.now (together c.args.journal.now c.args.pool.now c.args.book.now) c.args.n c.requires.up c.requires.mark c.requires.ready
 
 pub loop-disk-smaller : goal.loop-disk-smaller
 loop-disk-smaller g c =

@@ -1,4 +1,3 @@
-use Rattle.std.proofs.Common.{ℕ}
 use Rattle.sb_txn.specs.Book.{standing_in}
 use Rattle.sb_txn.specs.State.{together}
 use Rattle.sb_txn.proofs.BackLemmas.{WentBack}

@@ -1,4 +1,4 @@
-use Rattle.std.proofs.Common.{◌≡◌, ◌≤◌, ℕ, Option, sym, ◌∙◌, subst}
+use Rattle.std.proofs.Common.{◌≤◌, ℕ, Option, sym, subst}
 use Rattle.sb_disk.specs.Disk.{Story, WhereTold}
 use Rattle.sb_images.specs.Layout.{need, gates_of, log_of}
 use Rattle.sb_journal.specs.Opening.{Opened}

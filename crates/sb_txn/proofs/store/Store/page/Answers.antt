@@ -1,8 +1,8 @@
-use Rattle.std.proofs.Common.{◌≡◌, ◌<◌, Some, List, refl, sym, ap, subst}
+use Rattle.std.proofs.Common.{◌<◌, refl, sym, subst}
 use Rattle.sb_log.specs.declared.geometry.Geometry.{Geometry}
 use Rattle.sb_pool.specs.State.{is_dirty, held}
 use Rattle.sb_txn.proofs.KeepsLemmas.{Keeps-as}
-use Rattle.sb_txn.proofs.TiedLemmas.{Refused-loads, bytes_now}
+use Rattle.sb_txn.proofs.TiedLemmas.{bytes_now}
 use Rattle.sb_txn.proofs.store.Store.page.Goals as goal
 
 pub returns : goal.returns
@@ -13,7 +13,7 @@ returns g c =
         refl,
         (λ _. tt),
         record {
-          same = Refused-loads _ _ call.loads;
+          same = call.loads;
           leaves = call.any_moment;
           err = tt;
           keeps = Keeps-as g.D.Disk.told g.D.Disk.len g.D.Disk.faults tt c.held.result _ _ _ _ call.keeps;

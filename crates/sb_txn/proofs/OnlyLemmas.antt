@@ -1,0 +1,105 @@
+-- A transaction is the only one still behind a call.
+use Rattle.std.proofs.Common.{◌≡◌, ℕ, ◌≤◌, Bool, true, false, Option, Some, Result, Ok, Err, OnOk, IfErr, IsErrOf, List, [], ◌∷◌, length, refl, sym, ◌∙◌, ap, subst, arith}
+use Rattle.std.proofs.lemmas.List.{length_push}
+use Rattle.sb_disk.specs.Disk.{Story}
+use Rattle.sb_txn.specs.Book.{Out, Undo, Book, out_with, others, IsOnly, AreClear, standing_of, called, leading, changed_out}
+use Rattle.sb_txn.specs.Clauses.{parts, Keeps, Refused, Changes, ChangeErr, cut_back, GoesBack, Commits, Aborts, IsFaultOrDown}
+use Rattle.sb_txn.specs.State.{State}
+use Rattle.sb_txn.specs.declared.fault.StoreFault.{StoreFault}
+use Rattle.sb_txn.specs.declared.fault.StoreFault.TheVariants.{Fault, LogFull, GatesFull, Down, NoMemory}
+use Rattle.sb_txn.proofs.KeepsLemmas.{not_both, Keeps-up}
+use Rattle.sb_txn.proofs.CalledLemmas.{out_with-among, out_with-tx, standing_of-found}
+use Rattle.sb_txn.proofs.PlaceLemmas.{IsOnly-one, standing_of-first}
+
+-- no change of another one stands
+pub AreClear-only : (tx page offset count : ℕ) (out : List Out) → IsOnly tx out → AreClear page offset count (others tx out)
+AreClear-only tx page offset count out only = subst (AreClear page offset count) (sym only.1) (λ k d lt. absurd (omega (arith, lt)))
+
+module _ {D : Type 0} (told : D → Option Story) (len faults : D → ℕ) (old new : D) (s t : State) (tx : ℕ) (only : s.book.down ≡ false → IsOnly tx s.book.out) (up : t.book.down ≡ false) where
+  -- the book is as it was
+  same_book : t.book ≡ s.book → IsOnly tx t.book.out
+  same_book same = subst (λ (b : Book). IsOnly tx b.out) (sym same) (only (ap (λ (b : Book). b.down) (sym same) ∙ up))
+
+  -- it is as it was, with the transaction first
+  called_book : t.book ≡ called tx s.book → IsOnly tx t.book.out
+  called_book same =
+      let was = only (ap (λ (b : Book). b.down) (sym same) ∙ up) in
+      let is = out_with-among tx s.book.out was.0 in
+      let out : t.book.out ≡ is.0 ∷ [] = ap (λ (b : Book). b.out) same ∙ ap (λ (o : Option Out). leading o (others tx s.book.out)) is.1 ∙ ap (λ (l : List Out). is.0 ∷ l) was.1 in
+      subst (λ (l : List Out). IsOnly tx l) (sym out) (IsOnly-one tx is.0 (out_with-tx tx s.book.out is.0 is.1))
+
+  -- the call failed, or the store was down
+  fault_only : Keeps {T = Unit {0}} told len faults old new s t (Err Fault) → IsOnly tx t.book.out
+  fault_only keeps = not_both t.book.down up (keeps.fault refl).1
+
+  down_only : Keeps {T = Unit {0}} told len faults old new s t (Err Down) → IsOnly tx t.book.out
+  down_only keeps = same_book (ap (λ (x : State). x.book) (keeps.down (keeps.only refl)).store)
+
+  -- it has changed
+  changed_only : Keeps {T = Unit {0}} told len faults old new s t (Ok tt) → ((o : Out) → out_with tx s.book.out ≡ Some o → (after : Out) × (after.tx ≡ o.tx) × (t.book.out ≡ after ∷ others tx s.book.out)) → IsOnly tx t.book.out
+  changed_only keeps changes =
+      let was = only (Keeps-up told len faults tt old new s t keeps) in
+      let is = out_with-among tx s.book.out was.0 in
+      let now = changes is.0 is.1 in
+      let out : t.book.out ≡ now.0 ∷ [] = now.2 ∙ ap (λ (l : List Out). now.0 ∷ l) was.1 in
+      subst (λ (l : List Out). IsOnly tx l) (sym out) (IsOnly-one tx now.0 (now.1 ∙ out_with-tx tx s.book.out is.0 is.1))
+
+  -- it is refused for another reason
+  refused_only : (e : StoreFault) → Keeps {T = Unit {0}} told len faults old new s t (Err e) → (IsErrOf {T = Unit {0}} (Err e) Down → ⊥) → ((o : Out) → out_with tx s.book.out ≡ Some o → Refused o.tx (parts told len old s) (parts told len new t)) → IsOnly tx t.book.out
+  refused_only e keeps other refused =
+      let is = out_with-among tx s.book.out (only (by_case s.book.down (λ on. other (keeps.down on).answer))).0 in
+      called_book (subst (λ (n : ℕ). t.book ≡ called n s.book) (out_with-tx tx s.book.out is.0 is.1) (refused is.0 is.1).book)
+    where
+      by_case : (b : Bool) → (b ≡ true → ⊥) → b ≡ false
+      by_case true off = absurd (off refl)
+      by_case false off = refl
+
+  pub IsOnly-change : (result : Result (Unit {0}) StoreFault) (page offset : ℕ) (bytes : List ℕ) → Keeps told len faults old new s t result
+      → OnOk result ((o : Out) → out_with tx s.book.out ≡ Some o → Changes (parts told len old s) (parts told len new t) o (others tx s.book.out) page offset bytes)
+      → IfErr result (λ e. (o : Out) → out_with tx s.book.out ≡ Some o → ChangeErr (parts told len old s) (parts told len new t) o page (length bytes) e) → IsOnly tx t.book.out
+  IsOnly-change (Ok x) page offset bytes keeps changes refused = changed_only keeps (λ o is. (changed_out o (record { page = page; offset = offset; before = (changes o is).before }), refl, (changes o is).out))
+  IsOnly-change (Err Fault) page offset bytes keeps changes refused = fault_only keeps
+  IsOnly-change (Err Down) page offset bytes keeps changes refused = down_only keeps
+  IsOnly-change (Err NoMemory) page offset bytes keeps changes refused = refused_only NoMemory keeps (λ e. cc) (λ o is. refused o is)
+  IsOnly-change (Err (LogFull used need total)) page offset bytes keeps changes refused = refused_only (LogFull used need total) keeps (λ e. cc) (λ o is. (refused o is).4)
+  IsOnly-change (Err (GatesFull used total)) page offset bytes keeps changes refused = refused_only (GatesFull used total) keeps (λ e. cc) (λ o is. (refused o is).4)
+
+  pub IsOnly-back : (result : Result (Unit {0}) StoreFault) (n : ℕ) → Keeps told len faults old new s t result
+      → OnOk result ((o : Out) → out_with tx s.book.out ≡ Some o → GoesBack (parts told len old s) (parts told len new t) o (others tx s.book.out) n) → IfErr result IsFaultOrDown → IsOnly tx t.book.out
+  IsOnly-back (Ok x) n keeps back err = changed_only keeps (λ o is. (cut_back o n, refl, (back o is).out))
+  IsOnly-back (Err Fault) n keeps back err = fault_only keeps
+  IsOnly-back (Err Down) n keeps back err = down_only keeps
+  IsOnly-back (Err NoMemory) n keeps back err = absurd err
+  IsOnly-back (Err (LogFull used need total)) n keeps back err = absurd err
+  IsOnly-back (Err (GatesFull used total)) n keeps back err = absurd err
+
+module _ {D : Type 0} (told : D → Option Story) (len faults : D → ℕ) (old new : D) (s t : State) (tx : ℕ) (only : s.book.down ≡ false → IsOnly tx s.book.out) where
+  -- no change that stood is gone
+  pub standing-change : (result : Result (Unit {0}) StoreFault) (page offset : ℕ) (bytes : List ℕ) → Keeps told len faults old new s t result
+      → OnOk result ((o : Out) → out_with tx s.book.out ≡ Some o → Changes (parts told len old s) (parts told len new t) o (others tx s.book.out) page offset bytes) → OnOk result (standing_of tx s.book.out ≤ standing_of tx t.book.out)
+  standing-change (Err e) page offset bytes keeps changes = tt
+  standing-change (Ok x) page offset bytes keeps changes =
+      let is = out_with-among tx s.book.out (only (Keeps-up told len faults tt old new s t keeps)).0 in
+      let change = changes is.0 is.1 in
+      let u : Undo = record { page = page; offset = offset; before = change.before } in
+      let was = standing_of-found tx s.book.out is.0 is.1 in
+      let now = ap (standing_of tx) change.out ∙ standing_of-first tx (changed_out is.0 u) (others tx s.book.out) (out_with-tx tx s.book.out is.0 is.1) in
+      let more = length_push is.0.undos u in
+      omega arith
+
+  -- behind its end none is out
+  none-out : Keeps {T = Unit {0}} told len faults old new s t (Ok tt) → ((o : Out) → out_with tx s.book.out ≡ Some o → t.book.out ≡ others tx s.book.out) → t.book.out ≡ []
+  none-out keeps ends =
+      let was = only (Keeps-up told len faults tt old new s t keeps) in
+      let is = out_with-among tx s.book.out was.0 in
+      ends is.0 is.1 ∙ was.1
+
+  pub none-commit : (result : Result (Unit {0}) StoreFault) → Keeps told len faults old new s t result
+      → OnOk result ((o : Out) → out_with tx s.book.out ≡ Some o → Commits (parts told len old s) (parts told len new t) o (others tx s.book.out)) → OnOk result (t.book.out ≡ [])
+  none-commit (Ok x) keeps commits = none-out keeps (λ o is. (commits o is).out)
+  none-commit (Err e) keeps commits = tt
+
+  pub none-abort : (result : Result (Unit {0}) StoreFault) → Keeps told len faults old new s t result
+      → OnOk result ((o : Out) → out_with tx s.book.out ≡ Some o → Aborts (parts told len old s) (parts told len new t) o (others tx s.book.out)) → OnOk result (t.book.out ≡ [])
+  none-abort (Ok x) keeps aborts = none-out keeps (λ o is. (aborts o is).out)
+  none-abort (Err e) keeps aborts = tt

@@ -1,0 +1,174 @@
+-- The transactions that are out beside that of a call.
+use Rattle.std.proofs.Common.{◌≡◌, ◌⊎◌, inl, inr, ⊎_elim, ℕ, ◌+◌, ◌≤◌, Bool, true, false, cond, ◌&&◌, ◌==◌, List, [], ◌∷◌, ◌++◌, length, take, refl, sym, ◌∙◌, ap, subst, append_assoc, arith}
+use Rattle.std.specs.List.{All}
+use Rattle.std.proofs.lemmas.Bool.{false≢true, eq-eqb, ne_eqb, eqb-true, cases_eq}
+use Rattle.std.proofs.lemmas.List.{append-nil}
+use Rattle.std.proofs.lemmas.List.Elements.{filter-append, All-head, All-tail}
+use Rattle.sb_log.specs.Records.{Change, Record, Begin, Image, Changed, Back, Commit}
+use Rattle.sb_log.specs.Restored.{imaged, counting}
+use Rattle.sb_log.specs.Standing.{keep, stood, standing, own_changes}
+use Rattle.sb_log.specs.Undoing.{AreApart, IsFree}
+use Rattle.sb_log.specs.Views.{Active, active_with, is_active, cut, changes, counts, IsIdle}
+use Rattle.sb_log.proofs.StandingLemmas.{stood_all-append, own_changes-keep, own_changes-keep_other, count_of-own}
+use Rattle.sb_txn.specs.declared.changing.Wants.{Wants}
+use Rattle.sb_txn.specs.Book.{Undo, Out, actives, IsClear, AreClear}
+use Rattle.sb_txn.specs.Changing.{behind}
+use Rattle.sb_txn.specs.Steps.{some}
+use Rattle.sb_txn.specs.Tied.{AreUndos, AllFit, IsOut, AreOut, AreOnce}
+
+-- ---- records of another transaction
+-- one more, where it is wanted, leaves the transaction's own changes
+own-some : (opened pending : List Record) (b : Bool) (r : Record) (t : ℕ) → ((cs : List Change) → own_changes t (stood cs r) ≡ own_changes t cs) → own_changes t (standing (opened ++ (pending ++ some b r))) ≡ own_changes t (standing (opened ++ pending))
+own-some opened pending true r t same =
+    ap (λ (l : List Record). own_changes t (standing l)) (sym (append_assoc opened pending (r ∷ []))) ∙ ap (λ (cs : List Change). own_changes t cs) (stood_all-append [] (opened ++ pending) (r ∷ [])) ∙ same (standing (opened ++ pending))
+own-some opened pending false r t same = ap (λ (l : List Record). own_changes t (standing (opened ++ l))) (append-nil pending)
+
+own-changed_other : (t : ℕ) (cs : List Change) (c : Change) → (c.tx ≡ t → ⊥) → own_changes t (cs ++ c ∷ []) ≡ own_changes t cs
+own-changed_other t cs c other = filter-append (λ (d : Change). d.tx == t) cs (c ∷ []) ∙ ap (λ (l : List Change). own_changes t cs ++ l) (rw (ne_eqb c.tx t other) refl) ∙ append-nil (own_changes t cs)
+
+module _ (opened pending : List Record) (t tx : ℕ) (other : tx ≡ t → ⊥) where
+  module _ (w : Wants) (n page : ℕ) (image : List ℕ) where
+    abbrev begun : List Record
+    begun = pending ++ some w.begin (Begin tx)
+
+    abbrev backed : List Record
+    backed = begun ++ some w.back (Back tx n)
+
+    -- those before a change
+    pub own-behind : own_changes t (standing (opened ++ behind pending w tx n page image)) ≡ own_changes t (standing (opened ++ pending))
+    own-behind = own-some opened backed w.image (Image page image) t (λ cs. refl) ∙ own-some opened begun w.back (Back tx n) t (λ cs. own_changes-keep_other t tx n cs other) ∙ own-some opened pending w.begin (Begin tx) t (λ cs. refl)
+
+    -- with the change
+    pub own-changed : (c : Change) → c.tx ≡ tx → own_changes t (standing (opened ++ (behind pending w tx n page image ++ Changed c ∷ []))) ≡ own_changes t (standing (opened ++ pending))
+    own-changed c own = own-some opened (behind pending w tx n page image) true (Changed c) t (λ cs. own-changed_other t cs c (λ e. other (sym own ∙ e))) ∙ own-behind
+
+  -- those of its end
+  pub own-ended : (b : Bool) (n : ℕ) → own_changes t (standing (opened ++ ((pending ++ some b (Back tx n)) ++ Commit tx ∷ []))) ≡ own_changes t (standing (opened ++ pending))
+  own-ended b n = own-some opened (pending ++ some b (Back tx n)) true (Commit tx) t (λ cs. refl) ∙ own-some opened pending b (Back tx n) t (λ cs. own_changes-keep_other t tx n cs other)
+
+-- ---- it is out as before
+AllFit-still : (count : ℕ) (recs more : List Record) (us : List Undo) → ((q : ℕ) → imaged recs q ≡ true → imaged more q ≡ true) → AllFit count recs us → AllFit count more us
+AllFit-still count recs more [] keeps fit = tt
+AllFit-still count recs more (u ∷ us) keeps fit = (record { page = fit.0.page; within = fit.0.within; covered = keeps u.page fit.0.covered }, AllFit-still count recs more us keeps fit.1)
+
+IsOut-still : (count : ℕ) (recs more : List Record) (next : ℕ) (o : Out) → own_changes o.tx (standing more) ≡ own_changes o.tx (standing recs) → ((q : ℕ) → imaged recs q ≡ true → imaged more q ≡ true) → IsOut count recs next o → IsOut count more next o
+IsOut-still count recs more next o same keeps out = record {
+  undos = subst (λ (cs : List Change). AreUndos o.undos cs)
+      (own_changes-keep o.tx (length o.undos) (standing recs) ∙ ap (λ (cs : List Change). take (length o.undos) cs) (sym same) ∙ sym (own_changes-keep o.tx (length o.undos) (standing more))) out.undos;
+  logged = λ off. let e = count_of-own o.tx (standing more) in let f = count_of-own o.tx (standing recs) in let l = ap (λ (cs : List Change). length cs) same in let h = out.logged off in omega arith;
+  none = out.none;
+  number = out.number;
+  fit = AllFit-still count recs more o.undos keeps out.fit;
+}
+
+pub AreOut-still : (count : ℕ) (recs more : List Record) (next tx : ℕ) (os : List Out) → IsIdle tx (actives os) → ((t : ℕ) → (tx ≡ t → ⊥) → own_changes t (standing more) ≡ own_changes t (standing recs))
+    → ((q : ℕ) → imaged recs q ≡ true → imaged more q ≡ true) → AreOut count recs next os → AreOut count more next os
+AreOut-still count recs more next tx [] idle same keeps out = tt
+AreOut-still count recs more next tx (o ∷ os) idle same keeps out =
+    (IsOut-still count recs more next o (same o.tx (λ e. idle.0 (sym e))) keeps out.0, AreOut-still count recs more next tx os idle.1 same keeps out.1)
+
+-- ---- ranges that are clear
+-- each of these changes is of another page, or apart
+abbrev AllApart : Change → List Change → Type 0
+AllApart c [] = Unit {0}
+AllApart c (d ∷ ds) = (d.page ≡ c.page → AreApart d c) × AllApart c ds
+
+AllApart-undos : (c : Change) (us : List Undo) (ds : List Change) → AreUndos us ds → All (IsClear c.page c.offset (length c.after)) us → AllApart c ds
+AllApart-undos c [] [] are clear = tt
+AllApart-undos c [] (d ∷ ds) are clear = absurd are
+AllApart-undos c (u ∷ us) [] are clear = absurd are
+AllApart-undos c (u ∷ us) (d ∷ ds) are clear =
+    let is = are.0 in
+    let page = is.page in
+    let offset = is.offset in
+    let size = is.size in
+    let head = All-head (IsClear c.page c.offset (length c.after)) u us clear in (
+      (λ here. ⊎_elim
+          (λ (before : u.offset + length u.before ≤ c.offset). inl (omega arith))
+          (λ (behind_it : c.offset + length c.after ≤ u.offset). inr (omega arith))
+          (head (page ∙ here))),
+      AllApart-undos c us ds are.1 (All-tail (IsClear c.page c.offset (length c.after)) u us clear),
+    )
+
+-- so it is with those that stand of each of these transactions
+abbrev AreApartIn : Change → List Out → List Change → Type 0
+AreApartIn c [] cs = Unit {0}
+AreApartIn c (o ∷ os) cs = AllApart c (own_changes o.tx cs) × AreApartIn c os cs
+
+-- so it is with the first of them, as many as each transaction's undos
+abbrev AreApartTaken : Change → List Out → List Change → Type 0
+AreApartTaken c [] cs = Unit {0}
+AreApartTaken c (o ∷ os) cs = AllApart c (take (length o.undos) (own_changes o.tx cs)) × AreApartTaken c os cs
+
+own-cut_idle : (t : ℕ) (active : List Active) (cs : List Change) → IsIdle t active → own_changes t (cut active cs) ≡ own_changes t cs
+own-cut_idle t [] cs idle = refl
+own-cut_idle t (a ∷ active) cs idle = own-cut_idle t active (keep a.tx a.n cs) idle.1 ∙ own_changes-keep_other t a.tx a.n cs idle.0
+
+AreApartTaken-same : (c : Change) (os : List Out) (tx : ℕ) (cs ds : List Change) → IsIdle tx (actives os) → ((t : ℕ) → (tx ≡ t → ⊥) → own_changes t ds ≡ own_changes t cs) → AreApartTaken c os cs → AreApartTaken c os ds
+AreApartTaken-same c [] tx cs ds idle same apart = tt
+AreApartTaken-same c (o ∷ os) tx cs ds idle same apart =
+    (subst (λ (l : List Change). AllApart c (take (length o.undos) l)) (sym (same o.tx (λ e. idle.0 (sym e)))) apart.0, AreApartTaken-same c os tx cs ds idle.1 same apart.1)
+
+AreApartIn-cut : (c : Change) (os : List Out) (cs : List Change) → AreOnce os → AreApartTaken c os cs → AreApartIn c os (cut (actives os) cs)
+AreApartIn-cut c [] cs once apart = tt
+AreApartIn-cut c (o ∷ os) cs once apart =
+    let n = length o.undos in (
+      subst (λ (l : List Change). AllApart c l) (sym (own-cut_idle o.tx (actives os) (keep o.tx n cs) once.0 ∙ own_changes-keep o.tx n cs)) apart.0,
+      AreApartIn-cut c os (keep o.tx n cs) once.1 (AreApartTaken-same c os o.tx cs (keep o.tx n cs) once.0 (λ t not. own_changes-keep_other t o.tx n cs not) apart.1),
+    )
+
+-- ---- no change of another stands in the way
+AreApartIn-tail : (c : Change) (os : List Out) (d : Change) (cs : List Change) → AreApartIn c os (d ∷ cs) → AreApartIn c os cs
+AreApartIn-tail c [] d cs apart = tt
+AreApartIn-tail c (o ∷ os) d cs apart = (tail_of (d.tx == o.tx) (own_changes o.tx cs) apart.0, AreApartIn-tail c os d cs apart.1)
+  where
+    tail_of : (b : Bool) (l : List Change) → AllApart c (cond b (d ∷ l) l) → AllApart c l
+    tail_of true l all = all.1
+    tail_of false l all = all
+
+-- a change of one of them is apart
+apart_of : (c : Change) (os : List Out) (d : Change) (cs : List Change) → AreApartIn c os (d ∷ cs) → is_active (actives os) d.tx ≡ true → d.page ≡ c.page → AreApart d c
+apart_of c [] d cs apart is here = absurd (false≢true is)
+apart_of c (o ∷ os) d cs apart is here = ⊎_elim
+    (λ (own : d.tx ≡ o.tx). (rw (eq-eqb d.tx o.tx own) at apart.0).0 here)
+    (λ (not : d.tx ≡ o.tx → ⊥). apart_of c os d cs apart.1 (rw (ne_eqb o.tx d.tx (λ e. not (sym e))) at is) here)
+    (cases_eq d.tx o.tx)
+
+and_right : (x y : Bool) → (x && y) ≡ true → y ≡ true
+and_right true y is = is
+and_right false y is = absurd (false≢true is)
+
+IsFree-counting : (c : Change) (n : ℕ) (os : List Out) (f : ℕ → Bool) (cs : List Change) → AreApartIn c os cs → IsFree (is_active (active_with c.tx n ∷ actives os)) c (counting f c.page cs)
+IsFree-counting c n os f [] apart = tt
+IsFree-counting c n os f (d ∷ cs) apart = by_test (f d.tx && (d.page == c.page)) refl (IsFree-counting c n os f cs (AreApartIn-tail c os d cs apart))
+  where
+    one : d.page ≡ c.page → is_active (active_with c.tx n ∷ actives os) d.tx ≡ true → (c.tx ≡ d.tx) ⊎ AreApart d c
+    one here is = ⊎_elim
+        (λ (own : c.tx ≡ d.tx). inl own)
+        (λ (not : c.tx ≡ d.tx → ⊥). inr (apart_of c os d cs apart (rw (ne_eqb c.tx d.tx not) at is) here))
+        (cases_eq c.tx d.tx)
+
+    by_test : (b : Bool) → (f d.tx && (d.page == c.page)) ≡ b → IsFree (is_active (active_with c.tx n ∷ actives os)) c (counting f c.page cs)
+        → IsFree (is_active (active_with c.tx n ∷ actives os)) c (cond b (d ∷ counting f c.page cs) (counting f c.page cs))
+    by_test true is more = (one (eqb-true d.page c.page (and_right (f d.tx) (d.page == c.page) is)), more)
+    by_test false is more = more
+
+module _ (count next : ℕ) (opened pending : List Record) (c : Change) where
+  taken_now : (os : List Out) → AreOut count (opened ++ pending) next os → AreClear c.page c.offset (length c.after) os → AreApartTaken c os (standing (opened ++ pending))
+  taken_now [] out clear = tt
+  taken_now (o ∷ os) out clear = (
+    subst (λ (l : List Change). AllApart c l) (own_changes-keep o.tx (length o.undos) (standing (opened ++ pending)))
+        (AllApart-undos c o.undos (own_changes o.tx (keep o.tx (length o.undos) (standing (opened ++ pending)))) out.0.undos (All-head (λ (x : Out). All (IsClear c.page c.offset (length c.after)) x.undos) o os clear)),
+    taken_now os out.1 (All-tail (λ (x : Out). All (IsClear c.page c.offset (length c.after)) x.undos) o os clear),
+  )
+
+  -- A change whose range is clear of those of the others that are out may come next.
+  pub IsFree-others : (n : ℕ) (rest : List Out) (w : Wants) (page : ℕ) (image : List ℕ) → AreOut count (opened ++ pending) next rest → IsIdle c.tx (actives rest) → AreOnce rest → AreClear c.page c.offset (length c.after) rest
+      → IsFree (is_active (active_with c.tx n ∷ actives rest)) c (changes (opened ++ behind pending w c.tx n page image) (active_with c.tx n ∷ actives rest) c.page)
+  IsFree-others n rest w page image out idle once clear =
+      let recs = opened ++ behind pending w c.tx n page image in
+      let left = keep c.tx n (standing recs) in
+      IsFree-counting c n rest (counts recs (active_with c.tx n ∷ actives rest)) (cut (actives rest) left)
+      (AreApartIn-cut c rest left once
+      (AreApartTaken-same c rest c.tx (standing (opened ++ pending)) left idle
+      (λ t not. own_changes-keep_other t c.tx n (standing recs) not ∙ own-behind opened pending t c.tx not w n page image) (taken_now rest out clear)))

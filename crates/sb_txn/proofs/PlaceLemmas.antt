@@ -1,0 +1,83 @@
+-- Where a transaction stands among those that are out.
+use Rattle.std.proofs.Common.{◌≡◌, ℕ, zero, suc, ◌+◌, ◌<◌, ◌==◌, nat_lt, not, Bool, true, false, cond, Option, Some, None, is_some, IsSome, List, [], ◌∷◌, length, map, get_or, take, drop, position, refl, sym, ◌∙◌, ap, subst, arith, eq-eqb}
+use Rattle.std.specs.List.{remove, position_or_len}
+use Rattle.std.proofs.Math.ListN.{get_or-map}
+use Rattle.std.proofs.lemmas.Bool.{lt-ltb}
+use Rattle.std.proofs.lemmas.List.{length-map, take-map, drop-map, map-append}
+use Rattle.std.proofs.lemmas.List.Quantifiers.{position-Some}
+use Rattle.sb_txn.specs.Book.{Out, Book, out_with, IsAmong, others, IsOnly, standing_of, with_out, leading, called}
+
+-- it has this number
+abbrev pub has : ℕ → Out → Bool
+has tx o = o.tx == tx
+
+-- ---- the first one
+module _ (tx : ℕ) (o : Out) (rest : List Out) (is : o.tx ≡ tx) where
+  pub out_with-first : out_with tx (o ∷ rest) ≡ Some o
+  out_with-first = ap (λ (b : Bool). cond b (Some o) (out_with tx rest)) (eq-eqb o.tx tx is)
+
+  pub others-first : others tx (o ∷ rest) ≡ rest
+  others-first = ap (λ (b : Bool). cond b rest (o ∷ others tx rest)) (eq-eqb o.tx tx is)
+
+  pub standing_of-first : standing_of tx (o ∷ rest) ≡ length o.undos
+  standing_of-first = ap (λ (b : Bool). cond b (length o.undos) (standing_of tx rest)) (eq-eqb o.tx tx is)
+
+-- one that is alone is the only one
+pub IsOnly-one : (tx : ℕ) (o : Out) → o.tx ≡ tx → IsOnly tx (o ∷ [])
+IsOnly-one tx o is = (subst IsSome (sym (out_with-first tx o [] is)) refl, others-first tx o [] is)
+
+-- ---- by its place
+-- it stands at the place, and none before it has its number
+abbrev StandsAt : ℕ → Out → List Out → ℕ → Type 0
+StandsAt tx d out n = (n < length out) × (has tx (get_or out n d) ≡ true) × ((k : ℕ) → k < n → has tx (get_or out k d) ≡ false)
+
+module _ (tx : ℕ) (d : Out) where
+  behind : (o : Out) (os : List Out) (n : ℕ) → StandsAt tx d (o ∷ os) (suc n) → StandsAt tx d os n
+  behind o os n at = (omega (arith, at.0), at.1, λ k lt. at.2 (suc k) (omega arith))
+
+  out_with-at : (out : List Out) (n : ℕ) → StandsAt tx d out n → out_with tx out ≡ Some (get_or out n d)
+  out_with-at [] n at = absurd (omega (arith, at.0))
+  out_with-at (o ∷ os) zero at = ap (λ (b : Bool). cond b (Some o) (out_with tx os)) at.1
+  out_with-at (o ∷ os) (suc n) at = ap (λ (b : Bool). cond b (Some o) (out_with tx os)) (at.2 zero (omega arith)) ∙ out_with-at os n (behind o os n at)
+
+  others-at : (out : List Out) (n : ℕ) → StandsAt tx d out n → others tx out ≡ remove out n
+  others-at [] n at = absurd (omega (arith, at.0))
+  others-at (o ∷ os) zero at = ap (λ (b : Bool). cond b os (o ∷ others tx os)) at.1
+  others-at (o ∷ os) (suc n) at = ap (λ (b : Bool). cond b os (o ∷ others tx os)) (at.2 zero (omega arith)) ∙ ap (λ (l : List Out). o ∷ l) (others-at os n (behind o os n at))
+
+-- where one that is out stands
+place-below : (tx : ℕ) (out : List Out) → IsAmong tx out → position_or_len (has tx) out < length out
+place-below tx [] among = absurd (cc)
+place-below tx (o ∷ os) among = by_case (has tx o) (place-below tx os) among
+  where
+    by_case : (b : Bool) → (IsAmong tx os → position_or_len (has tx) os < length os) → IsSome (cond b (Some o) (out_with tx os)) → cond (not b) (1 + position_or_len (has tx) os) 0 < length (o ∷ os)
+    by_case true behind is = omega arith
+    by_case false behind is = let lt = behind is in omega arith
+
+-- one that is out has a place
+pub IsSome-place : (tx : ℕ) (out : List Out) → IsAmong tx out → IsSome (position (has tx) out)
+IsSome-place tx out among =
+    let place = position_or_len (has tx) out in
+    ap (λ (b : Bool). is_some (cond b (Some place) None)) (lt-ltb place (length out) (place-below tx out among))
+
+-- ---- where a list stands for those that are out
+-- the place in it
+position_or_len-map : {X Y : Type 0} (p : Y → Bool) (f : X → Y) (xs : List X) → position_or_len p (map f xs) ≡ position_or_len (λ x. p (f x)) xs
+position_or_len-map p f [] = refl
+position_or_len-map p f (x ∷ xs) = ap (λ n. cond (not (p (f x))) (1 + n) 0) (position_or_len-map p f xs)
+
+pub position-map : {X Y : Type 0} (p : Y → Bool) (f : X → Y) (xs : List X) → position p (map f xs) ≡ position (λ x. p (f x)) xs
+position-map p f xs =
+    ap (λ n. cond (nat_lt n (length (map f xs))) (Some n) None) (position_or_len-map p f xs) ∙ ap (λ n. cond (nat_lt (position_or_len (λ x. p (f x)) xs) n) (Some (position_or_len (λ x. p (f x)) xs)) None) (length-map xs f)
+
+-- what is there
+module _ {X : Type 0} (f : X → Out) (xs : List X) (x : X) (tx n : ℕ) (is : position (has tx) (map f xs) ≡ Some n) (at : x ≡ get_or xs n x) where
+  pub out_with-place : out_with tx (map f xs) ≡ Some (f x)
+  out_with-place = out_with-at tx (f x) (map f xs) n (position-Some (has tx) (map f xs) n (f x) is) ∙ ap Some (get_or-map f xs n x ∙ ap f (sym at))
+
+  others-place : others tx (map f xs) ≡ map f (remove xs n)
+  others-place = others-at tx (f x) (map f xs) n (position-Some (has tx) (map f xs) n (f x) is) ∙ rw (take-map f n xs, drop-map f (suc n) xs, map-append f (take n xs) (drop (suc n) xs))
+
+  pub called-place : (book : Book) → book.out ≡ map f xs → called tx book ≡ with_out book (map f (x ∷ remove xs n))
+  called-place book out =
+      ap (λ (l : List Out). with_out book (leading (out_with tx l) (others tx l))) out ∙ ap (with_out book) (ap (λ (o : Option Out). leading o (others tx (map f xs))) out_with-place ∙ ap (λ (l : List Out). f x ∷ l) others-place)
