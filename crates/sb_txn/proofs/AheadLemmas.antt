@@ -14,19 +14,19 @@ use Rattle.sb_pool.specs.State as pool
 use Rattle.sb_pool.proofs.StoreLemmas.{ArePagesOn-write, IsStoreOn-with}
 use Rattle.sb_txn.specs.Ahead.{Leans}
 use Rattle.sb_txn.specs.Book.{Book, actives}
-use Rattle.sb_txn.specs.Clauses.{IsStoreOf}
+use Rattle.sb_txn.specs.Clauses.{HoldsAll}
 use Rattle.sb_txn.specs.State.{together}
 use Rattle.sb_txn.specs.Tied.{IsBookOf}
 use Rattle.sb_txn.proofs.RoomLemmas.{SameRoom-forced}
 use Rattle.sb_txn.proofs.TiedLemmas.{HasReserve-same}
 
 module _ (want now : ℕ → List ℕ) (told new : Option Story) (size len : ℕ) (j k : journal.State) (p after : pool.State) (book : Book) (opened pending : List Record) (page offset : ℕ) (bytes : List ℕ) where
-  pub IsStoreOf-written : Leans want now (with_bytes page offset bytes now) told size j p book opened pending → imaged (opened ++ pending) page ≡ true
+  pub HoldsAll-written : Leans want now (with_bytes page offset bytes now) told size j p book opened pending → imaged (opened ++ pending) page ≡ true
       → after.geometry ≡ p.geometry → after.position ≡ used_of j → Becomes (with_bytes page offset bytes (pool_page told p)) k after told new
       → ((q : ℕ) → IsDirty after q → IsDirty p q ⊎ (q ≡ page)) → IsReadyWith want p.geometry (opened ++ pending) k told new
       → IsSameOrForced j k → Serves new len k after.geometry → AgreesOn new k after
-      → IsStoreOf want (with_bytes page offset bytes now) (record { told = new; size = len; store = together k after book })
-  IsStoreOf-written leans covered sizes position wrote others still forced serves agrees =
+      → HoldsAll want (with_bytes page offset bytes now) (opened ++ pending) (record { told = new; size = len; store = together k after book })
+  HoldsAll-written leans covered sizes position wrote others still forced serves agrees =
       let room = SameRoom-forced j k forced in
       let then : ℕ → List ℕ = with_bytes page offset bytes now in
       let goes = IsStoreOn-with want then j k p.geometry opened pending (actives book.out) told new leans.store still in (
@@ -44,4 +44,5 @@ module _ (want now : ℕ → List ℕ) (told new : Option Story) (size len : ℕ
           knows = subst (λ (l : List Record). IsBookOf after.geometry.pages l book) (sym goes.same) (subst (λ (g : Geometry). IsBookOf g.pages (opened ++ pending) book) (sym sizes) leans.knows);
           spare = HasReserve-same j k book room leans.spare;
         },
+        goes.same,
       )

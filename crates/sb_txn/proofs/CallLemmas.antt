@@ -87,12 +87,13 @@ module _ (old : Parts) (b : Book) (tx : ℕ) (o : Out) (is : out_with tx old.sto
   }
 
   module _ (new : Parts) where
-    pub Changes-called : (page offset : ℕ) (bytes : List ℕ) → Changes (with_book old b) new o rest page offset bytes → Changes old new o rest page offset bytes
-    Changes-called page offset bytes changes = record {
+    pub Changes-called : (owner page offset : ℕ) (bytes : List ℕ) → Changes (with_book old b) new o rest owner page offset bytes → Changes old new o rest owner page offset bytes
+    Changes-called owner page offset bytes changes = record {
       before = changes.before;
       was = λ want now store. changes.was want now (IsStoreOf-called old b tx among_one first want now store);
       out = changes.out;
       pages = Leads-called old b tx among_one first new (with_bytes page offset bytes) changes.pages;
+      logged = λ want now store. changes.logged want now (IsStoreOf-called old b tx among_one first want now store);
       grows = record { bytes = changes.grows.bytes; gates = changes.grows.gates };
       least = let h = changes.least in let w = ap (λ (x : Wants). change_len x (length bytes)) (wants_same page) in omega arith;
     }

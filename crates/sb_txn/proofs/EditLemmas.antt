@@ -1,5 +1,5 @@
 -- A change, from the store before it to that behind it.
-use Rattle.std.proofs.Common.{◌≡◌, ℕ, suc, ◌+◌, ◌-◌, ◌<◌, ◌≤◌, false, Option, Some, None, is_some, Result, Ok, Err, IfErr, IsErrOf, List, [], ◌∷◌, ◌++◌, length, take, drop, refl, sym, ◌∙◌, ap, subst, arith}
+use Rattle.std.proofs.Common.{◌≡◌, ℕ, suc, ◌+◌, ◌-◌, ◌<◌, ◌≤◌, false, Option, Some, None, is_some, Result, Ok, Err, IfErr, IsErrOf, List, [], ◌∷◌, ◌++◌, length, take, drop, refl, sym, ◌∙◌, ap, subst, append_assoc, arith}
 use Rattle.sb_disk.specs.Disk.{Story, WhereTold, AgreesBut}
 use Rattle.sb_disk.specs.Moments.{LeavesOnly}
 use Rattle.sb_disk.proofs.MomentLemmas.{and_then}
@@ -11,20 +11,20 @@ use Rattle.sb_log.specs.Views.{Active, active_with}
 use Rattle.sb_log.specs.Whole.{with_range}
 use Rattle.sb_images.specs.Images.{Restores}
 use Rattle.sb_images.specs.Store.{IfTold, IsStoreOn}
-use Rattle.sb_pool.specs.Pages.{bytes_or, ArePagesOn}
+use Rattle.sb_pool.specs.Pages.{bytes_or, ArePagesOn, with_bytes}
 use Rattle.sb_pool.specs.State.{held, IsHeld}
 use Rattle.sb_pool.specs.State as pool
 use Rattle.sb_txn.specs.declared.changing.Wants.{Wants}
 use Rattle.sb_txn.specs.declared.fault.StoreFault.{StoreFault}
 use Rattle.sb_txn.specs.declared.fault.StoreFault.TheVariants.{Fault, LogFull, GatesFull, Down, NoMemory}
-use Rattle.sb_txn.specs.Ahead.{IsAhead, CatchesUp, LeavesAhead}
+use Rattle.sb_txn.specs.Ahead.{Leans, IsAhead, CatchesUp, LeavesAhead}
 use Rattle.sb_txn.specs.Book.{Undo, Out, Book, AreClear, with_change, wants_of, actives, IsFirst, standing_in}
 use Rattle.sb_txn.specs.Changes.{AddErr}
 use Rattle.sb_txn.specs.Changing.{IsNext, behind}
 use Rattle.sb_txn.specs.Clauses.{Parts, IsStoreOf, IsFaultOrDown, LeavesWanted, Changes, HasRoom}
 use Rattle.sb_txn.specs.Logging.{HasSpace, records_len}
 use Rattle.sb_txn.specs.State.{together}
-use Rattle.sb_txn.proofs.LoggedLemmas.{is_now, edit_space, edit_leaves, IsAhead-logged, used-logged, used-logged_most}
+use Rattle.sb_txn.proofs.LoggedLemmas.{is_now, edit_space, edit_leaves, Leans-logged, covered-logged, used-logged, used-logged_most}
 use Rattle.sb_txn.proofs.RoomLemmas.{SameRoom-forced, lens-same}
 
 -- What the records of a change make of a store, whatever pages it has.
@@ -73,10 +73,15 @@ module _ (told : Option Story) (size : ℕ) (j : journal.State) (p : pool.State)
       abbrev mid : Parts
       mid = record { told = new; size = len; store = together k p b }
 
-      pub IsAhead-edit : (want now : ℕ → List ℕ) → IsStoreOf want now old → IsAhead want now page offset bytes mid
-      IsAhead-edit want now store = subst (λ (x : Book). IsAhead want now page offset bytes (record { told = new; size = len; store = together k p x })) (sym added)
-          (IsAhead-logged want now told size j p book store.0 store.1 o rest owner page offset image bytes store.2 is lt range long has bytes_held room clear new tells len k done same stands sized
-          (λ next at. stores.each want now store.0 store.1 (actives rest) next at))
+      abbrev pub IsAhead-edit : (want now : ℕ → List ℕ) → IsStoreOf want now old → IsAhead want now page offset bytes mid
+      IsAhead-edit want now store = record {
+        opened = store.0;
+        pending = behind store.1 w o.tx (length o.undos) page image ++ Changed the_change ∷ [];
+        leans = subst (λ (x : Book). Leans want now (with_bytes page offset bytes now) new len k p x store.0 (behind store.1 w o.tx (length o.undos) page image ++ Changed the_change ∷ [])) (sym added)
+            (Leans-logged want now told size j p book store.0 store.1 o rest owner page offset image bytes store.2 is lt range long has bytes_held room clear new tells len k done same stands sized
+            (λ next at. stores.each want now store.0 store.1 (actives rest) next at));
+        covered = covered-logged want now told size j p book store.0 store.1 o rest owner page offset image bytes store.2 is lt range long has bytes_held room clear new tells len k done same stands sized;
+      }
 
       was_at : (a : Option Story) (now : ℕ → List ℕ) → j.failed ≡ false → ArePagesOn now a j p → IfTold a (take (length bytes) (drop offset image) ≡ take (length bytes) (drop offset (now page)))
       was_at None now up pages = tt
@@ -93,7 +98,7 @@ module _ (told : Option Story) (size : ℕ) (j : journal.State) (p : pool.State)
             let b = lens-same k end.store.journal (SameRoom-forced k end.store.journal caught.journal) in
             omega arith
 
-        pub Changes-edited : (want now : ℕ → List ℕ) → IsStoreOf want now old → CatchesUp mid end page offset bytes → Changes old end o rest page offset bytes
+        pub Changes-edited : (want now : ℕ → List ℕ) → IsStoreOf want now old → CatchesUp mid end page offset bytes → Changes old end o rest owner page offset bytes
         Changes-edited want now store caught =
             let room_same = SameRoom-forced k end.store.journal caught.journal in
             record {
@@ -101,6 +106,9 @@ module _ (told : Option Story) (size : ℕ) (j : journal.State) (p : pool.State)
               was = λ wanted then at. was_at told then at.2.up at.2.pages;
               out = ap (λ (x : Book). x.out) (caught.book ∙ added);
               pages = λ wanted then at. caught.pages wanted then (IsAhead-edit wanted then at);
+              logged = λ wanted then at.
+                  let h = caught.logged wanted then (IsAhead-edit wanted then at) in
+                  (at.0 ++ behind at.1 w o.tx (length o.undos) page image, (h.0, h.1, h.2, h.3 ∙ sym (append_assoc at.0 (behind at.1 w o.tx (length o.undos) page image) (Changed the_change ∷ []))));
               grows = record {
                 bytes =
                     let a = used-logged_most want now told size j p book store.0 store.1 o rest owner page offset image bytes store.2 is lt range long has bytes_held room clear new tells len k done same stands sized in

@@ -72,13 +72,14 @@ module _ (old mid : Parts) (loads : Loads old mid) where
   ChangeErr-add new o rest page count (GatesFull used total) is err = absurd err
   ChangeErr-add new o rest page count Down is err = absurd err
 
-  pub Changes-loaded : (new : Parts) (o : Out) (rest : List Out) (page offset : ℕ) (bytes : List ℕ) → LeavesWanted old mid → Changes mid new o rest page offset bytes → length new.store.journal.lens ≤ length mid.store.journal.lens + 1
-      → Changes old new o rest page offset bytes
-  Changes-loaded new o rest page offset bytes leaves changes chunks = record {
+  pub Changes-loaded : (new : Parts) (o : Out) (rest : List Out) (owner page offset : ℕ) (bytes : List ℕ) → LeavesWanted old mid → Changes mid new o rest owner page offset bytes → length new.store.journal.lens ≤ length mid.store.journal.lens + 1
+      → Changes old new o rest owner page offset bytes
+  Changes-loaded new o rest owner page offset bytes leaves changes chunks = record {
     before = changes.before;
     was = λ want now store. as_told old.told mid.told (changes.before ≡ take (length bytes) (drop offset (now page))) (leaves.each want now store).tells (changes.was want now (loads.pages want now store));
     out = changes.out;
     pages = λ want now store. changes.pages want now (loads.pages want now store);
+    logged = λ want now store. changes.logged want now (loads.pages want now store);
     grows = record {
       bytes = let a = changes.grows.bytes in let b = room_same.used in omega arith;
       gates = let a = lens-same old.store.journal mid.store.journal room_same in omega arith;

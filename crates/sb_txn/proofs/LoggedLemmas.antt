@@ -26,7 +26,7 @@ use Rattle.sb_pool.specs.State.{Held, held, IsHeld}
 use Rattle.sb_pool.specs.State as pool
 use Rattle.sb_pool.proofs.StoreLemmas.{SamePages, AgreesOn-same, ArePagesOn-same}
 use Rattle.sb_txn.specs.declared.changing.Wants.{Wants}
-use Rattle.sb_txn.specs.Ahead.{IsAhead}
+use Rattle.sb_txn.specs.Ahead.{Leans}
 use Rattle.sb_txn.specs.Book.{Undo, Out, Book, AreClear, actives, changed_out, with_change, wants_of, change_len}
 use Rattle.sb_txn.specs.Changing.{IsNext}
 use Rattle.sb_txn.specs.Clauses.{HasRoom}
@@ -269,25 +269,23 @@ module _ (want now : ℕ → List ℕ) (told : Option Story) (size : ℕ) (j : j
                 omega arith;
           }
 
-      pub IsAhead-logged : (IsNext w o.tx (length o.undos) page image now opened pending (actives rest) c → IsStoreOn want now told j p.geometry opened pending act
+      pub Leans-logged : (IsNext w o.tx (length o.undos) page image now opened pending (actives rest) c → IsStoreOn want now told j p.geometry opened pending act
           → IsStoreOn want (with_range c bytes now) new k p.geometry opened more (active_with o.tx (suc (length o.undos)) ∷ actives rest))
-          → IsAhead want now page offset bytes (record { told = new; size = len; store = together k p (with_change book o rest u) })
-      IsAhead-logged stored = record {
-        opened = opened;
-        pending = more;
-        leans = record {
-          up = up_now;
-          store = edit_store stored;
-          serves = edit_serves;
-          agrees = AgreesOn-same j k (λ up. ties.up) p told new same_pages ties.agrees;
-          pages = ArePagesOn-same j k (λ up. ties.up) now p told new same_pages ties.pages;
-          dirty = λ q dirty. imaged-changed opened pending w o.tx (length o.undos) page image c q (ties.dirty q dirty);
-          position = let a = ties.position in let b = used_now in let d = room_of-most j.pending in omega arith;
-          knows = edit_knows now p book opened pending o rest owner page offset image bytes ties.knows is lt range long;
-          spare = edit_spare;
-        };
-        covered = is_imaged now p book opened pending o rest owner page offset image bytes ties.knows is lt range long;
+          → Leans want now (with_bytes page offset bytes now) new len k p (with_change book o rest u) opened more
+      Leans-logged stored = record {
+        up = up_now;
+        store = edit_store stored;
+        serves = edit_serves;
+        agrees = AgreesOn-same j k (λ up. ties.up) p told new same_pages ties.agrees;
+        pages = ArePagesOn-same j k (λ up. ties.up) now p told new same_pages ties.pages;
+        dirty = λ q dirty. imaged-changed opened pending w o.tx (length o.undos) page image c q (ties.dirty q dirty);
+        position = let a = ties.position in let b = used_now in let d = room_of-most j.pending in omega arith;
+        knows = edit_knows now p book opened pending o rest owner page offset image bytes ties.knows is lt range long;
+        spare = edit_spare;
       }
+
+      pub covered-logged : imaged (opened ++ more) page ≡ true
+      covered-logged = is_imaged now p book opened pending o rest owner page offset image bytes ties.knows is lt range long
 
       -- what the log has taken
       pub used-logged : used_of j + change_len w (length bytes) ≤ used_of k

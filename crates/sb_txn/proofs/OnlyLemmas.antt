@@ -54,15 +54,15 @@ module _ {D : Type 0} (told : D → Option Story) (len faults : D → ℕ) (old 
       by_case true off = absurd (off refl)
       by_case false off = refl
 
-  pub IsOnly-change : (result : Result (Unit {0}) StoreFault) (page offset : ℕ) (bytes : List ℕ) → Keeps told len faults old new s t result
-      → OnOk result ((o : Out) → out_with tx s.book.out ≡ Some o → Changes (parts told len old s) (parts told len new t) o (others tx s.book.out) page offset bytes)
+  pub IsOnly-change : (result : Result (Unit {0}) StoreFault) (owner page offset : ℕ) (bytes : List ℕ) → Keeps told len faults old new s t result
+      → OnOk result ((o : Out) → out_with tx s.book.out ≡ Some o → Changes (parts told len old s) (parts told len new t) o (others tx s.book.out) owner page offset bytes)
       → IfErr result (λ e. (o : Out) → out_with tx s.book.out ≡ Some o → ChangeErr (parts told len old s) (parts told len new t) o page (length bytes) e) → IsOnly tx t.book.out
-  IsOnly-change (Ok x) page offset bytes keeps changes refused = changed_only keeps (λ o is. (changed_out o (record { page = page; offset = offset; before = (changes o is).before }), refl, (changes o is).out))
-  IsOnly-change (Err Fault) page offset bytes keeps changes refused = fault_only keeps
-  IsOnly-change (Err Down) page offset bytes keeps changes refused = down_only keeps
-  IsOnly-change (Err NoMemory) page offset bytes keeps changes refused = refused_only NoMemory keeps (λ e. cc) (λ o is. refused o is)
-  IsOnly-change (Err (LogFull used need total)) page offset bytes keeps changes refused = refused_only (LogFull used need total) keeps (λ e. cc) (λ o is. (refused o is).4)
-  IsOnly-change (Err (GatesFull used total)) page offset bytes keeps changes refused = refused_only (GatesFull used total) keeps (λ e. cc) (λ o is. (refused o is).4)
+  IsOnly-change (Ok x) owner page offset bytes keeps changes refused = changed_only keeps (λ o is. (changed_out o (record { page = page; offset = offset; before = (changes o is).before }), refl, (changes o is).out))
+  IsOnly-change (Err Fault) owner page offset bytes keeps changes refused = fault_only keeps
+  IsOnly-change (Err Down) owner page offset bytes keeps changes refused = down_only keeps
+  IsOnly-change (Err NoMemory) owner page offset bytes keeps changes refused = refused_only NoMemory keeps (λ e. cc) (λ o is. refused o is)
+  IsOnly-change (Err (LogFull used need total)) owner page offset bytes keeps changes refused = refused_only (LogFull used need total) keeps (λ e. cc) (λ o is. (refused o is).4)
+  IsOnly-change (Err (GatesFull used total)) owner page offset bytes keeps changes refused = refused_only (GatesFull used total) keeps (λ e. cc) (λ o is. (refused o is).4)
 
   pub IsOnly-back : (result : Result (Unit {0}) StoreFault) (n : ℕ) → Keeps told len faults old new s t result
       → OnOk result ((o : Out) → out_with tx s.book.out ≡ Some o → GoesBack (parts told len old s) (parts told len new t) o (others tx s.book.out) n) → IfErr result IsFaultOrDown → IsOnly tx t.book.out
@@ -75,10 +75,10 @@ module _ {D : Type 0} (told : D → Option Story) (len faults : D → ℕ) (old 
 
 module _ {D : Type 0} (told : D → Option Story) (len faults : D → ℕ) (old new : D) (s t : State) (tx : ℕ) (only : s.book.down ≡ false → IsOnly tx s.book.out) where
   -- no change that stood is gone
-  pub standing-change : (result : Result (Unit {0}) StoreFault) (page offset : ℕ) (bytes : List ℕ) → Keeps told len faults old new s t result
-      → OnOk result ((o : Out) → out_with tx s.book.out ≡ Some o → Changes (parts told len old s) (parts told len new t) o (others tx s.book.out) page offset bytes) → OnOk result (standing_of tx s.book.out ≤ standing_of tx t.book.out)
-  standing-change (Err e) page offset bytes keeps changes = tt
-  standing-change (Ok x) page offset bytes keeps changes =
+  pub standing-change : (result : Result (Unit {0}) StoreFault) (owner page offset : ℕ) (bytes : List ℕ) → Keeps told len faults old new s t result
+      → OnOk result ((o : Out) → out_with tx s.book.out ≡ Some o → Changes (parts told len old s) (parts told len new t) o (others tx s.book.out) owner page offset bytes) → OnOk result (standing_of tx s.book.out ≤ standing_of tx t.book.out)
+  standing-change (Err e) owner page offset bytes keeps changes = tt
+  standing-change (Ok x) owner page offset bytes keeps changes =
       let is = out_with-among tx s.book.out (only (Keeps-up told len faults tt old new s t keeps)).0 in
       let change = changes is.0 is.1 in
       let u : Undo = record { page = page; offset = offset; before = change.before } in

@@ -4,7 +4,7 @@ use Rattle.sb_disk.specs.Causes.{Rose}
 use Rattle.sb_disk.specs.Disk.{Story}
 use Rattle.sb_disk.specs.Moments.{LeavesOnly}
 use Rattle.sb_journal.specs.State.{used_of}
-use Rattle.sb_log.specs.Records.{Record}
+use Rattle.sb_log.specs.Records.{Change, Record, Changed}
 use Rattle.sb_log.specs.Views.{active_with}
 use Rattle.sb_images.specs.Images.{Restores, IsOldOrNew}
 use Rattle.sb_images.specs.Store.{IfTold, own_of, with_changes}
@@ -32,6 +32,10 @@ Holds want now opened pending p = Ties want now p.told p.size p.store.journal p.
 -- so it is with some records
 abbrev pub IsStoreOf : (ℕ → List ℕ) → (ℕ → List ℕ) → Parts → Type 0
 IsStoreOf want now p = (opened pending : List Record) × Holds want now opened pending p
+
+-- so it is with some records, which are these in all
+abbrev pub HoldsAll : (ℕ → List ℕ) → (ℕ → List ℕ) → List Record → Parts → Type 0
+HoldsAll want now recs p = (opened pending : List Record) × Holds want now opened pending p × (opened ++ pending ≡ recs)
 
 -- until a call has failed it is a store, with some pages wanted and some now
 abbrev pub IsReady : Parts → Type 0
@@ -107,12 +111,18 @@ pub record Begins (old new : Parts) (tx : ℕ) : Type 0 where
 abbrev pub need_of : Book → Out → ℕ → ℕ → ℕ
 need_of book o page count = change_len (wants_of book o page) count + 4 + reserve * length book.out
 
--- a change of the transaction: its range has these bytes now, and can be given back what it had
-pub record Changes (old new : Parts) (o : Out) (rest : List Out) (page offset : ℕ) (bytes : List ℕ) : Type 0 where
+-- so it is with some records, of which this change is the last
+abbrev pub EndsIn : (ℕ → List ℕ) → (ℕ → List ℕ) → Change → Parts → Type 0
+EndsIn want now c p = (earlier : List Record) × HoldsAll want now (earlier ++ Changed c ∷ []) p
+
+-- a change of the transaction: its range has these bytes now, and can be given back what it had; the log has it behind all other records
+pub record Changes (old new : Parts) (o : Out) (rest : List Out) (owner page offset : ℕ) (bytes : List ℕ) : Type 0 where
   pub before : List ℕ
   pub was : (want now : ℕ → List ℕ) → IsStoreOf want now old → IfTold old.told (before ≡ take (length bytes) (drop offset (now page)))
   pub out : new.store.book.out ≡ changed_out o (record { page = page; offset = offset; before = before }) ∷ rest
   pub pages : Leads old new (with_bytes page offset bytes)
+  pub logged : (want now : ℕ → List ℕ) → IsStoreOf want now old → EndsIn want (with_bytes page offset bytes now)
+      (record { tx = o.tx; owner = owner; page = page; offset = offset; before = before; after = bytes }) new
   pub grows : Grows old.store new.store 12400 3
   pub least : used_of old.store.journal + change_len (wants_of old.store.book o page) (length bytes) ≤ used_of new.store.journal
 

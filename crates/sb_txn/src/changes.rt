@@ -58,7 +58,7 @@ impl Store {
 
         ensures changes { OnOk result ((o : Outs) → out_with tx.now.number self.old.book.out ≡ Some o
             → Changes (parts D.told D.len disk.old self.old) (parts D.told D.len disk.new self.new)
-            o (others tx.now.number self.old.book.out) page offset bytes.now) }
+            o (others tx.now.number self.old.book.out) owner page offset bytes.now) }
         ensures room { OnOk result ((o : Outs) → out_with tx.now.number self.old.book.out ≡ Some o
             → HasRoom self.old o page (length bytes.now)) }
         ensures refused { IfErr result (λ e. (o : Outs) → out_with tx.now.number self.old.book.out ≡ Some o
@@ -102,7 +102,7 @@ fn change<D: Disk>(
 
     ensures changes { OnOk result ((o : Outs) (rest : List Outs) → book.old.out ≡ o ∷ rest
         → Changes (parts D.told D.len disk.old (together journal.old pool.old book.old))
-        (parts D.told D.len disk.new (together journal.new pool.new book.new)) o rest edit.now.page edit.now.offset edit.now.bytes.now) }
+        (parts D.told D.len disk.new (together journal.new pool.new book.new)) o rest edit.now.owner edit.now.page edit.now.offset edit.now.bytes.now) }
     ensures room { OnOk result ((o : Outs) (rest : List Outs) → book.old.out ≡ o ∷ rest
         → HasRoom (together journal.old pool.old book.old) o edit.now.page (length edit.now.bytes.now)) }
     ensures refused { IfErr result (λ e. (o : Outs) (rest : List Outs) → book.old.out ≡ o ∷ rest
@@ -196,7 +196,7 @@ fn add_change<D: Disk>(
 
     ensures changes { OnOk result ((o : Outs) (rest : List Outs) → book.old.out ≡ o ∷ rest
         → Changes (parts D.told D.len disk.old (together journal.old pool.old book.old))
-        (parts D.told D.len disk.new (together journal.new pool.new book.new)) o rest edit.now.page edit.now.offset edit.now.bytes.now) }
+        (parts D.told D.len disk.new (together journal.new pool.new book.new)) o rest edit.now.owner edit.now.page edit.now.offset edit.now.bytes.now) }
     ensures chunks { OnOk result (length journal.new.lens ≤ length journal.old.lens + 1) }
     ensures refused { IfErr result (AddErr (parts D.told D.len disk.old (together journal.old pool.old book.old))
         (parts D.told D.len disk.new (together journal.new pool.new book.new))) }

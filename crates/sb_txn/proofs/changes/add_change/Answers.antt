@@ -110,7 +110,7 @@ returns-in-Ok g c =
     let end = parts g.D.Disk.told g.D.Disk.len c.write_range.new.disk (together c.write_range.new.journal c.write_range.new.pool c.write_range.new.book) in
     record {
       changes = OnOk-map c.write_range.result _ _ (λ caught o rest is.
-          one_first (λ x xs. Changes (parts g.D.Disk.told g.D.Disk.len c.args.disk.now (together c.args.journal.now c.args.pool.now c.args.book.now)) end x xs edit.page edit.offset edit.bytes.now) c.args.book.now.out first.o o first.rest rest first.is is
+          one_first (λ x xs. Changes (parts g.D.Disk.told g.D.Disk.len c.args.disk.now (together c.args.journal.now c.args.pool.now c.args.book.now)) end x xs edit.owner edit.page edit.offset edit.bytes.now) c.args.book.now.out first.o o first.rest rest first.is is
           (Changes-edited told (g.D.Disk.len c.args.disk.now) c.args.journal.now c.args.pool.now c.args.book.now first.o first.rest edit.owner edit.page edit.offset image edit.bytes.now
           first.is c.requires.page c.requires.range c.page-image.ensures.long c.requires.held is_held (c.requires.room first.o first.rest first.is) (c.requires.apart first.o first.rest first.is)
           new call.logs.tells leaves (g.D.Disk.len c.log_change.new.disk) c.log_change.new.journal c.add_undo.new.book stores added done call.logs.elsewhere call.stays.stands call.stays.size end ready.0 ready.1 ready.2 caught)) c.write_range.ensures.written;

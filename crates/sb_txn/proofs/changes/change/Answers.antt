@@ -20,7 +20,7 @@ returns-clause-changes g c =
     let loads = c.in_ok-load.ensures.loads in
     OnOk-both c.add_change.result _ _ _ (λ changes chunks o rest is.
     Changes-loaded (parts g.D.Disk.told g.D.Disk.len c.args.disk.now (together c.args.journal.now c.args.pool.now c.args.book.now)) (parts g.D.Disk.told g.D.Disk.len c.load.new.disk (together c.load.new.journal c.load.new.pool c.load.new.book)) loads
-    (parts g.D.Disk.told g.D.Disk.len c.add_change.new.disk (together c.add_change.new.journal c.add_change.new.pool c.add_change.new.book)) o rest c.args.edit.now.page c.args.edit.now.offset c.args.edit.now.bytes.now
+    (parts g.D.Disk.told g.D.Disk.len c.add_change.new.disk (together c.add_change.new.journal c.add_change.new.pool c.add_change.new.book)) o rest c.args.edit.now.owner c.args.edit.now.page c.args.edit.now.offset c.args.edit.now.bytes.now
     c.load.ensures.any_moment (changes o rest (ap (λ (b : Book). b.out) loads.book ∙ is)) chunks) c.add_change.ensures.changes c.add_change.ensures.chunks
 
 pub returns-clause-room : goal.returns-clause-room

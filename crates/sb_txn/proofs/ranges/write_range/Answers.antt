@@ -1,8 +1,11 @@
-use Rattle.std.proofs.Common.{refl, ◌∙◌}
+use Rattle.std.proofs.Common.{ℕ, List, ◌++◌, refl, ◌∙◌}
 use Rattle.sb_images.proofs.StoreLemmas.{IsStoreOn-ready}
 use Rattle.sb_pool.specs.Pages.{with_bytes}
+use Rattle.sb_txn.specs.Ahead.{IsAhead}
 use Rattle.sb_txn.specs.Book.{actives}
-use Rattle.sb_txn.proofs.AheadLemmas.{IsStoreOf-written}
+use Rattle.sb_txn.specs.Clauses.{parts, HoldsAll}
+use Rattle.sb_txn.specs.State.{together}
+use Rattle.sb_txn.proofs.AheadLemmas.{HoldsAll-written}
 use Rattle.sb_txn.proofs.KeepsLemmas.{Keeps-ok}
 use Rattle.sb_txn.proofs.ranges.write_range.Goals as goal
 
@@ -23,16 +26,21 @@ returns-in-Ok-clause-any_moment g c = record {
 }
 
 pub returns-in-Ok-clause-written : goal.returns-in-Ok-clause-written
-returns-in-Ok-clause-written g c = record {
-  book = refl;
-  journal = c.in-Ok.ensures.journal;
-  pages = λ want now ahead.
-      let call = c.in-Ok.ensures in
-      let ready = IsStoreOn-ready want (with_bytes c.args.page c.args.offset c.args.bytes.now now) (g.D.Disk.told c.args.disk.now) c.args.journal.now c.args.pool.now.geometry ahead.opened ahead.pending (actives c.args.book.now.out) ahead.leans.store in
-      IsStoreOf-written want now (g.D.Disk.told c.args.disk.now) (g.D.Disk.told c.write.new.disk) (g.D.Disk.len c.args.disk.now) (g.D.Disk.len c.write.new.disk) c.args.journal.now c.write.new.journal c.args.pool.now c.write.new.self c.args.book.now
-      ahead.opened ahead.pending c.args.page c.args.offset c.args.bytes.now ahead.leans ahead.covered
-      call.keeps.geometry (call.dirty.1 ∙ c.used-position.ensures) call.written call.others (call.images want ahead.opened ahead.pending ready ahead.leans.dirty ahead.covered).ready call.journal call.keeps.serves call.keeps.agrees;
-}
+returns-in-Ok-clause-written g c =
+    let old = parts g.D.Disk.told g.D.Disk.len c.args.disk.now (together c.args.journal.now c.args.pool.now c.args.book.now) in
+    let new = parts g.D.Disk.told g.D.Disk.len c.write.new.disk (together c.write.new.journal c.write.new.self c.args.book.now) in
+    let logged : (want now : ℕ → List ℕ) (ahead : IsAhead want now c.args.page c.args.offset c.args.bytes.now old) → HoldsAll want (with_bytes c.args.page c.args.offset c.args.bytes.now now) (ahead.opened ++ ahead.pending) new = λ want now ahead.
+    let call = c.in-Ok.ensures in
+    let ready = IsStoreOn-ready want (with_bytes c.args.page c.args.offset c.args.bytes.now now) (g.D.Disk.told c.args.disk.now) c.args.journal.now c.args.pool.now.geometry ahead.opened ahead.pending (actives c.args.book.now.out) ahead.leans.store in
+    HoldsAll-written want now (g.D.Disk.told c.args.disk.now) (g.D.Disk.told c.write.new.disk) (g.D.Disk.len c.args.disk.now) (g.D.Disk.len c.write.new.disk) c.args.journal.now c.write.new.journal c.args.pool.now c.write.new.self c.args.book.now
+    ahead.opened ahead.pending c.args.page c.args.offset c.args.bytes.now ahead.leans ahead.covered
+    call.keeps.geometry (call.dirty.1 ∙ c.used-position.ensures) call.written call.others (call.images want ahead.opened ahead.pending ready ahead.leans.dirty ahead.covered).ready call.journal call.keeps.serves call.keeps.agrees in
+    record {
+      book = refl;
+      journal = c.in-Ok.ensures.journal;
+      pages = λ want now ahead. let h = logged want now ahead in (h.0, h.1, h.2);
+      logged = logged;
+    }
 
 pub returns-in-Ok-clause-keeps : goal.returns-in-Ok-clause-keeps
 returns-in-Ok-clause-keeps g c =

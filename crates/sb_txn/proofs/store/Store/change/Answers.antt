@@ -28,14 +28,15 @@ change-requires-clause-first g c _ =
 pub returns-clause-changes : goal.returns-clause-changes
 returns-clause-changes g c =
     let tx = c.args.tx.now.number in
+    let owner = c.args.owner in
     let page = c.args.page in
     let offset = c.args.offset in
     let bytes = c.args.bytes.now in
     let first = c.in_ok-call.ensures.first in
     let old = parts g.D.Disk.told g.D.Disk.len c.args.disk.now (together c.self.inside.journal c.self.inside.pool c.self.inside.book) in
     let new = parts g.D.Disk.told g.D.Disk.len c.change.new.disk (together c.change.new.journal c.change.new.pool c.change.new.book) in
-    subst (λ (s : State). OnOk c.change.result ((o : Out) → out_with tx s.book.out ≡ Some o → Changes (parts g.D.Disk.told g.D.Disk.len c.args.disk.now s) new o (others tx s.book.out) page offset bytes)) c.self.view_is
-    (OnOk-map c.change.result _ _ (λ changes o is. Changes-called old c.call.new.self tx o is first new page offset bytes (changes o (others tx c.self.inside.book.out) (out-called old c.call.new.self tx o is first))) c.change.ensures.changes)
+    subst (λ (s : State). OnOk c.change.result ((o : Out) → out_with tx s.book.out ≡ Some o → Changes (parts g.D.Disk.told g.D.Disk.len c.args.disk.now s) new o (others tx s.book.out) owner page offset bytes)) c.self.view_is
+    (OnOk-map c.change.result _ _ (λ changes o is. Changes-called old c.call.new.self tx o is first new owner page offset bytes (changes o (others tx c.self.inside.book.out) (out-called old c.call.new.self tx o is first))) c.change.ensures.changes)
 
 pub returns-clause-room : goal.returns-clause-room
 returns-clause-room g c =
