@@ -2,7 +2,7 @@
 
 ghost use Rattle.std.specs.Prelude.{◌≡◌, ◌+◌, ◌-◌, ◌^◌, ◌≤◌, length, min, OnOk, OnErr};
 ghost use Rattle.sb_disk.specs.Causes.{HasCause};
-ghost use Rattle.sb_disk.specs.Disk.{wrote, synced, FailedWrite, FailedSync, Ticks};
+ghost use Rattle.sb_disk.specs.Disk.{wrote, synced, FailedWrite, FailedSync, Reads, Mounted, Ticks};
 
 use sb_disk::{Disk, Failed};
 
@@ -48,7 +48,16 @@ impl<D: Disk> Disk for Counted<D> {
 
     ghost fits = { λ d. D.fits d.disk };
 
-    fn mount(&mut self, name: &[u8], create_size: Option<u64>) -> Result<(), Failed> {
+    fn mount(&mut self, name: &[u8], create_size: Option<u64>) -> Result<(), Failed>
+        ensures told { Mounted (D.told self.old.disk) (D.told self.new.disk) }
+        ensures len { D.len self.old.disk ≤ D.len self.new.disk }
+        ensures clock { D.clock self.new.disk ≡ D.clock self.old.disk }
+        ensures cause { HasCause (D.faults self.old.disk) (D.faults self.new.disk) result }
+
+        // It isn't counted.
+        ensures syncs { self.new.syncs ≡ self.old.syncs }
+        ensures written { self.new.written ≡ self.old.written }
+    {
         self.disk.mount(name, create_size)
     }
 
@@ -64,7 +73,18 @@ impl<D: Disk> Disk for Counted<D> {
         self.disk.faults()
     }
 
-    fn read_at(&mut self, at: u64, buffer: &mut [u8]) -> Result<(), Failed> {
+    fn read_at(&mut self, at: u64, buffer: &mut [u8]) -> Result<(), Failed>
+        requires { at + length buffer.old ≤ D.len self.old.disk }
+        ensures ok { OnOk result (Reads (D.told self.old.disk) at buffer.new) }
+        ensures told { D.told self.new.disk ≡ D.told self.old.disk }
+        ensures len { D.len self.new.disk ≡ D.len self.old.disk }
+        ensures clock { D.clock self.new.disk ≡ D.clock self.old.disk }
+        ensures cause { HasCause (D.faults self.old.disk) (D.faults self.new.disk) result }
+
+        // It isn't counted.
+        ensures syncs { self.new.syncs ≡ self.old.syncs }
+        ensures written { self.new.written ≡ self.old.written }
+    {
         self.disk.read_at(at, buffer)
     }
 

@@ -7,6 +7,6 @@ returns g c =
     let call = c.change.ensures in
     record {
       ready = search rules;
-      only = λ up. IsOnly-change g.D.Disk.told g.D.Disk.len g.D.Disk.faults c.args.disk.now c.change.new.disk c.args.store.now c.change.new.self c.args.tx.now.number c.requires.only up c.change.result (c.args.number % 64) 0 c.to_be_bytes-bytes.result call.keeps call.changes call.refused;
+      only = λ up. IsOnly-change g.D.Disk.told g.D.Disk.len g.D.Disk.faults c.args.disk.now c.change.new.disk c.args.store.now c.change.new.self c.args.tx.now.number c.requires.only up c.change.result 1 (c.args.number % 64) 0 c.to_be_bytes-bytes.result call.keeps call.changes call.refused;
       pages = search rules;
     }
