@@ -133,7 +133,8 @@ ChangeErr old new o page count (LogFull used need total) =
     × (total < used + need) × Refused o.tx old new
 ChangeErr old new o page count (GatesFull used total) =
     (used_of old.store.journal + need_of old.store.book o page count ≤ old.store.journal.log.len)
-    × (used ≡ length new.store.journal.lens) × (total ≡ old.store.journal.gates.len) × (65535 < used + length old.store.book.out) × Refused o.tx old new
+    × (used ≡ length new.store.journal.lens) × (total ≡ old.store.journal.gates.len) × (65535 < used + length old.store.book.out)
+    × Refused o.tx old new
 ChangeErr old new o page count NoMemory = Refused o.tx old new
 ChangeErr old new o page count e = IsFaultOrDown e
 

@@ -16,7 +16,8 @@ use Rattle.sb_txn.specs.declared.fault.StoreFault.{StoreFault}
 use Rattle.sb_txn.specs.declared.fault.StoreFault.TheVariants.{Fault}
 
 -- With the record pending, the pages now are these, and these transactions are active.
-abbrev pub Steps : Geometry → (ℕ → List ℕ) → (ℕ → List ℕ) → List Record → List Record → Record → List Active → List Active → Type 0
+abbrev pub Steps : Geometry → (ℕ → List ℕ) → (ℕ → List ℕ) → List Record → List Record → Record
+    → List Active → List Active → Type 0
 Steps g now then opened pending r active after =
     (disk : ℕ → List ℕ) → IsWhole g.pages disk now opened pending active → IsWhole g.pages disk then opened (pending ++ r ∷ []) after
 

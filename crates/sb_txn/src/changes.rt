@@ -102,7 +102,8 @@ fn change<D: Disk>(
 
     ensures changes { OnOk result ((o : Outs) (rest : List Outs) → book.old.out ≡ o ∷ rest
         → Changes (parts D.told D.len disk.old (together journal.old pool.old book.old))
-        (parts D.told D.len disk.new (together journal.new pool.new book.new)) o rest edit.now.owner edit.now.page edit.now.offset edit.now.bytes.now) }
+        (parts D.told D.len disk.new (together journal.new pool.new book.new))
+        o rest edit.now.owner edit.now.page edit.now.offset edit.now.bytes.now) }
     ensures room { OnOk result ((o : Outs) (rest : List Outs) → book.old.out ≡ o ∷ rest
         → HasRoom (together journal.old pool.old book.old) o edit.now.page (length edit.now.bytes.now)) }
     ensures refused { IfErr result (λ e. (o : Outs) (rest : List Outs) → book.old.out ≡ o ∷ rest
@@ -196,7 +197,8 @@ fn add_change<D: Disk>(
 
     ensures changes { OnOk result ((o : Outs) (rest : List Outs) → book.old.out ≡ o ∷ rest
         → Changes (parts D.told D.len disk.old (together journal.old pool.old book.old))
-        (parts D.told D.len disk.new (together journal.new pool.new book.new)) o rest edit.now.owner edit.now.page edit.now.offset edit.now.bytes.now) }
+        (parts D.told D.len disk.new (together journal.new pool.new book.new))
+        o rest edit.now.owner edit.now.page edit.now.offset edit.now.bytes.now) }
     ensures chunks { OnOk result (length journal.new.lens ≤ length journal.old.lens + 1) }
     ensures refused { IfErr result (AddErr (parts D.told D.len disk.old (together journal.old pool.old book.old))
         (parts D.told D.len disk.new (together journal.new pool.new book.new))) }

@@ -42,8 +42,8 @@ pub(crate) fn append_if<D: Disk>(
         → IsStoreOn want now (D.told disk.new) journal.new g opened (pending ++ some wanted (record_of r.now)) active) }
 
     // A crash at any moment of the call leaves what the store restores.
-    ensures any_moment { (want : ℕ → List ℕ) (g : Geometry) (opened pending : List Record) → IsReadyOn want (D.told disk.old) journal.old g opened pending
-        → LeavesOnly (D.told disk.old) (D.told disk.new) (Restores g want) }
+    ensures any_moment { (want : ℕ → List ℕ) (g : Geometry) (opened pending : List Record)
+        → IsReadyOn want (D.told disk.old) journal.old g opened pending → LeavesOnly (D.told disk.old) (D.told disk.new) (Restores g want) }
 
     // The pages are on the disk as they were.
     ensures pages { OnOk result (KeepsDisk journal.old (D.told disk.old) (D.told disk.new)) }
@@ -95,7 +95,8 @@ pub(crate) fn log_change<D: Disk>(
         → IfErr result (λ e. e ≡ JournalFault.Fault) }
     ensures cause { IfErr result (λ e. of_journal e ≡ StoreFault.Fault
         → (journal.old.failed ≡ true) ⊎ Rose (D.faults disk.old) (D.faults disk.new)) }
-    ensures logs { LogsMore D.told D.faults disk.old disk.new journal.old journal.new (records_len wants (length (spelling (record_of change.now)))) result }
+    ensures logs { LogsMore D.told D.faults disk.old disk.new journal.old journal.new
+        (records_len wants (length (spelling (record_of change.now)))) result }
     ensures stays { Stays D.told D.len D.faults disk.old disk.new journal.old journal.new }
 
     // After it the store has the change.

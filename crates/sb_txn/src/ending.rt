@@ -75,9 +75,11 @@ pub(crate) fn commit<D: Disk>(
     requires first { IsFirst tx book.old.out }
 
     ensures commits { OnOk result ((p : Pages) (o : Outs) (rest : List Outs) → book.old.out ≡ o ∷ rest
-        → Commits (parts D.told D.len disk.old (together journal.old p book.old)) (parts D.told D.len disk.new (together journal.new p book.new)) o rest) }
+        → Commits (parts D.told D.len disk.old (together journal.old p book.old))
+        (parts D.told D.len disk.new (together journal.new p book.new)) o rest) }
     ensures any_moment { (p : Pages) (o : Outs) (rest : List Outs) → book.old.out ≡ o ∷ rest
-        → LeavesCommit (parts D.told D.len disk.old (together journal.old p book.old)) (parts D.told D.len disk.new (together journal.new p book.new)) o }
+        → LeavesCommit (parts D.told D.len disk.old (together journal.old p book.old))
+        (parts D.told D.len disk.new (together journal.new p book.new)) o }
     ensures idle { (p : Pages) (o : Outs) (rest : List Outs) → book.old.out ≡ o ∷ rest
         → IsIdle o disk.old disk.new (together journal.old p book.old) (together journal.new p book.new) }
     ensures err { IfErr result IsFaultOrDown }

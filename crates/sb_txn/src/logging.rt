@@ -37,12 +37,13 @@ pub(crate) fn append_rec<D: Disk>(
 
     // After it the store has the record, which changes nothing that is restored.
     ensures store { OnOk result ((want now then : ℕ → List ℕ) (g : Geometry) (opened pending : List Record) (active after : List Active)
-        → IsStoreOn want now (D.told disk.old) journal.old g opened pending active → Steps g now then opened pending (record_of r.now) active after
+        → IsStoreOn want now (D.told disk.old) journal.old g opened pending active
+        → Steps g now then opened pending (record_of r.now) active after
         → IsStoreOn want then (D.told disk.new) journal.new g opened (pending ++ record_of r.now ∷ []) after) }
 
     // A crash at any moment of the call leaves what the store restores.
-    ensures any_moment { (want : ℕ → List ℕ) (g : Geometry) (opened pending : List Record) → IsReadyOn want (D.told disk.old) journal.old g opened pending
-        → LeavesOnly (D.told disk.old) (D.told disk.new) (Restores g want) }
+    ensures any_moment { (want : ℕ → List ℕ) (g : Geometry) (opened pending : List Record)
+        → IsReadyOn want (D.told disk.old) journal.old g opened pending → LeavesOnly (D.told disk.old) (D.told disk.new) (Restores g want) }
 
     // The pages are on the disk as they were.
     ensures pages { OnOk result (KeepsDisk journal.old (D.told disk.old) (D.told disk.new)) }

@@ -173,7 +173,8 @@ impl Store {
             → Commits (parts D.told D.len disk.old self.old) (parts D.told D.len disk.new self.new) o (others tx.number self.old.book.out)) }
         ensures any_moment { (o : Out) → out_with tx.number self.old.book.out ≡ Some o
             → LeavesCommit (parts D.told D.len disk.old self.old) (parts D.told D.len disk.new self.new) o }
-        ensures alone { (o : Out) → self.old.book.out ≡ o ∷ [] → LeavesOne (parts D.told D.len disk.old self.old) (parts D.told D.len disk.new self.new) }
+        ensures alone { (o : Out) → self.old.book.out ≡ o ∷ []
+            → LeavesOne (parts D.told D.len disk.old self.old) (parts D.told D.len disk.new self.new) }
         ensures idle { (o : Out) → out_with tx.number self.old.book.out ≡ Some o → IsIdle o disk.old disk.new self.old self.new }
         ensures err { IfErr result IsFaultOrDown }
         ensures keeps { Keeps D.told D.len D.faults disk.old disk.new self.old self.new result }
