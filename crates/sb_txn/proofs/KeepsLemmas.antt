@@ -1,5 +1,5 @@
 -- What the calls of a store keep.
-use Rattle.std.proofs.Common.{◌≡◌, inl, inr, ⊎_elim, ℕ, ◌≤◌, Bool, true, false, Option, Result, Ok, Err, OnOk, IsErrOf, List, refl, sym, ◌∙◌, subst, arith}
+use Rattle.std.proofs.Common.{◌≡◌, inl, inr, ⊎_elim, ℕ, ◌≤◌, Bool, true, false, Option, Result, Ok, Err, IsErrOf, List, refl, sym, ◌∙◌, subst, arith}
 use Rattle.std.proofs.lemmas.Bool.{false≢true}
 use Rattle.sb_disk.specs.Causes.{Rose}
 use Rattle.sb_disk.specs.Disk.{Story}
@@ -21,10 +21,6 @@ not_both b off on = absurd (false≢true (sym off ∙ on))
 
 ok_err : {T E A : Type 0} (x : T) (e : E) → Ok x ≡ Err e → A
 ok_err x e is = absurd (cc)
-
-pub on_ok_map : {T E : Type 0} (result : Result T E) (A B : Type 0) → (A → B) → OnOk result A → OnOk result B
-on_ok_map (Ok x) A B f has = f has
-on_ok_map (Err e) A B f has = tt
 
 -- ---- one call
 module _ {D : Type 0} (told : D → Option Story) (len faults : D → ℕ) where

@@ -55,10 +55,6 @@ module _ (g : Geometry) where
   SamePages-as (Some s) None same = same
   SamePages-as (Some s) (Some t) same = record { pages = same }
 
-  pub HasSamePages-none : (told : Option Story) → WhereTold told told (HasSamePages g)
-  HasSamePages-none None = refl
-  HasSamePages-none (Some s) = λ p. refl
-
   pub HasSamePages-then : (told mid new : Option Story) → WhereTold told mid (HasSamePages g) → WhereTold mid new (HasSamePages g) → WhereTold told new (HasSamePages g)
   HasSamePages-then None mid new one two = subst (λ (m : Option Story). WhereTold m new (HasSamePages g)) one two
   HasSamePages-then (Some s) None new one two = absurd one

@@ -2,18 +2,14 @@
 use Rattle.std.proofs.Common.{◌≡◌, ℕ, ◌≤◌, Bool, true, false, Option, Some, Result, Ok, Err, OnOk, IfErr, IsErrOf, List, [], ◌∷◌, length, refl, sym, ◌∙◌, ap, subst, arith}
 use Rattle.std.proofs.lemmas.List.{length_push}
 use Rattle.sb_disk.specs.Disk.{Story}
-use Rattle.sb_txn.specs.Book.{Out, Undo, Book, out_with, others, IsOnly, AreClear, standing_of, called, leading, changed_out}
-use Rattle.sb_txn.specs.Clauses.{parts, Keeps, Refused, Changes, ChangeErr, cut_back, GoesBack, Commits, Aborts, IsFaultOrDown}
+use Rattle.sb_txn.specs.Book.{Out, Undo, Book, out_with, others, IsOnly, standing_of, called, leading, changed_out}
+use Rattle.sb_txn.specs.Clauses.{parts, Keeps, Refused, Changes, ChangeErr, cut_back, GoesBack, IsFaultOrDown}
 use Rattle.sb_txn.specs.State.{State}
 use Rattle.sb_txn.specs.declared.fault.StoreFault.{StoreFault}
 use Rattle.sb_txn.specs.declared.fault.StoreFault.TheVariants.{Fault, LogFull, GatesFull, Down, NoMemory}
 use Rattle.sb_txn.proofs.KeepsLemmas.{not_both, Keeps-up}
 use Rattle.sb_txn.proofs.CalledLemmas.{out_with-among, out_with-tx, standing_of-found}
 use Rattle.sb_txn.proofs.PlaceLemmas.{IsOnly-one, standing_of-first}
-
--- no change of another one stands
-pub AreClear-only : (tx page offset count : ℕ) (out : List Out) → IsOnly tx out → AreClear page offset count (others tx out)
-AreClear-only tx page offset count out only = subst (AreClear page offset count) (sym only.1) (λ k d lt. absurd (omega (arith, lt)))
 
 module _ {D : Type 0} (told : D → Option Story) (len faults : D → ℕ) (old new : D) (s t : State) (tx : ℕ) (only : s.book.down ≡ false → IsOnly tx s.book.out) (up : t.book.down ≡ false) where
   -- the book is as it was
@@ -86,20 +82,3 @@ module _ {D : Type 0} (told : D → Option Story) (len faults : D → ℕ) (old 
       let now = ap (standing_of tx) change.out ∙ standing_of-first tx (changed_out is.0 u) (others tx s.book.out) (out_with-tx tx s.book.out is.0 is.1) in
       let more = length_push is.0.undos u in
       omega arith
-
-  -- behind its end none is out
-  none-out : Keeps {T = Unit {0}} told len faults old new s t (Ok tt) → ((o : Out) → out_with tx s.book.out ≡ Some o → t.book.out ≡ others tx s.book.out) → t.book.out ≡ []
-  none-out keeps ends =
-      let was = only (Keeps-up told len faults tt old new s t keeps) in
-      let is = out_with-among tx s.book.out was.0 in
-      ends is.0 is.1 ∙ was.1
-
-  pub none-commit : (result : Result (Unit {0}) StoreFault) → Keeps told len faults old new s t result
-      → OnOk result ((o : Out) → out_with tx s.book.out ≡ Some o → Commits (parts told len old s) (parts told len new t) o (others tx s.book.out)) → OnOk result (t.book.out ≡ [])
-  none-commit (Ok x) keeps commits = none-out keeps (λ o is. (commits o is).out)
-  none-commit (Err e) keeps commits = tt
-
-  pub none-abort : (result : Result (Unit {0}) StoreFault) → Keeps told len faults old new s t result
-      → OnOk result ((o : Out) → out_with tx s.book.out ≡ Some o → Aborts (parts told len old s) (parts told len new t) o (others tx s.book.out)) → OnOk result (t.book.out ≡ [])
-  none-abort (Ok x) keeps aborts = none-out keeps (λ o is. (aborts o is).out)
-  none-abort (Err e) keeps aborts = tt

@@ -48,11 +48,6 @@ gates-lens j = (length-sealed j.pending j.lens).1
 pub lens-same : (j k : State) → SameRoom j k → length k.lens ≤ length j.lens + 1
 lens-same j k same = let a = lens-gates k in let b = gates-lens j in let e = same.gates in omega arith
 
--- with something pending there is a gate for it, if there is one for those used
-pub gate_free : (pending : ℕ) (lens : List ℕ) (count : ℕ) → length (sealed pending lens) ≤ count → 0 < pending → length lens < count
-gate_free zero lens count room some = absurd (omega arith)
-gate_free (suc n) lens count room some = let e = length_push lens (suc n) in omega arith
-
 -- ---- an append
 need_more : (pending n : ℕ) → room_of pending + need_of pending n ≡ 4 + pending + n
 need_more zero n = omega arith

@@ -31,12 +31,6 @@ length-AreUndos [] (c ∷ cs) are = absurd are
 length-AreUndos (u ∷ us) [] are = absurd are
 length-AreUndos (u ∷ us) (c ∷ cs) are = let e = length-AreUndos us cs are.1 in omega arith
 
-pub AreUndos-push : (us : List Undo) (cs : List Change) (u : Undo) (c : Change) → AreUndos us cs → IsUndo u c → AreUndos (us ++ u ∷ []) (cs ++ c ∷ [])
-AreUndos-push [] [] u c are is = (is, tt)
-AreUndos-push [] (d ∷ cs) u c are is = absurd are
-AreUndos-push (v ∷ us) [] u c are is = absurd are
-AreUndos-push (v ∷ us) (d ∷ cs) u c are is = (are.0, AreUndos-push us cs u c are.1 is)
-
 AreUndos-last : (us : List Undo) (cs : List Change) (u : Undo) (c : Change) → AreUndos (us ++ u ∷ []) (cs ++ c ∷ []) → AreUndos us cs × IsUndo u c
 AreUndos-last [] [] u c are = (tt, are.0)
 AreUndos-last [] (d ∷ cs) u c are = absurd (let e = length-AreUndos [] (cs ++ c ∷ []) are.1 in let l = length_push cs c in omega arith)
