@@ -1,6 +1,6 @@
 //! What transactions over a store cost its disk: how many syncs, and how many bytes written.
 //!
-//! A commit makes one chunk of the log, with 2 syncs: a length field of 4 bytes, the records, and a gate of 1 byte. The records are a Begin of 5 bytes, 15 + 2 * 8 = 31 bytes for each change, and a Commit of 5. The first change of a page since the last checkpoint has an Image of 4,101 bytes before it, so 64 pages have 262,464 bytes of Images. So these are the numbers to expect:
+//! A commit makes one chunk of the log, with 2 syncs: a length field of 4 bytes, the records, and a gate of 1 byte. The records are a Begin of 5 bytes, 15 + 2 * 8 = 31 bytes for each change, and a Commit of 5. Behind a checkpoint, what a page gets first is its Image, of 4,101 bytes: 262,464 bytes for 64 pages. So these are the numbers to expect:
 //!
 //! - 1,000 commits of one change: 1,000 * (4 + 5 + 31 + 5 + 1) = 46,000 bytes, and the Images: 308,464 bytes, 2,000 syncs. Without the gates they take 307,464 bytes of the log, less than half of it, so no checkpoint comes in between.
 //! - A checkpoint: 64 * 4,096 = 262,144 bytes of pages and a sync, and then the gates, 65,536 bytes: the first one and a sync, all others in one write and a sync. That is 327,680 bytes, 3 syncs.

@@ -14,7 +14,7 @@ with_number n bytes at number = take at bytes ++ big_bytes n number ++ drop (at 
 abbrev pub AreBytes : List ℕ → Type 0
 AreBytes = All (λ b. b < 256)
 
--- a number that was written is read again
+-- reading a field gives the number that was written to it
 abbrev pub ReadsBack : Type 0
 ReadsBack =
     (n at number : ℕ) (bytes : List ℕ) → at + n ≤ length bytes → number < 256 ^ n

@@ -2,7 +2,7 @@
 
 ghost use Rattle.sb_bytes.specs.Field.{ReadsBack, WritesBack, LeavesOthers};
 
-/// A number that was written is read again.
+/// Reading a field gives the number that was written to it.
 pub fn reads_back()
     ensures { ReadsBack }
 {}

@@ -10,7 +10,7 @@ use Rattle.sb_codec.specs.Tuples.{IsTuple, tuple_spelling}
 abbrev pub OneTuple : Type 0
 OneTuple = (xs ys : List Value) → IsTuple xs → IsTuple ys → tuple_spelling xs ≡ tuple_spelling ys → xs ≡ ys
 
--- codes of values of the same kinds are in the order of the values: less, equal or greater
+-- the codes of two lists with the same kinds compare as the lists do: less, equal or greater
 abbrev pub KeepsOrder : Type 0
 KeepsOrder =
     (xs ys : List Value) → HaveSameKinds xs ys → All IsInRange xs → All IsInRange ys

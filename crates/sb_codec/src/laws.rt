@@ -7,7 +7,7 @@ pub fn one_tuple()
     ensures { OneTuple }
 {}
 
-/// For values of the same kinds, codes are in the order of the values.
+/// The codes of two lists with the same kinds compare as the lists do.
 pub fn keeps_order()
     ensures { KeepsOrder }
 {}

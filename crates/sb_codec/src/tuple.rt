@@ -26,7 +26,7 @@ pub fn encode_tuple(alloc: Global, t: &Tuple) -> Result<Bytes, AllocError>
     Ok(out)
 }
 
-/// The tuple of `count` values that the bytes spell, all of the bytes.
+/// The tuple of `count` values whose spelling the bytes are.
 fn take_values(alloc: Global, count: u8, bytes: &[u8]) -> Result<Option<Tuple>, AllocError>
     ensures found { IfOk result (λ r. IfSome r (λ t. (length t ≡ count) × All IsStorable t
         × (bytes.now ≡ flat_map value_spelling t))) }
@@ -49,7 +49,7 @@ fn take_values(alloc: Global, count: u8, bytes: &[u8]) -> Result<Option<Tuple>, 
     }
 }
 
-/// The tuple that the bytes spell, all of the bytes; `None` exactly where they spell none.
+/// The tuple whose spelling the bytes are; `None` exactly where there is none.
 pub fn decode_tuple(alloc: Global, b: &[u8]) -> Result<Option<Tuple>, AllocError>
     // What is read is a tuple, spelled so.
     ensures found { IfOk result (λ r. IfSome r (λ t. IsTuple t × (b.now ≡ tuple_spelling t))) }

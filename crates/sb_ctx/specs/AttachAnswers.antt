@@ -58,7 +58,8 @@ at_once (Check pred deferred) = Check pred false
 at_once (Refers side columns other others mode deferred) = Refers side columns other others mode false
 at_once rule = rule
 
--- A row that is built is admitted as an insert: by a unique index over the rows built so far and this one, by every other rule over the whole database.
+-- A row that is built is admitted as an insert: a unique index looks at the rows that it has built and this one, any other rule at the whole
+-- database.
 abbrev pub admits_built : Attachment → Instance → Rule → Db → Rows → Change → Bool
 admits_built a inst (TreeIndex columns unique) db built c = admits (Some a.rules) (with_rows db inst.relation (changed_rows built c)) inst.relation (TreeIndex columns unique) c
 admits_built a inst rule db built c = admits (Some a.rules) db inst.relation (at_once rule) c
@@ -81,7 +82,7 @@ Late a inst rule db entry Done = entry_fails db inst.relation rule entry ≡ fal
 Late a inst rule db entry Veto = holds (Some a.rules) db inst.relation rule ≡ false
 Late a inst rule db entry move = ⊥
 
--- the entry isn't below low in its first part, and is above after
+-- the first part of the entry is low or greater, and the entry lies above this other one, where there is one
 abbrev pub is_entry_above : Key → Option Entry → Entry → Bool
 is_entry_above low None e = not (is_lt (bytes_cmp e.0 low))
 is_entry_above low (Some after) e = not (is_lt (bytes_cmp e.0 low)) && is_before after e

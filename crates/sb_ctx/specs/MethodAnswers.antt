@@ -70,7 +70,7 @@ abbrev pub is_above : Option Key → Key → Bool
 is_above None key = true
 is_above (Some low) key = is_lt (bytes_cmp low key)
 
--- the row of the least key above the low one
+-- the first row whose key is above the low one
 abbrev pub row_above : Option Key → Rows → Option (Key × Row)
 row_above low rows = first (λ row. is_above low row.0) rows
 

@@ -126,7 +126,7 @@ pub record HoldsPart (c : View) (P : Pages) : Type 0 where
 abbrev pub stored : View → Pages → Pages
 stored c P n = elim (held_at c n) [ None ↦ P n | Some h ↦ h.now ]
 
--- the record keys of the rows with these values, rising; none where the relation or a column isn't there
+-- the rising record keys of those rows that have these values; none where the relation or a column isn't there
 abbrev pub keys_with : Db → Name → List Name → List Value → List Key
 keys_with db relation columns values =
     cond (is_none (first_unnamed (places_in (schema_at db relation) columns)))

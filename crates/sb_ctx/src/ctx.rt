@@ -69,7 +69,7 @@ impl Ctx {
         }
     }
 
-    /// Takes the fresh page of the least number. None where every fresh page that was given is taken.
+    /// Takes the fresh page of the least number. None where no fresh page is left.
     pub fn fresh(&mut self) -> Option<u32>
         ensures sound { IsSound self.old }
         ensures number { result ≡ free_page self.old }

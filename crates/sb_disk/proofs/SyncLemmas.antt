@@ -26,7 +26,7 @@ sure_byte _ _ (AfterSync now last before (StoodStill is) since) i out =
     (sure_byte last before since i (λ covered. out (subst (λ (m : Moment). Covered i m.written) (sym is) covered))
     ∙ ap (λ (bytes : List ℕ). get_or bytes i 0) (sym (settled_twice last.written last.reads (last_settled before))))
 
--- Each byte that no write since the last successful sync covered is, in every image that a crash may leave now, as it was at that sync.
+-- A place that wasn't written since the last successful sync holds, in every image that a crash may leave now, the byte of that sync.
 pub Leaves-last_synced : (s : Story) → IsSince s.now s.before → (image : List ℕ) → Leaves s.now image → (i : ℕ) → ¬ Covered i s.now.written → get_or image i 0 ≡ get_or (last_synced s) i 0
 Leaves-last_synced s since image left i out = sym (left.bytes i out) ∙ sure_byte s.now s.before since i out
 

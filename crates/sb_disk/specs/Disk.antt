@@ -37,7 +37,7 @@ pub record AgreesBut (ranges : List Range) (old new : List ℕ) : Type 0 where
   pub size : length old ≡ length new
   pub bytes : (i : ℕ) → ¬ Covered i ranges → slice_index old i ≡ slice_index new i
 
--- A crash at this moment may leave the image: a byte that was written since the last successful sync may be anything.
+-- The image is what a read gives, but for bytes that were written since the last successful sync: those may be any.
 abbrev pub Leaves : Moment → List ℕ → Type 0
 Leaves moment image = AgreesBut moment.written moment.reads image
 

@@ -8,7 +8,7 @@ use crate::Failed;
 
 /// Bytes that outlast a crash once they are synced.
 ///
-/// A crash within a write leaves what the moment after it may leave; one within a sync, what the moment before or after it may leave.
+/// For a crash within a write the moment behind it counts; within a sync, the one before it or the one behind it.
 pub trait Disk {
     /// The disk's bytes, what is pending of them, and all earlier moments, where the disk tells them.
     ghost told: { Self → Option Story };
@@ -16,13 +16,13 @@ pub trait Disk {
     /// The number of its bytes.
     ghost len: { Self → ℕ };
 
-    /// The writes and syncs so far, failed ones too, up to the greatest u64.
+    /// How many writes and syncs were called, whether they failed or not, up to the greatest u64.
     ghost clock: { Self → ℕ };
 
     /// How often the disk has failed, up to the greatest u64.
     ghost faults: { Self → ℕ };
 
-    /// Opens the disk whose name has these bytes in UTF-8. With a size it makes the disk where there is none, and grows a shorter one where it can.
+    /// Opens the disk of this name, which is UTF-8. Where a size is given, a disk that isn't there is made, and one that is shorter is made longer if that can be done.
     fn mount(&mut self, name: &[u8], create_size: Option<u64>) -> Result<(), Failed>
         ensures told { Mounted (told self.old) (told self.new) }
         ensures len { len self.old ≤ len self.new }
@@ -57,7 +57,7 @@ pub trait Disk {
         ensures len { len self.new ≡ len self.old }
         ensures cause { HasCause (faults self.old) (faults self.new) result };
 
-    /// After it a crash leaves what a read gives.
+    /// Once it has succeeded, nothing is pending: a crash shows the same bytes as a read.
     fn sync(&mut self) -> Result<(), Failed>
         ensures ok { OnOk result (told self.new ≡ synced (told self.old)) }
         ensures err { OnErr result (FailedSync (told self.old) (told self.new)) }

@@ -16,7 +16,7 @@ pub trait Source {
     /// How often the source has failed, up to the greatest u64.
     ghost faults: { Self → ℕ };
 
-    /// Puts some bytes in front of the buffer and answers how many. None for a buffer that isn't empty means the end.
+    /// Puts some bytes in front of the buffer and answers how many. No byte, for a buffer that has room, means the end.
     fn read(&mut self, buffer: &mut [u8]) -> Result<usize, Failed>
         ensures most { IfOk result (λ count. count ≤ length buffer.new) }
         ensures took { IfOk result (λ count. Took (left self.old) (left self.new) count buffer.new) }

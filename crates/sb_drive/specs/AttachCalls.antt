@@ -34,7 +34,7 @@ pub record HandsUp (owner : ℕ) (before after : Contents) (c : View) (move : Mo
   pub part : HoldsPart c (pages_of after.now owner)
   pub asks : AsksFor c move
 
--- Damaged comes only where the box may answer Broken over these pages: never where they are formed
+-- Damaged comes only where the box may answer Broken over these pages
 abbrev pub HasCause : Attachment → Instance → AttachCall → View → Pages → DriveFault → Type 0
 HasCause a inst call c P (Damaged n) = (after : Pages) × Answers a inst call c P after (Broken n)
 HasCause a inst call c P NoMemory = Unit {0}

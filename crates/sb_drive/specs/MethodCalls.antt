@@ -22,7 +22,7 @@ IsReading (call.Get key) = Unit {0}
 IsReading (call.Next low) = Unit {0}
 IsReading c = ⊥
 
--- Damaged comes only where the box may answer Broken over these pages: never where they are formed
+-- Damaged comes only where the box may answer Broken over these pages
 abbrev pub HasCause : Method → Instance → MethodCall → Pages → DriveFault → Type 0
 HasCause m inst c P (Damaged n) = (after : Pages) × Answers m inst c P after (Broken n)
 HasCause m inst c P NoMemory = Unit {0}

@@ -61,7 +61,7 @@ impl<R: Files> Disk for FileDisk<R> {
 
     ghost fits = { λ _. tt };
 
-    /// Opens the file of this name and syncs it. With a size it makes the file where there is none, and adds zeros to a shorter one.
+    /// Opens the file of this name and syncs it. Where a size is given, a file that isn't there is made, and a shorter one gets zeros up to that size.
     ///
     /// It fails where the name isn't UTF-8, and where another file, or this one when it was longer, is mounted already.
     fn mount(&mut self, name: &[u8], create_size: Option<u64>) -> Result<(), Failed>

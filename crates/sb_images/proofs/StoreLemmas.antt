@@ -145,7 +145,7 @@ module _ (want now : ℕ → List ℕ) (j : State) (g : Geometry) (opened pendin
 
 -- ---- a commit
 module _ (want now : ℕ → List ℕ) (j : State) (g : Geometry) (opened pending : List Record) (a : Active) (rest : List Active) where
-  -- the committed pages with the standing changes of this transaction
+  -- the committed pages once what stands of this transaction is written over them
   pub WillBe-commit : (told : Option Story) → IsStoreOn want now told j g opened pending (a ∷ rest) → WillBe (with_changes (own_of (opened ++ pending) a) want) told g ((opened ++ pending) ++ ending (a ∷ []))
   WillBe-commit None store = tt
   WillBe-commit (Some s) store = λ p lt. restored-commit_own (opened ++ pending) a rest p (page_at g p s.now.reads) (now p) want store.whole.active (store.whole.pages p lt)

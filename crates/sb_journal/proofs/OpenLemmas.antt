@@ -90,7 +90,7 @@ one_read (Some s) gates log lens next n len is below room next_is is_open spelle
     (begins_more lens len gates.start (gates.start + gates.len) log.start (log.start + log.len) s.now.reads (omega arith)
     (subst (λ (k : ℕ). IsOpen s.now.reads (gates.start + k)) is (is_open.0 refl)) (omega arith) spelled begins)
 
--- an open chunk runs past the region in its length field
+-- the length field of an open chunk runs past the region
 pub no_field : (told : Option Story) (gates log : Range) (lens : List ℕ) (n : ℕ) → length lens ≡ n → n < gates.len → Begins told gates log lens
     → GateIs told (gates.start + n) true → log.len < bytes_of lens + 4 → RunsPast told gates log n
 no_field None gates log lens n is below begins is_open past = tt

@@ -12,13 +12,14 @@ pub record IsIdle {D : Type 0} (old new : D) (j k : State) : Type 0 where
   pub disk : new ≡ old
   pub journal : k ≡ j
 
--- After a fault a call answers Fault and touches no device.
+-- Behind a fault each call answers Fault, and leaves disk and journal alone.
 pub record IsDown {D T : Type 0} (old new : D) (j k : State) (result : Result T JournalFault)
     : Type 0 where
   pub fault : IsErrOf result Fault
   pub idle : IsIdle old new j k
 
--- What each call keeps: the disk's length, the two regions, that the state is sound and that the journal stands until a call fails. It answers Fault only where a call on the disk failed, in this call or an earlier one.
+-- What each call keeps: the disk's length, the two regions, that the state is sound and that the journal stands until a call fails. Its Fault means
+-- that the disk failed a call, now or earlier.
 pub record Keeps {D T : Type 0} (told : D → Option Story) (len faults : D → ℕ)
     (old new : D) (j k : State) (result : Result T JournalFault) : Type 0 where
   pub size : len new ≡ len old
@@ -34,7 +35,7 @@ pub record IsLogFull (n : ℕ) (j : State) : Type 0 where
   pub up : j.failed ≡ false
   pub over : j.log.len < used_of j + need_of j.pending n
 
--- something is pending and every gate is used, of a journal that hasn't failed
+-- bytes are pending and no gate is left for them, of a journal that hasn't failed
 pub record IsGatesFull (j : State) : Type 0 where
   pub up : j.failed ≡ false
   pub some : 0 < j.pending

@@ -15,7 +15,7 @@ pub(crate) fn zero<D: Disk>(disk: &mut D, at: u64, count: u64) -> Result<(), Fai
 
     ensures zeroed { OnOk result (WhereTold (D.told disk.old) (D.told disk.new) (Zeroed at count)) }
 
-    // A crash at any moment of the call leaves what was there, but for these bytes.
+    // A crash anywhere in the call leaves what was there, but for these bytes.
     ensures any_moment { LeavesOnly (D.told disk.old) (D.told disk.new) (LeavesTorn at count (D.told disk.old)) }
 
     ensures len { D.len disk.new ≡ D.len disk.old }

@@ -109,7 +109,7 @@ impl Journal {
         ensures appended { OnOk result (
             WhereTold (D.told disk.old) (D.told disk.new) (Appended bytes.now self.old self.new)) }
 
-        // A crash at any moment of the call leaves the chunks.
+        // A crash anywhere in the call leaves the chunks.
         ensures any_moment { LeavesOnly (D.told disk.old) (D.told disk.new) (IsKeptOn (D.told disk.old) self.old) }
 
         ensures full { IsErrOf result (log_full (length bytes.now) self.old) ↔ IsLogFull (length bytes.now) self.old }
@@ -139,7 +139,7 @@ impl Journal {
         }
     }
 
-    /// Makes a chunk of the pending bytes, and opens its gate. With nothing pending it makes no device call.
+    /// Makes a chunk of the pending bytes, and opens its gate. Where nothing is pending it leaves the disk alone.
     pub fn force<D: Disk>(&mut self, disk: &mut D) -> Result<(), JournalFault>
         requires lies { Lies (D.len disk.old) self.old.gates self.old.log }
         requires stands { StandsOn (D.told disk.old) self.old }
@@ -149,7 +149,7 @@ impl Journal {
         ensures forced { OnOk result (
             WhereTold (D.told disk.old) (D.told disk.new) (Forced self.old self.new)) }
 
-        // A crash at any moment of the call leaves the chunks, or the chunks and the pending one.
+        // A crash anywhere in the call leaves the chunks, or the chunks and the pending one.
         ensures any_moment { LeavesOnly (D.told disk.old) (D.told disk.new) (IsForcedOn (D.told disk.old) self.old) }
 
         ensures full { IsErrOf result (gates_full self.old) ↔ IsGatesFull self.old }
@@ -194,7 +194,7 @@ impl Journal {
         ensures closed { OnOk result (
             WhereTold (D.told disk.old) (D.told disk.new) (Closed self.old self.new)) }
 
-        // A crash at any moment of the call leaves all chunks, or none.
+        // A crash anywhere in the call leaves all chunks, or none.
         ensures any_moment { LeavesOnly (D.told disk.old) (D.told disk.new) (IsClosingOn (D.told disk.old) self.old) }
 
         ensures refused { IfErr result (λ e. OnlyFault e self.old self.new) }

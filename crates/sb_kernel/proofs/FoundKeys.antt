@@ -20,7 +20,7 @@ schema_in o = elim o [ None ↦ [] | Some r ↦ r.schema ]
 abbrev rows_in : Option Relation → Rows
 rows_in o = elim o [ None ↦ [] | Some r ↦ r.rows ]
 
--- the keys of the rows with these values
+-- the keys of those rows that have these values
 abbrev pub keys_of : List Column → List Name → List Value → Rows → List Key
 keys_of schema columns values rows = map (λ row. row.0) (filter (λ row. has_values schema columns values row.1) rows)
 

@@ -11,7 +11,7 @@ use Rattle.sb_kernel.specs.declared.starting.StartFault.TheVariants.{BadExtensio
 use Rattle.sb_kernel.specs.Boxes.{codes_of}
 use Rattle.sb_kernel.specs.Stepping.{meanings_in, IsFor}
 
--- the kernel has these boxes, of which no two of a kind bear one code, and stands for the first state
+-- the kernel has these boxes, among which no code repeats within a kind, and stands for the first state
 pub record Starts {I J : Type 0} {F : I → Type 0} {G : J → Type 0} (of_method : (i : I) → F i → Method) (of_attachment : (j : J) → G j → Attachment)
     (exts : Extensions I J F G) (kernel : Kernel I J F G) : Type 0 where
   pub boxes : meanings_in of_method of_attachment kernel ≡ meanings of_method of_attachment exts
@@ -24,7 +24,7 @@ IsMissing m (BadExtensions code) = ⊥
 IsMissing m (MissingExtension code) = (code ≡ 2) × (method_of 2 m.methods ≡ None)
 IsMissing m NoMemory = Unit {0}
 
--- two boxes of a kind bear this code, the first that repeats; or no live storage method has the code of the relation
+-- this is the first code that repeats within a kind; or no live storage method has the code of the relation
 abbrev pub HasCause : Meanings → StartFault → Type 0
 HasCause m (BadExtensions code) = repeated_in m ≡ Some code
 HasCause m (MissingExtension code) = (code ≡ 2) × (repeated_in m ≡ None) × (method_of 2 m.methods ≡ None)

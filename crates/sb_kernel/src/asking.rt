@@ -1,4 +1,4 @@
-//! One call of an attachment, with its finds answered over the rows as they stand.
+//! One call of an attachment, whose finds see the rows that the storage method holds now.
 
 ghost use Rattle.std.specs.Prelude.{IfOk};
 ghost use Rattle.sb_relation.specs.Db.{Rows};

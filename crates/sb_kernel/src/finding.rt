@@ -54,7 +54,7 @@ pub fn learn_law(boxed: &dyn StorageMethod)
     let _code = boxed.code();
 }
 
-/// The row of the least key above this one, or of the least key.
+/// The first row behind this key, or of all.
 fn next_row(
     memory: &mut Memory,
     alloc: Global,
@@ -83,7 +83,7 @@ fn row_in(made: Move) -> Option<(RecKey, Tuple)>
     }
 }
 
-/// The record keys of the rows with these values; none where the relation is another one, or a column isn't there.
+/// The record keys of those rows that have these values; none where the relation is another one, or a column isn't there.
 pub fn find_keys(
     memory: &mut Memory,
     alloc: Global,

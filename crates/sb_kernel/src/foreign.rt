@@ -143,7 +143,7 @@ fn key_of(alloc: Global, place: u8) -> Result<RecKey, AllocError>
     Ok(RecKey::from_vec(vec![in alloc; place]?))
 }
 
-/// The row of the least key above this one, or of the least key.
+/// The first row behind this key, or of all.
 fn next_row(
     alloc: Global,
     bytes: &[u8],

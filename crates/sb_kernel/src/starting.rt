@@ -22,7 +22,7 @@ const TREE: u16 = 2;
 /// Why a kernel doesn't start.
 #[derive(Clone, Copy, Debug, PartialEq, Eq, Drop)]
 pub enum StartFault {
-    /// Two boxes of a kind bear one code: the first that repeats.
+    /// Of the storage methods, or of the attachments, two bear this code: the first one that repeats.
     BadExtensions { code: u16 },
     /// No live storage method has the code.
     MissingExtension { code: u16 },

@@ -23,7 +23,7 @@ pub fn is_taken(keys: &[RecKey], own: &RecKey, key: &RecKey) -> bool
     own != key && stands(keys, key)
 }
 
-/// How many keys at the front are below this one.
+/// The length of the front of keys that lie below this one.
 fn place(keys: &[RecKey], key: &RecKey) -> usize
     ensures place { result ≡ length (take_while (is_below key.now) keys.now) }
     ensures within { result ≤ length keys.now }

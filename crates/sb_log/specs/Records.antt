@@ -66,7 +66,7 @@ abbrev pub spelled : List Record → List ℕ
 spelled [] = []
 spelled (r ∷ recs) = spelling r ++ spelled recs
 
--- each chunk is a row of whole records, and these are all of them
+-- these records in order fill the chunks, each chunk with whole ones
 abbrev pub Spells : List (List ℕ) → List Record → Type 0
 Spells [] recs = recs ≡ []
 Spells (chunk ∷ chunks) recs =

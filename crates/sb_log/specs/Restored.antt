@@ -35,12 +35,12 @@ abbrev pub IsCoveredBy : List Record → Record → Type 0
 IsCoveredBy past (Changed c) = imaged past c.page ≡ true
 IsCoveredBy past _ = Unit {0}
 
--- each change stands behind an Image of its page, there or among the records before
+-- in front of each change there is an Image of its page, among these records or those before
 abbrev pub IsCoveredBehind : List Record → List Record → Type 0
 IsCoveredBehind past [] = Unit {0}
 IsCoveredBehind past (r ∷ recs) = IsCoveredBy past r × IsCoveredBehind (past ++ r ∷ []) recs
 
--- each change stands behind an Image of its page
+-- in front of each change there is an Image of its page
 abbrev pub IsCovered : List Record → Type 0
 IsCovered recs = IsCoveredBehind [] recs
 

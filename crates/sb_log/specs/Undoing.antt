@@ -24,7 +24,7 @@ AreUndoable active size bytes (c ∷ cs) =
     (c.offset + length c.after ≤ size) × (active c.tx ≡ true → IsBeneath bytes c × IsClearOf c cs)
     × AreUndoable active size (splice c.offset c.after bytes) cs
 
--- no standing change of another active transaction overlaps the range
+-- the range is clear of what stands of the other active transactions
 abbrev pub IsFree : (ℕ → Bool) → Change → List Change → Type 0
 IsFree active c [] = Unit {0}
 IsFree active c (d ∷ ds) = (active d.tx ≡ true → (c.tx ≡ d.tx) ⊎ AreApart d c) × IsFree active c ds

@@ -94,7 +94,7 @@ impl MemDisk {
         self.stop = Some(Stop { call, torn });
     }
 
-    /// The reads, writes and syncs so far, failed ones too.
+    /// How many reads, writes and syncs were called, whether they failed or not.
     pub fn calls(&self) -> u64
         ensures { result ≡ self.now.calls }
     {
@@ -127,7 +127,7 @@ impl Disk for MemDisk {
 
     ghost fits = { λ d. record { bytes = refl; moments = refl } };
 
-    /// Takes every name and every size, and leaves the disk as it is.
+    /// Any name and any size will do, and nothing of the disk changes.
     fn mount(&mut self, name: &[u8], create_size: Option<u64>) -> Result<(), Failed>
         ensures ok { IsOk result }
         ensures same { self.new ≡ self.old }

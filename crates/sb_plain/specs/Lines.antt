@@ -23,7 +23,7 @@ cut (b ∷ bytes) = cond (b == 10) (record { ended = [] ∷ (cut bytes).ended; b
 abbrev pub whole_lines : List ℕ → List (List ℕ)
 whole_lines bytes = (cut bytes).ended
 
--- a last line without its end counts where it isn't empty
+-- bytes behind the last line end are a line too
 abbrev pub last_line : List ℕ → List (List ℕ)
 last_line [] = []
 last_line (b ∷ bytes) = (b ∷ bytes) ∷ []
@@ -31,7 +31,7 @@ last_line (b ∷ bytes) = (b ∷ bytes) ∷ []
 abbrev pub lines_of : List ℕ → List (List ℕ)
 lines_of bytes = (cut bytes).ended ++ last_line (cut bytes).begun
 
--- one carriage return at the end of a line is dropped
+-- a line without the carriage return that it may end in
 abbrev pub without_return : List ℕ → List ℕ
 without_return [] = []
 without_return (b ∷ []) = cond (b == 13) [] (b ∷ [])
@@ -69,6 +69,6 @@ pub record AreFirstItems (lines : List (List ℕ)) (items : List Item) : Type 0 
   pub are : AreItems first items
   pub whole : lines ≡ first ++ others
 
--- the commands and bad lines of the input
+-- what all lines of the input say that ask for a reply
 abbrev pub Commands : List ℕ → List Item → Type 0
 Commands bytes items = AreItems (asking (lines_of bytes)) items

@@ -123,7 +123,7 @@ abbrev pub if_used : List Key → Reply → Option Reply
 if_used [] reply = Some reply
 if_used (pick ∷ picks) reply = None
 
--- each changing command is a transaction of its own; a refused one changes nothing
+-- a command that changes something commits by itself; a refused one leaves all as it was
 abbrev pub turn_of : State → Bool → Outcome (Reply × Going) → Turn
 turn_of s changing (Made x) = record { reply = if_used x.1.picks x.0; state = cond changing (with_commit s x.1.db) s }
 turn_of s changing (Stopped refusal) = refusing s refusal

@@ -87,7 +87,7 @@ text_token (Some found) = cond (is_utf8 found.0) (Some (token.Text found.0, 1 + 
 abbrev pub digits_of : List ℕ → List ℕ
 digits_of bytes = take_while is_digit bytes
 
--- The longest token at the front of the bytes, by the first of them: all letters, digits and _ that follow a letter, all digits that follow a
+-- The longest token at the front of the bytes, by the first of them: the letters, digits and _ behind a letter, the digits behind a
 -- digit or a minus with a digit behind it, a text behind a quote, or a sign. Where the quotes of a text don't end it, or it isn't UTF-8, there is
 -- no token, though a shorter front may be one, as 'a' in 'a''b). No line has tokens either way: such a front ends at the first of two quotes, and
 -- from the second on no text ends, or it isn't UTF-8.

@@ -27,7 +27,8 @@ pub record Serves (told : Option Story) (size : ℕ) (j : journal.State) (g : Ge
   pub clean : j.clean ≡ true
   pub free : 0 < j.pending → length j.lens < j.gates.len
 
--- What each call keeps: the sizes, at a fault the position, that disk and journal serve the pool, and that clean pages are as the disk has them. It answers Fault only where a call on the disk failed, in this call or in an earlier one of the journal.
+-- What each call keeps: the sizes, at a fault the position, that disk and journal serve the pool, and that clean pages are as the disk has them. Its
+-- Fault means that the disk failed a call, now or in an earlier call of the journal.
 pub record Keeps {D T : Type 0} (told : D → Option Story) (len faults : D → ℕ) (old new : D) (j k : journal.State) (pool after : State)
     (result : Result T PoolFault) : Type 0 where
   pub size : len new ≡ len old
@@ -40,7 +41,8 @@ pub record Keeps {D T : Type 0} (told : D → Option Story) (len faults : D → 
   pub agrees : AgreesOn (told new) k after
   pub sound : Sound j → Sound k
 
--- What a force keeps: the disk's length, the regions, that the state is sound and that the journal stands. It fails only where a call on the disk failed, in this call or in an earlier one.
+-- What a force keeps: the disk's length, the regions, that the state is sound and that the journal stands. Where it fails, the disk failed a call,
+-- now or earlier.
 pub record KeepsForced {D T E : Type 0} (told : D → Option Story) (len faults : D → ℕ) (old new : D) (j k : journal.State)
     (result : Result T E) : Type 0 where
   pub size : len new ≡ len old
@@ -75,7 +77,7 @@ abbrev pub IsReadyWith : (ℕ → List ℕ) → Geometry → List Record → jou
 IsReadyWith want g recs k old new =
     (opened pending : List Record) × (opened ++ pending ≡ recs) × IsReadyStill want g opened pending k old new
 
--- A crash at any moment of the call leaves only images that restore the pages wanted. After it the store is ready again.
+-- A crash anywhere in the call leaves only images that restore the pages wanted. After it the store is ready again.
 pub record KeepsImages {T : Type 0} (want : ℕ → List ℕ) (g : Geometry) (recs : List Record) (k : journal.State) (old new : Option Story)
     (result : Result T PoolFault) : Type 0 where
   pub leaves : LeavesOnly old new (Restores g want)

@@ -21,7 +21,7 @@ use std::marker::Model;
 
 /// The pages of a store in memory, as they were last written.
 ///
-/// It holds a buffer for every page, reads a page from the disk at its first use, and writes pages in `flush_all` alone. No call after `new` takes memory.
+/// It has a buffer for every page. A page is read from the disk when it is first asked for, and `flush_all` alone writes pages. No call after `new` takes memory.
 #[derive(Drop)]
 pub struct Pool {
     geometry: Geometry,
@@ -92,7 +92,7 @@ impl Pool {
         ensures pages { KeepsPages journal.new self.old self.new (D.told disk.old) (D.told disk.new) }
         ensures dirty { NoneMoreDirty self.old self.new }
 
-        // A crash at any moment of the call leaves what the store restores.
+        // A crash anywhere in the call leaves what the store restores.
         ensures images { InStore (D.told disk.old) journal.old self.old (λ want recs.
             KeepsImages want self.old.geometry recs journal.new (D.told disk.old) (D.told disk.new) result) }
 
@@ -159,7 +159,7 @@ impl Pool {
         ensures others { (p : ℕ) → IsDirty self.new p → IsDirty self.old p ⊎ (p ≡ page) }
         ensures err { OnErr result (KeepsPages journal.new self.old self.new (D.told disk.old) (D.told disk.new)) }
 
-        // A crash at any moment of the call leaves what the store restores.
+        // A crash anywhere in the call leaves what the store restores.
         ensures images { InStore (D.told disk.old) journal.old self.old (λ want recs. imaged recs page ≡ true
             → KeepsImages want self.old.geometry recs journal.new (D.told disk.old) (D.told disk.new) result) }
 
@@ -188,7 +188,7 @@ impl Pool {
         ensures pages { KeepsPages journal.new self.old self.new (D.told disk.old) (D.told disk.new) }
         ensures dirty { NoneMoreDirty self.old self.new }
 
-        // A crash at any moment of the call leaves what the store restores.
+        // A crash anywhere in the call leaves what the store restores.
         ensures images { InStore (D.told disk.old) journal.old self.old (λ want recs.
             FlushesImages want self.old.geometry recs journal.new (D.told disk.old) (D.told disk.new) result) }
 

@@ -24,13 +24,13 @@ pred_spelling (Both p q) = 2 ∷ pred_spelling p ++ pred_spelling q
 pred_spelling (Either p q) = 3 ∷ pred_spelling p ++ pred_spelling q
 pred_spelling (Fails p) = 4 ∷ pred_spelling p
 
--- no text or name of a term is longer than 255 bytes
+-- the text or name of a term has at most 255 bytes
 abbrev pub IsShortTerm : Term → Type 0
 IsShortTerm (Const v) = IsShort v
 IsShortTerm (New name) = length name ≤ 255
 IsShortTerm (Old name) = length name ≤ 255
 
--- no text or name in a predicate is longer than 255 bytes
+-- so it is with each term of a predicate
 abbrev pub IsShortPred : Tree → Type 0
 IsShortPred Always = Unit {0}
 IsShortPred (Compare op a b) = IsShortTerm a × IsShortTerm b

@@ -35,8 +35,8 @@ fn kind_of_term(term: &Term, schema: &Schema, old: bool, new: bool) -> Option<Ki
     }
 }
 
-/// Whether each column that the predicate names stands in the schema, `Old` and `New` stand only where they are
-/// allowed, and both sides of each comparison have one kind.
+/// Whether the schema has each column that the predicate names, the old row and the new one are named only where they
+/// are allowed, and no comparison has sides of two kinds.
 pub fn well_typed(pred: &Pred, schema: &Schema, old: bool, new: bool) -> bool
     ensures { result ≡ is_well_typed schema.now old new pred.now }
 {

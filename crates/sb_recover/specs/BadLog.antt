@@ -11,7 +11,7 @@ use Rattle.sb_images.specs.Store.{AreChunks}
 use Rattle.sb_recover.specs.declared.fault.OpenFault.{OpenFault}
 use Rattle.sb_recover.specs.declared.fault.OpenFault.TheVariants.{Fault, BadLog, NoMemory}
 
--- each chunk is a row of whole records
+-- no chunk holds anything but whole records
 abbrev pub AreRows : List (List ℕ) → Type 0
 AreRows [] = Unit {0}
 AreRows (chunk ∷ chunks) = ((n : ℕ) × HasRecords chunk n) × AreRows chunks
@@ -33,7 +33,7 @@ IsFirstBad chunks (BadLog chunk offset) = BadRow chunks chunk offset
 IsFirstBad chunks other = ⊥
 
 -- ---- a bad log
--- behind chunks of these lengths an open chunk runs past the region, in its length field or in its bytes
+-- behind chunks of these lengths an open one ends outside the region: its length field does, or its bytes do
 pub record IsPast (s : Story) (g : Geometry) (lens : List ℕ) : Type 0 where
   pub is_open : IsOpen s.now.reads (4096 + length lens)
   pub past : EndsPast (69632 + bytes_of lens) (69632 + g.log) s.now.reads

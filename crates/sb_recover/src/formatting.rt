@@ -32,7 +32,7 @@ pub fn format<D: Disk>(
     ensures ok { IfOk result (λ g. g ≡ geometry_of pages log) }
     ensures made { OnOk result (IsNew (geometry_of pages log) (D.told disk.old) (D.told disk.new)) }
 
-    // A crash at any moment of the call leaves no store, or a new one.
+    // A crash anywhere in the call leaves no store, or a new one.
     ensures any_moment { IsSettled (D.told disk.old) → HoldsNone (D.told disk.old)
         → LeavesOnly (D.told disk.old) (D.told disk.new) (IsFormatting (geometry_of pages log)) }
 

@@ -24,7 +24,7 @@ pub(crate) fn lay<D: Disk>(disk: &mut D, page: &mut [u8], g: Geometry) -> Result
 
     ensures laid { OnOk result (WhereTold (D.told disk.old) (D.told disk.new) (IsLaid g)) }
 
-    // A crash at any moment of the call leaves the gate as it was.
+    // A crash anywhere in the call leaves the gate as it was.
     ensures any_moment { LeavesOnly (D.told disk.old) (D.told disk.new)
         (LeavesTorn 1 (behind_gate g) (D.told disk.old)) }
 

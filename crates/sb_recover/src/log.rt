@@ -76,7 +76,7 @@ fn read_chunks<D: Disk>(
     Ok(chunks)
 }
 
-/// Whether each chunk is a row of whole records, and else the first that isn't, and where.
+/// Whether the chunks hold whole records alone, and else the first one that doesn't, and where.
 fn test_chunks(chunks: &[Vec<u8>]) -> Result<(), OpenFault>
     requires short { AreShort (texts chunks.now) }
     requires few { length chunks.now ≤ 65536 }

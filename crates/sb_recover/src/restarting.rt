@@ -21,13 +21,13 @@ use std::alloc::Global;
 
 /// Makes the pages of a store what its log restores, closes its gates, and answers its sizes.
 ///
-/// It syncs first. `NotStore` comes exactly where the disk holds no store of any sizes, and `BadLog` exactly where an open chunk runs past the region, with offset 0, or is no row of whole records; it names the first such chunk. Records of pages that the store lacks are passed over.
+/// It syncs first. `NotStore` comes exactly where the disk holds no store of any sizes. `BadLog` comes exactly where some open chunk ends outside the region, with offset 0, or holds anything but whole records; the chunk is the first of these. A record of a page that isn't in the store has no effect.
 pub fn restart<D: Disk>(alloc: Global, disk: &mut D) -> Result<Geometry, OpenFault>
     ensures ok { IfOk result (λ g. WhereTold (D.told disk.old) (D.told disk.new) (IsRestarted g)) }
     ensures sizes { IfOk result (λ g. IsGeometry g) }
     ensures room { IfOk result (λ g. need g.pages g.log ≤ D.len disk.new) }
 
-    // A crash at any moment of the call leaves pages that are restored as before.
+    // A crash anywhere in the call leaves pages that are restored as before.
     ensures any_moment { (want : ℕ → List ℕ) (g : Sizes) → IsMounted want (D.told disk.old) g
         → LeavesOnly (D.told disk.old) (D.told disk.new) (Restores g want) }
 

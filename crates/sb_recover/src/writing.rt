@@ -42,7 +42,7 @@ pub(crate) fn write_pages<D: Disk>(
 
     ensures written { OnOk result (WhereTold (D.told disk.old) (D.told disk.new) (AreWritten g.now (texts frames.now))) }
 
-    // A crash at any moment of the call leaves what was there, but for those pages.
+    // A crash anywhere in the call leaves what was there, but for those pages.
     ensures any_moment { LeavesOnly (D.told disk.old) (D.told disk.new) (LeavesPages g.now (texts frames.now) (D.told disk.old)) }
 
     ensures len { D.len disk.new ≡ D.len disk.old }

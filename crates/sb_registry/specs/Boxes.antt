@@ -28,7 +28,7 @@ meanings of_method of_attachment exts = record {
   spare_attachments = map (λ b. of_attachment b.vtable b.value) exts.spare_attachments.items;
 }
 
--- the first code that two boxes of a kind bear: methods first, live ones before spare ones
+-- the first code that repeats among the storage methods, or else among the attachments, the live ones before the spare ones
 abbrev pub repeated_in : Meanings → Option ℕ
 repeated_in m = repeated (map (λ x. x.rules.code) (m.methods ++ m.spare_methods)) (map (λ x. x.rules.code) (m.attachments ++ m.spare_attachments))
 

@@ -10,15 +10,15 @@ use crate::coded::{first_repeated, move_over, place_of};
 use sb_ctx::{Attachment, StorageMethod};
 use std::alloc::AllocError;
 
-/// The live boxes and the spare ones, of which no two of a kind bear one code.
+/// Boxes, live and spare. No code stands twice among the storage methods, and none twice among the attachments.
 #[derive(Drop)]
 pub struct Registry {
     exts: Extensions,
 }
 
 impl Registry {
-    /// Refused where two boxes of a kind bear one code, live or spare, with the boxes and the first code that stands
-    /// before already: storage methods first, live ones before spare ones.
+    /// Refused where a code repeats among the storage methods or among the attachments, live or spare. The boxes come back
+    /// with the first code that repeats: storage methods first, live ones before spare ones.
     pub fn take(exts: Extensions) -> Result<Registry, (u16, Extensions)>
         ensures ok { IfOk result (λ r. AreSame exts r.exts
             × (repeated_in (meanings (λ i. (⟦<dyn StorageMethod as StorageMethod>⟧ i).method)
@@ -100,7 +100,7 @@ impl Registry {
     }
 }
 
-/// The first code that two boxes of a kind bear.
+/// The first code that repeats among boxes of a kind.
 fn repeated_code(exts: &Extensions) -> Option<u16>
     ensures { result ≡ repeated_in (meanings (λ i. (⟦<dyn StorageMethod as StorageMethod>⟧ i).method)
         (λ j. (⟦<dyn Attachment as Attachment>⟧ j).attachment) exts.now) }

@@ -38,7 +38,7 @@ abbrev pub rising : List Entry → List Entry
 rising [] = []
 rising (entry ∷ entries) = with_entry entry (rising entries)
 
--- the ordered code of the columns and the record key of each row
+-- of each row the ordered code of the columns, with its record key
 abbrev pub index_entries : List Column → List Name → Rows → List Entry
 index_entries schema columns rows = rising (map (λ row. (ordered_code (values_in schema row.1 columns), row.0)) rows)
 
@@ -84,7 +84,7 @@ image box db name (Stats column low width) = record { entries = []; sums = stats
 image box db name (Foreign code desc) = foreign_image box desc (schema_at db name) (rows_at db name)
 image box db name _ = no_image
 
--- the content of the pages that an attachment works on: a join index's mirror works on those of its main instance
+-- the content of the pages that an attachment works on: a join index's mirror has none of its own, and uses the main side's
 abbrev pub page_image : Option AttachRules → Db → Name → Rule → Image
 page_image box db name (JoinIndex Mirror columns other others) = entries_only (join_entries db other others name columns)
 page_image box db name rule = image box db name rule

@@ -23,7 +23,7 @@ is_own (Some own) key = bytes_eq own key
 abbrev pub is_free : Rows → Option Key → Key → Bool
 is_free rows own key = is_own own key || is_none (row_at rows key)
 
--- a record key has at most 200 bytes
+-- 200 bytes are the most that a record key may have
 abbrev pub is_record_key : Key → Bool
 is_record_key key = nat_le (length key) 200
 

@@ -45,7 +45,7 @@ abbrev pub values_at : Db → Name → List Name → Row → List Value
 values_at db name names row = values_in (schema_at db name) row names
 
 -- ---- what a rule on the named relation admits, over the changed database
--- no other row has the new row's columns
+-- the new row's values in these columns stand in no other row
 abbrev pub admits_unique : Db → Name → List Name → Change → Bool
 admits_unique db name columns c = of_new c (λ key new. not (has_other_with db name columns (values_at db name columns new) key))
 
@@ -53,11 +53,11 @@ admits_unique db name columns c = of_new c (λ key new. not (has_other_with db n
 abbrev pub admits_check : Db → Name → Tree → Change → Bool
 admits_check db name pred c = of_new c (λ key new. truth (schema_at db name) None (Some new) pred)
 
--- a parent row has the new row's values
+-- the new row's values stand in some parent row
 abbrev pub admits_child : Db → Name → List Name → Name → List Name → Change → Bool
 admits_child db name columns other others c = of_new c (λ key new. has_row_with db other others (values_at db name columns new))
 
--- a parent row still has the old row's values, or no child row has them
+-- the old row's values stand in some parent row still, or in no child row
 abbrev pub admits_parent : Db → Name → List Name → Name → List Name → Change → Bool
 admits_parent db name columns other others c =
     of_old c (λ old. let values = values_at db name columns old in has_row_with db name columns values || not (has_row_with db other others values))
@@ -88,7 +88,7 @@ admits box db name (Foreign code desc) c = admits_foreign box desc db name c
 abbrev pub delete_those : Name → List Name → List Value → Action
 delete_those name names values = action.Delete name (map (λ pair. (pair.0, Const pair.1)) (zip names values))
 
--- where no parent row has the old row's values, the children that have them go
+-- the children with the old row's values go, where these stand in no parent row any more
 abbrev pub cascade : Db → Name → List Name → Name → List Name → Option Row → List Action
 cascade db name columns other others None = []
 cascade db name columns other others (Some old) =
@@ -100,7 +100,7 @@ is_event event.Delete (change.Delete key old) = true
 is_event event.Update (change.Update from old to new) = true
 is_event _ _ = false
 
--- a trigger's action with the values of the change, on its event where its predicate holds
+-- a trigger's action, bound to the change, where that is of its event and meets its predicate
 abbrev pub triggered : List Column → Event → Tree → Action → Change → List Action
 triggered schema on pred act c = cond (is_event on c && truth schema (row_before c) (row_after c) pred) (bound schema c act ∷ []) []
 
@@ -129,7 +129,7 @@ late_checks db name (Refers side columns other others mode deferred) c = cond de
 late_checks db name _ c = []
 
 -- ---- when a rule holds of the whole relation
--- no two rows have the same columns
+-- no two rows agree in these columns
 abbrev pub is_unique : List Column → List Name → Rows → Bool
 is_unique schema columns [] = true
 is_unique schema columns (row ∷ rows) =

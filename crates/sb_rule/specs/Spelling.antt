@@ -107,7 +107,7 @@ IsShortPair (name, term) = IsShortName name × IsShortTerm term
 abbrev pub IsShortAssignment : Name × Name × Term × List (Name × Term) → Type 0
 IsShortAssignment (relation, column, term, pairs) = IsShortName relation × IsShortName column × IsShortTerm term × IsShortList IsShortPair pairs
 
--- no text or name is longer than 255 bytes, no list has more than 255 items
+-- names and texts of at most 255 bytes, lists of at most 255 items
 abbrev pub IsShortAction : Action → Type 0
 IsShortAction (action.Insert relation terms) = IsShortName relation × IsShortList IsShortTerm terms
 IsShortAction (action.Delete relation pairs) = IsShortName relation × IsShortList IsShortPair pairs
@@ -117,7 +117,7 @@ IsShortAction (action.Add relation column term pairs) = IsShortAssignment (relat
 abbrev pub IsShortTie : List Name × Name × List Name → Type 0
 IsShortTie (columns, other, others) = IsShortList IsShortName columns × IsShortName other × IsShortList IsShortName others
 
--- no text or name is longer than 255 bytes, no list has more than 255 items, no width is below 1
+-- names and texts of at most 255 bytes, lists of at most 255 items, widths of at least 1
 abbrev pub IsShortRule : Rule → Type 0
 IsShortRule (TreeIndex columns unique) = IsShortList IsShortName columns
 IsShortRule (HashIndex columns) = IsShortList IsShortName columns
@@ -159,7 +159,7 @@ IsStorableRule (Refers side columns other others mode deferred) = IsStorableTie 
 IsStorableRule (Trigger event pred action deferred) = IsStorablePred pred × IsStorableAction action
 IsStorableRule (Foreign code desc) = Unit {0}
 
--- a predicate has at most 32 nodes, a foreign rule a code of 1,000 or more
+-- predicates of at most 32 nodes, codes of foreign rules from 1,000 on
 abbrev pub IsWithinLimits : Rule → Type 0
 IsWithinLimits (Check pred deferred) = node_count pred ≤ 32
 IsWithinLimits (Trigger event pred action deferred) = node_count pred ≤ 32

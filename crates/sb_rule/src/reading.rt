@@ -276,8 +276,8 @@ fn rule_of(alloc: Global, code: u16, bytes: &[u8]) -> Result<Option<(Rule, &[u8]
     }
 }
 
-/// The rule of this code that all the bytes spell; `None` exactly where they spell none whose predicate, where it has
-/// one, has at most 32 nodes.
+/// The rule of this code that all the bytes spell; `None` exactly where they spell no rule, or one with a predicate of
+/// more than 32 nodes.
 pub fn read_rule(alloc: Global, code: u16, bytes: &[u8]) -> Result<Option<Rule>, AllocError>
     // What is read has this code and is spelled so.
     ensures found { IfOk result (λ r. IfSome r (SpellsRule code bytes.now)) }

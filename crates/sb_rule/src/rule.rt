@@ -25,7 +25,7 @@ pub enum Event {
     Update,
 }
 
-/// The rule of an attachment. `columns` are those of the relation that it stands on.
+/// The rule of an attachment. Its `columns` belong to its own relation.
 #[derive(Drop)]
 pub enum Rule {
     TreeIndex {

@@ -49,7 +49,8 @@ emptied_book book = record (empty_book (length book.imaged)) { out = book.out; d
 abbrev pub changed_out : Out → Undo → Out
 changed_out o u = record { tx = o.tx; undos = o.undos ++ u ∷ []; begun = true; undone = false }
 
--- the records that are wanted before a change of the page: a Begin at the first record of the transaction, a Back where something was undone since the last one, an Image where the log has none
+-- what is logged before a change of the page: a Begin if the transaction has no record yet, a Back if changes of it were undone
+-- behind its last record, an Image if the page has none
 abbrev pub wants_of : Book → Out → ℕ → Wants
 wants_of book o page = record { begin = not o.begun; back = o.undone; image = not (slice_index_or book.imaged page false) }
 

@@ -1,4 +1,4 @@
--- What the calls of a store leave of it.
+-- How a store is left by its calls.
 use Rattle.std.specs.Prelude.{◌≡◌, ◌⊎◌, ℕ, ◌+◌, ◌*◌, ◌<◌, ◌≤◌, ◌||◌, nat_lt, true, false, Option, Result, OnOk, IfErr, IsErrOf, List, [], ◌∷◌, ◌++◌, length, take, drop}
 use Rattle.sb_disk.specs.Causes.{Rose}
 use Rattle.sb_disk.specs.Disk.{Story}
@@ -56,7 +56,8 @@ pub record IsDown {D T : Type 0} (old new : D) (s t : State) (result : Result T 
   pub disk : new ≡ old
   pub store : t ≡ s
 
--- The disk's length and the sizes stay, and the store is ready again. Fault comes only where a call on the disk failed in this call; from then on, and then alone, the store is down.
+-- The disk's length and the sizes stay, and the store is ready again. Its Fault means that the disk failed a call within it; from then on, and then
+-- alone, the store is down.
 pub record Keeps {D T : Type 0} (told : D → Option Story) (len faults : D → ℕ) (old new : D) (s t : State) (result : Result T StoreFault)
     : Type 0 where
   pub size : len new ≡ len old

@@ -46,7 +46,8 @@ pub record Stays {D : Type 0} (told : D → Option Story) (len faults : D → �
   pub log : k.log ≡ j.log
   pub stands : StandsOn (told new) k
 
--- What a checkpoint keeps: the sizes of disk and store. Its one refusal is Fault, for which a call on the disk failed, in this call or an earlier one of the journal.
+-- What a checkpoint keeps: the sizes of disk and store. Its one refusal is Fault, which means that the disk failed a call, now or in an earlier call
+-- of the journal.
 pub record KeepsSizes {D T : Type 0} (len faults : D → ℕ) (old new : D) (j : journal.State) (p after : pool.State) (result : Result T StoreFault)
     : Type 0 where
   pub size : len new ≡ len old

@@ -41,7 +41,7 @@ pub(crate) fn append_if<D: Disk>(
         → (wanted ≡ true → Steps g now now opened pending (record_of r.now) active active)
         → IsStoreOn want now (D.told disk.new) journal.new g opened (pending ++ some wanted (record_of r.now)) active) }
 
-    // A crash at any moment of the call leaves what the store restores.
+    // A crash anywhere in the call leaves what the store restores.
     ensures any_moment { (want : ℕ → List ℕ) (g : Geometry) (opened pending : List Record)
         → IsReadyOn want (D.told disk.old) journal.old g opened pending → LeavesOnly (D.told disk.old) (D.told disk.new) (Restores g want) }
 
@@ -106,7 +106,7 @@ pub(crate) fn log_change<D: Disk>(
         → IsStoreOn want (with_range c c.after now) (D.told disk.new) journal.new g opened
         (behind pending wants tx n page image.now ++ Changed c ∷ []) (active_with tx (suc n) ∷ rest)) }
 
-    // A crash at any moment of the call leaves what the store restores.
+    // A crash anywhere in the call leaves what the store restores.
     ensures any_moment { (want now : ℕ → List ℕ) (g : Geometry) (opened pending : List Record) (rest : List Active) (c : Change)
         → record_of change.now ≡ Changed c → IsNext wants tx n page image.now now opened pending rest c
         → IsStoreOn want now (D.told disk.old) journal.old g opened pending (active_with tx n ∷ rest)

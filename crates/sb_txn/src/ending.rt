@@ -51,7 +51,7 @@ fn finish<D: Disk>(
         → IsStoreOn (with_changes (own_of (opened ++ pending) (active_with tx n)) want) now (D.told disk.new) journal.new g
         (opened ++ ((pending ++ some undone (Back tx n)) ++ Commit tx ∷ [])) [] rest) }
 
-    // A crash at any moment of the call leaves the old pages wanted or the new ones.
+    // A crash anywhere in the call leaves the old pages wanted or the new ones.
     ensures any_moment { (want now : ℕ → List ℕ) (g : Geometry) (opened pending : List Record) (rest : List Active)
         → IsStoreOn want now (D.told disk.old) journal.old g opened pending (active_with tx n ∷ rest)
         → (undone ≡ false → count_of tx (standing (opened ++ pending)) ≤ n)

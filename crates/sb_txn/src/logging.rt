@@ -41,7 +41,7 @@ pub(crate) fn append_rec<D: Disk>(
         → Steps g now then opened pending (record_of r.now) active after
         → IsStoreOn want then (D.told disk.new) journal.new g opened (pending ++ record_of r.now ∷ []) after) }
 
-    // A crash at any moment of the call leaves what the store restores.
+    // A crash anywhere in the call leaves what the store restores.
     ensures any_moment { (want : ℕ → List ℕ) (g : Geometry) (opened pending : List Record)
         → IsReadyOn want (D.told disk.old) journal.old g opened pending → LeavesOnly (D.told disk.old) (D.told disk.new) (Restores g want) }
 

@@ -45,7 +45,7 @@ pub(crate) fn checkpoint<D: Disk>(
         → AreImaged pool.old (opened ++ pending) → ArePagesOn now (D.told disk.old) journal.old pool.old
         → IsStoreOn want now (D.told disk.new) journal.new pool.old.geometry [] [] []) }
 
-    // A crash at any moment of the call leaves what the store restores.
+    // A crash anywhere in the call leaves what the store restores.
     ensures any_moment { (want now : ℕ → List ℕ) (opened pending : List Record)
         → IsStoreOn want now (D.told disk.old) journal.old pool.old.geometry opened pending []
         → AreImaged pool.old (opened ++ pending) → ArePagesOn now (D.told disk.old) journal.old pool.old
@@ -80,7 +80,7 @@ pub(crate) fn commit<D: Disk>(
         → IsStoreOn (with_changes (own_of (opened ++ pending) (active_with tx n)) want) now (D.told disk.new) journal.new g
         (opened ++ (pending ++ Commit tx ∷ [])) [] rest) }
 
-    // A crash at any moment of the call leaves the old pages wanted or the new ones.
+    // A crash anywhere in the call leaves the old pages wanted or the new ones.
     ensures any_moment { (want now : ℕ → List ℕ) (g : Geometry) (opened pending : List Record) (n : ℕ) (rest : List Active)
         → IsStoreOn want now (D.told disk.old) journal.old g opened pending (active_with tx n ∷ rest)
         → count_of tx (standing (opened ++ pending)) ≤ n

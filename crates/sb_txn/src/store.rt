@@ -71,7 +71,7 @@ impl Store {
 
         ensures opened { IfOk result (λ store. IsOpened (parts D.told D.len disk.old store) (parts D.told D.len disk.new store)) }
 
-        // A crash at any moment of the call leaves pages that are restored as before.
+        // A crash anywhere in the call leaves pages that are restored as before.
         ensures any_moment { (want : ℕ → List ℕ) (g : Geometry) → IsMounted want (D.told disk.old) g
             → LeavesOnly (D.told disk.old) (D.told disk.new) (Restores g want) }
 

@@ -5,7 +5,7 @@ use Rattle.std.specs.Int.{to_be_bytes, w64}
 use Rattle.sb_value.specs.declared.value.Value.{Value}
 use Rattle.sb_value.specs.declared.value.Value.TheVariants.{Int, Text}
 
--- a number of 64 bits with its top bit flipped, read without a sign
+-- the 64 bits of a number, the top one flipped, read without a sign
 abbrev pub flipped : ℤ → ℕ
 flipped (pos n) = 2 ^ 63 + n
 flipped (negsuc n) = 2 ^ 63 - (n + 1)

@@ -7,7 +7,7 @@ use Rattle.std.specs.Cmp.Lexicographic.{slice_cmp}
 use Rattle.sb_value.specs.declared.value.Value.{Value}
 use Rattle.sb_value.specs.declared.value.Value.TheVariants.{Int, Text}
 
--- by the first byte that differs; the shorter first where one begins the other
+-- by the first byte that differs; a front of the other comes before it
 abbrev pub bytes_cmp : List ℕ → List ℕ → Ordering
 bytes_cmp = slice_cmp nat_cmp
 
@@ -18,6 +18,6 @@ value_cmp (Int a) (Text b) = Less
 value_cmp (Text a) (Int b) = Greater
 value_cmp (Text a) (Text b) = bytes_cmp a b
 
--- by the first value that differs; the shorter first where one begins the other
+-- by the first value that differs; a front of the other comes before it
 abbrev pub tuple_cmp : List Value → List Value → Ordering
 tuple_cmp = slice_cmp value_cmp

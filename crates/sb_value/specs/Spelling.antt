@@ -9,7 +9,7 @@ abbrev pub value_spelling : Value → List ℕ
 value_spelling (Int n) = 1 ∷ to_be_bytes w64 (cast_unsigned w64 n)
 value_spelling (Text s) = 2 ∷ length s ∷ s
 
--- a stored text has at most 255 bytes
+-- a text short enough to be stored: 255 bytes at most
 abbrev pub IsShort : Value → Type 0
 IsShort (Int n) = Unit {0}
 IsShort (Text s) = length s ≤ 255

@@ -31,7 +31,7 @@ impl Column {
     }
 }
 
-/// The first place, counted from 0, where a tuple lacks a value, has one too many or has one of another kind.
+/// Where a tuple first departs from its columns, counted from 0: a value is missing there, is one too many, or is of another kind.
 #[derive(Clone, Copy, Debug, PartialEq, Eq)]
 pub struct TypeFault {
     pub column: u64,

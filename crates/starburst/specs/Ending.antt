@@ -52,7 +52,7 @@ pub record AreReplied (lines : List (List ℕ)) (replies : List Reply) (bytes : 
   pub front : IsFront (text_of first) bytes
 
 -- What was written where a line couldn't be answered. A sink may fail at any call, and all commands but the last have their replies then:
--- so each reply is written before the next command begins.
+-- so no command begins while a reply is still to be written.
 abbrev pub WritesAtStop : Stop → List Reply → List ℕ → Type 0
 WritesAtStop SinkFailed replies bytes = LacksEnd replies bytes
 WritesAtStop NoMemory replies bytes = (bytes ≡ text_of replies) ⊎ LacksLast replies bytes

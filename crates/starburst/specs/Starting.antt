@@ -4,7 +4,7 @@ use Rattle.std.specs.Fmt.{decimal}
 use Rattle.sb_ctx.specs.Method.{Method}
 use Rattle.sb_registry.specs.Boxes.{Meanings, repeated_in, method_of}
 
--- two boxes of a kind bear this code
+-- the code repeats among the boxes of a kind
 abbrev pub repeated_line : ℕ → List ℕ
 repeated_line code = codes "? badextensions " ++ decimal code ++ codes "\n"
 
@@ -22,7 +22,7 @@ line_by None (Some method) = None
 abbrev pub refusal_line : Meanings → Option (List ℕ)
 refusal_line m = line_by (repeated_in m) (method_of 2 m.methods)
 
--- no two boxes of a kind bear one code, and a live storage method has the code of the relation
+-- no code repeats among storage methods or among attachments, and a live storage method has the code of the relation
 pub record CanStart (m : Meanings) : Type 0 where
   pub distinct : repeated_in m ≡ None
   pub method : Method

@@ -46,7 +46,7 @@ impl From<Failed> for Stop {
 /// The event that ended a run.
 #[derive(Clone, Copy, Debug, PartialEq, Eq)]
 pub enum Ending {
-    /// The source was read to its end and every line was answered.
+    /// The end of the source was seen, and every line was answered.
     InputEnded,
     SourceFailed,
     /// As many bytes as a run may take were taken, and the end of the source wasn't seen.

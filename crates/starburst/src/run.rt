@@ -95,11 +95,11 @@ fn serve<S: Source, K: Sink>(
 /// Answers the commands of the source on the sink, one line at a time, until the source ends or `most` bytes were taken.
 /// The boxes carry the commands out; spare ones aren't reached.
 ///
-/// The words are `--store`, a name and `--create`; others are refused with the line `? words`. Where two boxes of a kind
-/// bear one code, live or spare, the line is `? badextensions` with the first code that repeats, and else, where no live
-/// storage method has the code 2, `? missingextension 2`. The status of the report says what ended the run: 0 the end of
-/// the source, 2 the words, 4 a failed source, 5 a failed sink, 6 the boxes, 7 want of memory outside a command, 8 that
-/// `most` bytes were taken before the end was seen.
+/// The words are `--store`, a name and `--create`; others are refused with the line `? words`. A code that repeats among
+/// the storage methods or among the attachments, live or spare, is refused with the line `? badextensions` and the first
+/// such code; else boxes without a live storage method of code 2 are, with `? missingextension 2`. The status of the
+/// report says what ended the run: 0 the end of the source, 2 the words, 4 a failed source, 5 a failed sink, 6 the boxes,
+/// 7 memory that was wanting outside a command, 8 that `most` bytes were taken, with the end still unseen.
 pub fn run_to<S: Source, K: Sink>(
     alloc: Global,
     words: &[Str],
