@@ -1,0 +1,10 @@
+pub mod Numbers
+pub mod Runs
+pub mod Shifted
+pub mod Sizes
+pub mod Edited
+pub mod Placed
+pub mod Added
+pub mod Removed
+pub mod Tails
+pub mod Heads

@@ -1,0 +1,4 @@
+pub mod Entries
+pub mod Page
+pub mod Writes
+pub mod Walk
