@@ -1,9 +1,9 @@
 -- How a run of calls goes on, and what a crash in it may leave.
 use Rattle.std.proofs.Common.{◌≡◌, inl, inr, ⊎_elim, ℕ, ◌+◌, ◌<◌, ◌≤◌, Option, Some, None, Result, Ok, Err, OnOk, OnErr, List, [], ◌∷◌, length, refl, sym, ◌∙◌, subst, arith}
 use Rattle.std.proofs.lemmas.Bool.{cases_lt}
-use Rattle.sb_disk.specs.Disk.{Range, Moment, Story, AgreesBut, Leaves, WhereTold, splice, after_write, after_sync, wrote, synced, WriteFault, TornWrite, IdleWrite, LateWrite, SyncFault, IdleSync, LateSync, FailedWrite, FailedSync, Mounted}
+use Rattle.sb_disk.specs.Disk.{Range, Moment, Story, AgreesBut, Leaves, WhereTold, splice, after_write, after_sync, after_failed_sync, wrote, synced, WriteFault, TornWrite, IdleWrite, LateWrite, SyncFault, LostSync, LateSync, FailedWrite, FailedSync, Mounted}
 use Rattle.sb_disk.specs.Moments.{moment, contents, LeftAt, MayLeave, LeavesOnly, LeavesNow, LeavesTorn, IsSettled, Within, Sized, Step, Write, Sync, RanOk, RanErr, AllAlong, AllWithin}
-use Rattle.sb_disk.proofs.RangeLemmas.{AgreesBut-more, AgreesBut-then, AgreesBut-none, splice-AgreesBut}
+use Rattle.sb_disk.proofs.RangeLemmas.{AgreesBut-more, AgreesBut-then, AgreesBut-twice, AgreesBut-none, splice-AgreesBut}
 
 -- ---- any run
 -- a moment of some has a number below theirs
@@ -88,7 +88,7 @@ FailedWrite-StepsTo at count (Some s) None failed = absurd failed
 FailedWrite-StepsTo at count (Some s) (Some t) failed = write_fault_call at count s t failed
 
 sync_fault_call : (old new : Story) → SyncFault old new → OneCall old new
-sync_fault_call old new (IdleSync is) = NewMoment old.now is
+sync_fault_call old new (LostSync reads agrees is) = NewMoment (after_failed_sync reads old).now is
 sync_fault_call old new (LateSync is) = NoMoment is
 
 FailedSync-StepsTo : (a new : Option Story) → FailedSync a new → StepsTo a new
@@ -142,7 +142,7 @@ synced-LeavesNow (Some s) new is image left =
     let now = subst (λ (n : Option Story). LeavesNow n image) is left in record { size = now.size; bytes = λ i out. now.bytes i (λ none. none) }
 
 sync_fault_left : (old new : Story) → SyncFault old new → (image : List ℕ) → Leaves new.now image → Leaves old.now image
-sync_fault_left old new (IdleSync is) image left = subst (λ (u : Story). Leaves u.now image) is left
+sync_fault_left old new (LostSync reads agrees is) image left = AgreesBut-twice old.now.written old.now.reads reads image agrees (subst (λ (u : Story). Leaves u.now image) is left)
 sync_fault_left old new (LateSync is) image left = subst (λ (u : Story). Leaves u.now image) is left
 
 pub FailedSync-LeavesNow : (a new : Option Story) → FailedSync a new → (image : List ℕ) → LeavesNow new image → LeavesNow a image
@@ -202,7 +202,7 @@ on_mount a (Some s) (Some t) P so_far settled mounted has = record {
       (λ then. so_far.before k image earlier (inr (subst (λ (moments : List Moment). LeftAt moments k image) mounted.before then)))
       left;
   since = λ k image late left. ⊎_elim
-      (λ now. subst P (sym (IsSettled-LeavesNow (Some t) (mounted.written ∙ settled) image now.1)) has)
+      (λ now. subst P (sym (IsSettled-LeavesNow (Some t) (Mounted-IsSettled (Some s) (Some t) mounted settled) image now.1)) has)
       (λ then. so_far.since k image late (inr (subst (λ (moments : List Moment). LeftAt moments k image) mounted.before then)))
       left;
 }

@@ -27,6 +27,13 @@ AgreesBut-byte ranges old new at count i agrees sure from to = agrees.bytes i (s
 pub AgreesBut-none : (old new : List ℕ) → AgreesBut [] old new → new ≡ old
 AgreesBut-none old new agrees = ext_get_or 0 new old (sym agrees.size) (λ i below. sym (agrees.bytes i (λ none. none)))
 
+pub AgreesBut-same : (ranges : List Range) (bytes : List ℕ) → AgreesBut ranges bytes bytes
+AgreesBut-same ranges bytes = record { size = refl; bytes = λ i out. refl }
+
+-- two changes in the same ranges
+pub AgreesBut-twice : (ranges : List Range) (old middle new : List ℕ) → AgreesBut ranges old middle → AgreesBut ranges middle new → AgreesBut ranges old new
+AgreesBut-twice ranges old middle new first second = record { size = first.size ∙ second.size; bytes = λ i out. first.bytes i out ∙ second.bytes i out }
+
 -- one range more
 pub AgreesBut-more : (range : Range) (ranges : List Range) (old new : List ℕ) → AgreesBut ranges old new → AgreesBut (range ∷ ranges) old new
 AgreesBut-more range ranges old new agrees = record { size = agrees.size; bytes = λ i out. agrees.bytes i (λ covered. out (inr covered)) }

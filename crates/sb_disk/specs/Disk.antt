@@ -57,6 +57,13 @@ after_write at count reads s = record {
 abbrev pub after_sync : Story → Story
 after_sync s = record { now = record { reads = s.now.reads; written = [] }; before = s.now ∷ s.before }
 
+-- a call more, a sync that failed: a read gives these bytes now, and what was pending is
+abbrev pub after_failed_sync : List ℕ → Story → Story
+after_failed_sync reads s = record {
+  now = record { reads = reads; written = s.now.written };
+  before = s.now ∷ s.before;
+}
+
 -- a call more, which changed nothing
 abbrev pub after_idle : Story → Story
 after_idle s = record { now = s.now; before = s.now ∷ s.before }
@@ -78,9 +85,10 @@ pub data WriteFault (at count : ℕ) (old new : Story) : Type 0 where
   IdleWrite : new ≡ after_idle old → WriteFault at count old new
   LateWrite : new ≡ old → WriteFault at count old new
 
--- How a sync fails: what was pending is pending still, or it came at the clock's end and made no moment.
+-- How a sync fails: what was pending may read as anything from then on and is pending still, or it came at the clock's end and made no moment.
 pub data SyncFault (old new : Story) : Type 0 where
-  IdleSync : new ≡ after_idle old → SyncFault old new
+  LostSync : (reads : List ℕ) → AgreesBut old.now.written old.now.reads reads
+      → new ≡ after_failed_sync reads old → SyncFault old new
   LateSync : new ≡ old → SyncFault old new
 
 -- what a failed write of so many bytes leaves of what is told

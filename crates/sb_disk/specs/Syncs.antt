@@ -2,10 +2,10 @@
 use Rattle.std.specs.Prelude.{◌≡◌, Option, Some, None, List, [], ◌∷◌, ℕ}
 use Rattle.sb_disk.specs.Disk.{Range, Moment, Story, AgreesBut}
 
--- One call that was no successful sync: a range more is pending, and only its bytes may differ, or all is as it was.
+-- One call that was no successful sync: a range more is pending, or the same ranges are. Bytes may differ there alone.
 pub data Unsynced (old new : Moment) : Type 0 where
   WroteRange : (range : Range) → new.written ≡ range ∷ old.written → AgreesBut (range ∷ []) old.reads new.reads → Unsynced old new
-  StoodStill : new ≡ old → Unsynced old new
+  SameRanges : new.written ≡ old.written → AgreesBut old.written old.reads new.reads → Unsynced old new
 
 -- a moment after a sync, when nothing was pending, or one that came of such a moment by calls that were no successful syncs
 pub data IsSince : Moment → List Moment → Type 0 where

@@ -1,8 +1,9 @@
 //! The file disk and its calls.
 
-ghost use Rattle.std.specs.Prelude.{◌≡◌, ◌-◌, ◌^◌, ◌≤◌, None, IfSome, OnOk, OnErr};
+ghost use Rattle.std.specs.Prelude.{◌≡◌, ◌||◌, ◌-◌, ◌^◌, ◌≤◌, true, None, IfSome, IsErr, OnOk, OnErr, is_err};
 ghost use Rattle.sb_disk.specs.Causes.{HasCause};
 ghost use Rattle.sb_disk.specs.Disk.{Ticks};
+ghost use Rattle.sb_filedisk.specs.Counts.{Counts, IsLatched};
 
 use crate::faults::Faults;
 use crate::opening::open;
@@ -12,6 +13,8 @@ use std::io::{self, ErrorKind, Read, Seek, SeekFrom, Write};
 use std::rt::Files;
 
 /// A file as a disk. Before it is mounted it has no bytes, and each call but `mount` fails.
+///
+/// Once a write or a sync has failed, every later one fails too and leaves the file alone: what the system has dropped then isn't known.
 #[derive(Drop)]
 pub struct FileDisk<R: Files> {
     rt: R,
@@ -19,6 +22,8 @@ pub struct FileDisk<R: Files> {
     len: u64,
     clock: u64,
     faults: Faults,
+    /// Whether a write or a sync has failed.
+    failed: bool,
 }
 
 impl<R: Files> FileDisk<R> {
@@ -34,19 +39,36 @@ impl<R: Files> FileDisk<R> {
             len: 0,
             clock: 0,
             faults: Faults { count: 0 },
+            failed: false,
         }
     }
 
-    /// Counts a write or a sync. At its end the clock stands still, and that is a failure.
+    // Counts a write or a sync, which fails where one has failed before. At its end the clock stands still, and that is a failure too.
     fn tick(&mut self) -> io::Result<()>
         ensures clock { Ticks self.old.clock self.new.clock result }
+        ensures latched { self.old.failed ≡ true → IsErr result }
         ensures rest { self.new ≡ record self.old { clock = self.new.clock } }
     {
         if self.clock == u64::MAX {
             return Err(ErrorKind::QuotaExceeded.into());
         }
         self.clock += 1;
+        if self.failed {
+            return Err(ErrorKind::BrokenPipe.into());
+        }
         Ok(())
+    }
+
+    // What a write or a sync came to. A failure is counted, and kept.
+    fn latch(&mut self, outcome: io::Result<()>) -> Result<(), Failed>
+        ensures same { is_err result ≡ is_err outcome }
+        ensures latch { self.new.failed ≡ (self.old.failed || is_err result) }
+        ensures cause { HasCause self.old.faults.count self.new.faults.count result }
+        ensures counted { Counts self.old.faults.count self.new.faults.count result }
+        ensures rest { self.new ≡ record self.old { failed = self.new.failed; faults = self.new.faults } }
+    {
+        self.failed = self.failed || outcome.is_err();
+        self.faults.note(outcome)
     }
 }
 
@@ -68,7 +90,9 @@ impl<R: Files> Disk for FileDisk<R> {
         ensures len { self.old.len ≤ self.new.len }
         ensures size { OnOk result (IfSome create_size (λ size. size ≤ self.new.len)) }
         ensures clock { self.new.clock ≡ self.old.clock }
+        ensures latch { self.new.failed ≡ self.old.failed }
         ensures cause { HasCause self.old.faults.count self.new.faults.count result }
+        ensures counted { Counts self.old.faults.count self.new.faults.count result }
         ensures err { OnErr result (self.new ≡ record self.old { faults = self.new.faults }) }
     {
         let outcome = open(&self.rt, &self.file, name, create_size);
@@ -94,7 +118,13 @@ impl<R: Files> Disk for FileDisk<R> {
     }
 
     /// Reads on until the buffer is full. It fails where the file has become too short for that.
-    fn read_at(&mut self, at: u64, buffer: &mut [u8]) -> Result<(), Failed> {
+    fn read_at(&mut self, at: u64, buffer: &mut [u8]) -> Result<(), Failed>
+        ensures rest { self.new ≡ record self.old { file = self.new.file; faults = self.new.faults } }
+        ensures len { self.new.len ≡ self.old.len }
+        ensures clock { self.new.clock ≡ self.old.clock }
+        ensures cause { HasCause self.old.faults.count self.new.faults.count result }
+        ensures counted { Counts self.old.faults.count self.new.faults.count result }
+    {
         let outcome = fill(&mut self.file, at, buffer);
         self.faults.note(outcome)
     }
@@ -103,28 +133,44 @@ impl<R: Files> Disk for FileDisk<R> {
     fn write_at(&mut self, at: u64, bytes: &[u8]) -> Result<(), Failed>
         ensures late { 2 ^ 64 - 1 ≤ self.old.clock → self.new.file ≡ self.old.file }
         ensures clock { Ticks self.old.clock self.new.clock result }
+        ensures latched { self.old.failed ≡ true → IsLatched self.old.file self.new.file result }
+        ensures latch { self.new.failed ≡ (self.old.failed || is_err result) }
         ensures len { self.new.len ≡ self.old.len }
         ensures cause { HasCause self.old.faults.count self.new.faults.count result }
+        ensures counted { Counts self.old.faults.count self.new.faults.count result }
     {
         let outcome = match self.tick() {
             Ok(()) => store(&mut self.file, at, bytes),
             late => late,
         };
-        self.faults.note(outcome)
+        self.latch(outcome)
     }
 
-    fn sync(&mut self) -> Result<(), Failed> {
+    /// Syncs the bytes of the file. Its size and its name were synced when it was mounted.
+    fn sync(&mut self) -> Result<(), Failed>
+        ensures clock { Ticks self.old.clock self.new.clock result }
+        ensures latched { self.old.failed ≡ true → IsLatched self.old.file self.new.file result }
+        ensures latch { self.new.failed ≡ (self.old.failed || is_err result) }
+        ensures len { self.new.len ≡ self.old.len }
+        ensures cause { HasCause self.old.faults.count self.new.faults.count result }
+        ensures counted { Counts self.old.faults.count self.new.faults.count result }
+    {
         let outcome = match self.tick() {
             Ok(()) => settle(&self.file),
             late => late,
         };
-        self.faults.note(outcome)
+        self.latch(outcome)
     }
+}
+
+// The error of a call before the mount.
+fn unmounted() -> io::Error {
+    ErrorKind::NotConnected.into()
 }
 
 fn fill<F: Read + Seek>(file: &mut Option<F>, at: u64, buffer: &mut [u8]) -> io::Result<()> {
     let Some(file) = file else {
-        return Err(ErrorKind::NotConnected.into());
+        return Err(unmounted());
     };
     file.seek(SeekFrom::Start(at))?;
     file.read_exact(buffer)
@@ -132,7 +178,7 @@ fn fill<F: Read + Seek>(file: &mut Option<F>, at: u64, buffer: &mut [u8]) -> io:
 
 fn store<F: Write + Seek>(file: &mut Option<F>, at: u64, bytes: &[u8]) -> io::Result<()> {
     let Some(file) = file else {
-        return Err(ErrorKind::NotConnected.into());
+        return Err(unmounted());
     };
     file.seek(SeekFrom::Start(at))?;
     file.write_all(bytes)
@@ -140,7 +186,7 @@ fn store<F: Write + Seek>(file: &mut Option<F>, at: u64, bytes: &[u8]) -> io::Re
 
 fn settle<F: OpenFile>(file: &Option<F>) -> io::Result<()> {
     let Some(file) = file else {
-        return Err(ErrorKind::NotConnected.into());
+        return Err(unmounted());
     };
-    file.sync_all()
+    file.sync_data()
 }

@@ -1,7 +1,8 @@
 //! How often a device has failed.
 
-ghost use Rattle.std.specs.Prelude.{◌≡◌, ◌+◌, ◌-◌, ◌^◌, cond, min, is_err, IfOk};
+ghost use Rattle.std.specs.Prelude.{◌≡◌, is_err, IfOk};
 ghost use Rattle.sb_disk.specs.Causes.{HasCause};
+ghost use Rattle.sb_filedisk.specs.Counts.{Counts};
 
 use sb_disk::Failed;
 use std::io;
@@ -17,7 +18,7 @@ impl Faults {
     pub fn note<T>(&mut self, outcome: io::Result<T>) -> Result<T, Failed>
         ensures ok { IfOk result (λ value. IfOk outcome (λ given. value ≡ given)) }
         ensures same { is_err result ≡ is_err outcome }
-        ensures counted { self.new.count ≡ cond (is_err outcome) (min (self.old.count + 1) (2 ^ 64 - 1)) self.old.count }
+        ensures counted { Counts self.old.count self.new.count result }
         ensures cause { HasCause self.old.count self.new.count result }
     {
         match outcome {

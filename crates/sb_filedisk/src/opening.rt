@@ -5,6 +5,7 @@ ghost use Rattle.std.specs.Prelude.{◌≤◌, IfOk, IfSome};
 use std::fs::{OpenFile, OpenOptions};
 use std::io::{self, ErrorKind};
 use std::os::unix::fs::MetadataExt;
+use std::path::Path;
 use std::rt::Files;
 use std::str;
 
@@ -16,6 +17,8 @@ pub struct Opened<F> {
 }
 
 /// Opens the file of this name, with a size makes it that long, and syncs it. It has to be the file that is mounted, where one is.
+///
+/// With a size it makes the file where there is none and none is mounted, and syncs its folder, so that a crash keeps its name.
 pub fn open<R: Files>(
     rt: &R,
     mounted: &Option<R::File>,
@@ -27,10 +30,11 @@ pub fn open<R: Files>(
     let Ok(name) = str::from_utf8(name) else {
         return Err(ErrorKind::InvalidFilename.into());
     };
+    let makes = create_size.is_some() && mounted.is_none();
     let file = OpenOptions::new()
         .read(true)
         .write(true)
-        .create(create_size.is_some() && mounted.is_none())
+        .create(makes)
         .open(rt, name)?;
     if let Some(mounted) = mounted {
         if !is_same(mounted, &file)? {
@@ -39,7 +43,19 @@ pub fn open<R: Files>(
     }
     let len = grow(&file, create_size)?;
     file.sync_all()?;
+    if makes {
+        sync_folder(rt, name)?;
+    }
     Ok(Opened { file, len })
+}
+
+/// Syncs the folder in which the file of this name stands.
+fn sync_folder<R: Files>(rt: &R, name: &str) -> io::Result<()> {
+    let folder = match Path::new(name).parent() {
+        Some(folder) if !folder.as_str().is_empty() => folder.as_str(),
+        _ => ".",
+    };
+    OpenOptions::new().read(true).open(rt, folder)?.sync_all()
 }
 
 /// Whether both are the same file of the system.

@@ -1,6 +1,8 @@
 //! A reader as a source and a writer as a sink.
 
 ghost use Rattle.std.specs.Prelude.{◌≡◌, ◌<◌, ◌≤◌, None, length, IfOk};
+ghost use Rattle.sb_disk.specs.Causes.{HasCause};
+ghost use Rattle.sb_filedisk.specs.Counts.{Counts};
 
 use crate::faults::Faults;
 use sb_disk::{Failed, Sink, Source};
@@ -31,7 +33,11 @@ impl<R: Read> Source for ReadSource<R> {
     ghost faults = { λ s. s.faults.count };
 
     /// One read, tried again where a signal interrupts it.
-    fn read(&mut self, buffer: &mut [u8]) -> Result<usize, Failed> {
+    fn read(&mut self, buffer: &mut [u8]) -> Result<usize, Failed>
+        ensures most { IfOk result (λ count. count ≤ length buffer.new) }
+        ensures cause { HasCause self.old.faults.count self.new.faults.count result }
+        ensures counted { Counts self.old.faults.count self.new.faults.count result }
+    {
         let count = read_some(&mut self.reader, buffer);
         self.faults.note(count)
     }
@@ -78,7 +84,12 @@ impl<W: Write> Sink for WriteSink<W> {
     ghost faults = { λ s. s.faults.count };
 
     /// One write, tried again where a signal interrupts it.
-    fn write(&mut self, piece: &[u8]) -> Result<usize, Failed> {
+    fn write(&mut self, piece: &[u8]) -> Result<usize, Failed>
+        ensures most { IfOk result (λ count. count ≤ length piece.now) }
+        ensures some { IfOk result (λ count. 0 < length piece.now → 0 < count) }
+        ensures cause { HasCause self.old.faults.count self.new.faults.count result }
+        ensures counted { Counts self.old.faults.count self.new.faults.count result }
+    {
         let count = write_some(&mut self.writer, piece);
         self.faults.note(count)
     }

@@ -2,11 +2,14 @@
 
 use crate::{FileDisk, ReadSource, WriteSink};
 use sb_disk::{Disk, Failed, Sink, Source};
-use slow::Slow;
+use slow::{Plan, Slow};
+use std::fs;
+use std::io::{self, Read, Seek, SeekFrom};
 use std::test::Fail;
-use std::{fs, io};
+use unsure::Unsure;
 
 mod slow;
+mod unsure;
 
 /// Makes an empty folder of this name.
 fn make_folder(rt: &HostRuntime, folder: &str) -> io::Result<()> {
@@ -129,9 +132,10 @@ fn a_mounted_file_stays(rt: HostRuntime) -> Result<(), Fail> {
 #[test]
 fn a_slow_file_is_read_and_written_whole(rt: HostRuntime) -> Result<(), Fail> {
     make_folder(&rt, "sb_filedisk_slow")?;
+    let plan = Plan::new(99);
     let mut disk = FileDisk::new(Slow {
         rt: &rt,
-        fails: false,
+        plan: &plan,
     });
     disk.mount(b"sb_filedisk_slow/disk", Some(4))?;
     disk.write_at(1, b"abc")?;
@@ -139,14 +143,105 @@ fn a_slow_file_is_read_and_written_whole(rt: HostRuntime) -> Result<(), Fail> {
     disk.read_at(0, &mut bytes)?;
     assert_eq!(rt; bytes, *b"\0abc");
 
+    let none = Plan::new(0);
     let mut unsure = FileDisk::new(Slow {
         rt: &rt,
-        fails: true,
+        plan: &none,
     });
     assert!(rt; unsure.mount(b"sb_filedisk_slow/disk", None).is_err());
     assert_eq!(rt; (unsure.len(), unsure.faults()), (0, 1));
     fs::remove_dir_all(&rt, "sb_filedisk_slow")?;
     Ok(())
+}
+
+#[test]
+fn after_a_failed_sync_the_file_is_left_alone(rt: HostRuntime) -> Result<(), Fail> {
+    make_folder(&rt, "sb_filedisk_sync")?;
+    let plan = Plan::new(99);
+    let mut disk = FileDisk::new(Slow {
+        rt: &rt,
+        plan: &plan,
+    });
+    disk.mount(b"sb_filedisk_sync/disk", Some(4))?;
+    plan.syncs.set(0);
+    plan.left.set(4);
+    disk.write_at(0, b"abc")?;
+    assert_eq!(rt; plan.syncs.get(), 0);
+    disk.sync()?;
+    assert_eq!(rt; plan.syncs.get(), 1);
+    assert!(rt; disk.sync().is_err());
+    assert_eq!(rt; (plan.syncs.get(), disk.faults()), (2, 1));
+
+    plan.left.set(99);
+    assert!(rt; disk.write_at(0, b"xyz").is_err());
+    assert!(rt; disk.sync().is_err());
+    assert_eq!(rt; plan.syncs.get(), 2);
+    assert_eq!(rt;
+        fs::read(&rt, "sb_filedisk_sync/disk")?.as_slice(),
+        b"abc\0".as_slice()
+    );
+    let mut bytes = [9; 2];
+    disk.read_at(1, &mut bytes)?;
+    assert_eq!(rt; bytes, *b"bc");
+    assert_eq!(rt; (disk.clock(), disk.faults()), (5, 3));
+    fs::remove_dir_all(&rt, "sb_filedisk_sync")?;
+    Ok(())
+}
+
+#[test]
+fn after_a_failed_write_the_file_is_left_alone(rt: HostRuntime) -> Result<(), Fail> {
+    make_folder(&rt, "sb_filedisk_write")?;
+    let plan = Plan::new(99);
+    let mut disk = FileDisk::new(Slow {
+        rt: &rt,
+        plan: &plan,
+    });
+    disk.mount(b"sb_filedisk_write/disk", Some(4))?;
+    plan.syncs.set(0);
+    plan.left.set(1);
+    assert!(rt; disk.write_at(0, b"abc").is_err());
+    plan.left.set(99);
+    assert!(rt; disk.write_at(1, b"xyz").is_err());
+    assert!(rt; disk.sync().is_err());
+    assert_eq!(rt; plan.syncs.get(), 0);
+    assert_eq!(rt;
+        fs::read(&rt, "sb_filedisk_write/disk")?.as_slice(),
+        b"a\0\0\0".as_slice()
+    );
+    assert_eq!(rt; (disk.clock(), disk.faults()), (3, 3));
+    fs::remove_dir_all(&rt, "sb_filedisk_write")?;
+    Ok(())
+}
+
+#[test]
+fn a_place_behind_four_gigabytes_is_kept(rt: HostRuntime) -> Result<(), Fail> {
+    make_folder(&rt, "sb_filedisk_sparse")?;
+    let mut disk = FileDisk::new(&rt);
+    disk.mount(b"sb_filedisk_sparse/disk", Some(4_294_967_304))?;
+    disk.write_at(4_294_967_297, b"abc")?;
+    let mut bytes = [9; 4];
+    disk.read_at(4_294_967_296, &mut bytes)?;
+    assert_eq!(rt; bytes, *b"\0abc");
+
+    let mut file = fs::open(&rt, "sb_filedisk_sparse/disk")?;
+    let _place = file.seek(SeekFrom::Start(4_294_967_297))?;
+    let mut found = [9; 3];
+    file.read_exact(&mut found)?;
+    assert_eq!(rt; found, *b"abc");
+    fs::remove_dir_all(&rt, "sb_filedisk_sparse")?;
+    Ok(())
+}
+
+#[test]
+fn an_interrupted_call_is_made_again(rt: HostRuntime) {
+    let mut source = ReadSource::new(Unsure { interrupts: 1 });
+    let mut buffer = [0; 4];
+    assert_eq!(rt; source.read(&mut buffer), Ok(2));
+    assert_eq!(rt; &buffer[..2], b"ab".as_slice());
+    assert_eq!(rt; source.faults(), 0);
+    let mut sink = WriteSink::new(Unsure { interrupts: 1 });
+    assert_eq!(rt; sink.write(b"abc"), Ok(3));
+    assert_eq!(rt; sink.faults(), 0);
 }
 
 #[test]

@@ -1,11 +1,14 @@
 -- A write that is undone, and a write that was torn.
-use Rattle.std.proofs.Common.{◌≡◌, inl, ⊎_elim, ℕ, ◌+◌, ◌-◌, ◌<◌, ◌≤◌, List, [], ◌∷◌, ◌++◌, length, get_or, take, drop, reverse, sym, ◌∙◌, ap, arith, length-drop}
+use Rattle.std.proofs.Common.{◌≡◌, Bool, true, false, cond, ◌==◌, Option, Some, None, ◌||◌, inl, ⊎_elim, ℕ, ◌+◌, ◌-◌, ◌<◌, ◌≤◌, List, [], ◌∷◌, ◌++◌, length, get_or, take, drop, reverse, refl, sym, ◌∙◌, ap, arith, length-drop}
 use Rattle.std.proofs.lemmas.List.{length-take, get_or-take, get_or-drop, ext_get_or, reverse-append}
 use Rattle.std.proofs.lemmas.Bool.{cases_lt}
+use Rattle.std.proofs.lemmas.Bool.Decides.{nat_tests}
 use Rattle.sb_disk.specs.Disk.{Story, IsIn, AgreesBut, splice, after_write, WriteFault, TornWrite}
 use Rattle.sb_disk.proofs.RangeLemmas.{length-splice, splice-AgreesBut, slice-splice}
 use Rattle.sb_memdisk.specs.declared.past.Entry.{Entry}
 use Rattle.sb_memdisk.specs.declared.past.Lull.{Lull}
+use Rattle.sb_memdisk.specs.declared.past.Stop.{Stop}
+use Rattle.sb_memdisk.specs.Failing.{has_stopped, torn_len}
 use Rattle.sb_memdisk.specs.Past.{after_lull, story_after, story_of, IsStored}
 
 -- the bytes that stood in the range, put there again after some of them were replaced
@@ -81,3 +84,22 @@ torn-WriteFault at kept bytes old new fits is = TornWrite (splice at (take kept 
 
     wider : (i : ℕ) → IsIn i (record { start = at; len = length (take kept bytes) }) → IsIn i (record { start = at; len = length bytes })
     wider i here = (here.0, (let until = here.1 in omega (arith, shorter)))
+
+-- a call that its number or the stop makes fail is one that fails
+pub failing_at : (named stopped late : Bool) → (named || stopped) ≡ true → (named || (stopped || late)) ≡ true
+failing_at true stopped late is = refl
+failing_at false true late is = refl
+failing_at false false late is = absurd (cc is)
+
+-- what hasn't stopped at a call had not before it
+pub running_before : (stop : Option Stop) (clock : ℕ) → has_stopped stop (clock + 1) ≡ false → has_stopped stop clock ≡ false
+running_before None clock running = refl
+running_before (Some stop) clock running = grind (arith, nat_tests)
+
+-- a write of which some bytes are stored comes before the disk has stopped
+pub running_torn : (stop : Option Stop) (clock count : ℕ) → 0 < torn_len stop clock count → has_stopped stop clock ≡ false
+running_torn None clock count some = refl
+running_torn (Some stop) clock count some = grind (arith, nat_tests)
+
+pub cond_some : (n : ℕ) (a b : Story) → 0 < n → cond (n == 0) a b ≡ b
+cond_some n a b some = grind (arith, nat_tests)

@@ -1,5 +1,5 @@
 -- When the calls of a memory disk fail, and what they leave then.
-use Rattle.std.specs.Prelude.{◌≡◌, ℕ, ◌+◌, ◌-◌, ◌^◌, ◌≤◌, ◌==◌, ◌||◌, min, nat_lt, nat_le, cond, Bool, false, Option, Some, None, List, length, take, Result, is_err, IsTrue, IsErr, OnErr}
+use Rattle.std.specs.Prelude.{◌≡◌, ℕ, ◌+◌, ◌-◌, ◌^◌, ◌<◌, ◌==◌, ◌||◌, min, nat_lt, nat_le, cond, Bool, true, false, Option, Some, None, List, length, take, Result, is_err, IsErr, OnErr}
 use Rattle.std.specs.List.{list_any}
 use Rattle.sb_disk.specs.Disk.{Story, splice, after_write, after_idle}
 use Rattle.sb_memdisk.specs.declared.past.Stop.{Stop}
@@ -35,15 +35,15 @@ torn_len (Some stop) clock count = cond (nat_lt clock stop.call) count (cond (cl
 abbrev pub stored_len : State → ℕ → ℕ
 stored_len s count = cond (is_named s) 0 (torn_len s.stop (clock_of s) count)
 
--- what is told after a write of which only these first bytes are stored
+-- what is told after a write that is to fail: the bytes that were to be stored are, where there are some
 abbrev pub torn_story : State → ℕ → List ℕ → Story
-torn_story s at bytes = after_write at (length bytes) (splice at (take (stored_len s (length bytes)) bytes) s.story.now.reads) s.story
+torn_story s at bytes = cond (stored_len s (length bytes) == 0)
+    (after_idle s.story)
+    (after_write at (length bytes) (splice at (take (stored_len s (length bytes)) bytes) s.story.now.reads) s.story)
 
--- What a failed write leaves: what it was to store; or nothing is stored for want of memory; or it came at the clock's end.
-pub data TornBy (old : State) (at : ℕ) (bytes : List ℕ) (new : State) : Type 0 where
-  Stored : new.story ≡ torn_story old at bytes → TornBy old at bytes new
-  NoMemory : new.story ≡ after_idle old.story → TornBy old at bytes new
-  Late : 2 ^ 64 - 1 ≤ clock_of old → new.story ≡ old.story → TornBy old at bytes new
+-- a disk that is to stop at this call; one that has stopped stays so
+abbrev pub stopping : Stop → State → State
+stopping stop s = record s { stop = cond (has_stopped s.stop (clock_of s)) s.stop (Some stop) }
 
 -- One call more was counted, and a failure where it failed. What is to fail is as before.
 pub record Counted {T E : Type 0} (old new : State) (result : Result T E) : Type 0 where
@@ -57,8 +57,9 @@ pub record GoesToPlan {T E : Type 0} (old new : State) (fails : Bool) (result : 
   pub counted : Counted old new result
   pub exactly : is_err result ≡ fails
 
--- A write fails where it is to, and else for want of memory alone.
+-- A write fails where it is to, and then leaves what was to be stored. It fails else for want of memory alone, and then leaves nothing.
 pub record WritesToPlan {T E : Type 0} (old new : State) (at : ℕ) (bytes : List ℕ) (result : Result T E) : Type 0 where
   pub counted : Counted old new result
-  pub fails : IsTrue (is_failing_on_clock old) → IsErr result
-  pub torn : OnErr result (TornBy old at bytes new)
+  pub fails : is_failing_on_clock old ≡ true → IsErr result
+  pub planned : is_failing_on_clock old ≡ true → clock_of old < 2 ^ 64 - 1 → new.story ≡ torn_story old at bytes
+  pub wanting : is_failing_on_clock old ≡ false → OnErr result (new.story ≡ after_idle old.story)

@@ -1,5 +1,5 @@
 -- The story that a memory disk's bytes and its list of writes tell.
-use Rattle.std.specs.Prelude.{◌≡◌, ℕ, zero, suc, List, [], ◌∷◌, length, take, reverse}
+use Rattle.std.specs.Prelude.{◌≡◌, ◌<◌, ◌≤◌, Vec, vec_capacity, ℕ, zero, suc, List, [], ◌∷◌, length, take, reverse}
 use Rattle.sb_disk.specs.Disk.{Story, splice, after_write, after_sync, after_idle}
 use Rattle.sb_memdisk.specs.declared.past.Lull.{Lull}
 use Rattle.sb_memdisk.specs.declared.past.Entry.{Entry}
@@ -36,3 +36,9 @@ story_of past lull bytes = after_lull lull (story_after (reverse past) bytes)
 pub record IsStored (lull : Lull) (at : ℕ) (written : List ℕ) (kept : ℕ) (before after : List ℕ) (past next : List Entry) : Type 0 where
   pub bytes : after ≡ splice at (take kept written) before
   pub story : story_after (reverse next) after ≡ after_write at (length written) after (after_lull lull (story_after (reverse past) before))
+
+-- There is memory for a write of so many bytes that is torn: for what it replaces, and for its entry.
+pub record IsReady {A B : Type 0} (size : ℕ) (spare : Vec ℕ A) (past : Vec Entry B) : Type 0 where
+  pub none : spare.items ≡ []
+  pub bytes : size ≤ vec_capacity spare
+  pub entry : length past.items < vec_capacity past

@@ -1,10 +1,11 @@
 -- How contracts see a memory disk.
-use Rattle.std.specs.Prelude.{◌≡◌, ℕ, ◌+◌, ◌≤◌, None, List, [], length}
+use Rattle.std.specs.Prelude.{◌≡◌, false, ℕ, ◌+◌, ◌≤◌, None, List, [], length}
 use Rattle.sb_disk.specs.Disk.{Story}
 use Rattle.sb_disk.specs.Syncs.{last_synced}
 use Rattle.sb_memdisk.specs.declared.disk.MemDisk.TheInside.{Inside}
-use Rattle.sb_memdisk.specs.Past.{start, story_of}
+use Rattle.sb_memdisk.specs.Past.{start, story_of, IsReady}
 use Rattle.sb_memdisk.specs.State.{State}
+use Rattle.sb_memdisk.specs.Failing.{has_stopped}
 
 -- what the disk tells
 abbrev pub story_in : Inside → Story
@@ -21,6 +22,7 @@ pub record Holds (d : Inside) : Type 0 where
   pub counts : d.lull.idle + d.lull.synced ≤ d.clock
   pub kept : d.kept.items ≡ last_synced (story_in d)
   pub same_size : length d.kept.items ≡ length d.bytes.items
+  pub ready : has_stopped d.stop d.clock ≡ false → IsReady (length d.bytes.items) d.spare d.past
 
 -- a disk that holds these bytes, to which nothing was done, and of which no call is to fail
 abbrev pub new_disk : List ℕ → State

@@ -1,13 +1,13 @@
 //! The memory disk and its calls.
 
-ghost use Rattle.std.specs.Prelude.{◌≡◌, ◌+◌, ◌-◌, ◌^◌, ◌≤◌, Some, None, [], length, replicate, refl, IsOk, IfOk, OnOk, OnErr};
+ghost use Rattle.std.specs.Prelude.{◌≡◌, ◌+◌, ◌-◌, ◌^◌, ◌<◌, ◌≤◌, min, Some, None, [], length, replicate, refl, IsOk, IfOk, OnOk, OnErr};
 ghost use Rattle.sb_disk.specs.Causes.{HasCause};
-ghost use Rattle.sb_disk.specs.Disk.{wrote, synced, WriteFault, SyncFault, Reads, Ticks};
+ghost use Rattle.sb_disk.specs.Disk.{wrote, synced, after_idle, WriteFault, SyncFault, Reads, Ticks};
 ghost use Rattle.sb_disk.specs.Syncs.{last_synced};
-ghost use Rattle.sb_memdisk.specs.Failing.{clock_of, is_failing_read, is_failing_on_clock, GoesToPlan, WritesToPlan};
+ghost use Rattle.sb_memdisk.specs.Failing.{clock_of, is_failing_read, is_failing_on_clock, stopping, GoesToPlan, WritesToPlan};
 ghost use Rattle.sb_memdisk.specs.View.{new_disk};
 
-use crate::past::{Entry, Lull, Stop, is_stopped, store, stored};
+use crate::past::{Entry, Lull, Stop, copied, is_failing, is_stopped, store, stored};
 use sb_disk::{Disk, Failed};
 use sb_value::Bytes;
 use std::alloc::{AllocError, Global};
@@ -21,6 +21,8 @@ pub struct MemDisk {
     /// As at the last successful sync.
     kept: Vec<u8>,
     past: Vec<Entry>,
+    /// Memory for what a torn write replaces, until the disk has stopped.
+    spare: Vec<u8>,
     lull: Lull,
     clock: u64,
     calls: u64,
@@ -48,7 +50,7 @@ impl MemDisk {
     {
         let bytes = vec![in alloc; 0; size as usize]?;
         let kept = vec![in alloc; 0; size as usize]?;
-        Ok(MemDisk::holding(alloc, bytes, kept))
+        MemDisk::holding(alloc, bytes, kept)
     }
 
     /// A disk of these bytes, none of which is pending.
@@ -57,25 +59,28 @@ impl MemDisk {
     {
         let bytes = image.to_vec(alloc)?;
         let kept = image.to_vec(alloc)?;
-        Ok(MemDisk::holding(alloc, bytes, kept))
+        MemDisk::holding(alloc, bytes, kept)
     }
 
-    fn holding(alloc: Global, bytes: Vec<u8>, kept: Vec<u8>) -> MemDisk
+    fn holding(alloc: Global, bytes: Vec<u8>, kept: Vec<u8>) -> Result<MemDisk, AllocError>
         requires { kept.items ≡ bytes.items }
-        ensures { result ≡ new_disk bytes.items }
+        ensures { IfOk result (λ d. d ≡ new_disk bytes.items) }
     {
-        MemDisk {
+        let past = Vec::with_capacity(alloc, 1)?;
+        let spare = Vec::with_capacity(alloc, bytes.len())?;
+        Ok(MemDisk {
             alloc,
             bytes,
             kept,
-            past: Vec::new(alloc),
+            past,
+            spare,
             lull: Lull { idle: 0, synced: 0 },
             clock: 0,
             calls: 0,
             faults: 0,
             fails: Vec::new(alloc),
             stop: None,
-        }
+        })
     }
 
     /// From now on the reads, writes and syncs with these numbers fail, and no others. The first call has the number 0.
@@ -87,11 +92,13 @@ impl MemDisk {
         Ok(())
     }
 
-    /// The write or sync before which the clock has this number fails, and so do all later calls. Of a write the first `torn` bytes are stored.
+    /// The write or sync before which the clock has this number fails, and so do all later calls. Of a write the first `torn` bytes are stored. A disk that has stopped stays so.
     pub fn stop_at(&mut self, call: u64, torn: u32)
-        ensures { self.new ≡ record self.old { stop = Some (record { call = call; torn = torn }) } }
+        ensures { self.new ≡ stopping (record { call = call; torn = torn }) self.old }
     {
-        self.stop = Some(Stop { call, torn });
+        if !is_stopped(self.stop, self.clock) {
+            self.stop = Some(Stop { call, torn });
+        }
     }
 
     /// How many reads, writes and syncs were called, whether they failed or not.
@@ -99,6 +106,29 @@ impl MemDisk {
         ensures { result ≡ self.now.calls }
     {
         self.calls
+    }
+
+    // Counts a failure.
+    fn fault(&mut self) -> Failed
+        ensures later { self.old.faults ≤ self.new.faults }
+        ensures counted { self.new ≡ record self.old { faults = min (self.old.faults + 1) (2 ^ 64 - 1) } }
+    {
+        self.faults = self.faults.saturating_add(1);
+        Failed
+    }
+
+    // A call on the clock that fails and changes nothing.
+    fn idle(&mut self) -> Failed
+        requires { clock_of self.old < 2 ^ 64 - 1 }
+        ensures later { self.old.faults ≤ self.new.faults }
+        ensures idle { self.new ≡ record self.old {
+          story = after_idle self.old.story;
+          faults = min (self.old.faults + 1) (2 ^ 64 - 1);
+        } }
+    {
+        self.clock += 1;
+        self.lull = self.lull.with_idle();
+        self.fault()
     }
 
     /// What the disk holds with all writes kept.
@@ -157,8 +187,7 @@ impl Disk for MemDisk {
         let fails = self.fails.contains(&self.calls) || is_stopped(self.stop, self.clock);
         self.calls = self.calls.saturating_add(1);
         if fails {
-            self.faults = self.faults.saturating_add(1);
-            return Err(Failed);
+            return Err(self.fault());
         }
         let at = at as usize;
         buffer.copy_from_slice(&self.bytes[at..at + buffer.len()]);
@@ -178,35 +207,27 @@ impl Disk for MemDisk {
         let named = self.fails.contains(&self.calls);
         self.calls = self.calls.saturating_add(1);
         if self.clock == u64::MAX {
-            self.faults = self.faults.saturating_add(1);
-            return Err(Failed);
+            return Err(self.fault());
         }
+        let fails = is_failing(named, self.stop, self.clock);
         let kept = stored(named, self.stop, self.clock, bytes.len());
-        self.clock += 1;
-        let fails = named || is_stopped(self.stop, self.clock);
-        match store(
-            self.alloc,
-            &mut self.bytes,
-            &mut self.past,
-            self.lull,
-            at as usize,
-            bytes,
-            kept,
-        ) {
-            Ok(()) => {
-                self.lull = Lull { idle: 0, synced: 0 };
-                if fails {
-                    self.faults = self.faults.saturating_add(1);
-                    return Err(Failed);
-                }
-                Ok(())
-            }
-            Err(_) => {
-                self.lull = self.lull.with_idle();
-                self.faults = self.faults.saturating_add(1);
-                Err(Failed)
-            }
+        if fails && kept == 0 {
+            return Err(self.idle());
         }
+        let at = at as usize;
+        let range = &self.bytes[at..at + bytes.len()];
+        let Ok(replaced) = copied(self.alloc, range, &mut self.spare, &mut self.past, fails) else {
+            return Err(self.idle());
+        };
+        let lull = self.lull;
+        let entry = Entry { lull, at, replaced };
+        store(&mut self.bytes, &mut self.past, entry, bytes, kept);
+        self.clock += 1;
+        self.lull = Lull { idle: 0, synced: 0 };
+        if fails {
+            return Err(self.fault());
+        }
+        Ok(())
     }
 
     fn sync(&mut self) -> Result<(), Failed>
@@ -221,15 +242,12 @@ impl Disk for MemDisk {
         let named = self.fails.contains(&self.calls);
         self.calls = self.calls.saturating_add(1);
         if self.clock == u64::MAX {
-            self.faults = self.faults.saturating_add(1);
-            return Err(Failed);
+            return Err(self.fault());
+        }
+        if is_failing(named, self.stop, self.clock) {
+            return Err(self.idle());
         }
         self.clock += 1;
-        if named || is_stopped(self.stop, self.clock) {
-            self.lull = self.lull.with_idle();
-            self.faults = self.faults.saturating_add(1);
-            return Err(Failed);
-        }
         self.lull.synced += 1;
         self.kept.copy_from_slice(&self.bytes);
         Ok(())

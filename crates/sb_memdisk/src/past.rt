@@ -1,11 +1,12 @@
 //! What a memory disk keeps of its past, and where it stops.
 
-ghost use Rattle.std.specs.Prelude.{◌≡◌, ◌+◌, ◌-◌, ◌^◌, ◌<◌, ◌≤◌, List, ℕ, OnOk, OnErr, cond, false, length};
+ghost use Rattle.std.specs.Prelude.{◌≡◌, ◌||◌, ◌+◌, ◌-◌, ◌^◌, ◌<◌, ◌≤◌, List, ℕ, IsOk, IfOk, OnOk, OnErr, cond, true, false, length, take, drop, vec_capacity};
 ghost use Rattle.sb_disk.specs.Disk.{Story, splice, after_idle};
 ghost use Rattle.sb_memdisk.specs.Failing.{has_stopped, torn_len};
-ghost use Rattle.sb_memdisk.specs.Past.{after_lull, IsStored};
+ghost use Rattle.sb_memdisk.specs.Past.{after_lull, IsReady, IsStored};
 
 use std::alloc::{AllocError, Global};
+use std::mem;
 
 /// The calls since the last write: some that changed nothing, and then syncs.
 #[derive(Clone, Copy, Debug, PartialEq, Eq, Drop)]
@@ -60,6 +61,14 @@ pub fn is_stopped(stop: Option<Stop>, clock: u64) -> bool
     }
 }
 
+/// Whether the next write or sync fails: its call is named, or the disk has stopped or stops at it.
+pub fn is_failing(named: bool, stop: Option<Stop>, clock: u64) -> bool
+    requires { clock < 2 ^ 64 - 1 }
+    ensures { result ≡ (named || has_stopped stop (clock + 1)) }
+{
+    named || is_stopped(stop, clock + 1)
+}
+
 /// How many bytes of a write are stored: none where its call is to fail.
 pub fn stored(named: bool, stop: Option<Stop>, clock: u64, len: usize) -> usize
     ensures most { result ≤ len }
@@ -83,27 +92,45 @@ pub fn stored(named: bool, stop: Option<Stop>, clock: u64, len: usize) -> usize
     }
 }
 
-/// Stores the first bytes of a write, and notes the write.
-pub fn store(
+/// The bytes of a range that a write is to replace, in memory of their own; where the write is to fail, in the memory that is held ready for it.
+pub fn copied(
     alloc: Global,
-    bytes: &mut [u8],
+    bytes: &[u8],
+    spare: &mut Vec<u8>,
     past: &mut Vec<Entry>,
-    lull: Lull,
-    at: usize,
-    written: &[u8],
-    kept: usize,
-) -> Result<(), AllocError>
-    requires at { at + length written.now ≤ length bytes.old }
-    requires kept { kept ≤ length written.now }
-    ensures ok { OnOk result (IsStored lull at written.now kept bytes.old bytes.new past.old.items past.new.items) }
-    ensures bytes_err { OnErr result (bytes.new ≡ bytes.old) }
-    ensures past_err { OnErr result (past.new.items ≡ past.old.items) }
+    fails: bool,
+) -> Result<Vec<u8>, AllocError>
+    requires ready { fails ≡ true → IsReady (length bytes.now) spare.old past.old }
+    ensures copy { IfOk result (λ v. v.items ≡ bytes.now) }
+    ensures always { fails ≡ true → IsOk result }
+    ensures past { past.new.items ≡ past.old.items }
+    ensures room { OnOk result (length past.old.items < vec_capacity past.new) }
+    ensures spare { fails ≡ false → spare.new ≡ spare.old }
+    ensures next { fails ≡ false → OnOk result (length past.old.items + 1 < vec_capacity past.new) }
+    ensures kept { OnErr result (vec_capacity past.old ≤ vec_capacity past.new) }
 {
-    let replaced = bytes[at..at + written.len()].to_vec(alloc)?;
-    past.reserve(1)?;
-    overwrite(bytes, at, &written[..kept]);
-    past.push(Entry { lull, at, replaced }).unwrap();
-    Ok(())
+    if fails {
+        let mut copy = mem::replace(spare, Vec::new(alloc));
+        copy.extend_from_slice(bytes).unwrap();
+        return Ok(copy);
+    }
+    let copy = bytes.to_vec(alloc)?;
+    past.reserve(2)?;
+    Ok(copy)
+}
+
+/// Stores the first bytes of a write, and notes the write.
+pub fn store(bytes: &mut [u8], past: &mut Vec<Entry>, entry: Entry, written: &[u8], kept: usize)
+    requires at { entry.at + length written.now ≤ length bytes.old }
+    requires kept { kept ≤ length written.now }
+    requires replaced { entry.replaced.items ≡ take (length written.now) (drop entry.at bytes.old) }
+    requires room { length past.old.items < vec_capacity past.old }
+    ensures stored { IsStored entry.lull entry.at written.now kept bytes.old bytes.new past.old.items past.new.items }
+    ensures more { length past.new.items ≡ length past.old.items + 1 }
+    ensures room { vec_capacity past.old ≤ vec_capacity past.new }
+{
+    overwrite(bytes, entry.at, &written[..kept]);
+    past.push(entry).unwrap();
 }
 
 fn overwrite(bytes: &mut [u8], at: usize, front: &[u8])

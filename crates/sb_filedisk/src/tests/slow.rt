@@ -1,32 +1,59 @@
 //! The files of the system, made slow and unsure.
 
 use std::alloc::Allocator;
+use std::cell::Cell;
 use std::fs::{File, Metadata, OpenFile, OpenOptions};
 use std::io::{self, Read, Seek, SeekFrom, Write};
 use std::rt::Files;
 
-/// Files of which each read and each write moves one byte at most, and of which each sync may fail.
+/// How many calls of write and sync the files still carry out, and the syncs that have reached them.
+#[derive(Drop)]
+pub struct Plan {
+    pub left: Cell<u32>,
+    pub syncs: Cell<u32>,
+}
+
+impl Plan {
+    pub fn new(left: u32) -> Plan {
+        Plan {
+            left: Cell::new(left),
+            syncs: Cell::new(0),
+        }
+    }
+
+    fn count_call(&self) -> io::Result<()> {
+        let left = self.left.get();
+        if left == 0 {
+            return Err(io::ErrorKind::Other.into());
+        }
+        self.left.set(left - 1);
+        Ok(())
+    }
+}
+
+/// Files of which each read and each write moves one byte at most, and which fail by a plan.
 #[derive(Drop)]
 pub struct Slow<'a> {
     pub rt: &'a HostRuntime,
-    pub fails: bool,
+    pub plan: &'a Plan,
 }
 
 #[derive(Drop)]
-pub struct SlowFile {
+pub struct SlowFile<'a> {
     file: File,
-    fails: bool,
+    plan: &'a Plan,
 }
 
-impl Read for SlowFile {
+impl<'a> Read for SlowFile<'a> {
     fn read(&mut self, buf: &mut [u8]) -> io::Result<usize> {
         let count = buf.len().min(1);
         self.file.read(&mut buf[..count])
     }
 }
 
-impl Write for SlowFile {
+impl<'a> Write for SlowFile<'a> {
     fn write(&mut self, buf: &[u8]) -> io::Result<usize> {
+        self.plan.count_call()?;
         self.file.write(&buf[..buf.len().min(1)])
     }
 
@@ -35,13 +62,13 @@ impl Write for SlowFile {
     }
 }
 
-impl Seek for SlowFile {
+impl<'a> Seek for SlowFile<'a> {
     fn seek(&mut self, to: SeekFrom) -> io::Result<u64> {
         self.file.seek(to)
     }
 }
 
-impl OpenFile for SlowFile {
+impl<'a> OpenFile for SlowFile<'a> {
     fn metadata(&self) -> io::Result<Metadata> {
         self.file.metadata()
     }
@@ -51,9 +78,8 @@ impl OpenFile for SlowFile {
     }
 
     fn sync_all(&self) -> io::Result<()> {
-        if self.fails {
-            return Err(io::ErrorKind::Other.into());
-        }
+        self.plan.syncs.set(self.plan.syncs.get().saturating_add(1));
+        self.plan.count_call()?;
         self.file.sync_all()
     }
 
@@ -63,14 +89,14 @@ impl OpenFile for SlowFile {
 }
 
 impl<'a> Files for Slow<'a> {
-    type File = SlowFile;
+    type File = SlowFile<'a>;
 
     type Dir = <HostRuntime as Files>::Dir;
 
-    fn open_file(&self, how: &OpenOptions, path: &str) -> io::Result<SlowFile> {
+    fn open_file(&self, how: &OpenOptions, path: &str) -> io::Result<SlowFile<'a>> {
         Ok(SlowFile {
             file: self.rt.open_file(how, path)?,
-            fails: self.fails,
+            plan: self.plan,
         })
     }
 
