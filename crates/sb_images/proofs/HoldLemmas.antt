@@ -5,7 +5,8 @@ use Rattle.sb_disk.specs.Disk.{Range, Story, AgreesBut, Leaves}
 use Rattle.sb_disk.specs.Moments.{Sure, LeavesTorn}
 use Rattle.sb_journal.specs.Chunks.{ReadsAs}
 use Rattle.sb_journal.specs.State.{State, Lies, chunks_of, pending_of, IsKept, IsForced, IsClosing}
-use Rattle.sb_journal.proofs.RegionLemmas.{left_by}
+use Rattle.sb_journal.proofs.RegionLemmas.{left_by, AgreesBut-gates}
+use Rattle.sb_disk.proofs.RangeLemmas.{AgreesBut-more}
 use Rattle.sb_journal.proofs.ForeignLemmas.{foreign_torn}
 use Rattle.sb_log.specs.declared.geometry.Geometry.{Geometry}
 use Rattle.sb_log.specs.Records.{Record, Spells}
@@ -105,13 +106,16 @@ module _ (s : Story) (j : State) (g : Geometry) (opened pending : List Record) (
 
   -- a crash within an append
   pub restores-append : (image : List ℕ) → IsKept s j image → Restores g (restored_on s g opened) image
-  restores-append image kept = restores_old image (store_regions image kept.elsewhere) (same_pages (j.gates ∷ j.log ∷ s.now.written) image backed_regions kept.elsewhere) kept.chunks
+  restores-append image kept =
+      let elsewhere = AgreesBut-more j.gates (j.log ∷ s.now.written) s.now.reads image kept.elsewhere in
+      restores_old image (store_regions image elsewhere) (same_pages (j.gates ∷ j.log ∷ s.now.written) image backed_regions elsewhere) kept.chunks
 
   -- a crash within a force: the open chunks, or the pending one too
   pub restores-force : (image : List ℕ) → IsForced s j image → Restores g (restored_on s g opened) image ⊎ Restores g (restored_on s g (opened ++ pending)) image
   restores-force image forced =
-      let store = store_regions image forced.elsewhere in
-      let same = same_pages (j.gates ∷ j.log ∷ s.now.written) image backed_regions forced.elsewhere in
+      let elsewhere = AgreesBut-gates j (j.log ∷ s.now.written) s.now.reads image forced.elsewhere in
+      let store = store_regions image elsewhere in
+      let same = same_pages (j.gates ∷ j.log ∷ s.now.written) image backed_regions elsewhere in
       ⊎_elim
       (λ (reads : ReadsAs j.gates j.log image (chunks_of j s.now.reads)). inl (restores_old image store same reads))
       (λ (reads : ReadsAs j.gates j.log image (chunks_of j s.now.reads ++ pending_of j s.now.reads ∷ [])). inr (restores_new image store same reads))

@@ -8,7 +8,7 @@ use Rattle.sb_disk.proofs.RangeLemmas.{AgreesBut-slice, splice-AgreesBut, slice-
 use Rattle.sb_journal.specs.Chunks.{bytes_of}
 use Rattle.sb_journal.specs.State.{State, Sound, Stands, chunks_of, pending_of, pending_chunk, room_of, Appended, Forced, Closed, after_append, after_force, after_close}
 use Rattle.sb_journal.proofs.ChunkLemmas.{chunks_from_kept}
-use Rattle.sb_journal.proofs.RegionLemmas.{none_sure, sure_more}
+use Rattle.sb_journal.proofs.RegionLemmas.{none_sure, sure_more, AgreesBut-gates}
 use Rattle.sb_journal.proofs.ForeignLemmas.{foreign_stands}
 use Rattle.sb_log.specs.declared.geometry.Geometry.{Geometry}
 use Rattle.sb_log.specs.Records.{Record, Begin, Image, Changed, Back, Commit, AreRecords, Spells, spelled}
@@ -93,7 +93,7 @@ module _ (s t : Story) (j k : State) (g : Geometry) (opened pending : List Recor
       (none_or_some j.pending)
 
   pub page_at-force : IsPlaced s j g → (p : ℕ) → page_at g p t.now.reads ≡ page_at g p s.now.reads
-  page_at-force placed p = page_at-AgreesBut g p (j.gates ∷ j.log ∷ []) s.now.reads t.now.reads forced.elsewhere
+  page_at-force placed p = page_at-AgreesBut g p (j.gates ∷ j.log ∷ []) s.now.reads t.now.reads (AgreesBut-gates j (j.log ∷ []) s.now.reads t.now.reads forced.elsewhere)
       (page_off_gates g j placed.gates placed.log p (j.log ∷ []) (page_off_log g j placed.gates placed.log p [] (none_sure (place_of g p) 4096)))
 
   spells_force : Holds s j g opened pending → Spells (chunks_of k t.now.reads) (opened ++ pending)
@@ -117,7 +117,7 @@ module _ (s t : Story) (j k : State) (g : Geometry) (opened pending : List Recor
     placed =
         let placed = holds.placed in
         let off = super_off_gates g j placed.gates placed.log (j.log ∷ []) (super_off_log g j placed.gates placed.log [] (none_sure 0 4096)) in
-        IsPlaced-next s t j k g placed (IsStoreOf-AgreesBut g (j.gates ∷ j.log ∷ []) s.now.reads t.now.reads forced.elsewhere off placed.store) (sure_force 0 4096 placed.super)
+        IsPlaced-next s t j k g placed (IsStoreOf-AgreesBut g (j.gates ∷ j.log ∷ []) s.now.reads t.now.reads (AgreesBut-gates j (j.log ∷ []) s.now.reads t.now.reads forced.elsewhere) off placed.store) (sure_force 0 4096 placed.super)
         (ap (λ (x : State). x.gates) done) (ap (λ (x : State). x.log) done) (ap (λ (x : State). x.failed) done) sound forced.stands;
     forced = spells_force holds;
     tail = ap (λ (x : State). pending_of x t.now.reads) done;

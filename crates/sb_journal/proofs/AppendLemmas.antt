@@ -3,7 +3,7 @@ use Rattle.std.proofs.Common.{◌≡◌, inl, inr, ⊎_elim, ℕ, ◌+◌, ◌<�
 use Rattle.std.proofs.lemmas.List.{drop-drop}
 use Rattle.sb_disk.specs.Disk.{Range, Story, AgreesBut, WhereTold, splice, after_write, wrote, FailedWrite}
 use Rattle.sb_disk.specs.Moments.{LeavesOnly, LeavesTorn, Sure}
-use Rattle.sb_disk.proofs.RangeLemmas.{AgreesBut-slice, splice-AgreesBut, slice-splice}
+use Rattle.sb_disk.proofs.RangeLemmas.{AgreesBut-slice, AgreesBut-more, splice-AgreesBut, slice-splice}
 use Rattle.sb_disk.proofs.MomentLemmas.{started, on_write, on_failed_write}
 use Rattle.sb_journal.specs.Chunks.{ReadsAs, bytes_of}
 use Rattle.sb_journal.specs.State.{State, chunks_of, pending_of, Lies, Sound, Stands, StandsOn, IsKept, IsKeptOn, Appended, after_append}
@@ -32,7 +32,7 @@ module _ (s : Story) (j : State) (stands : Stands s j) (lies : Lies (length s.no
     chunks = kept_by s j stands lies sound (range ∷ s.now.written) image torn (gates_off s.now.written stands.gates) (chunks_off (bytes_of j.lens) s.now.written (omega arith) stands.chunks);
     elsewhere = record {
       size = torn.size;
-      bytes = λ i out. torn.bytes i (λ covered. ⊎_elim (λ here. out (inr (inl ((let from = here.0 in omega arith), (let to = here.1 in omega arith))))) (λ there. out (inr (inr there))) covered);
+      bytes = λ i out. torn.bytes i (λ covered. ⊎_elim (λ here. out (inl ((let from = here.0 in omega arith), (let to = here.1 in omega arith)))) (λ there. out (inr there)) covered);
     };
   }
 
@@ -75,7 +75,7 @@ append_none None size clock j ready = started None (IsKeptOn None j) (λ image l
 append_none (Some s) size clock j ready =
     started (Some s) (IsKeptOn (Some s) j) (λ image left up. record {
       chunks = left_by s j (ready.stands up) (lies_on s size j ready.fits.bytes ready.lies) ready.sound image left;
-      elsewhere = record { size = left.size; bytes = λ i out. left.bytes i (λ covered. out (inr (inr covered))) };
+      elsewhere = AgreesBut-more j.log s.now.written s.now.reads image left;
     })
 
 pub append_leaves_ok : (told new : Option Story) (size clock : ℕ) (j : State) (bytes : List ℕ) → Ready told size clock j → bytes_of j.lens + 4 + j.pending + length bytes ≤ j.log.len

@@ -1,12 +1,12 @@
 -- A write outside the regions of a journal, as that of a page.
 use Rattle.std.proofs.Common.{◌≡◌, inl, inr, ⊎_elim, ℕ, ◌+◌, ◌<◌, ◌≤◌, Option, Some, None, List, [], ◌∷◌, length, get_or, sym, ◌∙◌, subst, arith}
-use Rattle.sb_disk.specs.Disk.{Range, Story, AgreesBut, splice, after_write, after_idle, after_sync, wrote, synced, WriteFault, TornWrite, IdleWrite, LateWrite, SyncFault, IdleSync, LateSync, FailedWrite, FailedSync}
+use Rattle.sb_disk.specs.Disk.{Range, Story, AgreesBut, splice, after_write, after_idle, after_sync, after_failed_sync, wrote, synced, WriteFault, TornWrite, IdleWrite, LateWrite, SyncFault, LostSync, LateSync, FailedWrite, FailedSync}
 use Rattle.sb_disk.specs.Moments.{LeavesTorn, Sure}
 use Rattle.sb_disk.proofs.RangeLemmas.{splice-AgreesBut}
 use Rattle.sb_journal.specs.Chunks.{ReadsAs, bytes_of}
 use Rattle.sb_journal.specs.State.{State, chunks_of, Lies, Sound, Stands, StandsOn, IsOff}
 use Rattle.sb_journal.proofs.ChunkLemmas.{chunks_from_kept}
-use Rattle.sb_journal.proofs.RegionLemmas.{Ready, lies_on, none_sure, sure_more, kept_by}
+use Rattle.sb_journal.proofs.RegionLemmas.{Ready, lies_on, none_sure, sure_more, kept_by, Stands-but}
 
 module _ (s : Story) (j : State) (stands : Stands s j) (lies : Lies (length s.now.reads) j.gates j.log) (sound : Sound j) (at count : ℕ) (off : IsOff j at count) where
   gates_off : (written : List Range) → Sure j.gates.start j.gates.len written → Sure j.gates.start j.gates.len (record { start = at; len = count } ∷ written)
@@ -22,21 +22,9 @@ module _ (s : Story) (j : State) (stands : Stands s j) (lies : Lies (length s.no
 
   -- and the journal stands after it
   pub foreign_stands : (reads : List ℕ) → AgreesBut (record { start = at; len = count } ∷ []) s.now.reads reads → Stands (after_write at count reads s) j
-  foreign_stands reads agrees =
-      let gate_kept : (i : ℕ) → j.gates.start ≤ i → i < j.gates.start + j.gates.len → get_or s.now.reads i 0 ≡ get_or reads i 0 =
-      λ i from to. agrees.bytes i (gates_off [] (none_sure j.gates.start j.gates.len) i from to) in
-      let same : chunks_of j s.now.reads ≡ chunks_of j reads = chunks_from_kept j.log.start j.lens s.now.reads reads agrees.size
-      (λ i from to. agrees.bytes i (chunks_off [] (none_sure j.log.start (bytes_of j.lens)) i from to)) in
-      record {
-        reads = subst (λ (chunks : List (List ℕ)). ReadsAs j.gates j.log reads chunks) same
-            (kept_by s j stands lies sound (record { start = at; len = count } ∷ []) reads agrees (gates_off [] (none_sure j.gates.start j.gates.len)) (chunks_off [] (none_sure j.log.start (bytes_of j.lens))));
-        gates = gates_off s.now.written stands.gates;
-        chunks = chunks_off s.now.written stands.chunks;
-        shut = (
-          (λ clean i from to is. stands.shut.0 clean i from to (gate_kept i (omega arith) to ∙ is)),
-          (λ none. stands.shut.1 (λ i from to is. none i from to (sym (gate_kept i (omega arith) to) ∙ is))),
-        );
-      }
+  foreign_stands reads agrees = Stands-but s (after_write at count reads s) j stands lies sound (record { start = at; len = count } ∷ []) agrees
+      (gates_off [] (none_sure j.gates.start j.gates.len)) (chunks_off [] (none_sure j.log.start (bytes_of j.lens)))
+      (gates_off s.now.written stands.gates) (chunks_off s.now.written stands.chunks)
 
 -- ---- the same of what is told
 -- a write there, a failed one too, leaves the journal standing
@@ -67,11 +55,12 @@ pub StandsOn-synced : (told new : Option Story) (j : State) → StandsOn told j 
 StandsOn-synced None new j stands is = subst (λ (n : Option Story). StandsOn n j) (sym is) tt
 StandsOn-synced (Some s) new j stands is = subst (λ (n : Option Story). StandsOn n j) (sym is) (λ up. sync_stands s j (stands up))
 
-sync_fault_stands : (s t : Story) (j : State) → Stands s j → SyncFault s t → Stands t j
-sync_fault_stands s t j stands (IdleSync is) = subst (λ (u : Story). Stands u j) (sym is) (idle_stands s j stands)
-sync_fault_stands s t j stands (LateSync is) = subst (λ (u : Story). Stands u j) (sym is) stands
+sync_fault_stands : (s t : Story) (j : State) → Stands s j → Lies (length s.now.reads) j.gates j.log → Sound j → SyncFault s t → Stands t j
+sync_fault_stands s t j stands lies sound (LostSync reads agrees is) = subst (λ (u : Story). Stands u j) (sym is)
+    (Stands-but s (after_failed_sync reads s) j stands lies sound s.now.written agrees stands.gates stands.chunks stands.gates stands.chunks)
+sync_fault_stands s t j stands lies sound (LateSync is) = subst (λ (u : Story). Stands u j) (sym is) stands
 
-pub StandsOn-FailedSync : (told new : Option Story) (j : State) → StandsOn told j → FailedSync told new → StandsOn new j
-StandsOn-FailedSync None new j stands failed = subst (λ (n : Option Story). StandsOn n j) (sym failed) tt
-StandsOn-FailedSync (Some s) None j stands failed = absurd failed
-StandsOn-FailedSync (Some s) (Some t) j stands failed = λ up. sync_fault_stands s t j (stands up) failed
+pub StandsOn-FailedSync : (told new : Option Story) (size clock : ℕ) (j : State) → Ready told size clock j → FailedSync told new → StandsOn new j
+StandsOn-FailedSync None new size clock j ready failed = subst (λ (n : Option Story). StandsOn n j) (sym failed) tt
+StandsOn-FailedSync (Some s) None size clock j ready failed = absurd failed
+StandsOn-FailedSync (Some s) (Some t) size clock j ready failed = λ up. sync_fault_stands s t j (ready.stands up) (lies_on s size j ready.fits.bytes ready.lies) ready.sound failed

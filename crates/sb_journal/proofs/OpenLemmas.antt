@@ -1,10 +1,11 @@
 -- Reading the chunks one after another.
-use Rattle.std.proofs.Common.{◌≡◌, ◌⊎◌, inl, inr, ⊎_elim, ℕ, suc, ◌+◌, ◌^◌, ◌<◌, ◌≤◌, Bool, true, false, Option, Some, None, List, [], ◌∷◌, ◌++◌, length, get_or, take, drop, refl, sym, ◌∙◌, ap, subst, arith, length-drop}
-use Rattle.std.proofs.lemmas.List.{length-take, drop-drop}
+use Rattle.std.proofs.Common.{◌≡◌, ◌⊎◌, inl, inr, ⊎_elim, ℕ, suc, ◌+◌, ◌-◌, ◌^◌, ◌<◌, ◌≤◌, Bool, true, false, Option, Some, None, List, [], ◌∷◌, ◌++◌, length, get_or, take, drop, refl, sym, ◌∙◌, ap, subst, arith, length-drop}
+use Rattle.std.proofs.lemmas.List.{length-take, drop-drop, get_or-take, get_or-drop}
+use Rattle.std.proofs.lemmas.Bool.{cases_lt}
 use Rattle.std.specs.Int.{to_be_bytes, w32}
-use Rattle.sb_disk.specs.Disk.{Range, Story, Fits}
+use Rattle.sb_disk.specs.Disk.{Range, Story, Fits, Reads}
 use Rattle.sb_journal.specs.Chunks.{IsOpen, ReadsFrom, bytes_of, chunks_from}
-use Rattle.sb_journal.specs.Opening.{GateIs, LengthIs, BeginsFrom, Begins, ReadAll, RunsPast, AllShut, opened}
+use Rattle.sb_journal.specs.Opening.{GateIs, OpenGates, IsShut, LengthIs, BeginsFrom, Begins, ReadAll, RunsPast, AllShut, opened}
 use Rattle.sb_journal.specs.State.{StandsOn}
 use Rattle.sb_disk.specs.Moments.{IsSettled, Sure}
 use Rattle.sb_journal.proofs.RegionLemmas.{none_sure, take_two}
@@ -130,3 +131,84 @@ opens (Some s) gates log lens clean read shut settled = λ up. record {
   chunks = subst (λ (ranges : List Range). Sure log.start (bytes_of lens) ranges) (sym settled) (none_sure log.start (bytes_of lens));
   shut = shut;
 }
+
+-- ---- gates in pieces
+-- a byte of what was read is the byte at its place
+read_byte : (s : Story) (at : ℕ) (piece : List ℕ) (k : ℕ) → Reads (Some s) at piece → k < length piece → get_or piece k 0 ≡ get_or s.now.reads (at + k) 0
+read_byte s at piece k reads below = ap (λ (l : List ℕ). get_or l k 0) reads ∙ get_or-take (length piece) (drop at s.now.reads) k 0 below ∙ get_or-drop at s.now.reads k 0
+
+byte_open : (told : Option Story) (at : ℕ) (piece : List ℕ) (k : ℕ) → Reads told at piece → k < length piece → get_or piece k 0 ≡ 165 → GateIs told (at + k) true
+byte_open None at piece k reads below is = tt
+byte_open (Some s) at piece k reads below is = ((λ yes. sym (read_byte s at piece k reads below) ∙ is), (λ gate. refl))
+
+byte_closed : (told : Option Story) (at : ℕ) (piece : List ℕ) (k : ℕ) → Reads told at piece → k < length piece → ¬ (get_or piece k 0 ≡ 165) → GateIs told (at + k) false
+byte_closed None at piece k reads below other = tt
+byte_closed (Some s) at piece k reads below other = ((λ yes. absurd (cc yes)), (λ gate. absurd (other (read_byte s at piece k reads below ∙ gate))))
+
+-- the first gates of a piece
+pub piece_open : (told : Option Story) (at len count : ℕ) (piece : List ℕ) → length piece ≡ len → Reads told at piece → count ≤ length piece
+    → ((k : ℕ) → k < count → get_or piece k 0 ≡ 165) → (count < length piece → ¬ (get_or piece count 0 ≡ 165)) → OpenGates told at (at + len) count
+piece_open told at len count piece long reads most first next = record {
+  within = omega arith;
+  each = λ i from to.
+      let same : at + (i - at) ≡ i = omega arith in
+      subst (λ (k : ℕ). GateIs told k true) same (byte_open told at piece (i - at) reads (omega arith) (first (i - at) (omega arith)));
+  last = ⊎_elim
+      (λ (less : count < length piece). inr (byte_closed told at piece count reads less (next less)))
+      (λ (all : length piece ≤ count). inl (omega arith))
+      (cases_lt count (length piece));
+}
+
+-- open gates, and more behind them
+pub open_more : (told : Option Story) (from to at len count : ℕ) → from ≤ at → at + len ≤ to → ((i : ℕ) → from ≤ i → i < at → GateIs told i true) → OpenGates told at (at + len) count
+    → (i : ℕ) → from ≤ i → i < at + count → GateIs told i true
+open_more told from to at len count order within first more i low high = ⊎_elim
+    (λ (before : i < at). first i low before)
+    (λ (behind : at ≤ i). more.each i behind high)
+    (cases_lt i at)
+
+-- the last of them
+pub open_all : (told : Option Story) (from to at len count : ℕ) → from ≤ at → at + len ≤ to → ((i : ℕ) → from ≤ i → i < at → GateIs told i true) → OpenGates told at (at + len) count → count < len
+    → OpenGates told from to (at + count - from)
+open_all told from to at len count order within first more less =
+    let same : from + (at + count - from) ≡ at + count = omega arith in
+    record {
+      within = omega arith;
+      each = λ i low high. open_more told from to at len count order within first more i low (omega arith);
+      last = ⊎_elim
+          (λ (all : at + count ≡ at + len). absurd (omega arith))
+          (λ (closed : GateIs told (at + count) false). inr (subst (λ (k : ℕ). GateIs told k false) (sym same) closed))
+          more.last;
+    }
+
+-- ---- gates of which none is open
+pub piece_shut : (told : Option Story) (at len : ℕ) (piece : List ℕ) (shut : Bool) → length piece ≡ len → Reads told at piece → IsShut piece shut → AllShut told at (at + len) shut
+piece_shut None at len piece shut long reads is = tt
+piece_shut (Some s) at len piece true long reads none = (
+  (λ yes i from to gate.
+      let same : at + (i - at) ≡ i = omega arith in
+      none (i - at) (omega arith) (read_byte s at piece (i - at) reads (omega arith) ∙ ap (λ (k : ℕ). get_or s.now.reads k 0) same ∙ gate)),
+  (λ shut. refl),
+)
+piece_shut (Some s) at len piece false long reads (k, below, is) = (
+  (λ yes. absurd (cc yes)),
+  (λ none. absurd (none (at + k) (omega arith) (omega arith) (sym (read_byte s at piece k reads below) ∙ is))),
+)
+
+pub shut_none : (told : Option Story) (at : ℕ) → AllShut told at at true
+shut_none None at = tt
+shut_none (Some s) at = ((λ yes i from to. absurd (omega arith)), (λ none. refl))
+
+pub shut_more : (told : Option Story) (from at to : ℕ) → AllShut told from at true → AllShut told at to true → AllShut told from to true
+shut_more None from at to first more = tt
+shut_more (Some s) from at to first more = (
+  (λ yes i low high. ⊎_elim (λ (before : i < at). first.0 refl i low before) (λ (behind : at ≤ i). more.0 refl i behind high) (cases_lt i at)),
+  (λ none. refl),
+)
+
+pub shut_not : (told : Option Story) (from at end to : ℕ) → from ≤ at → end ≤ to → AllShut told at end false → AllShut told from to false
+shut_not None from at end to low high more = tt
+shut_not (Some s) from at end to low high more = (
+  (λ yes. absurd (cc yes)),
+  (λ none. more.1 (λ i above below. none i (omega arith) (omega arith))),
+)

@@ -1,10 +1,10 @@
 -- A journal whose regions a change doesn't reach.
-use Rattle.std.proofs.Common.{◌≡◌, ◌⊎◌, ⊎_elim, ℕ, suc, zero, ◌+◌, ◌<◌, ◌≤◌, Option, Some, None, List, [], ◌∷◌, ◌++◌, length, take, drop, sym, ◌∙◌, ap, subst, arith}
-use Rattle.sb_disk.specs.Disk.{Fits, Range, Story, AgreesBut, Leaves}
+use Rattle.std.proofs.Common.{◌≡◌, ◌⊎◌, inl, inr, ⊎_elim, ℕ, suc, zero, ◌+◌, ◌<◌, ◌≤◌, Option, Some, None, List, [], ◌∷◌, ◌++◌, length, get_or, take, drop, sym, ◌∙◌, ap, subst, arith}
+use Rattle.sb_disk.specs.Disk.{Fits, Range, Story, IsIn, AgreesBut, Leaves}
 use Rattle.sb_disk.specs.Moments.{Sure, Sized}
 use Rattle.sb_journal.specs.Chunks.{ReadsAs, bytes_of}
-use Rattle.sb_journal.specs.State.{State, chunks_of, Lies, Sound, Stands, StandsOn}
-use Rattle.sb_journal.proofs.ChunkLemmas.{total-chunks_from, reads_kept}
+use Rattle.sb_journal.specs.State.{State, chunks_of, gate_of, Lies, Sound, Stands, StandsOn}
+use Rattle.sb_journal.proofs.ChunkLemmas.{total-chunks_from, chunks_from_kept, reads_kept}
 
 -- no byte is pending where nothing is
 pub none_sure : (at n : ℕ) → Sure at n []
@@ -55,3 +55,30 @@ kept_by s j stands lies sound ranges image agrees gates chunks =
 -- what a crash leaves of a journal that stands
 pub left_by : (s : Story) (j : State) → Stands s j → Lies (length s.now.reads) j.gates j.log → Sound j → (image : List ℕ) → Leaves s.now image → ReadsAs j.gates j.log image (chunks_of j s.now.reads)
 left_by s j stands lies sound image left = kept_by s j stands lies sound s.now.written image left stands.gates stands.chunks
+
+-- the gate of the next chunk is one of the gates
+pub AgreesBut-gates : (j : State) (ranges : List Range) (old new : List ℕ) → AgreesBut (gate_of j ∷ ranges) old new → AgreesBut (j.gates ∷ ranges) old new
+AgreesBut-gates j ranges old new agrees = record {
+  size = agrees.size;
+  bytes = λ i out. agrees.bytes i (λ covered. ⊎_elim
+      (λ (here : IsIn i (gate_of j)). out (inl (let from = here.0 in let to = here.1 in (omega arith, omega arith))))
+      (λ there. out (inr there))
+      covered);
+}
+
+-- bytes that are none of a journal's gates and chunks may change: it stands
+pub Stands-but : (s t : Story) (j : State) → Stands s j → Lies (length s.now.reads) j.gates j.log → Sound j → (ranges : List Range) → AgreesBut ranges s.now.reads t.now.reads
+    → Sure j.gates.start j.gates.len ranges → Sure j.log.start (bytes_of j.lens) ranges
+    → Sure j.gates.start j.gates.len t.now.written → Sure j.log.start (bytes_of j.lens) t.now.written → Stands t j
+Stands-but s t j stands lies sound ranges agrees gates_off chunks_off gates chunks =
+    let gate_kept : (i : ℕ) → j.gates.start ≤ i → i < j.gates.start + j.gates.len → get_or s.now.reads i 0 ≡ get_or t.now.reads i 0 = λ i from to. agrees.bytes i (gates_off i from to) in
+    let same : chunks_of j s.now.reads ≡ chunks_of j t.now.reads = chunks_from_kept j.log.start j.lens s.now.reads t.now.reads agrees.size (λ i from to. agrees.bytes i (chunks_off i from to)) in
+    record {
+      reads = subst (λ (c : List (List ℕ)). ReadsAs j.gates j.log t.now.reads c) same (kept_by s j stands lies sound ranges t.now.reads agrees gates_off chunks_off);
+      gates = gates;
+      chunks = chunks;
+      shut = (
+        (λ clean i from to is. stands.shut.0 clean i from to (gate_kept i (omega arith) to ∙ is)),
+        (λ none. stands.shut.1 (λ i from to is. none i from to (sym (gate_kept i (omega arith) to) ∙ is))),
+      );
+    }

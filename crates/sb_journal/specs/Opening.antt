@@ -1,5 +1,5 @@
 -- What opening a journal finds.
-use Rattle.std.specs.Prelude.{◌≡◌, ◌⊎◌, ◌↔◌, ℕ, ◌+◌, ◌^◌, ◌<◌, ◌≤◌, Bool, true, false, Option, Some, None, IsTrue, List, [], ◌∷◌, length, take, drop}
+use Rattle.std.specs.Prelude.{◌≡◌, ◌⊎◌, ◌↔◌, ℕ, ◌+◌, ◌^◌, ◌<◌, ◌≤◌, Bool, true, false, Option, Some, None, IsTrue, List, [], ◌∷◌, length, slice_index, take, drop}
 use Rattle.std.specs.Int.{to_be_bytes, w32}
 use Rattle.sb_disk.specs.Disk.{Range, Story}
 use Rattle.sb_journal.specs.Chunks.{IsOpen, ReadsAs, bytes_of, chunks_from, places_from}
@@ -9,6 +9,17 @@ use Rattle.sb_journal.specs.State.{State}
 abbrev pub GateIs : Option Story → ℕ → Bool → Type 0
 GateIs None at answer = Unit {0}
 GateIs (Some s) at answer = IsTrue answer ↔ IsOpen s.now.reads at
+
+-- So many gates from one on are open, and the next isn't, where there is one.
+pub record OpenGates (told : Option Story) (from to count : ℕ) : Type 0 where
+  pub within : from + count ≤ to
+  pub each : (i : ℕ) → from ≤ i → i < from + count → GateIs told i true
+  pub last : (from + count ≡ to) ⊎ GateIs told (from + count) false
+
+-- the answer says whether none of these gates is open
+abbrev pub IsShut : List ℕ → Bool → Type 0
+IsShut gates true = (k : ℕ) → k < length gates → ¬ (slice_index gates k ≡ 165)
+IsShut gates false = (k : ℕ) × (k < length gates) × (slice_index gates k ≡ 165)
 
 -- four bytes spell the number
 abbrev pub LengthIs : Option Story → ℕ → ℕ → Type 0

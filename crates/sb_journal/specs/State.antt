@@ -70,6 +70,13 @@ pub record IsOff (j : State) (at count : ℕ) : Type 0 where
   pub of_gates : (j.gates.start + j.gates.len ≤ at) ⊎ (at + count ≤ j.gates.start)
   pub of_log : (j.log.start + j.log.len ≤ at) ⊎ (at + count ≤ j.log.start)
 
+-- the gate of the next chunk, where there is one
+abbrev pub gate_of : State → Range
+gate_of j = record {
+  start = j.gates.start + length j.lens;
+  len = min 1 (j.gates.len - length j.lens);
+}
+
 -- ---- what each call makes of the state
 -- so many bytes more are pending
 abbrev pub after_append : ℕ → State → State
@@ -112,12 +119,12 @@ pub record Appended (bytes : List ℕ) (j k : State) (s t : Story) : Type 0 wher
   pub elsewhere : AgreesBut (j.log ∷ []) s.now.reads t.now.reads
   pub written : (i : ℕ) → Covered i t.now.written → Covered i s.now.written ⊎ Covered i (j.log ∷ [])
 
--- The pending bytes are the last chunk, where there are any; else all is as it was.
+-- The pending bytes are the last chunk, where there are any, and nothing changes but its gate and the log; else all is as it was.
 pub record Forced (j k : State) (s t : Story) : Type 0 where
   pub stands : Stands t k
   pub chunks : chunks_of k t.now.reads
       ≡ chunks_of j s.now.reads ++ pending_chunk j.pending (pending_of j s.now.reads)
-  pub elsewhere : AgreesBut (j.gates ∷ j.log ∷ []) s.now.reads t.now.reads
+  pub elsewhere : AgreesBut (gate_of j ∷ j.log ∷ []) s.now.reads t.now.reads
   pub settled : 0 < j.pending → t.now.written ≡ []
   pub idle : j.pending ≡ 0 → t ≡ s
 
@@ -128,16 +135,16 @@ pub record Closed (j k : State) (s t : Story) : Type 0 where
   pub settled : t.now.written ≡ []
 
 -- ---- what a crash leaves at each moment of a call
--- the chunks; outside the two regions what was there, but for what was pending
+-- the chunks; outside the log what was there, but for what was pending
 pub record IsKept (s : Story) (j : State) (image : List ℕ) : Type 0 where
   pub chunks : ReadsAs j.gates j.log image (chunks_of j s.now.reads)
-  pub elsewhere : AgreesBut (j.gates ∷ j.log ∷ s.now.written) s.now.reads image
+  pub elsewhere : AgreesBut (j.log ∷ s.now.written) s.now.reads image
 
--- the chunks, or the chunks and the pending one; elsewhere the same
+-- the chunks, or the chunks and the pending one; outside its gate and the log the same
 pub record IsForced (s : Story) (j : State) (image : List ℕ) : Type 0 where
   pub chunks : ReadsAs j.gates j.log image (chunks_of j s.now.reads)
       ⊎ ReadsAs j.gates j.log image (chunks_of j s.now.reads ++ pending_of j s.now.reads ∷ [])
-  pub elsewhere : AgreesBut (j.gates ∷ j.log ∷ s.now.written) s.now.reads image
+  pub elsewhere : AgreesBut (gate_of j ∷ j.log ∷ s.now.written) s.now.reads image
 
 -- all chunks, or none; outside the gates what was there, but for what was pending
 pub record IsClosing (s : Story) (j : State) (image : List ℕ) : Type 0 where

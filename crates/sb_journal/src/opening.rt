@@ -9,7 +9,7 @@ ghost use Rattle.sb_journal.specs.View.{range_of};
 
 use crate::JournalFault;
 use crate::journal::Region;
-use crate::reading::{is_open, length_at};
+use crate::reading::{count_open, length_at};
 use sb_disk::Disk;
 
 /// Reads the lengths of the chunks and their places in the log, and says how many bytes they take.
@@ -36,11 +36,9 @@ pub(crate) fn read_lens<D: Disk>(
     ensures capacity { vec_capacity lens.old ≤ vec_capacity lens.new }
     ensures place_capacity { vec_capacity places.old ≤ vec_capacity places.new }
 {
+    let chunks = count_open(disk, gates.start, gates.start + gates.len)?;
     let mut used = 0u64;
-    for count in 0..gates.len {
-        if !is_open(disk, gates.start + count)? {
-            return Ok(used);
-        }
+    for count in 0..chunks {
         let bad = JournalFault::BadChunk {
             chunk: count as u32,
             offset: 0,

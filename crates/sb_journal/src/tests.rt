@@ -298,9 +298,10 @@ fn filled<D: Disk>(
 ) -> Result<(), JournalFault>
     requires lies { Lies (D.len disk.old) journal.old.gates journal.old.log }
     requires stands { StandsOn (D.told disk.old) journal.old }
-    requires first { (0 < first) × (first ≤ 40) }
-    requires second { (0 < second) × (second ≤ 40) }
 {
+    if first == 0 || first > 40 || second == 0 || second > 40 {
+        return Err(JournalFault::Fault);
+    }
     let bytes = [7; 40];
     add(journal, disk, &bytes, true)?;
     add(journal, disk, &bytes[..first], false)?;
@@ -397,7 +398,7 @@ fn is_down<D: Disk>(journal: &mut Journal, disk: &mut D) -> bool
 #[test]
 fn after_a_fault_the_device_is_left_alone(rt: HostRuntime) -> Result<(), Fail> {
     let alloc = rt.alloc();
-    for call in 5..15 {
+    for call in 2..12 {
         let mut disk = MemDisk::new(alloc, 64)?;
         let mut journal = open_on(alloc, &mut disk)?;
         disk.fail_at(&[call])?;
@@ -406,6 +407,38 @@ fn after_a_fault_the_device_is_left_alone(rt: HostRuntime) -> Result<(), Fail> {
         let down = is_down(&mut journal, &mut disk);
         assert!(rt; down && disk.calls() == call + 1, "call {call}");
     }
+    Ok(())
+}
+
+// How many gates are open of so many that begin a disk, with a log of 64 bytes behind them.
+fn chunks_behind<D: Disk>(alloc: Global, disk: &mut D, gates: u64) -> Result<u32, JournalFault>
+    requires settled { IsSettled (D.told disk.old) }
+{
+    if gates > 65536 || disk.len() < gates + 64 {
+        return Err(JournalFault::Fault);
+    }
+    let log = Region {
+        start: gates,
+        len: 64,
+    };
+    let journal = Journal::open(
+        alloc,
+        disk,
+        Region {
+            start: 0,
+            len: gates,
+        },
+        log,
+    )?;
+    Ok(journal.chunks())
+}
+
+#[test]
+fn gates_are_read_in_pieces(rt: HostRuntime) -> Result<(), Fail> {
+    let alloc = rt.alloc();
+    let mut disk = MemDisk::new(alloc, 65600)?;
+    assert_eq!(rt; chunks_behind(alloc, &mut disk, 65536), Ok(0));
+    assert!(rt; disk.calls() <= 40);
     Ok(())
 }
 

@@ -8,7 +8,7 @@ use Rattle.sb_journal.proofs.opening.read_lens.Given as goal
 abbrev pub invariant-loop-count : goal.invariant-loop-count
 invariant-loop-count g l = record {
   count : length l.lens.items ≡ l.count;
-  read : Begins (g.D.Disk.told l.fn.disk) (range_of l.gates) (range_of l.log) l.lens.items;
+  read : Begins (g.D.Disk.told l.fn.disk) (range_of l.fn.gates) (range_of l.log) l.lens.items;
   used : l.used ≡ bytes_of l.lens.items;
   fits : l.used ≤ l.log.len;
   memory : vec_capacity l.fn.lens ≤ vec_capacity l.lens;
