@@ -7,7 +7,7 @@ use Rattle.sb_disk.specs.Disk.{Range, Story, WhereTold}
 use Rattle.sb_disk.specs.Moments.{Sized, Sure, RanOk, RanErr, contents}
 use Rattle.sb_journal.specs.State.{Forced, Lies, Sound, StandsOn, after_force, after_fault}
 use Rattle.sb_journal.specs.State as journal
-use Rattle.sb_journal.proofs.RegionLemmas.{none_sure}
+use Rattle.sb_journal.proofs.RegionLemmas.{none_sure, AgreesBut-gates}
 use Rattle.sb_log.specs.declared.geometry.Geometry.{Geometry}
 use Rattle.sb_log.specs.Records.{Record}
 use Rattle.sb_log.specs.Restored.{imaged}
@@ -19,7 +19,7 @@ use Rattle.sb_pool.specs.Frames.{Put, dirty_from, puts}
 use Rattle.sb_pool.specs.Pages.{bytes_or, pool_page, IsClean, AgreesOn, KeepsPages, AreFlushed}
 use Rattle.sb_pool.specs.State.{Held, State, held, IsWritten, IsDirty, NoneMoreDirty, cleaned, flushed}
 use Rattle.sb_pool.proofs.PutLemmas.{All, IsPut, All-dirty, IsPut-dirty, dirty-IsPut}
-use Rattle.sb_pool.proofs.PutRuns.{IsPage, KeepsBut, ArePut, StandsOn-puts, StandsOn-puts_err, puts_ok, puts_err, is_put, none_told, none_told_err}
+use Rattle.sb_pool.proofs.PutRuns.{IsPage, ArePut, StandsOn-puts, StandsOn-puts_err, puts_ok, is_put, none_told}
 
 -- ---- the dirty pages
 -- a pool has a place for each page, and each page that is held has its bytes
@@ -56,9 +56,6 @@ module _ (pool : State) where
   pub dirty-bytes : (told : Option Story) → All (λ p bytes. bytes ≡ pool_page told pool p) dirty_pages
   dirty-bytes told = all_dirty (λ p bytes. bytes ≡ pool_page told pool p) (λ p x is dirty. ap (λ (h : Option Held). bytes_or (page_at pool.geometry p (contents told)) h) (sym is))
 
-  not_put : (p : ℕ) → ¬ IsDirty pool p → ¬ IsPut dirty_pages p
-  not_put p clean put = let found = IsPut-dirty pool.pages 0 p put in clean (subst (λ (q : ℕ). IsDirty pool q) (sym (found.1 ∙ zero-add found.0)) found.2)
-
   not_dirty : (p : ℕ) → ¬ IsPut dirty_pages p → ¬ IsDirty pool p
   not_dirty p out dirty = out (subst (λ (q : ℕ). IsPut dirty_pages q) (zero-add p) (dirty-IsPut pool.pages 0 p dirty))
 
@@ -66,14 +63,6 @@ module _ (pool : State) where
   clean_page : (h : Option Held) (disk : List ℕ) → ¬ IsWritten h → IsClean h disk → disk ≡ bytes_or disk h
   clean_page None disk clean is = refl
   clean_page (Some x) disk clean is = ⊎_elim (λ (dirty : x.dirty ≡ true). absurd (clean dirty)) (λ (same : x.dirty ≡ false). sym (is same)) (cases_Bool x.dirty)
-
-  clean_held : (h : Option Held) (old new : List ℕ) → (¬ IsWritten h → new ≡ old) → IsClean h old → IsClean h new
-  clean_held None old new same clean = tt
-  clean_held (Some x) old new same clean = λ is. clean is ∙ sym (same (λ dirty. false≢true (sym is ∙ dirty)))
-
-  held_page : (h : Option Held) (old new : List ℕ) → (¬ IsWritten h → new ≡ old) → bytes_or new h ≡ bytes_or old h
-  held_page None old new same = same (λ none. none)
-  held_page (Some x) old new same = refl
 
   cleaned_page : (h : Option Held) (old new : List ℕ) → new ≡ bytes_or old h → bytes_or new (cleaned h) ≡ bytes_or old h
   cleaned_page None old new is = is
@@ -93,14 +82,10 @@ module _ (pool : State) where
   pub flushed-dirty : NoneMoreDirty pool (flushed pool)
   flushed-dirty p dirty = absurd (cleaned_dirty (held pool p) (subst IsWritten (held_flushed p) dirty))
 
-  -- each page that isn't dirty is on the disk as it was
-  pub record KeepsClean (s t : Story) : Type 0 where
-    pub pages : (p : ℕ) → ¬ IsDirty pool p → page_at pool.geometry p t.now.reads ≡ page_at pool.geometry p s.now.reads
-
   -- ---- a run behind a force
   module _ (size : ℕ) (j k : journal.State) (room : need pool.geometry.pages pool.geometry.log ≤ size) (gates : j.gates ≡ gates_of pool.geometry) (log : j.log ≡ log_of pool.geometry) (whole : IsPool pool) where
     page_forced : (s t : Story) (p : ℕ) → Forced j k s t → page_at pool.geometry p t.now.reads ≡ page_at pool.geometry p s.now.reads
-    page_forced s t p forced = page_at-AgreesBut pool.geometry p (j.gates ∷ j.log ∷ []) s.now.reads t.now.reads forced.elsewhere
+    page_forced s t p forced = page_at-AgreesBut pool.geometry p (j.gates ∷ j.log ∷ []) s.now.reads t.now.reads (AgreesBut-gates j (j.log ∷ []) s.now.reads t.now.reads forced.elsewhere)
         (page_off_gates pool.geometry j gates log p (j.log ∷ []) (page_off_log pool.geometry j gates log p [] (none_sure (place_of pool.geometry p) 4096)))
 
     room_at : (t : Story) → length t.now.reads ≡ size → need pool.geometry.pages pool.geometry.log ≤ length t.now.reads
@@ -128,16 +113,6 @@ module _ (pool : State) where
     AreFlushed-ok (Some s) (Some t) new up long forced agrees ran = put_flushed s t new forced (agrees up)
         (puts_ok pool.geometry (pool_page (Some s) pool) dirty_pages t new (room_at t long) (dirty-IsPage whole) (dirty-bytes (Some s)) ran)
 
-    kept_clean : (s t : Story) (new : Option Story) → Forced j k s t → WhereTold (Some t) new (KeepsBut pool.geometry dirty_pages) → WhereTold (Some s) new KeepsClean
-    kept_clean s t None forced kept = kept
-    kept_clean s t (Some u) forced kept = record { pages = λ p clean. kept.pages p (not_put p clean) ∙ page_forced s t p forced }
-
-    -- where one did
-    pub KeepsClean-err : (told mid new : Option Story) → Sized size mid → WhereTold told mid (Forced j k) → RanErr (puts pool.geometry dirty_pages) mid new → WhereTold told new KeepsClean
-    KeepsClean-err None mid new long forced ran = none_told_err pool.geometry dirty_pages new (subst (λ (m : Option Story). RanErr (puts pool.geometry dirty_pages) m new) forced ran)
-    KeepsClean-err (Some s) None new long forced ran = absurd forced
-    KeepsClean-err (Some s) (Some t) new long forced ran = kept_clean s t new forced (puts_err pool.geometry dirty_pages t new (room_at t long) (dirty-IsPage whole) ran)
-
   -- ---- what the pool says after it
   pub AgreesOn-flushed : (k : journal.State) (told new : Option Story) → AreFlushed pool told new → AgreesOn new k (flushed pool)
   AgreesOn-flushed k None new flush = subst (λ (n : Option Story). AgreesOn n k (flushed pool)) (sym flush) tt
@@ -150,16 +125,6 @@ module _ (pool : State) where
   KeepsPages-flushed k (Some s) None flush = flush
   KeepsPages-flushed k (Some s) (Some u) flush = λ up p lt. ap (λ (h : Option Held). bytes_or (page_at pool.geometry p u.now.reads) h) (held_flushed p)
       ∙ cleaned_page (held pool p) (page_at pool.geometry p s.now.reads) (page_at pool.geometry p u.now.reads) (flush p lt).1
-
-  pub AgreesOn-kept : (j k : journal.State) (told new : Option Story) → j.failed ≡ false → WhereTold told new KeepsClean → AgreesOn told j pool → AgreesOn new k pool
-  AgreesOn-kept j k None new up kept agrees = subst (λ (n : Option Story). AgreesOn n k pool) (sym kept) tt
-  AgreesOn-kept j k (Some s) None up kept agrees = tt
-  AgreesOn-kept j k (Some s) (Some u) up kept agrees = λ still p lt. clean_held (held pool p) (page_at pool.geometry p s.now.reads) (page_at pool.geometry p u.now.reads) (kept.pages p) (agrees up p lt)
-
-  pub KeepsPages-kept : (k : journal.State) (told new : Option Story) → WhereTold told new KeepsClean → KeepsPages k pool pool told new
-  KeepsPages-kept k None new kept = kept
-  KeepsPages-kept k (Some s) None kept = kept
-  KeepsPages-kept k (Some s) (Some u) kept = λ up p lt. held_page (held pool p) (page_at pool.geometry p s.now.reads) (page_at pool.geometry p u.now.reads) (kept.pages p)
 
   -- ---- where the force failed
   pub AgreesOn-fault : (k : journal.State) (new : Option Story) → k.failed ≡ true → AgreesOn new k pool

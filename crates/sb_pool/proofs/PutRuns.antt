@@ -1,7 +1,7 @@
 -- What runs that write pages make of the disk: the journal stands, the pages written are there, and the others are as they were.
 use Rattle.std.proofs.Common.{◌≡◌, ◌⊎◌, inl, inr, ⊎_elim, ℕ, ◌+◌, ◌<◌, ◌≤◌, Option, Some, None, List, [], ◌∷◌, length, take, drop, refl, sym, ◌∙◌, ap, subst, arith}
 use Rattle.std.proofs.lemmas.Bool.{cases_eq, cases_order}
-use Rattle.sb_disk.specs.Disk.{Story, AgreesBut, WhereTold, splice, after_write, after_sync, after_idle, wrote, WriteFault, TornWrite, IdleWrite, LateWrite, SyncFault, IdleSync, LateSync, FailedWrite, FailedSync}
+use Rattle.sb_disk.specs.Disk.{Story, AgreesBut, WhereTold, splice, after_write, after_sync, wrote}
 use Rattle.sb_disk.specs.Moments.{Sized, RanOk, RanErr, moment}
 use Rattle.sb_disk.proofs.MomentLemmas.{Sized-wrote}
 use Rattle.sb_disk.proofs.RangeLemmas.{splice-AgreesBut, slice-splice}
@@ -37,7 +37,7 @@ module _ (size : ℕ) (j : State) (g : Geometry) (room : need g.pages g.log ≤ 
       StandsOn-puts ds (wrote (place_of g d.page) d.bytes told) new pages.1 (Sized-wrote size (place_of g d.page) d.bytes told sized (place_fits d.page d.bytes pages.0)) (stands_wrote d.page d.bytes told pages.0 sized stands) ran
 
   pub StandsOn-puts_err : (ds : List Put) (told new : Option Story) → All (IsPage g) ds → Sized size told → StandsOn told j → RanErr (puts g ds) told new → StandsOn new j
-  StandsOn-puts_err [] told new pages sized stands (inl failed) = StandsOn-FailedSync told new j stands failed
+  StandsOn-puts_err [] told new pages sized stands (inl failed) = StandsOn-FailedSync told new size (moment told) j (ready_at told sized stands) failed
   StandsOn-puts_err [] told new pages sized stands (inr ran) = absurd ran
   StandsOn-puts_err (d ∷ ds) told new pages sized stands (inl failed) =
       StandsOn-FailedWrite told new size (moment told) j (place_of g d.page) (length d.bytes) (ready_at told sized stands) (IsOff-page g j gates log d.page (place_of g d.page) (length d.bytes) (omega arith)) failed
@@ -57,20 +57,6 @@ module _ (g : Geometry) where
   pub record KeepsBut (ds : List Put) (s t : Story) : Type 0 where
     pub pages : (q : ℕ) → ¬ IsPut ds q → page_at g q t.now.reads ≡ page_at g q s.now.reads
 
-  same_story : (ds : List Put) (s t u : Story) → t ≡ u → u.now.reads ≡ s.now.reads → KeepsBut ds s t
-  same_story ds s t u is same = record { pages = λ q out. ap (λ (x : Story). page_at g q x.now.reads) is ∙ ap (λ (l : List ℕ). page_at g q l) same }
-
-  fault_keeps : (d : Put) (ds : List Put) (s t : Story) → IsPage g d.page d.bytes → WriteFault (place_of g d.page) (length d.bytes) s t → KeepsBut (d ∷ ds) s t
-  fault_keeps d ds s t page (TornWrite reads agrees is) = record {
-    pages = λ q out. ap (λ (x : Story). page_at g q x.now.reads) is ∙ other_page d.page q (length d.bytes) s.now.reads reads (let long = page.long in omega arith) (λ e. out (inl e)) agrees;
-  }
-  fault_keeps d ds s t page (IdleWrite is) = same_story (d ∷ ds) s t (after_idle s) is refl
-  fault_keeps d ds s t page (LateWrite is) = same_story (d ∷ ds) s t s is refl
-
-  sync_keeps : (s t : Story) → SyncFault s t → KeepsBut [] s t
-  sync_keeps s t (IdleSync is) = same_story [] s t (after_idle s) is refl
-  sync_keeps s t (LateSync is) = same_story [] s t s is refl
-
   room_place : (d : Put) (s : Story) → need g.pages g.log ≤ length s.now.reads → IsPage g d.page d.bytes → place_of g d.page + length d.bytes ≤ length s.now.reads
   room_place d s room page = let within = page_within g (length s.now.reads) d.page room page.below in let long = page.long in omega arith
 
@@ -88,27 +74,6 @@ module _ (g : Geometry) where
 
   page_kept : (d : Put) (s : Story) (q : ℕ) → need g.pages g.log ≤ length s.now.reads → IsPage g d.page d.bytes → ¬ (d.page ≡ q) → page_at g q (splice (place_of g d.page) d.bytes s.now.reads) ≡ page_at g q s.now.reads
   page_kept d s q room page other = other_page d.page q (length d.bytes) s.now.reads (splice (place_of g d.page) d.bytes s.now.reads) (let long = page.long in omega arith) other (write_agrees d s room page)
-
-  -- ---- a call of the run failed
-  more_kept : (d : Put) (ds : List Put) (s : Story) (new : Option Story) → need g.pages g.log ≤ length s.now.reads → IsPage g d.page d.bytes
-      → WhereTold (Some (after_write (place_of g d.page) (length d.bytes) (splice (place_of g d.page) d.bytes s.now.reads) s)) new (KeepsBut ds) → WhereTold (Some s) new (KeepsBut (d ∷ ds))
-  more_kept d ds s None room page kept = kept
-  more_kept d ds s (Some t) room page kept = record { pages = λ q out. kept.pages q (λ there. out (inr there)) ∙ page_kept d s q room page (λ e. out (inl e)) }
-
-  failed_write : (d : Put) (ds : List Put) (s : Story) (new : Option Story) → IsPage g d.page d.bytes → FailedWrite (place_of g d.page) (length d.bytes) (Some s) new → WhereTold (Some s) new (KeepsBut (d ∷ ds))
-  failed_write d ds s None page failed = failed
-  failed_write d ds s (Some t) page failed = fault_keeps d ds s t page failed
-
-  failed_sync : (s : Story) (new : Option Story) → FailedSync (Some s) new → WhereTold (Some s) new (KeepsBut [])
-  failed_sync s None failed = failed
-  failed_sync s (Some t) failed = sync_keeps s t failed
-
-  pub puts_err : (ds : List Put) (s : Story) (new : Option Story) → need g.pages g.log ≤ length s.now.reads → All (IsPage g) ds → RanErr (puts g ds) (Some s) new → WhereTold (Some s) new (KeepsBut ds)
-  puts_err [] s new room pages (inl failed) = failed_sync s new failed
-  puts_err [] s new room pages (inr ran) = absurd ran
-  puts_err (d ∷ ds) s new room pages (inl failed) = failed_write d ds s new pages.0 failed
-  puts_err (d ∷ ds) s new room pages (inr ran) = more_kept d ds s new room pages.0
-      (puts_err ds (after_write (place_of g d.page) (length d.bytes) (splice (place_of g d.page) d.bytes s.now.reads) s) new (write_room d s room pages.0) pages.1 ran)
 
   -- ---- none failed
   -- a page is one of these or not
@@ -154,9 +119,3 @@ module _ (g : Geometry) where
 pub none_told : (g : Geometry) (ds : List Put) (new : Option Story) → RanOk (puts g ds) None new → new ≡ None
 none_told g [] new ran = ran
 none_told g (d ∷ ds) new ran = none_told g ds new ran
-
-pub none_told_err : (g : Geometry) (ds : List Put) (new : Option Story) → RanErr (puts g ds) None new → new ≡ None
-none_told_err g [] new (inl failed) = failed
-none_told_err g [] new (inr ran) = absurd ran
-none_told_err g (d ∷ ds) new (inl failed) = failed
-none_told_err g (d ∷ ds) new (inr ran) = none_told_err g ds new ran

@@ -4,7 +4,7 @@ use Rattle.sb_disk.specs.Disk.{Story, WhereTold, splice}
 use Rattle.sb_disk.specs.Moments.{Sure}
 use Rattle.sb_journal.specs.State.{Appended, Forced, Closed}
 use Rattle.sb_journal.specs.State as journal
-use Rattle.sb_journal.proofs.RegionLemmas.{none_sure}
+use Rattle.sb_journal.proofs.RegionLemmas.{none_sure, AgreesBut-gates}
 use Rattle.sb_log.specs.declared.geometry.Geometry.{Geometry}
 use Rattle.sb_log.specs.Records.{Record}
 use Rattle.sb_log.specs.Restored.{base, imaged, IsCovered}
@@ -30,7 +30,7 @@ module _ (g : Geometry) (j k : journal.State) (gates : j.gates ≡ gates_of g) (
   same_append bytes s t appended = record { pages = λ p. page_at-AgreesBut g p (j.log ∷ []) s.now.reads t.now.reads appended.elsewhere (off_log p) }
 
   same_force : (s t : Story) → Forced j k s t → SamePages g s t
-  same_force s t forced = record { pages = λ p. page_at-AgreesBut g p (j.gates ∷ j.log ∷ []) s.now.reads t.now.reads forced.elsewhere (page_off_gates g j gates log p (j.log ∷ []) (off_log p)) }
+  same_force s t forced = record { pages = λ p. page_at-AgreesBut g p (j.gates ∷ j.log ∷ []) s.now.reads t.now.reads (AgreesBut-gates j (j.log ∷ []) s.now.reads t.now.reads forced.elsewhere) (page_off_gates g j gates log p (j.log ∷ []) (off_log p)) }
 
   same_close : (s t : Story) → Closed j k s t → SamePages g s t
   same_close s t closed = record { pages = λ p. page_at-AgreesBut g p (j.gates ∷ []) s.now.reads t.now.reads closed.elsewhere (page_off_gates g j gates log p [] (none_sure (place_of g p) 4096)) }

@@ -41,6 +41,19 @@ pub record Keeps {D T : Type 0} (told : D → Option Story) (len faults : D → 
   pub agrees : AgreesOn (told new) k after
   pub sound : Sound j → Sound k
 
+-- The same of a flush. After a failed one a page that was pending on the disk may read as anything, so it says nothing of clean pages then.
+pub record KeepsFlushed {D T : Type 0} (told : D → Option Story) (len faults : D → ℕ) (old new : D) (j k : journal.State) (pool after : State)
+    (result : Result T PoolFault) : Type 0 where
+  pub size : len new ≡ len old
+  pub geometry : after.geometry ≡ pool.geometry
+  pub position : OnErr result (after.position ≡ pool.position)
+  pub later : faults old ≤ faults new
+  pub fault : IfErr result (λ e. e ≡ Fault)
+  pub cause : IsErrOf result Fault → (j.failed ≡ true) ⊎ Rose (faults old) (faults new)
+  pub serves : Serves (told new) (len new) k after.geometry
+  pub agrees : OnOk result (AgreesOn (told new) k after)
+  pub sound : Sound j → Sound k
+
 -- What a force keeps: the disk's length, the regions, that the state is sound and that the journal stands. Where it fails, the disk failed a call,
 -- now or earlier.
 pub record KeepsForced {D T E : Type 0} (told : D → Option Story) (len faults : D → ℕ) (old new : D) (j k : journal.State)

@@ -6,7 +6,7 @@ ghost use Rattle.sb_images.specs.Store.{IfTold};
 ghost use Rattle.sb_journal.specs.State.{State, after_force};
 ghost use Rattle.sb_log.specs.Restored.{imaged};
 ghost use Rattle.sb_pool.specs.declared.fault.PoolFault.TheVariants.{NoMemory};
-ghost use Rattle.sb_pool.specs.Calls.{Serves, Keeps, IsSameOrForced, InStore, KeepsImages, FlushesImages, IsLoad};
+ghost use Rattle.sb_pool.specs.Calls.{Serves, Keeps, KeepsFlushed, IsSameOrForced, InStore, KeepsImages, FlushesImages, IsLoad};
 ghost use Rattle.sb_pool.specs.Pages.{AgreesOn, Becomes, KeepsPages, AreFlushed, with_bytes, pool_page, bytes_or};
 ghost use Rattle.sb_pool.specs.State.{held, IsHeld, IsDirty, is_dirty, NoneMoreDirty, empty_pool, flushed};
 
@@ -173,7 +173,7 @@ impl Pool {
         Ok(())
     }
 
-    /// Writes each dirty page to the disk, behind a force of what is pending, and syncs.
+    /// Writes each dirty page to the disk, behind a force of what is pending, and syncs. After an error the pool is as it was, and its clean pages may not be as the disk has them.
     pub fn flush_all<D: Disk>(
         &mut self,
         disk: &mut D,
@@ -185,14 +185,15 @@ impl Pool {
         ensures flushed { OnOk result (self.new ≡ flushed self.old) }
         ensures disk { OnOk result (AreFlushed self.old (D.told disk.old) (D.told disk.new)) }
         ensures forced { OnOk result (journal.new ≡ after_force journal.old) }
-        ensures pages { KeepsPages journal.new self.old self.new (D.told disk.old) (D.told disk.new) }
+        ensures pages { OnOk result (KeepsPages journal.new self.old self.new (D.told disk.old) (D.told disk.new)) }
+        ensures err { OnErr result (self.new ≡ self.old) }
         ensures dirty { NoneMoreDirty self.old self.new }
 
         // A crash anywhere in the call leaves what the store restores.
         ensures images { InStore (D.told disk.old) journal.old self.old (λ want recs.
             FlushesImages want self.old.geometry recs journal.new (D.told disk.old) (D.told disk.new) result) }
 
-        ensures keeps { Keeps D.told D.len D.faults disk.old disk.new journal.old journal.new self.old self.new result }
+        ensures keeps { KeepsFlushed D.told D.len D.faults disk.old disk.new journal.old journal.new self.old self.new result }
     {
         force(disk, journal)?;
         put_all_out(&self.frames, self.geometry, disk)?;

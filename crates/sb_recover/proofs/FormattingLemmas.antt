@@ -17,7 +17,7 @@ use Rattle.sb_recover.specs.FirstPages.{super_page, first_page}
 use Rattle.sb_recover.specs.SuperPage.{IsNoStore}
 use Rattle.sb_recover.proofs.SuperLemmas.{FindsOn}
 use Rattle.sb_recover.specs.Laying.{IsGate, IsShut, IsLaid}
-use Rattle.sb_recover.specs.Formatting.{IsFormatting, HoldsStore, IsNew}
+use Rattle.sb_recover.specs.Formatting.{IsFormatting, HoldsStore, KeepsStore, IsNew}
 use Rattle.sb_recover.specs.Geometries.{HoldsNone}
 use Rattle.sb_recover.proofs.FirstPageLemmas.{IsSuper-super_page, super_page-open}
 use Rattle.sb_recover.proofs.LaidLemmas.{IsWithin-byte}
@@ -165,11 +165,12 @@ module _ (g : Geometry) (sizes : IsGeometry g) (size clock : ℕ) (room : need g
         pages = λ p lt. (none_sure (place_of g p) 4096, made_page g sizes t u laid here image agrees refl p lt);
         super = made_super g sizes t u laid here image agrees refl;
         shut = made_shut g sizes t u laid here image agrees refl;
+        zeros = λ i from to. made_byte g sizes t u laid here image agrees refl i (omega arith) ∙ laid.gates i from to;
         log = λ i from to. made_byte g sizes t u laid here image agrees refl i (omega arith) ∙ laid.log i from to ∙ IsWithin-byte 0 1 i s t (inr (omega arith)) shut.within;
       }
 
   new_none : (r : Option Story) → r ≡ None → IsNew g None r
-  new_none r is = subst (λ (n : Option Story). IsNew g None n) (sym is) (record { before = tt; mounted = tt; pages = tt; super = tt; shut = tt; log = refl })
+  new_none r is = subst (λ (n : Option Story). IsNew g None n) (sym is) (record { before = tt; mounted = tt; pages = tt; super = tt; shut = tt; zeros = tt; log = refl })
 
   pub IsNew-on : (o p q r : Option Story) → Fits size clock q → HoldsNone o → WhereTold o p IsShut → WhereTold p q (IsLaid g) → RanOk (Write 0 (165 ∷ []) ∷ Sync ∷ []) q r → IsNew g o r
   IsNew-on None p q r fits none shut laid ran =
@@ -193,3 +194,12 @@ HoldsNone-found (Some s) (Some g) finds is = absurd (cc is)
 pub IsGate-read : (o : Option Story) (page : List ℕ) → length page ≡ 4096 → Reads o 0 page → IsGate o (get_or page 0 0)
 IsGate-read None page long reads = tt
 IsGate-read (Some s) page long reads = sym (ap (λ (l : List ℕ). get_or l 0 0) reads ∙ get_or-take (length page) s.now.reads 0 0 (omega arith))
+
+-- ---- a store that was there
+pub KeepsStore-same : (o p : Option Story) → p ≡ o → KeepsStore o p
+KeepsStore-same None p same = tt
+KeepsStore-same (Some s) p same = λ g store. same
+
+pub KeepsStore-none : (o p : Option Story) → HoldsNone o → KeepsStore o p
+KeepsStore-none None p none = tt
+KeepsStore-none (Some s) p none = λ g store. absurd (none g store)

@@ -1,5 +1,5 @@
 -- What making a store leaves of a disk.
-use Rattle.std.specs.Prelude.{◌≡◌, ◌⊎◌, ℕ, ◌<◌, ◌≤◌, Option, Some, None, Result, IsErrOf, List}
+use Rattle.std.specs.Prelude.{◌≡◌, ◌⊎◌, ℕ, ◌<◌, ◌≤◌, Option, Some, None, Result, IsErrOf, List, slice_index}
 use Rattle.sb_disk.specs.Causes.{Rose}
 use Rattle.sb_disk.specs.Disk.{Story, WhereTold}
 use Rattle.sb_log.specs.declared.geometry.Geometry.{Geometry}
@@ -22,18 +22,29 @@ abbrev pub HoldsStore : Option Story → Type 0
 HoldsStore None = Unit {0}
 HoldsStore (Some s) = (g : Geometry) × IsStoreOf g s.now.reads
 
+-- Where the disk tells that it holds a store, it tells the same afterwards: the bytes, what is pending and all moments.
+abbrev pub KeepsStore : Option Story → Option Story → Type 0
+KeepsStore None new = Unit {0}
+KeepsStore (Some s) new = (g : Geometry) → IsStoreOf g s.now.reads → new ≡ Some s
+
 -- the super page is that of a new store
 abbrev pub HasSuper : Option Story → Geometry → Type 0
 HasSuper None g = Unit {0}
 HasSuper (Some s) g = super_of s.now.reads ≡ super_page g
 
--- A new store where there was none. Nothing is pending, its first pages are restored and on the disk, and no gate of a chunk is open.
+-- each gate of a chunk is 0
+abbrev pub AreZero : Option Story → Type 0
+AreZero None = Unit {0}
+AreZero (Some s) = (i : ℕ) → 4096 ≤ i → i < 69632 → slice_index s.now.reads i ≡ 0
+
+-- A new store where there was none. Nothing is pending, its first pages are restored and on the disk, and each gate of a chunk is 0.
 pub record IsNew (g : Geometry) (old new : Option Story) : Type 0 where
   pub before : HoldsNone old
   pub mounted : IsMounted (first_page g.pages) new g
   pub pages : OnDisk (first_page g.pages) new g
   pub super : HasSuper new g
   pub shut : AreShut new g
+  pub zeros : AreZero new
   pub log : WhereTold old new (KeepsLog g)
 
 -- What is refused, and what is left then. Without a fault nothing is written, and no call at all is made where the disk is too small.

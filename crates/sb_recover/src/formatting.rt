@@ -5,7 +5,7 @@ ghost use Rattle.sb_disk.specs.Causes.{HasCause};
 ghost use Rattle.sb_disk.specs.Disk.{WhereTold};
 ghost use Rattle.sb_disk.specs.Moments.{LeavesOnly, IsSettled, RanOk, RanErr, Write, Sync};
 ghost use Rattle.sb_images.specs.Layout.{need as need_of, IsGeometry};
-ghost use Rattle.sb_recover.specs.Formatting.{IsFormatting, IsNew, FormatErr, KeepsDisk};
+ghost use Rattle.sb_recover.specs.Formatting.{IsFormatting, IsNew, FormatErr, KeepsStore, KeepsDisk};
 ghost use Rattle.sb_recover.specs.Geometries.{HoldsNone};
 ghost use Rattle.sb_recover.specs.Laying.{IsGate, IsShut};
 ghost use Rattle.sb_recover.specs.SuperPage.{geometry_of, IsNoStore};
@@ -35,6 +35,9 @@ pub fn format<D: Disk>(
     // A crash anywhere in the call leaves no store, or a new one.
     ensures any_moment { IsSettled (D.told disk.old) → HoldsNone (D.told disk.old)
         → LeavesOnly (D.told disk.old) (D.told disk.new) (IsFormatting (geometry_of pages log)) }
+
+    // A store that is there stays as it is, at a fault too.
+    ensures keeps_store { KeepsStore (D.told disk.old) (D.told disk.new) }
 
     ensures small { IsErrOf result (OpenFault.TooSmall (D.len disk.old) (need_of pages log))
         ↔ (D.len disk.old < need_of pages log) }
@@ -71,6 +74,7 @@ fn make<D: Disk>(disk: &mut D, page: &mut [u8], g: Geometry) -> Result<(), Faile
     ensures made { OnOk result (IsNew g (D.told disk.old) (D.told disk.new)) }
     ensures any_moment { IsSettled (D.told disk.old)
         → LeavesOnly (D.told disk.old) (D.told disk.new) (IsFormatting g) }
+    ensures keeps_store { KeepsStore (D.told disk.old) (D.told disk.new) }
     ensures len { D.len disk.new ≡ D.len disk.old }
     ensures cause { HasCause (D.faults disk.old) (D.faults disk.new) result }
 {

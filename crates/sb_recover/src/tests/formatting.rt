@@ -1,6 +1,6 @@
 //! What no clause says: that a store is made where memory lasts. And the refusals with their numbers.
 
-use crate::{OpenFault, format, need, owners_stand};
+use crate::{OpenFault, format, need, owners_stand, restart};
 use sb_disk::Disk;
 use sb_memdisk::MemDisk;
 use std::alloc::{AllocError, Global};
@@ -51,6 +51,20 @@ fn a_new_store(rt: HostRuntime) -> Result<(), Fail> {
     let mut disk = disk_of(rt.alloc(), NEED, 0)?;
     assert_eq!(rt; answer(rt.alloc(), &mut disk), "a store");
     assert_eq!(rt; answer(rt.alloc(), &mut disk), "already a store");
+    Ok(())
+}
+
+// The sizes that a restart finds, and the version.
+fn restarted<D: Disk>(alloc: Global, disk: &mut D) -> Option<(u32, u64, u16)> {
+    let g = restart(alloc, disk).ok()?;
+    Some((g.pages, g.log, g.version))
+}
+
+#[test]
+fn a_new_store_restarts(rt: HostRuntime) -> Result<(), Fail> {
+    let mut disk = disk_of(rt.alloc(), NEED, 0)?;
+    assert_eq!(rt; answer(rt.alloc(), &mut disk), "a store");
+    assert_eq!(rt; restarted(rt.alloc(), &mut disk), Some((PAGES, LOG, 1)));
     Ok(())
 }
 

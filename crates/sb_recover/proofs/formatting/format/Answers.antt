@@ -1,14 +1,14 @@
-use Rattle.std.proofs.Common.{rules, ◌≡◌, ◌∙◌, ℕ, Option, List, true, false, is_some, length, get_or, sym, subst, arith}
+use Rattle.std.proofs.Common.{rules, ◌≡◌, ◌∙◌, ℕ, Option, List, true, false, is_some, length, get_or, refl, sym, subst, arith}
 use Rattle.std.proofs.lemmas.List.{take_at}
 use Rattle.std.specs.Prelude.{slice_index}
 use Rattle.sb_disk.specs.Disk.{Story}
 use Rattle.sb_disk.specs.Moments.{LeavesOnly}
 use Rattle.sb_recover.specs.SuperPage.{geometry_of}
 use Rattle.sb_recover.specs.Laying.{IsGate}
-use Rattle.sb_recover.specs.Formatting.{IsFormatting}
+use Rattle.sb_recover.specs.Formatting.{IsFormatting, KeepsStore}
 use Rattle.sb_recover.specs.Geometries.{HoldsNone}
 use Rattle.sb_recover.proofs.SuperLemmas.{FindsOn, FindsOn-page}
-use Rattle.sb_recover.proofs.FormattingLemmas.{LeavesOnly-none, formatting, HoldsStore-found, HoldsNone-found, IsGate-read}
+use Rattle.sb_recover.proofs.FormattingLemmas.{KeepsStore-same, LeavesOnly-none, formatting, HoldsStore-found, HoldsNone-found, IsGate-read}
 use Rattle.sb_recover.proofs.formatting.format.Goals as goal
 
 pub returns-then-have-need-clause-any_moment : goal.returns-then-have-need-clause-any_moment
@@ -65,3 +65,22 @@ returns-clause-keeps g c =
     let read = c.read_at.ensures.cause.later in
     let made = c.make.ensures.cause.later in
     record { size = c.make.ensures.len ∙ c.read_at.ensures.len; later = omega arith; cause = λ is. absurd (cc is) }
+
+-- ---- a store that was there
+pub returns-then-have-need-clause-keeps_store : goal.returns-then-have-need-clause-keeps_store
+returns-then-have-need-clause-keeps_store g c = KeepsStore-same _ _ refl
+
+pub returns-in_err-page-clause-keeps_store : goal.returns-in_err-page-clause-keeps_store
+returns-in_err-page-clause-keeps_store g c = KeepsStore-same _ _ refl
+
+pub returns-in_err-read_at-clause-keeps_store : goal.returns-in_err-read_at-clause-keeps_store
+returns-in_err-read_at-clause-keeps_store g c = KeepsStore-same _ _ c.read_at.ensures.told
+
+pub returns-then-is_some-clause-keeps_store : goal.returns-then-is_some-clause-keeps_store
+returns-then-is_some-clause-keeps_store g c = KeepsStore-same _ _ c.read_at.ensures.told
+
+pub returns-in_err-make-clause-keeps_store : goal.returns-in_err-make-clause-keeps_store
+returns-in_err-make-clause-keeps_store g c = subst (λ (told : Option Story). KeepsStore told (g.D.Disk.told c.make.new.disk)) c.read_at.ensures.told c.make.ensures.keeps_store
+
+pub returns-clause-keeps_store : goal.returns-clause-keeps_store
+returns-clause-keeps_store g c = subst (λ (told : Option Story). KeepsStore told (g.D.Disk.told c.make.new.disk)) c.read_at.ensures.told c.make.ensures.keeps_store

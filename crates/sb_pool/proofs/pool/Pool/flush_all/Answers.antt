@@ -11,7 +11,7 @@ use Rattle.sb_pool.specs.Frames.{held_of}
 use Rattle.sb_pool.specs.Pages.{pool_page, AgreesOn, KeepsPages}
 use Rattle.sb_pool.specs.State.{State}
 use Rattle.sb_pool.proofs.CallLemmas.{on_err}
-use Rattle.sb_pool.proofs.FlushLemmas.{dirty_pages, dirty-IsPage, dirty-imaged, dirty-bytes, AreFlushed-ok, KeepsClean-err, AgreesOn-flushed, KeepsPages-flushed, AgreesOn-kept, KeepsPages-kept, Serves-ok, Serves-err}
+use Rattle.sb_pool.proofs.FlushLemmas.{dirty_pages, dirty-IsPage, dirty-imaged, dirty-bytes, AreFlushed-ok, AgreesOn-flushed, KeepsPages-flushed, Serves-ok, Serves-err}
 use Rattle.sb_pool.proofs.InsideLemmas.{IsPool-inside, RanOk-inside, RanErr-inside, flushed-inside}
 use Rattle.sb_pool.proofs.PutImages.{flush_ok, flush_err}
 use Rattle.sb_pool.proofs.pool.Pool.flush_all.Goals as goal
@@ -30,22 +30,6 @@ returns-in_err-force-clause-images g c want opened pending ready imaged = record
 }
 
 -- ---- a write or the sync failed
-pub returns-in_err-put_all_out-clause-pages : goal.returns-in_err-put_all_out-clause-pages
-returns-in_err-put_all_out-clause-pages g c =
-    let pool = c.args.self.now in
-    let j = c.args.journal.now in
-    let k = c.force.new.journal in
-    let told = g.D.Disk.told c.args.disk.now in
-    let mid = g.D.Disk.told c.force.new.disk in
-    let new = g.D.Disk.told c.put_all_out.new.disk in
-    let serves = c.requires.serves in
-    let forced = c.in_ok-force.ensures in
-    let whole = IsPool-inside c.self.inside pool c.self.view_is c.self.invariant in
-    let long = sized_as mid _ _ (g.D.Disk.len c.args.disk.now) (g.met.D.Disk.fits c.force.new.disk) forced.keeps.size in
-    let ran = RanErr-inside c.self.inside pool c.self.view_is _ mid new c.deref.ensures.value c.in_err-put_all_out.ensures.ran_err in
-    let kept = KeepsClean-err pool (g.D.Disk.len c.args.disk.now) j k serves.room serves.gates serves.log whole told mid new long forced.forced ran in
-    KeepsPages-kept pool k told new kept
-
 pub returns-in_err-put_all_out-clause-images : goal.returns-in_err-put_all_out-clause-images
 returns-in_err-put_all_out-clause-images g c want opened pending ready imaged =
     let pool = c.args.self.now in
@@ -78,7 +62,6 @@ returns-in_err-put_all_out-clause-keeps g c =
     let whole = IsPool-inside c.self.inside pool c.self.view_is c.self.invariant in
     let long = sized_as mid _ _ (g.D.Disk.len c.args.disk.now) (g.met.D.Disk.fits c.force.new.disk) forced.keeps.size in
     let ran = RanErr-inside c.self.inside pool c.self.view_is _ mid new c.deref.ensures.value c.in_err-put_all_out.ensures.ran_err in
-    let kept = KeepsClean-err pool (g.D.Disk.len c.args.disk.now) j k serves.room serves.gates serves.log whole told mid new long forced.forced ran in
     record {
       size = search rules;
       geometry = refl;
@@ -87,7 +70,7 @@ returns-in_err-put_all_out-clause-keeps g c =
       fault = search rules;
       cause = λ is. search rules;
       serves = Serves-err pool.geometry told mid new _ j k serves (dirty_pages pool) (dirty-IsPage pool whole) forced.done forced.keeps.sound long forced.keeps.stands _ (search rules) ran;
-      agrees = AgreesOn-kept pool j k told new forced.up kept c.requires.agrees;
+      agrees = search rules;
       sound = λ sound. forced.keeps.sound;
     }
 
