@@ -1,22 +1,19 @@
 -- What going back to a mark leaves of a store.
-use Rattle.std.proofs.Common.{◌≡◌, ℕ, zero, suc, ◌<◌, ◌≤◌, Bool, true, false, ◌||◌, Option, Result, Ok, List, [], ◌∷◌, ◌++◌, length, take, drop, get_or, nat_lt, refl, sym, ◌∙◌, ap, subst, arith}
+use Rattle.std.proofs.Common.{◌≡◌, inl, ℕ, zero, suc, ◌<◌, ◌≤◌, Bool, true, false, ◌||◌, Option, Result, Ok, List, [], ◌∷◌, ◌++◌, length, take, drop, get_or, nat_lt, refl, sym, ◌∙◌, ap, subst, arith}
 use Rattle.std.proofs.Math.Seq.{take-suc, drop-cons, take-length, drop-length}
 use Rattle.std.proofs.lemmas.Bool.{lt-ltb, le-ltb}
 use Rattle.std.proofs.lemmas.List.{length_push, length-take-le}
 use Rattle.sb_disk.specs.Disk.{Story}
 use Rattle.sb_log.proofs.StandingLemmas.{or_false}
 use Rattle.sb_journal.specs.State as journal
-use Rattle.sb_journal.specs.State.{sealed, counted, after_force}
-use Rattle.sb_pool.specs.Calls.{IsSameOrForced}
-use Rattle.std.proofs.Common.{inl, inr, ⊎_elim}
 use Rattle.sb_pool.specs.State as pool
 use Rattle.sb_txn.specs.Book.{Undo, Out, Book, standing_in, with_out}
-use Rattle.sb_txn.specs.Clauses.{Parts, parts, IsReady, IsStoreOf, LeavesWanted, Keeps, unwound, cut_back, Grows, UndoesLast, Undoes, GoesBack, Aborts}
+use Rattle.sb_txn.specs.Clauses.{Parts, parts, IsReady, IsStoreOf, LeavesWanted, Keeps, unwound, cut_back, UndoesLast, GoesBack, Aborts}
 use Rattle.sb_txn.specs.State.{State, together}
 use Rattle.sb_txn.specs.declared.fault.StoreFault.{StoreFault}
 use Rattle.sb_txn.proofs.KeepsLemmas.{LeavesWanted-none, LeavesWanted-then, Keeps-ok, Keeps-then, Keeps-still}
-use Rattle.sb_txn.proofs.RoomLemmas.{SameRoom-forced, lens-same}
-use Rattle.sb_txn.proofs.EndLemmas.{Ties-drop}
+use Rattle.sb_txn.proofs.RoomLemmas.{IsSameOrForced-then}
+use Rattle.sb_txn.proofs.EndLemmas.{Ties-drop, Ties-wanted}
 use Rattle.sb_txn.proofs.UndoLemmas.{some_first}
 
 -- ---- lists
@@ -40,30 +37,14 @@ IsCut-at us n others last lt was =
     let both = snoc_one others (take n us) last (get_or us n last) (sym was ∙ take-suc us n last lt) in
     record { front = both.0; behind = drop-cons us n last lt ∙ ap (λ (u : Undo). u ∷ drop (suc n) us) (sym both.1) }
 
--- ---- the journal
-forced_twice : (j : journal.State) → after_force (after_force j) ≡ after_force j
-forced_twice j = refl
-
-pub IsSameOrForced-then : (j k l : journal.State) → IsSameOrForced j k → IsSameOrForced k l → IsSameOrForced j l
-IsSameOrForced-then j k l one two = ⊎_elim
-    (λ (a : k ≡ j). ⊎_elim
-    (λ (b : l ≡ k). inl (b ∙ a))
-    (λ (b : l ≡ after_force k). inr (b ∙ ap after_force a))
-    two)
-    (λ (a : k ≡ after_force j). ⊎_elim
-    (λ (b : l ≡ k). inr (b ∙ a))
-    (λ (b : l ≡ after_force k). inr (b ∙ ap after_force a ∙ forced_twice j))
-    two)
-    one
-
 -- ---- one change more is undone
 all_stand : (o : Out) → cut_back o (length o.undos) ≡ o
 all_stand o = ap (λ (us : List Undo). record o { undos = us; undone = o.undone || nat_lt (length o.undos) (length o.undos) }) (take-length o.undos)
     ∙ ap (λ (b : Bool). record o { undone = b }) (ap (λ (b : Bool). o.undone || b) (le-ltb (length o.undos) (length o.undos) (omega arith)) ∙ or_false o.undone)
 
-pub Undoes-none : (p : Parts) (o : Out) (rest : List Out) → p.store.book.out ≡ o ∷ rest → Undoes p p o rest (length o.undos)
-Undoes-none p o rest is = record {
-  out = is ∙ ap (λ (x : Out). x ∷ rest) (sym (all_stand o));
+pub GoesBack-none : (p : Parts) (o : Out) (rest : List Out) → p.store.book.out ≡ o ∷ rest → GoesBack p p o rest (length o.undos)
+GoesBack-none p o rest is = record {
+  book = ap (λ (l : List Out). with_out p.store.book l) (is ∙ ap (λ (x : Out). x ∷ rest) (sym (all_stand o)));
   pages = λ want now store. subst (λ (us : List Undo). IsStoreOf want (unwound us now) p) (sym (drop-length o.undos)) store;
   journal = inl refl;
 }
@@ -72,12 +53,13 @@ or_true : (b : Bool) → true ≡ (b || true)
 or_true true = refl
 or_true false = refl
 
-pub Undoes-more : (old mid new : Parts) (o : Out) (rest : List Out) (n : ℕ) → n < length o.undos → Undoes old mid o rest (suc n) → UndoesLast mid new (cut_back o (suc n)) rest → Undoes old new o rest n
-Undoes-more old mid new o rest n lt so_far one =
+pub GoesBack-more : (old mid new : Parts) (o : Out) (rest : List Out) (n : ℕ) → n < length o.undos → GoesBack old mid o rest (suc n) → UndoesLast mid new (cut_back o (suc n)) rest → GoesBack old new o rest n
+GoesBack-more old mid new o rest n lt so_far one =
     let cut = IsCut-at o.undos n one.others one.last lt one.was in
     record {
-      out = one.out ∙ ap (λ (us : List Undo). record o { undos = us; undone = true } ∷ rest) cut.front
-          ∙ ap (λ (b : Bool). record o { undos = take n o.undos; undone = b } ∷ rest) (or_true o.undone ∙ ap (λ (b : Bool). o.undone || b) (sym (lt-ltb n (length o.undos) lt)));
+      book = one.book ∙ ap (λ (b : Book). with_out b (record o { undos = one.others; undone = true } ∷ rest)) so_far.book
+          ∙ ap (λ (us : List Undo). with_out old.store.book (record o { undos = us; undone = true } ∷ rest)) cut.front
+          ∙ ap (λ (b : Bool). with_out old.store.book (record o { undos = take n o.undos; undone = b } ∷ rest)) (or_true o.undone ∙ ap (λ (b : Bool). o.undone || b) (sym (lt-ltb n (length o.undos) lt)));
       pages = λ want now store.
           subst (λ (us : List Undo). IsStoreOf want (unwound us now) new) (sym cut.behind) (one.pages want (unwound (drop (suc n) o.undos) now) (so_far.pages want now store));
       journal = IsSameOrForced-then old.store.journal mid.store.journal new.store.journal so_far.journal one.journal;
@@ -94,7 +76,7 @@ pub record WentBack {D : Type 0} (told : D → Option Story) (len faults : D →
   pub standing : standing_in t.book.out ≡ left
   pub least : n ≤ left
   pub most : (o : Out) (rest : List Out) → s.book.out ≡ o ∷ rest → left ≤ length o.undos
-  pub undoes : (o : Out) (rest : List Out) → s.book.out ≡ o ∷ rest → Undoes (parts told len old s) (parts told len new t) o rest left
+  pub undoes : (o : Out) (rest : List Out) → s.book.out ≡ o ∷ rest → GoesBack (parts told len old s) (parts told len new t) o rest left
   pub first : 0 < left → (o : Out) × (rest : List Out) × (s.book.out ≡ o ∷ rest)
   pub up : t.book.down ≡ false
   pub leaves : LeavesWanted (parts told len old s) (parts told len new t)
@@ -110,7 +92,7 @@ module _ {D : Type 0} (told : D → Option Story) (len faults : D → ℕ) where
     standing = refl;
     least = least;
     most = λ o rest is. let e = none_of s o rest is in omega arith;
-    undoes = λ o rest is. subst (λ (k : ℕ). Undoes (parts told len d s) (parts told len d s) o rest k) (sym (none_of s o rest is)) (Undoes-none (parts told len d s) o rest is);
+    undoes = λ o rest is. subst (λ (k : ℕ). GoesBack (parts told len d s) (parts told len d s) o rest k) (sym (none_of s o rest is)) (GoesBack-none (parts told len d s) o rest is);
     first = λ some. some_first s.book.out some;
     up = up;
     leaves = LeavesWanted-none (parts told len d s);
@@ -139,15 +121,15 @@ module _ {D : Type 0} (told : D → Option Story) (len faults : D → ℕ) where
       below o rest is = let e = fewer.1 in let h = so_far.most o rest is in omega arith
 
       mid_out : (o : Out) (rest : List Out) → s.book.out ≡ o ∷ rest → m.book.out ≡ cut_back o (suc fewer.0) ∷ rest
-      mid_out o rest is = (so_far.undoes o rest is).out ∙ ap (λ (k : ℕ). cut_back o k ∷ rest) fewer.1
+      mid_out o rest is = ap (λ (b : Book). b.out) (so_far.undoes o rest is).book ∙ ap (λ (k : ℕ). cut_back o k ∷ rest) fewer.1
 
-      undoes_now : (o : Out) (rest : List Out) → s.book.out ≡ o ∷ rest → Undoes (parts told len old s) (parts told len new t) o rest fewer.0
-      undoes_now o rest is = Undoes-more (parts told len old s) (parts told len mid m) (parts told len new t) o rest fewer.0 (below o rest is)
-          (subst (λ (k : ℕ). Undoes (parts told len old s) (parts told len mid m) o rest k) fewer.1 (so_far.undoes o rest is))
+      undoes_now : (o : Out) (rest : List Out) → s.book.out ≡ o ∷ rest → GoesBack (parts told len old s) (parts told len new t) o rest fewer.0
+      undoes_now o rest is = GoesBack-more (parts told len old s) (parts told len mid m) (parts told len new t) o rest fewer.0 (below o rest is)
+          (subst (λ (k : ℕ). GoesBack (parts told len old s) (parts told len mid m) o rest k) fewer.1 (so_far.undoes o rest is))
           (undoes (cut_back o (suc fewer.0)) rest (mid_out o rest is))
 
       standing_now : (o : Out) (rest : List Out) → s.book.out ≡ o ∷ rest → standing_in t.book.out ≡ fewer.0
-      standing_now o rest is = ap standing_in (undoes_now o rest is).out ∙ length-take-le fewer.0 o.undos (let h = below o rest is in omega arith)
+      standing_now o rest is = ap (λ (b : Book). standing_in b.out) (undoes_now o rest is).book ∙ length-take-le fewer.0 o.undos (let h = below o rest is in omega arith)
 
       pub WentBack-more : Keeps told len faults mid new m t done → WentBack told len faults old new s t n
       WentBack-more keeps = record {
@@ -166,24 +148,22 @@ module _ {D : Type 0} (told : D → Option Story) (len faults : D → ℕ) where
       fewer_now = let e = standing_now now_first.0 now_first.1 now_first.2 in let f = fewer.1 in let h = so_far.standing in omega arith
 
 -- ---- what the calls say of it
-grows_forced : (s t : State) → IsSameOrForced s.journal t.journal → Grows s t 0 1
-grows_forced s t forced =
-    let room = SameRoom-forced s.journal t.journal forced in
-    record { bytes = let e = room.used in omega arith; gates = lens-same s.journal t.journal room }
-
-pub GoesBack-undoes : (old new : Parts) (o : Out) (rest : List Out) (n : ℕ) → Undoes old new o rest n → GoesBack old new o rest n
-GoesBack-undoes old new o rest n undoes = record { out = undoes.out; pages = undoes.pages; grows = grows_forced old.store new.store undoes.journal }
-
 -- none is left, and the transaction ends
-pub Aborts-undoes : (old : Parts) (told : Option Story) (size : ℕ) (j : journal.State) (p : pool.State) (book : Book) (o : Out) (rest : List Out) → Undoes old (record { told = told; size = size; store = together j p book }) o rest 0
+pub Aborts-back : (old : Parts) (told : Option Story) (size : ℕ) (j : journal.State) (p : pool.State) (book : Book) (o : Out) (rest : List Out) → GoesBack old (record { told = told; size = size; store = together j p book }) o rest 0
     → Aborts old (record { told = told; size = size; store = together j p (with_out book rest) }) o rest
-Aborts-undoes old told size j p book o rest undoes = record {
-  out = refl;
-  pages = λ want now store.
-      let mid = undoes.pages want now store in
-      (mid.0, mid.1, Ties-drop want (unwound o.undos now) told size j p book (cut_back o 0) rest undoes.out mid.0 mid.1 mid.2 refl);
-  grows = grows_forced old.store (together j p (with_out book rest)) undoes.journal;
+Aborts-back old told size j p book o rest back = record {
+  book = ap (λ (b : Book). with_out b rest) back.book;
+  pages = pages_now;
+  alone = λ none want now store.
+      let end = pages_now want now store in
+      (end.0, end.1, Ties-wanted want (unwound o.undos now) told size j p (with_out book rest) end.0 end.1 none end.2);
+  journal = back.journal;
 }
+  where
+    pages_now : (want now : ℕ → List ℕ) → IsStoreOf want now old → IsStoreOf want (unwound o.undos now) (record { told = told; size = size; store = together j p (with_out book rest) })
+    pages_now want now store =
+        let mid = back.pages want now store in
+        (mid.0, mid.1, Ties-drop want (unwound o.undos now) told size j p book (cut_back o 0) rest (ap (λ (b : Book). b.out) back.book) mid.0 mid.1 mid.2 refl)
 
 pub any_first : (out : List Out) → 0 < length out → (o : Out) × (rest : List Out) × (out ≡ o ∷ rest)
 any_first [] some = absurd (omega arith)

@@ -1,17 +1,18 @@
 -- What a checkpoint and a begin leave of a store.
-use Rattle.std.proofs.Common.{◌≡◌, ℕ, ◌+◌, ◌<◌, ◌≤◌, false, Option, Some, None, List, [], ◌∷◌, ◌++◌, length, replicate, refl, sym, ◌∙◌, ap, subst, arith}
-use Rattle.std.proofs.lemmas.List.{get_or-replicate, length-replicate}
-use Rattle.std.proofs.lemmas.List.Elements.{All-nil, All-cons}
+use Rattle.std.proofs.Common.{◌≡◌, ℕ, ◌+◌, ◌<◌, ◌≤◌, false, cond, Option, Some, None, List, [], ◌∷◌, ◌++◌, length, replicate, refl, sym, ◌∙◌, ap, subst, arith}
+use Rattle.std.proofs.lemmas.List.{append-nil, get_or-replicate, length-replicate, length_push}
+use Rattle.std.proofs.lemmas.List.Elements.{All-nil, All-cons, All-append}
 use Rattle.std.proofs.lemmas.Bool.{false≢true}
-use Rattle.sb_disk.specs.Disk.{Story, Range}
+use Rattle.sb_disk.specs.Disk.{Story}
 use Rattle.sb_journal.specs.State.{used_of, after_force, after_close}
 use Rattle.sb_journal.specs.State as journal
 use Rattle.sb_log.specs.declared.geometry.Geometry.{Geometry}
 use Rattle.sb_log.specs.Records.{Change, Record}
 use Rattle.sb_log.specs.Standing.{keep, standing, own_changes, count_of}
-use Rattle.sb_log.specs.Views.{active_with}
+use Rattle.sb_log.specs.Views.{Active, active_with, IsIdle}
+use Rattle.sb_log.specs.Whole.{IsWhole}
 use Rattle.sb_log.proofs.StandingLemmas.{own_changes-keep, AreBelow-higher, AreBelow-committed, AreBelow-standing, count_of-none}
-use Rattle.sb_log.proofs.WholeLemmas.{IsWhole-active}
+use Rattle.sb_log.proofs.WholeLemmas.{IsWhole-active, IsWhole-place}
 use Rattle.sb_images.specs.Store.{IsStoreOn}
 use Rattle.sb_images.proofs.StoreLemmas.{IsStoreOn-step}
 use Rattle.sb_pool.specs.Calls.{Serves}
@@ -19,10 +20,9 @@ use Rattle.sb_pool.specs.Pages.{AgreesOn, ArePagesOn}
 use Rattle.sb_pool.specs.State.{Held, held, IsWritten, IsDirty, cleaned, flushed}
 use Rattle.sb_pool.specs.State as pool
 use Rattle.std.proofs.Math.ListN as list
-use Rattle.sb_txn.specs.Book.{Out, Book, actives, with_out, new_out, begun_book, emptied_book}
-use Rattle.sb_txn.specs.Steps.{HasHalf}
-use Rattle.sb_txn.specs.Tied.{AreUndos, IsOut, AreOut, IsBookOf, HasReserve, Ties}
-use Rattle.sb_txn.proofs.RoomLemmas.{gates-lens}
+use Rattle.sb_txn.specs.Book.{Out, Book, actives, begun_in, new_out, begun_book, emptied_book}
+use Rattle.sb_txn.specs.Tied.{AreUndos, IsOut, AreOut, AreOnce, IsBookOf, HasReserve, Ties}
+use Rattle.sb_txn.proofs.CalledLemmas.{actives-append}
 
 -- ---- a checkpoint
 cleaned_dirty : (h : Option Held) → IsWritten (cleaned h) → ⊥
@@ -36,7 +36,7 @@ IsBookOf-emptied : (count : ℕ) (recs : List Record) (book : Book) → book.out
 IsBookOf-emptied count recs book none knows = record {
   images = λ q lt. get_or-replicate (length book.imaged) q false false (let e = knows.count in omega arith);
   count = length-replicate (length book.imaged) false ∙ knows.count;
-  out = subst (λ (l : List Out). AreOut count [] 0 l) (sym none) tt;
+  out = subst (λ (l : List Out). AreOut count [] 1 l) (sym none) tt;
   fresh = tt;
   once = knows.once;
   most = knows.most;
@@ -44,12 +44,12 @@ IsBookOf-emptied count recs book none knows = record {
 
 HasReserve-emptied : (j : journal.State) (book : Book) → book.out ≡ [] → HasReserve (after_close j) (emptied_book book)
 HasReserve-emptied j book none =
-    let empty : HasReserve (after_close j) (record { next = 0; imaged = replicate (length book.imaged) false; out = []; down = book.down }) = record {
+    let empty : HasReserve (after_close j) (record { next = 1; imaged = replicate (length book.imaged) false; out = []; down = book.down }) = record {
       few = All-nil (λ (o : Out). length o.undos ≤ 0);
       room = omega arith;
       gates = omega arith;
     } in
-    subst (λ (l : List Out). HasReserve (after_close j) (record { next = 0; imaged = replicate (length book.imaged) false; out = l; down = book.down })) (sym none) empty
+    subst (λ (l : List Out). HasReserve (after_close j) (record { next = 1; imaged = replicate (length book.imaged) false; out = l; down = book.down })) (sym none) empty
 
 module _ (want now : ℕ → List ℕ) (told new : Option Story) (size len : ℕ) (j l : journal.State) (p after : pool.State) (book : Book) (opened pending : List Record) where
   pub Ties-checkpoint : Ties want now told size j p book opened pending → book.out ≡ [] → l ≡ after_close (after_force j) → after ≡ flushed p → IsStoreOn want now new l p.geometry [] [] []
@@ -68,8 +68,8 @@ module _ (want now : ℕ → List ℕ) (told new : Option Story) (size len : ℕ
         spare = subst (λ (k : journal.State). HasReserve k (emptied_book book)) (sym done) (HasReserve-emptied (after_force j) book none);
       }
 
-pub used-closed : (j l : journal.State) → l ≡ after_close j → used_of l ≡ 0
-used-closed j l done = ap (λ (k : journal.State). used_of k) done
+pub used-closed : (j l : journal.State) → l ≡ after_close j → (used_of l ≡ 0) × (l.lens ≡ [])
+used-closed j l done = (ap (λ (k : journal.State). used_of k) done, ap (λ (k : journal.State). k.lens) done)
 
 -- ---- a begin
 module _ (count tx : ℕ) (recs : List Record) where
@@ -85,15 +85,56 @@ module _ (count tx : ℕ) (recs : List Record) where
     fit = tt;
   }
 
-module _ (want now : ℕ → List ℕ) (told : Option Story) (size : ℕ) (j : journal.State) (p : pool.State) (book : Book) (opened pending : List Record) where
-  ties_begin : Ties want now told size j p (with_out book []) opened pending → HasHalf j book → Ties want now told size j p (begun_book (with_out book [])) opened pending
-  ties_begin ties half =
+-- ---- it is the last of those that are out
+begun_in-last : (os : List Out) (o : Out) → begun_in (os ++ o ∷ []) ≡ begun_in os + cond o.begun 1 0
+begun_in-last [] o = omega arith
+begun_in-last (x ∷ os) o = let e = begun_in-last os o in omega arith
+
+module _ (count : ℕ) (recs : List Record) (next more : ℕ) (le : next ≤ more) where
+  AreOut-last : (os : List Out) (o : Out) → AreOut count recs next os → IsOut count recs more o → AreOut count recs more (os ++ o ∷ [])
+  AreOut-last [] o out is = (is, tt)
+  AreOut-last (x ∷ os) o out is = (
+    record { undos = out.0.undos; logged = out.0.logged; none = out.0.none; number = let h = out.0.number in omega arith; fit = out.0.fit },
+    AreOut-last os o out.1 is,
+  )
+
+-- its number is none of theirs
+IsIdle-next : (count : ℕ) (recs : List Record) (next : ℕ) (os : List Out) → AreOut count recs next os → IsIdle next (actives os)
+IsIdle-next count recs next [] out = tt
+IsIdle-next count recs next (o ∷ os) out = ((λ e. absurd (let h = out.0.number in omega arith)), IsIdle-next count recs next os out.1)
+
+IsIdle-last : (tx : ℕ) (os : List Out) (o : Out) → IsIdle tx (actives os) → (o.tx ≡ tx → ⊥) → IsIdle tx (actives (os ++ o ∷ []))
+IsIdle-last tx [] o idle other = (other, tt)
+IsIdle-last tx (x ∷ os) o idle other = (idle.0, IsIdle-last tx os o idle.1 other)
+
+AreOnce-last : (os : List Out) (o : Out) → AreOnce os → IsIdle o.tx (actives os) → AreOnce (os ++ o ∷ [])
+AreOnce-last [] o once idle = (tt, tt)
+AreOnce-last (x ∷ os) o once idle = (IsIdle-last x.tx os o once.0 (λ e. idle.0 (sym e)), AreOnce-last os o once.1 idle.1)
+
+module _ (want now : ℕ → List ℕ) (told : Option Story) (size : ℕ) (j : journal.State) (p : pool.State) (book : Book) (opened pending : List Record) (ties : Ties want now told size j p book opened pending) (few : length book.out < 8) where
+  abbrev recs : List Record
+  recs = opened ++ pending
+
+  idle : IsIdle book.next (actives book.out)
+  idle = IsIdle-next p.geometry.pages recs book.next book.out ties.knows.out
+
+  store_begin : IsStoreOn want now told j p.geometry opened pending (actives (book.out ++ new_out book.next ∷ []))
+  store_begin =
+      subst (λ (l : List Active). IsStoreOn want now told j p.geometry opened pending l) (sym (actives-append book.out (new_out book.next ∷ [])))
+      (IsStoreOn-step want now j p.geometry opened pending (actives book.out) now (actives book.out ++ active_with book.next 0 ∷ []) told
+      (λ disk whole. IsWhole-place p.geometry.pages disk now opened pending (actives book.out) (active_with book.next 0) []
+      (subst (λ (l : List Active). IsWhole p.geometry.pages disk now opened pending (active_with book.next 0 ∷ l)) (sym (append-nil (actives book.out)))
+      (IsWhole-active p.geometry.pages disk now opened pending book.next (actives book.out) (AreBelow-committed book.next recs ties.knows.fresh) idle whole)))
+      ties.store)
+
+  pub Ties-begin : Ties want now told size j p (begun_book book) opened pending
+  Ties-begin =
       let fresh = ties.knows.fresh in
-      let none : count_of book.next (standing (opened ++ pending)) ≡ 0 = count_of-none book.next (standing (opened ++ pending)) (AreBelow-standing book.next (opened ++ pending) fresh) in
+      let none : count_of book.next (standing recs) ≡ 0 = count_of-none book.next (standing recs) (AreBelow-standing book.next recs fresh) in
+      let begun = begun_in-last book.out (new_out book.next) in
       record {
         up = ties.up;
-        store = IsStoreOn-step want now j p.geometry opened pending [] now (active_with book.next 0 ∷ []) told
-            (λ disk whole. IsWhole-active p.geometry.pages disk now opened pending book.next [] (AreBelow-committed book.next (opened ++ pending) fresh) tt whole) ties.store;
+        store = store_begin;
         serves = ties.serves;
         agrees = ties.agrees;
         pages = ties.pages;
@@ -102,19 +143,16 @@ module _ (want now : ℕ → List ℕ) (told : Option Story) (size : ℕ) (j : j
         knows = record {
           images = ties.knows.images;
           count = ties.knows.count;
-          out = (IsOut-new p.geometry.pages book.next (opened ++ pending) (book.next + 1) (omega arith) none, tt);
-          fresh = AreBelow-higher book.next (book.next + 1) (opened ++ pending) (omega arith) fresh;
-          once = (tt, tt);
-          most = omega arith;
+          out = AreOut-last p.geometry.pages recs book.next (book.next + 1) (omega arith) book.out (new_out book.next) ties.knows.out
+              (IsOut-new p.geometry.pages book.next recs (book.next + 1) (omega arith) none);
+          fresh = AreBelow-higher book.next (book.next + 1) recs (omega arith) fresh;
+          once = AreOnce-last book.out (new_out book.next) ties.knows.once idle;
+          most = let e = length_push book.out (new_out book.next) in omega arith;
         };
         spare = record {
-          few = All-cons (λ (o : Out). length o.undos ≤ used_of j) (new_out book.next) [] (omega arith) (All-nil (λ (o : Out). length o.undos ≤ used_of j));
-          room = let l = ap (λ (r : Range). r.len) ties.serves.log in let most = ties.serves.sizes.log.0 in let h = half.bytes in omega arith;
-          gates = let l = ap (λ (r : Range). r.len) ties.serves.gates in let e = gates-lens j in let h = half.chunks in omega arith;
+          few = All-append (λ (o : Out). length o.undos ≤ used_of j) book.out (new_out book.next ∷ []) ties.spare.few
+              (All-cons (λ (o : Out). length o.undos ≤ used_of j) (new_out book.next) [] (omega arith) (All-nil (λ (o : Out). length o.undos ≤ used_of j)));
+          room = let h = ties.spare.room in omega arith;
+          gates = let h = ties.spare.gates in omega arith;
         };
       }
-
-  pub Ties-begin : Ties want now told size j p book opened pending → book.out ≡ [] → HasHalf j book → Ties want now told size j p (begun_book book) opened pending
-  Ties-begin ties none half =
-      subst (λ (l : List Out). Ties want now told size j p (begun_book (with_out book l)) opened pending) (sym none)
-      (ties_begin (subst (λ (l : List Out). Ties want now told size j p (with_out book l) opened pending) none ties) half)

@@ -8,8 +8,8 @@ use Rattle.sb_pool.specs.Pages.{with_bytes}
 use Rattle.sb_txn.specs.declared.changing.Wants.{Wants}
 use Rattle.sb_txn.specs.declared.fault.StoreFault.{StoreFault}
 use Rattle.sb_txn.specs.declared.fault.StoreFault.TheVariants.{Fault, LogFull, GatesFull, Down, NoMemory}
-use Rattle.sb_txn.specs.Book.{Out, Book, wants_of, change_len, out_with, IsAmong, others, standing_of, IsFirst, standing_in, with_out, leading, called}
-use Rattle.sb_txn.specs.Clauses.{Parts, Holds, IsStoreOf, IsReady, Leads, LeavesWanted, Keeps, Refused, Changes, ChangeErr, HasRoom, need_of, unwound, GoesBack, Aborts, committed_pages, Commits, LeavesCommit, LeavesOne}
+use Rattle.sb_txn.specs.Book.{Out, Book, wants_of, change_len, with_change, out_with, IsAmong, others, standing_of, IsFirst, standing_in, with_out, leading, called}
+use Rattle.sb_txn.specs.Clauses.{Parts, Holds, IsStoreOf, IsReady, Leads, LeavesWanted, Keeps, Grows, IsLogged, Refused, records_of, change_in, undo_in, Changes, ChangeErr, HasRoom, need_of, unwound, cut_back, GoesBack, Aborts, committed_pages, Commits, LeavesCommit, LeavesOne}
 use Rattle.sb_txn.specs.State.{State, together}
 use Rattle.sb_txn.specs.Tied.{Ties}
 use Rattle.sb_txn.proofs.CalledLemmas.{out_with-tx, out_with-among, standing_of-found, length-called, leading-called, Ties-called}
@@ -87,22 +87,31 @@ module _ (old : Parts) (b : Book) (tx : ℕ) (o : Out) (is : out_with tx old.sto
   }
 
   module _ (new : Parts) where
+    -- the journal is the same
+    grows_same : {bytes gates : ℕ} → Grows (with_book old b).store new.store bytes gates → Grows old.store new.store bytes gates
+    grows_same grows = record { bytes = grows.bytes; least = grows.least; gates = grows.gates }
+
     pub Changes-called : (owner page offset : ℕ) (bytes : List ℕ) → Changes (with_book old b) new o rest owner page offset bytes → Changes old new o rest owner page offset bytes
-    Changes-called owner page offset bytes changes = record {
-      before = changes.before;
-      was = λ want now store. changes.was want now (IsStoreOf-called old b tx among_one first want now store);
-      out = changes.out;
-      pages = Leads-called old b tx among_one first new (with_bytes page offset bytes) changes.pages;
-      logged = λ want now store. changes.logged want now (IsStoreOf-called old b tx among_one first want now store);
-      grows = record { bytes = changes.grows.bytes; gates = changes.grows.gates };
-      least = let h = changes.least in let w = ap (λ (x : Wants). change_len x (length bytes)) (wants_same page) in omega arith;
-    }
+    Changes-called owner page offset bytes changes =
+        let w = wants_same page in
+        record {
+          image = changes.image;
+          was = λ want now store. changes.was want now (IsStoreOf-called old b tx among_one first want now store);
+          book = changes.book ∙ ap (λ (x : Book). with_change x o rest (undo_in page offset changes.image bytes)) first;
+          pages = Leads-called old b tx among_one first new (with_bytes page offset bytes) changes.pages;
+          logged = λ want now opened pending ties.
+              let done = changes.logged want now opened pending (Holds-called old b tx among_one first want now opened pending ties) in
+              (done.0, done.1, done.2, done.3 ∙ ap (λ (v : Wants). (opened ++ pending) ++ records_of v o changes.image (change_in o owner page offset changes.image bytes)) w);
+          journal = subst (λ (v : Wants). IsLogged old.store.journal new.store.journal (change_len v (length bytes))) w changes.journal;
+          grows = grows_same changes.grows;
+          least = let h = changes.least in let e = ap (λ (x : Wants). change_len x (length bytes)) w in omega arith;
+        }
 
     Refused-called : Refused o.tx (with_book old b) new → Refused o.tx old new
     Refused-called refused = record {
       book = refused.book ∙ again;
       pages = Leads-called old b tx among_one first new (λ now. now) refused.pages;
-      grows = record { bytes = refused.grows.bytes; gates = refused.grows.gates };
+      journal = refused.journal;
     }
 
     pub ChangeErr-called : (page count : ℕ) (e : StoreFault) → ChangeErr (with_book old b) new o page count e → ChangeErr old new o page count e
@@ -119,24 +128,26 @@ module _ (old : Parts) (b : Book) (tx : ℕ) (o : Out) (is : out_with tx old.sto
 
     pub GoesBack-called : (n : ℕ) → GoesBack (with_book old b) new o rest n → GoesBack old new o rest n
     GoesBack-called n back = record {
-      out = back.out;
+      book = back.book ∙ ap (λ (x : Book). with_out x (cut_back o n ∷ rest)) first;
       pages = Leads-called old b tx among_one first new (unwound (drop n o.undos)) back.pages;
-      grows = record { bytes = back.grows.bytes; gates = back.grows.gates };
+      journal = back.journal;
     }
 
     pub Aborts-called : Aborts (with_book old b) new o rest → Aborts old new o rest
     Aborts-called aborts = record {
-      out = aborts.out;
+      book = aborts.book ∙ ap (λ (x : Book). with_out x rest) first;
       pages = Leads-called old b tx among_one first new (unwound o.undos) aborts.pages;
-      grows = record { bytes = aborts.grows.bytes; gates = aborts.grows.gates };
+      alone = λ none want now store. aborts.alone none want now (IsStoreOf-called old b tx among_one first want now store);
+      journal = aborts.journal;
     }
 
     pub Commits-called : Commits (with_book old b) new o rest → Commits old new o rest
     Commits-called commits = record {
-      out = commits.out;
+      book = commits.book ∙ ap (λ (x : Book). with_out x rest) first;
       pages = λ want now opened pending ties. commits.pages want now opened pending (Holds-called old b tx among_one first want now opened pending ties);
       alone = λ last want now store. commits.alone last want now (IsStoreOf-called old b tx among_one first want now store);
-      grows = record { bytes = commits.grows.bytes; gates = commits.grows.gates };
+      grows = grows_same commits.grows;
+      chunks = commits.chunks;
     }
 
     pub LeavesCommit-called : LeavesCommit (with_book old b) new o → LeavesCommit old new o

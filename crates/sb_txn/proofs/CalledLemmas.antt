@@ -14,7 +14,7 @@ use Rattle.sb_log.proofs.WholeLemmas.{IsWhole-front}
 use Rattle.sb_images.specs.Store.{IsStoreOn}
 use Rattle.sb_images.proofs.StoreLemmas.{IsStoreOn-step}
 use Rattle.sb_pool.specs.State as pool
-use Rattle.sb_txn.specs.Book.{Out, Book, actives, out_with, IsAmong, others, standing_of, leading, called}
+use Rattle.sb_txn.specs.Book.{Out, Book, actives, begun_in, out_with, IsAmong, others, standing_of, leading, called}
 use Rattle.sb_txn.specs.Tied.{AreOut, AreOnce, IsBookOf, HasReserve, Ties}
 
 -- ---- the transaction among those that are out
@@ -69,7 +69,7 @@ out_with-one tx os o one among = subst (λ (l : List Out). out_with tx l ≡ Som
 
 -- ---- one of them comes to the front
 -- the list of actives is in the same order
-actives-append : (xs ys : List Out) → actives (xs ++ ys) ≡ actives xs ++ actives ys
+pub actives-append : (xs ys : List Out) → actives (xs ++ ys) ≡ actives xs ++ actives ys
 actives-append [] ys = refl
 actives-append (x ∷ xs) ys = ap (λ (l : List Active). active_with x.tx (length x.undos) ∷ l) (actives-append xs ys)
 
@@ -83,6 +83,10 @@ All-front P (b ∷ before) o behind all =
     let front = All-front P before o behind (All-tail P b (before ++ o ∷ behind) all) in
     All-cons P o (b ∷ (before ++ behind)) (All-head P o (before ++ behind) front)
     (All-cons P b (before ++ behind) (All-head P b (before ++ o ∷ behind) all) (All-tail P o (before ++ behind) front))
+
+begun_in-front : (before : List Out) (o : Out) (behind : List Out) → begun_in (before ++ o ∷ behind) ≡ begun_in (o ∷ (before ++ behind))
+begun_in-front [] o behind = refl
+begun_in-front (b ∷ before) o behind = let e = begun_in-front before o behind in omega arith
 
 AreOut-front : (count : ℕ) (recs : List Record) (next : ℕ) (before : List Out) (o : Out) (behind : List Out) → AreOut count recs next (before ++ o ∷ behind) → AreOut count recs next (o ∷ (before ++ behind))
 AreOut-front count recs next [] o behind are = are
@@ -122,6 +126,9 @@ module _ (tx : ℕ) (os : List Out) (o : Out) (is : out_with tx os ≡ Some o) w
   pub length-called : length (leading (out_with tx os) (others tx os)) ≡ length os
   length-called = front (λ (l : List Out). length l ≡ length os) (λ before behind e. sym (length-front before o behind) ∙ e) refl
 
+  pub begun_in-called : begun_in (leading (out_with tx os) (others tx os)) ≡ begun_in os
+  begun_in-called = front (λ (l : List Out). begun_in l ≡ begun_in os) (λ before behind e. sym (begun_in-front before o behind) ∙ e) refl
+
   pub leading-called : leading (out_with tx os) (others tx os) ≡ o ∷ others tx os
   leading-called = ap (λ (found : Option Out). leading found (others tx os)) is
 
@@ -143,8 +150,8 @@ module _ (want now : ℕ → List ℕ) (told : Option Story) (size : ℕ) (j : j
   HasReserve-called : HasReserve j book → HasReserve j (called tx book)
   HasReserve-called spare = record {
     few = front tx book.out o is (λ (l : List Out). All (λ (x : Out). length x.undos ≤ used_of j) l) (λ before behind all. All-front (λ (x : Out). length x.undos ≤ used_of j) before o behind all) spare.few;
-    room = let e = length-called tx book.out o is in let h = spare.room in omega arith;
-    gates = let e = length-called tx book.out o is in let h = spare.gates in omega arith;
+    room = let e = begun_in-called tx book.out o is in let h = spare.room in omega arith;
+    gates = let e = begun_in-called tx book.out o is in let h = spare.gates in omega arith;
   }
 
   Ties-found : Ties want now told size j p book opened pending → Ties want now told size j p (called tx book) opened pending

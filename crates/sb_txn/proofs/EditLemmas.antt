@@ -1,16 +1,17 @@
 -- A change, from the store before it to that behind it.
-use Rattle.std.proofs.Common.{◌≡◌, ℕ, suc, ◌+◌, ◌-◌, ◌<◌, ◌≤◌, false, Option, Some, None, is_some, Result, Ok, Err, IfErr, IsErrOf, List, [], ◌∷◌, ◌++◌, length, take, drop, refl, sym, ◌∙◌, ap, subst, append_assoc, arith}
+use Rattle.std.proofs.Common.{◌≡◌, inl, ℕ, suc, ◌+◌, ◌-◌, ◌<◌, ◌≤◌, false, Option, Some, None, is_some, Result, Ok, Err, IfErr, IsErrOf, List, [], ◌∷◌, ◌++◌, length, take, drop, refl, sym, ◌∙◌, ap, subst, append_assoc, arith}
 use Rattle.sb_disk.specs.Disk.{Story, WhereTold, AgreesBut}
 use Rattle.sb_disk.specs.Moments.{LeavesOnly}
 use Rattle.sb_disk.proofs.MomentLemmas.{and_then}
-use Rattle.sb_journal.specs.State.{StandsOn, used_of, after_append}
+use Rattle.sb_journal.specs.State.{StandsOn, after_append}
 use Rattle.sb_journal.specs.State as journal
 use Rattle.sb_log.specs.declared.geometry.Geometry.{Geometry}
-use Rattle.sb_log.specs.Records.{Change, Record, Changed, spelling}
+use Rattle.sb_log.specs.Records.{Change, Record, Begin, Image, Changed, Back, spelling}
 use Rattle.sb_log.specs.Views.{Active, active_with}
 use Rattle.sb_log.specs.Whole.{with_range}
 use Rattle.sb_images.specs.Images.{Restores}
 use Rattle.sb_images.specs.Store.{IfTold, IsStoreOn}
+use Rattle.sb_pool.specs.Calls.{IsSameOrForced}
 use Rattle.sb_pool.specs.Pages.{bytes_or, ArePagesOn, with_bytes}
 use Rattle.sb_pool.specs.State.{held, IsHeld}
 use Rattle.sb_pool.specs.State as pool
@@ -18,14 +19,15 @@ use Rattle.sb_txn.specs.declared.changing.Wants.{Wants}
 use Rattle.sb_txn.specs.declared.fault.StoreFault.{StoreFault}
 use Rattle.sb_txn.specs.declared.fault.StoreFault.TheVariants.{Fault, LogFull, GatesFull, Down, NoMemory}
 use Rattle.sb_txn.specs.Ahead.{Leans, IsAhead, CatchesUp, LeavesAhead}
-use Rattle.sb_txn.specs.Book.{Undo, Out, Book, AreClear, with_change, wants_of, actives, IsFirst, standing_in}
+use Rattle.sb_txn.specs.Book.{Undo, Out, Book, AreClear, with_change, wants_of, change_len, actives, IsFirst, standing_in}
 use Rattle.sb_txn.specs.Changes.{AddErr}
 use Rattle.sb_txn.specs.Changing.{IsNext, behind}
-use Rattle.sb_txn.specs.Clauses.{Parts, IsStoreOf, IsFaultOrDown, LeavesWanted, Changes, HasRoom}
+use Rattle.sb_txn.specs.Clauses.{Parts, IsStoreOf, IsFaultOrDown, LeavesWanted, IsLogged, Changes, HasRoom}
 use Rattle.sb_txn.specs.Logging.{HasSpace, records_len}
 use Rattle.sb_txn.specs.State.{together}
-use Rattle.sb_txn.proofs.LoggedLemmas.{is_now, edit_space, edit_leaves, Leans-logged, covered-logged, used-logged, used-logged_most}
-use Rattle.sb_txn.proofs.RoomLemmas.{SameRoom-forced, lens-same}
+use Rattle.sb_txn.specs.Steps.{some}
+use Rattle.sb_txn.proofs.LoggedLemmas.{is_now, change_len-some, change_len-most, size_of, edit_space, edit_leaves, Leans-logged, covered-logged}
+use Rattle.sb_txn.proofs.RoomLemmas.{IsLogged-of, Grows-logged, least-logged}
 
 -- What the records of a change make of a store, whatever pages it has.
 pub record StoresChange (told new : Option Story) (j k : journal.State) (g : Geometry) (page : ℕ) (image : List ℕ) (w : Wants) (tx n : ℕ) (c : Change) : Type 0 where
@@ -40,6 +42,11 @@ pub record LeavesChange (told new : Option Story) (j : journal.State) (g : Geome
 -- a fact of four things that are others too
 pub four : {A B C D : Type 0} (P : A → B → C → D → Type 0) (a x : A) (b y : B) (c z : C) (d w : D) → a ≡ x → b ≡ y → c ≡ z → d ≡ w → P a b c d → P x y z w
 four P a x b y c z d w e f g h p = subst (λ v. P x y z v) h (subst (λ v. P x y v d) g (subst (λ v. P x v c d) f (subst (λ v. P v b c d) e p)))
+
+-- the records of a change stand behind all others
+same_records : (opened pending : List Record) (w : Wants) (tx n page : ℕ) (image : List ℕ) (c : Change)
+    → opened ++ (behind pending w tx n page image ++ Changed c ∷ []) ≡ (opened ++ pending) ++ (some w.begin (Begin tx) ++ (some w.back (Back tx n) ++ (some w.image (Image page image) ++ Changed c ∷ [])))
+same_records opened pending w tx n page image c = simp append_assoc
 
 -- ---- one change
 module _ (told : Option Story) (size : ℕ) (j : journal.State) (p : pool.State) (book : Book) (o : Out) (rest : List Out) (owner page offset : ℕ) (image bytes : List ℕ)
@@ -83,43 +90,31 @@ module _ (told : Option Story) (size : ℕ) (j : journal.State) (p : pool.State)
         covered = covered-logged want now told size j p book store.0 store.1 o rest owner page offset image bytes store.2 is lt range long has bytes_held room clear new tells len k done same stands sized;
       }
 
-      was_at : (a : Option Story) (now : ℕ → List ℕ) → j.failed ≡ false → ArePagesOn now a j p → IfTold a (take (length bytes) (drop offset image) ≡ take (length bytes) (drop offset (now page)))
+      was_at : (a : Option Story) (now : ℕ → List ℕ) → j.failed ≡ false → ArePagesOn now a j p → IfTold a (image ≡ now page)
       was_at None now up pages = tt
-      was_at (Some s) now up pages = ap (λ (l : List ℕ). take (length bytes) (drop offset l)) (is_now now s j p page image up has bytes_held lt pages)
+      was_at (Some s) now up pages = is_now now s j p page image up has bytes_held lt pages
 
       -- behind the write
       module _ (end : Parts) where
         pub LeavesWanted-edited : LeavesAhead mid end page offset bytes → LeavesWanted old end
         LeavesWanted-edited leaves = record { each = λ want now store. and_then told new end.told (Restores p.geometry want) (leaves_edit want now store) (leaves.each want now (IsAhead-edit want now store)) }
 
-        pub lens-edited : CatchesUp mid end page offset bytes → length end.store.journal.lens ≤ length j.lens + 1
-        lens-edited caught =
-            let a = ap (λ (x : journal.State). length x.lens) done in
-            let b = lens-same k end.store.journal (SameRoom-forced k end.store.journal caught.journal) in
-            omega arith
-
         pub Changes-edited : (want now : ℕ → List ℕ) → IsStoreOf want now old → CatchesUp mid end page offset bytes → Changes old end o rest owner page offset bytes
         Changes-edited want now store caught =
-            let room_same = SameRoom-forced k end.store.journal caught.journal in
+            let size = size_of want now told size j p book store.0 store.1 o rest owner page offset image bytes store.2 is lt range long has bytes_held room clear in
+            let logged : IsLogged j end.store.journal (change_len w (length bytes)) = IsLogged-of j j end.store.journal (change_len w (length bytes)) (change_len-some w (length bytes)) (inl refl)
+            (subst (λ (n : ℕ). IsSameOrForced (after_append n j) end.store.journal) size (subst (λ (x : journal.State). IsSameOrForced x end.store.journal) done caught.journal)) in
             record {
-              before = take (length bytes) (drop offset image);
+              image = image;
               was = λ wanted then at. was_at told then at.2.up at.2.pages;
-              out = ap (λ (x : Book). x.out) (caught.book ∙ added);
+              book = caught.book ∙ added;
               pages = λ wanted then at. caught.pages wanted then (IsAhead-edit wanted then at);
-              logged = λ wanted then at.
-                  let h = caught.logged wanted then (IsAhead-edit wanted then at) in
-                  (at.0 ++ behind at.1 w o.tx (length o.undos) page image, (h.0, h.1, h.2, h.3 ∙ sym (append_assoc at.0 (behind at.1 w o.tx (length o.undos) page image) (Changed the_change ∷ []))));
-              grows = record {
-                bytes =
-                    let a = used-logged_most want now told size j p book store.0 store.1 o rest owner page offset image bytes store.2 is lt range long has bytes_held room clear new tells len k done same stands sized in
-                    let e = room_same.used in
-                    omega arith;
-                gates = let a = lens-edited caught in omega arith;
-              };
-              least =
-                  let a = used-logged want now told size j p book store.0 store.1 o rest owner page offset image bytes store.2 is lt range long has bytes_held room clear new tells len k done same stands sized in
-                  let e = room_same.used in
-                  omega arith;
+              logged = λ wanted then opened pending ties.
+                  let h = caught.logged wanted then (IsAhead-edit wanted then (opened, pending, ties)) in
+                  (h.0, h.1, h.2, h.3 ∙ same_records opened pending w o.tx (length o.undos) page image the_change);
+              journal = logged;
+              grows = Grows-logged old.store end.store (change_len w (length bytes)) (change_len-some w (length bytes)) (change_len-most w (length bytes) (omega arith)) logged;
+              least = least-logged j end.store.journal (change_len w (length bytes)) logged;
             }
 
 -- ---- the same with the numbers that the call has

@@ -11,22 +11,24 @@ use Rattle.sb_journal.specs.State.{StandsOn, used_of, after_append, after_force}
 use Rattle.sb_journal.specs.State as journal
 use Rattle.sb_log.specs.declared.geometry.Geometry.{Geometry}
 use Rattle.sb_log.specs.Records.{Change, Record, Back, Commit}
-use Rattle.sb_log.specs.Restored.{imaged}
+use Rattle.sb_log.specs.Restored.{base, imaged}
 use Rattle.sb_log.specs.Standing.{keep, standing, own_changes, count_of, AreBelow}
-use Rattle.sb_log.specs.Views.{Active, active_with, IsIdle}
+use Rattle.sb_log.specs.Views.{Active, active_with, IsIdle, IsPage}
 use Rattle.sb_log.proofs.RestoredLemmas.{imaged-append}
 use Rattle.sb_log.proofs.StandingLemmas.{or_false, stood_all-append, keep-again, own_changes-keep, AreBelow-append}
 use Rattle.sb_log.proofs.WholeLemmas.{IsWhole-drop}
 use Rattle.sb_images.specs.Images.{IsOldOrNew}
+use Rattle.sb_images.specs.Layout.{page_at}
 use Rattle.sb_images.specs.Store.{IsStoreOn, own_of, with_changes}
 use Rattle.sb_images.proofs.CallLemmas.{LeavesOnly-idle, IsReadyOn-as}
 use Rattle.sb_images.proofs.CommitLemmas.{LeavesOnly-old}
 use Rattle.sb_images.proofs.ImageLemmas.{IsOldOrNew-as}
 use Rattle.sb_images.proofs.StoreLemmas.{IsStoreOn-ready, IsStoreOn-step, IsStore-idle, WillBe-commit, WillBe-alone}
 use Rattle.sb_pool.specs.Calls.{AreImaged}
+use Rattle.sb_pool.specs.Pages.{ArePagesOn}
 use Rattle.sb_pool.specs.State as pool
 use Rattle.sb_pool.proofs.StoreLemmas.{SamePages, AgreesOn-same, ArePagesOn-same}
-use Rattle.sb_txn.specs.Book.{Undo, Out, Book, actives, with_out, IsFirst, standing_in}
+use Rattle.sb_txn.specs.Book.{Undo, Out, Book, actives, begun_in, with_out, IsFirst, standing_in}
 use Rattle.sb_txn.specs.Clauses.{Parts, committed_pages, Commits, LeavesCommit, LeavesOne}
 use Rattle.sb_txn.specs.State.{together}
 use Rattle.sb_txn.specs.Steps.{some, KeepsDisk, filled}
@@ -64,11 +66,11 @@ module _ (want now : ℕ → List ℕ) (told : Option Story) (size : ℕ) (j : j
   pub rest_most : suc (length rest) ≤ 8
   rest_most = let e = ap (λ (l : List Out). length l) is in let h = ties.knows.most in omega arith
 
-  pub first_room : used_of j + reserve * (1 + length rest) ≤ j.log.len
-  first_room = let e = ap (λ (l : List Out). length l) is in let h = ties.spare.room in omega arith
+  pub first_room : used_of j + reserve * (cond o.begun 1 0 + begun_in rest) ≤ j.log.len
+  first_room = let e = ap begun_in is in let h = ties.spare.room in omega arith
 
-  pub first_gates : gates_used j + 1 + length rest ≤ j.gates.len
-  first_gates = let e = ap (λ (l : List Out). length l) is in let h = ties.spare.gates in omega arith
+  pub first_gates : gates_used j + (cond o.begun 1 0 + begun_in rest) ≤ j.gates.len
+  first_gates = let e = ap begun_in is in let h = ties.spare.gates in omega arith
 
   pub first_few : length o.undos ≤ used_of j
   first_few = All-head (λ (x : Out). length x.undos ≤ used_of j) o rest (subst (λ (l : List Out). All (λ (x : Out). length x.undos ≤ used_of j) l) is ties.spare.few)
@@ -118,13 +120,45 @@ Ties-idle want now told size j p book opened pending none ties = record {
   spare = ties.spare;
 }
 
+-- the pages now are those wanted
+wanted : (want now : ℕ → List ℕ) (told : Option Story) (j : journal.State) (g : Geometry) (opened pending : List Record) → IsStoreOn want now told j g opened pending [] → IsStoreOn want want told j g opened pending []
+wanted want now None j g opened pending store = tt
+wanted want now (Some s) j g opened pending store = record {
+  ready = store.ready;
+  whole = record {
+    plain = store.whole.plain;
+    covered = store.whole.covered;
+    active = store.whole.active;
+    pages = λ q lt. subst (λ (l : List ℕ). IsPage (opened ++ pending) [] (base q (opened ++ pending) (page_at g q s.now.reads)) l q) (IsStore-idle want now j g opened pending [] s refl store q lt) (store.whole.pages q lt);
+  };
+}
+
+pages_wanted : (want now : ℕ → List ℕ) (told : Option Story) (j : journal.State) (p : pool.State) (opened pending : List Record) → IsStoreOn want now told j p.geometry opened pending [] → ArePagesOn now told j p → ArePagesOn want told j p
+pages_wanted want now None j p opened pending store pages = tt
+pages_wanted want now (Some s) j p opened pending store pages = λ up q lt. pages up q lt ∙ IsStore-idle want now j p.geometry opened pending [] s refl store q lt
+
+pub Ties-wanted : (want now : ℕ → List ℕ) (told : Option Story) (size : ℕ) (j : journal.State) (p : pool.State) (book : Book) (opened pending : List Record) → book.out ≡ [] → Ties want now told size j p book opened pending → Ties want want told size j p book opened pending
+Ties-wanted want now told size j p book opened pending none ties =
+    let store = subst (λ (l : List Out). IsStoreOn want now told j p.geometry opened pending (actives l)) none ties.store in
+    record {
+      up = ties.up;
+      store = subst (λ (l : List Out). IsStoreOn want want told j p.geometry opened pending (actives l)) (sym none) (wanted want now told j p.geometry opened pending store);
+      serves = ties.serves;
+      agrees = ties.agrees;
+      pages = pages_wanted want now told j p opened pending store ties.pages;
+      dirty = ties.dirty;
+      position = ties.position;
+      knows = ties.knows;
+      spare = ties.spare;
+    }
+
 -- ---- a commit of a transaction that has no record
 abbrev at : Option Story → ℕ → journal.State → pool.State → Book → Parts
 at told size j p book = record { told = told; size = size; store = together j p book }
 
 pub Commits-idle : (told : Option Story) (size : ℕ) (j : journal.State) (p : pool.State) (book : Book) (o : Out) (rest : List Out) → book.out ≡ o ∷ rest → o.begun ≡ false → Commits (at told size j p book) (at told size j p (with_out book rest)) o rest
 Commits-idle told size j p book o rest is off = record {
-  out = refl;
+  book = refl;
   pages = λ want now opened pending ties.
       let none = (first_out want now told size j p book o rest is opened pending ties).none off in
       let dropped = Ties-drop want now told size j p book o rest is opened pending ties none in
@@ -133,7 +167,8 @@ Commits-idle told size j p book o rest is off = record {
   alone = λ last want now store.
       let none = (first_out want now told size j p book o rest is store.0 store.1 store.2).none off in
       (store.0, store.1, Ties-idle want now told size j p (with_out book rest) store.0 store.1 last (Ties-drop want now told size j p book o rest is store.0 store.1 store.2 none));
-  grows = record { bytes = omega arith; gates = omega arith };
+  grows = record { bytes = omega arith; least = omega arith; gates = omega arith };
+  chunks = omega arith;
 }
 
 pub LeavesCommit-idle : (told : Option Story) (size : ℕ) (j : journal.State) (p : pool.State) (book after : Book) (o : Out) → LeavesCommit (at told size j p book) (at told size j p after) o
@@ -194,6 +229,11 @@ pub record Finishes (told new : Option Story) (j k : journal.State) (tx n : ℕ)
   pub store : (want now : ℕ → List ℕ) (g : Geometry) (opened pending : List Record) (rest : List Active) → IsStoreOn want now told j g opened pending (active_with tx n ∷ rest) → (undone ≡ false → count_of tx (standing (opened ++ pending)) ≤ n)
       → IsStoreOn (with_changes (own_of (opened ++ pending) (active_with tx n)) want) now new k g (opened ++ ((pending ++ some undone (Back tx n)) ++ Commit tx ∷ [])) [] rest
 
+-- a transaction that has a record is counted
+one_if : (b : Bool) → b ≡ true → ◌≡◌ {A = ℕ} (cond b 1 0) 1
+one_if true is = refl
+one_if false is = absurd (false≢true is)
+
 -- the journal after it
 record IsFinished (j k : journal.State) (m : ℕ) : Type 0 where
   pub used : used_of k ≡ filled j + m
@@ -223,7 +263,7 @@ IsFinished-after j m some =
 IsFinished-done : (j k : journal.State) (undone : Bool) → k ≡ after_force (after_append (cond undone 9 0 + 5) j) → IsFinished j k (cond undone 9 0 + 5)
 IsFinished-done j k undone done = subst (λ (l : journal.State). IsFinished j l (cond undone 9 0 + 5)) (sym done) (IsFinished-after j (cond undone 9 0 + 5) (ends-len undone).1)
 
-module _ (told new : Option Story) (size len : ℕ) (j k : journal.State) (p : pool.State) (book : Book) (o : Out) (rest : List Out) (is : book.out ≡ o ∷ rest) (long : len ≡ size)
+module _ (told new : Option Story) (size len : ℕ) (j k : journal.State) (p : pool.State) (book : Book) (o : Out) (rest : List Out) (is : book.out ≡ o ∷ rest) (begun : o.begun ≡ true) (long : len ≡ size)
     (finish : Finishes told new j k o.tx (length o.undos) o.undone) where
   finished : IsFinished j k (cond o.undone 9 0 + 5)
   finished = IsFinished-done j k o.undone finish.done
@@ -283,18 +323,34 @@ module _ (told new : Option Story) (size len : ℕ) (j k : journal.State) (p : p
       });
       spare = record {
         few = rest_few want now told size j p book o rest is opened pending ties (used_of k) finish_more;
-        room = let h = first_room want now told size j p book o rest is opened pending ties in let m = finish_bytes in let l = ap (λ (r : Range). r.len) finished.log_is in omega arith;
-        gates = let h = first_gates want now told size j p book o rest is opened pending ties in let e = finished.gates in let m = lens-gates j in let l = ap (λ (r : Range). r.len) finished.gates_is in omega arith;
+        room =
+            let one = one_if o.begun begun in
+            let h = first_room want now told size j p book o rest is opened pending ties in
+            let m = finish_bytes in
+            let l = ap (λ (r : Range). r.len) finished.log_is in
+            omega arith;
+        gates =
+            let one = one_if o.begun begun in
+            let h = first_gates want now told size j p book o rest is opened pending ties in
+            let e = finished.gates in
+            let m = lens-gates j in
+            let l = ap (λ (r : Range). r.len) finished.gates_is in
+            omega arith;
       };
     }
 
   pub Commits-finish : Commits (at told size j p book) (at new len k p (with_out book rest)) o rest
   Commits-finish = record {
-    out = refl;
+    book = refl;
     pages = λ want now opened pending ties. (recs want now opened pending ties, [], Ties-finish want now opened pending ties);
     alone = λ last want now store.
         (recs want now store.0 store.1 store.2, [], Ties-idle (committed_pages (store.0 ++ store.1) o want) now new len k p (with_out book rest) (recs want now store.0 store.1 store.2) [] last (Ties-finish want now store.0 store.1 store.2));
-    grows = record { bytes = let m = finish_bytes in omega arith; gates = finished.lens };
+    grows = record {
+      bytes = let m = finish_bytes in omega arith;
+      least = finish_more;
+      gates = let e = finished.gates in let m = lens-gates j in omega arith;
+    };
+    chunks = finished.lens;
   }
 
 -- what a crash leaves at each moment of it

@@ -21,3 +21,4 @@ pub mod PlaceLemmas
 pub mod OnlyLemmas
 pub mod CalledLemmas
 pub mod CallLemmas
+pub mod BesideLemmas

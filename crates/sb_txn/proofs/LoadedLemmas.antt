@@ -1,17 +1,20 @@
 -- A change of a page that was brought into memory first.
-use Rattle.std.proofs.Common.{◌≡◌, ⊎_elim, ℕ, ◌+◌, ◌≤◌, Option, Some, None, is_some, List, ◌∷◌, length, take, drop, sym, ◌∙◌, ap, subst, arith}
+use Rattle.std.proofs.Common.{◌≡◌, ⊎_elim, ℕ, ◌+◌, ◌≤◌, Option, Some, None, is_some, List, ◌∷◌, ◌++◌, length, sym, ◌∙◌, ap, subst, arith}
 use Rattle.std.proofs.lemmas.Bool.{false≢true}
 use Rattle.sb_disk.specs.Disk.{Story, Range}
-use Rattle.sb_journal.specs.State.{used_of, after_force}
+use Rattle.sb_journal.specs.State.{after_force}
 use Rattle.sb_journal.specs.State as journal
+use Rattle.sb_log.specs.Records.{Record}
 use Rattle.sb_images.specs.Store.{IfTold}
 use Rattle.sb_pool.specs.Calls.{IsSameOrForced}
+use Rattle.sb_txn.specs.declared.changing.Wants.{Wants}
 use Rattle.sb_txn.specs.declared.fault.StoreFault.{StoreFault}
 use Rattle.sb_txn.specs.declared.fault.StoreFault.TheVariants.{Fault, LogFull, GatesFull, Down, NoMemory}
-use Rattle.sb_txn.specs.Book.{Out, Book, wants_of, change_len}
+use Rattle.sb_txn.specs.Book.{Out, Book, wants_of, change_len, with_change}
 use Rattle.sb_txn.specs.Changes.{NoRoom, AddErr}
-use Rattle.sb_txn.specs.Clauses.{Parts, LeavesWanted, Loads, Refused, Changes, ChangeErr, HasRoom, need_of}
-use Rattle.sb_txn.proofs.RoomLemmas.{SameRoom, SameRoom-forced, lens-gates, lens-same}
+use Rattle.sb_txn.specs.Clauses.{Parts, LeavesWanted, Loads, Refused, IsLogged, records_of, change_in, undo_in, Changes, ChangeErr, HasRoom, need_of}
+use Rattle.sb_txn.proofs.LoggedLemmas.{change_len-some, change_len-most}
+use Rattle.sb_txn.proofs.RoomLemmas.{SameRoom, SameRoom-forced, lens-gates, IsLogged-behind, Grows-logged, least-logged}
 use Rattle.sb_txn.proofs.TiedLemmas.{Refused-loads}
 
 -- ---- the load before it
@@ -72,21 +75,30 @@ module _ (old mid : Parts) (loads : Loads old mid) where
   ChangeErr-add new o rest page count (GatesFull used total) is err = absurd err
   ChangeErr-add new o rest page count Down is err = absurd err
 
-  pub Changes-loaded : (new : Parts) (o : Out) (rest : List Out) (owner page offset : ℕ) (bytes : List ℕ) → LeavesWanted old mid → Changes mid new o rest owner page offset bytes → length new.store.journal.lens ≤ length mid.store.journal.lens + 1
-      → Changes old new o rest owner page offset bytes
-  Changes-loaded new o rest owner page offset bytes leaves changes chunks = record {
-    before = changes.before;
-    was = λ want now store. as_told old.told mid.told (changes.before ≡ take (length bytes) (drop offset (now page))) (leaves.each want now store).tells (changes.was want now (loads.pages want now store));
-    out = changes.out;
-    pages = λ want now store. changes.pages want now (loads.pages want now store);
-    logged = λ want now store. changes.logged want now (loads.pages want now store);
-    grows = record {
-      bytes = let a = changes.grows.bytes in let b = room_same.used in omega arith;
-      gates = let a = lens-same old.store.journal mid.store.journal room_same in omega arith;
-    };
-    least =
-        let a = changes.least in
-        let b = room_same.used in
-        let c = ap (λ (x : Book). change_len (wants_of x o page) (length bytes)) loads.book in
-        omega arith;
-  }
+  -- what the change wants is the same
+  wants_same : (o : Out) (page : ℕ) → wants_of mid.store.book o page ≡ wants_of old.store.book o page
+  wants_same o page = ap (λ (b : Book). wants_of b o page) loads.book
+
+  pub Changes-loaded : (new : Parts) (o : Out) (rest : List Out) (owner page offset : ℕ) (bytes : List ℕ) → offset + length bytes ≤ 4096 → LeavesWanted old mid → Changes mid new o rest owner page offset bytes → Changes old new o rest owner page offset bytes
+  Changes-loaded new o rest owner page offset bytes range leaves changes =
+      let w = wants_same o page in
+      let logged = subst (λ (v : Wants). IsLogged old.store.journal new.store.journal (change_len v (length bytes))) w (IsLogged-behind old.store.journal mid.store.journal new.store.journal (change_len (wants_of mid.store.book o page) (length bytes)) loads.journal changes.journal) in
+      record {
+        image = changes.image;
+        was = λ want now store. as_told old.told mid.told (changes.image ≡ now page) (leaves.each want now store).tells (changes.was want now (loads.pages want now store));
+        book = changes.book ∙ ap (λ (b : Book). with_change b o rest (undo_in page offset changes.image bytes)) loads.book;
+        pages = λ want now store. changes.pages want now (loads.pages want now store);
+        logged = λ want now opened pending ties.
+            let at = loads.logged want now opened pending ties in
+            let done = changes.logged want now at.0 at.1 at.2 in
+            let c = change_in o owner page offset changes.image bytes in (
+              done.0,
+              done.1,
+              done.2,
+              done.3 ∙ ap (λ (l : List Record). l ++ records_of (wants_of mid.store.book o page) o changes.image c) at.3
+                  ∙ ap (λ (v : Wants). (opened ++ pending) ++ records_of v o changes.image c) w,
+            );
+        journal = logged;
+        grows = Grows-logged old.store new.store (change_len (wants_of old.store.book o page) (length bytes)) (change_len-some (wants_of old.store.book o page) (length bytes)) (change_len-most (wants_of old.store.book o page) (length bytes) (omega arith)) logged;
+        least = least-logged old.store.journal new.store.journal (change_len (wants_of old.store.book o page) (length bytes)) logged;
+      }

@@ -27,7 +27,7 @@ use Rattle.sb_pool.specs.State as pool
 use Rattle.sb_pool.proofs.StoreLemmas.{SamePages, AgreesOn-same, ArePagesOn-same}
 use Rattle.sb_txn.specs.declared.changing.Wants.{Wants}
 use Rattle.sb_txn.specs.Ahead.{Leans}
-use Rattle.sb_txn.specs.Book.{Undo, Out, Book, AreClear, actives, changed_out, with_change, wants_of, change_len}
+use Rattle.sb_txn.specs.Book.{Undo, Out, Book, AreClear, actives, begun_in, changed_out, with_change, wants_of, change_len}
 use Rattle.sb_txn.specs.Changing.{IsNext}
 use Rattle.sb_txn.specs.Clauses.{HasRoom}
 use Rattle.sb_txn.specs.Logging.{HasSpace, records_len}
@@ -39,6 +39,14 @@ use Rattle.sb_txn.proofs.OthersLemmas.{own-changed, AreOut-still, IsFree-others}
 use Rattle.sb_txn.proofs.RoomLemmas.{gates-lens}
 
 -- ---- room
+cond-most : (b : Bool) (n : ℕ) → cond b n 0 ≤ n
+cond-most true n = omega arith
+cond-most false n = omega arith
+
+begun_most : (os : List Out) → begun_in os ≤ length os
+begun_most [] = omega arith
+begun_most (o ∷ os) = let h = begun_most os in let c = cond-most o.begun 1 in omega arith
+
 room_of-most : (m : ℕ) → room_of m ≤ 4 + m
 room_of-most zero = omega arith
 room_of-most (suc m) = omega arith
@@ -51,9 +59,16 @@ room_of-some : (m : ℕ) → 0 < m → room_of m ≡ 4 + m
 room_of-some zero some = absurd (omega arith)
 room_of-some (suc m) some = refl
 
-cond-most : (b : Bool) (n : ℕ) → cond b n 0 ≤ n
-cond-most true n = omega arith
-cond-most false n = omega arith
+-- the bytes of a change's records
+pub change_len-some : (w : Wants) (count : ℕ) → 0 < change_len w count
+change_len-some w count = omega arith
+
+pub change_len-most : (w : Wants) (count : ℕ) → count ≤ 4096 → change_len w count ≤ 12396
+change_len-most w count le =
+    let x = cond-most w.begin 5 in
+    let y = cond-most w.back 9 in
+    let z = cond-most w.image 4101 in
+    omega arith
 
 used-append : (j k : journal.State) (m : ℕ) → 0 < m → k ≡ after_append m j → used_of k ≡ bytes_of j.lens + 4 + j.pending + m
 used-append j k m some done = ap (λ (x : journal.State). used_of x) done ∙ (let e = room_of-some (j.pending + m) (omega arith) in omega arith)
@@ -173,7 +188,7 @@ module _ (want now : ℕ → List ℕ) (told : Option Story) (size : ℕ) (j : j
   m = records_len w (length (spelling (Changed c)))
 
   -- what the log takes
-  size_of : m ≡ change_len w (length bytes)
+  pub size_of : m ≡ change_len w (length bytes)
   size_of =
       let a = length-change c in
       let b = length-take (length bytes) (drop offset image) in
@@ -259,8 +274,9 @@ module _ (want now : ℕ → List ℕ) (told : Option Story) (size : ℕ) (j : j
                 (let a = All-head (λ (x : Out). length x.undos ≤ used_of j) o rest (subst (λ (l : List Out). All (λ (x : Out). length x.undos ≤ used_of j) l) is ties.spare.few) in let b = length_push o.undos u in omega arith)
                 (few_more (used_of j) (used_of k) rest (let a = room.bytes in let b = room_of-most j.pending in omega arith)
                 (All-tail (λ (x : Out). length x.undos ≤ used_of j) o rest (subst (λ (l : List Out). All (λ (x : Out). length x.undos ≤ used_of j) l) is ties.spare.few)));
-            room = let a = room.bytes in let l = ap (λ (x : journal.State). x.log.len) done in omega arith;
+            room = let a = room.bytes in let b = begun_most rest in let l = ap (λ (x : journal.State). x.log.len) done in omega arith;
             gates =
+                let m = begun_most rest in
                 let a = room.gates in
                 let l = ap (λ (x : journal.State). length x.lens) done in
                 let g = ap (λ (x : journal.State). x.gates.len) done in
@@ -286,17 +302,3 @@ module _ (want now : ℕ → List ℕ) (told : Option Story) (size : ℕ) (j : j
 
       pub covered-logged : imaged (opened ++ more) page ≡ true
       covered-logged = is_imaged now p book opened pending o rest owner page offset image bytes ties.knows is lt range long
-
-      -- what the log has taken
-      pub used-logged : used_of j + change_len w (length bytes) ≤ used_of k
-      used-logged = let a = used_now in let e = size_of in let d = room_of-most j.pending in omega arith
-
-      pub used-logged_most : used_of k ≤ used_of j + 12396
-      used-logged_most =
-          let a = used_now in
-          let e = size_of in
-          let d = room_of-least j.pending in
-          let x = cond-most w.begin 5 in
-          let y = cond-most w.back 9 in
-          let z = cond-most w.image 4101 in
-          omega arith

@@ -3,7 +3,7 @@ use Rattle.std.proofs.Common.{◌≡◌, ℕ, ◌≤◌, Bool, true, false, Opti
 use Rattle.std.proofs.lemmas.List.{length_push}
 use Rattle.sb_disk.specs.Disk.{Story}
 use Rattle.sb_txn.specs.Book.{Out, Undo, Book, out_with, others, IsOnly, standing_of, called, leading, changed_out}
-use Rattle.sb_txn.specs.Clauses.{parts, Keeps, Refused, Changes, ChangeErr, cut_back, GoesBack, IsFaultOrDown}
+use Rattle.sb_txn.specs.Clauses.{parts, Keeps, Refused, undo_in, Changes, ChangeErr, cut_back, GoesBack, IsFaultOrDown}
 use Rattle.sb_txn.specs.State.{State}
 use Rattle.sb_txn.specs.declared.fault.StoreFault.{StoreFault}
 use Rattle.sb_txn.specs.declared.fault.StoreFault.TheVariants.{Fault, LogFull, GatesFull, Down, NoMemory}
@@ -53,7 +53,7 @@ module _ {D : Type 0} (told : D → Option Story) (len faults : D → ℕ) (old 
   pub IsOnly-change : (result : Result (Unit {0}) StoreFault) (owner page offset : ℕ) (bytes : List ℕ) → Keeps told len faults old new s t result
       → OnOk result ((o : Out) → out_with tx s.book.out ≡ Some o → Changes (parts told len old s) (parts told len new t) o (others tx s.book.out) owner page offset bytes)
       → IfErr result (λ e. (o : Out) → out_with tx s.book.out ≡ Some o → ChangeErr (parts told len old s) (parts told len new t) o page (length bytes) e) → IsOnly tx t.book.out
-  IsOnly-change (Ok x) owner page offset bytes keeps changes refused = changed_only keeps (λ o is. (changed_out o (record { page = page; offset = offset; before = (changes o is).before }), refl, (changes o is).out))
+  IsOnly-change (Ok x) owner page offset bytes keeps changes refused = changed_only keeps (λ o is. (changed_out o (undo_in page offset (changes o is).image bytes), refl, ap (λ (b : Book). b.out) (changes o is).book))
   IsOnly-change (Err Fault) owner page offset bytes keeps changes refused = fault_only keeps
   IsOnly-change (Err Down) owner page offset bytes keeps changes refused = down_only keeps
   IsOnly-change (Err NoMemory) owner page offset bytes keeps changes refused = refused_only NoMemory keeps (λ e. cc) (λ o is. refused o is)
@@ -62,7 +62,7 @@ module _ {D : Type 0} (told : D → Option Story) (len faults : D → ℕ) (old 
 
   pub IsOnly-back : (result : Result (Unit {0}) StoreFault) (n : ℕ) → Keeps told len faults old new s t result
       → OnOk result ((o : Out) → out_with tx s.book.out ≡ Some o → GoesBack (parts told len old s) (parts told len new t) o (others tx s.book.out) n) → IfErr result IsFaultOrDown → IsOnly tx t.book.out
-  IsOnly-back (Ok x) n keeps back err = changed_only keeps (λ o is. (cut_back o n, refl, (back o is).out))
+  IsOnly-back (Ok x) n keeps back err = changed_only keeps (λ o is. (cut_back o n, refl, ap (λ (b : Book). b.out) (back o is).book))
   IsOnly-back (Err Fault) n keeps back err = fault_only keeps
   IsOnly-back (Err Down) n keeps back err = down_only keeps
   IsOnly-back (Err NoMemory) n keeps back err = absurd err
@@ -77,8 +77,8 @@ module _ {D : Type 0} (told : D → Option Story) (len faults : D → ℕ) (old 
   standing-change (Ok x) owner page offset bytes keeps changes =
       let is = out_with-among tx s.book.out (only (Keeps-up told len faults tt old new s t keeps)).0 in
       let change = changes is.0 is.1 in
-      let u : Undo = record { page = page; offset = offset; before = change.before } in
+      let u : Undo = undo_in page offset change.image bytes in
       let was = standing_of-found tx s.book.out is.0 is.1 in
-      let now = ap (standing_of tx) change.out ∙ standing_of-first tx (changed_out is.0 u) (others tx s.book.out) (out_with-tx tx s.book.out is.0 is.1) in
+      let now = ap (λ (b : Book). standing_of tx b.out) change.book ∙ standing_of-first tx (changed_out is.0 u) (others tx s.book.out) (out_with-tx tx s.book.out is.0 is.1) in
       let more = length_push is.0.undos u in
       omega arith

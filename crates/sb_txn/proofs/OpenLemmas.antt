@@ -131,6 +131,7 @@ module _ (old new : Option Story) (before size : ℕ) (g : Geometry) (j : journa
   IsOpened-made = record {
     book = makes.no_record ∙ ap (λ (h : Geometry). empty_book h.pages) (sym geometry_is);
     lens = ap (λ (k : journal.State). k.lens) makes.empty;
+    restart = subst (λ (h : Geometry). WhereTold old new (IsRestarted h)) (sym geometry_is) makes.restart;
     ready = λ _. ((λ q. page_at g q (contents new)), (λ q. page_at g q (contents new)), ([], [], ties_made (λ q. page_at g q (contents new)) (some_pages g old new makes.restart)));
     sizes = λ want h mounted. subst (λ (x : Geometry). IfTold old (h ≡ x)) (sym geometry_is) (one_size g want h old new makes.restart mounted);
     pages = λ want h mounted. ties_made want (IsMounted-restarted g want old new makes.restart (mounted_here g want h old new makes.restart mounted));

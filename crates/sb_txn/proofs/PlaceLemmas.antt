@@ -2,7 +2,7 @@
 use Rattle.std.proofs.Common.{◌≡◌, ℕ, zero, suc, ◌+◌, ◌<◌, ◌==◌, nat_lt, not, Bool, true, false, cond, Option, Some, None, is_some, IsSome, List, [], ◌∷◌, length, map, get_or, take, drop, position, refl, sym, ◌∙◌, ap, subst, arith, eq-eqb}
 use Rattle.std.specs.List.{remove, position_or_len}
 use Rattle.std.proofs.Math.ListN.{get_or-map}
-use Rattle.std.proofs.lemmas.Bool.{lt-ltb}
+use Rattle.std.proofs.lemmas.Bool.{false≢true, lt-ltb}
 use Rattle.std.proofs.lemmas.List.{length-map, take-map, drop-map, map-append}
 use Rattle.std.proofs.lemmas.List.Quantifiers.{position-Some}
 use Rattle.sb_txn.specs.Book.{Out, Book, out_with, IsAmong, others, IsOnly, standing_of, with_out, leading, called}
@@ -59,6 +59,22 @@ pub IsSome-place : (tx : ℕ) (out : List Out) → IsAmong tx out → IsSome (po
 IsSome-place tx out among =
     let place = position_or_len (has tx) out in
     ap (λ (b : Bool). is_some (cond b (Some place) None)) (lt-ltb place (length out) (place-below tx out among))
+
+-- one that has no place has no change
+standing_of-unfound : (tx : ℕ) (os : List Out) → out_with tx os ≡ None → standing_of tx os ≡ 0
+standing_of-unfound tx [] none = refl
+standing_of-unfound tx (o ∷ os) none = by_test (has tx o) (standing_of-unfound tx os) none
+  where
+    by_test : (t : Bool) → (out_with tx os ≡ None → standing_of tx os ≡ 0) → cond t (Some o) (out_with tx os) ≡ None → cond t (length o.undos) (standing_of tx os) ≡ 0
+    by_test true behind is = absurd (cc)
+    by_test false behind is = behind is
+
+pub standing_of-unplaced : (tx : ℕ) (out : List Out) → position (has tx) out ≡ None → standing_of tx out ≡ 0
+standing_of-unplaced tx out none = by_option (out_with tx out) refl
+  where
+    by_option : (found : Option Out) → out_with tx out ≡ found → standing_of tx out ≡ 0
+    by_option None is = standing_of-unfound tx out is
+    by_option (Some o) is = absurd (false≢true (ap is_some (sym none) ∙ IsSome-place tx out (ap is_some is)))
 
 -- ---- where a list stands for those that are out
 -- the place in it

@@ -1,10 +1,12 @@
 -- The bytes and the gates that a journal's chunks take.
-use Rattle.std.proofs.Common.{◌≡◌, ⊎_elim, ℕ, zero, suc, ◌+◌, ◌<◌, ◌≤◌, List, length, refl, sym, subst, arith}
+use Rattle.std.proofs.Common.{◌≡◌, inl, inr, ⊎_elim, ℕ, zero, suc, ◌+◌, ◌<◌, ◌≤◌, List, length, refl, sym, ◌∙◌, ap, subst, arith}
 use Rattle.std.proofs.lemmas.List.{length_push}
 use Rattle.sb_journal.specs.Chunks.{bytes_of}
 use Rattle.sb_journal.specs.State.{State, room_of, used_of, need_of, sealed, after_append, after_force}
 use Rattle.sb_journal.proofs.ChunkLemmas.{bytes_of_more}
 use Rattle.sb_pool.specs.Calls.{IsSameOrForced}
+use Rattle.sb_txn.specs.Clauses.{Grows, IsLogged}
+use Rattle.sb_txn.specs.State as store
 use Rattle.sb_txn.specs.Steps.{filled}
 use Rattle.sb_txn.specs.Tied.{gates_used}
 
@@ -78,3 +80,77 @@ gates-append j n some = sealed_one (j.pending + n) j.lens (omega arith)
     sealed_one : (p : ℕ) (lens : List ℕ) → 0 < p → length (sealed p lens) ≡ length lens + 1
     sealed_one zero lens more = absurd (omega arith)
     sealed_one (suc p) lens more = length_push lens (suc p)
+
+-- ---- what calls add
+forced_twice : (j : State) → after_force (after_force j) ≡ after_force j
+forced_twice j = refl
+
+pub IsSameOrForced-then : (j k l : State) → IsSameOrForced j k → IsSameOrForced k l → IsSameOrForced j l
+IsSameOrForced-then j k l one two = ⊎_elim
+    (λ (a : k ≡ j). ⊎_elim
+    (λ (b : l ≡ k). inl (b ∙ a))
+    (λ (b : l ≡ after_force k). inr (b ∙ ap after_force a))
+    two)
+    (λ (a : k ≡ after_force j). ⊎_elim
+    (λ (b : l ≡ k). inr (b ∙ a))
+    (λ (b : l ≡ after_force k). inr (b ∙ ap after_force a ∙ forced_twice j))
+    two)
+    one
+
+pub IsLogged-of : (j from k : State) (n : ℕ) → 0 < n → IsSameOrForced j from → IsSameOrForced (after_append n from) k → IsLogged j k n
+IsLogged-of j from k n some first then = record {
+  from = from;
+  first = first;
+  then = then;
+  bytes =
+      let a = (SameRoom-forced j from first).used in
+      let b = (SameRoom-forced (after_append n from) k then).used in
+      let c = used-append from n some in
+      let d = need_filled from n in
+      omega arith;
+}
+
+-- a call before it that leaves the journal, or forces what was pending
+pub IsLogged-behind : (j m k : State) (n : ℕ) → IsSameOrForced j m → IsLogged m k n → IsLogged j k n
+IsLogged-behind j m k n before logged = record {
+  from = logged.from;
+  first = IsSameOrForced-then j m logged.from before logged.first;
+  then = logged.then;
+  bytes = let a = (SameRoom-forced j m before).used in let b = logged.bytes in omega arith;
+}
+
+need_most : (pending n : ℕ) → (need_of pending n ≤ 4 + n) × (n ≤ need_of pending n)
+need_most zero n = (omega arith, omega arith)
+need_most (suc p) n = (omega arith, omega arith)
+
+pub Grows-rest : (s t : store.State) → IsSameOrForced s.journal t.journal → Grows s t 0 0
+Grows-rest s t same =
+    let room = SameRoom-forced s.journal t.journal same in
+    let u = room.used in
+    let g = room.gates in
+    record { bytes = omega arith; least = omega arith; gates = omega arith }
+
+pub Grows-sum : (s t u : store.State) (a b c d : ℕ) → Grows s t a b → Grows t u c d → Grows s u (a + c) (b + d)
+Grows-sum s t u a b c d one two = record {
+  bytes = let x = one.bytes in let y = two.bytes in omega arith;
+  least = let x = one.least in let y = two.least in omega arith;
+  gates = let x = one.gates in let y = two.gates in omega arith;
+}
+
+pub chunks-grow : (s t : store.State) (a b : ℕ) → Grows s t a b → length t.journal.lens ≤ length s.journal.lens + (b + 1)
+chunks-grow s t a b grows = let x = grows.gates in let y = lens-gates t.journal in let z = gates-lens s.journal in omega arith
+
+pub Grows-logged : (s t : store.State) (n : ℕ) → 0 < n → n ≤ 12396 → IsLogged s.journal t.journal n → Grows s t 12400 3
+Grows-logged s t n some most logged =
+    let e = logged.bytes in
+    let m = need_most logged.from.pending n in
+    let lo = m.0 in
+    let hi = m.1 in
+    let a = (SameRoom-forced s.journal logged.from logged.first).gates in
+    let b = (SameRoom-forced (after_append n logged.from) t.journal logged.then).gates in
+    let c = gates-append logged.from n some in
+    let d = lens-gates logged.from in
+    record { bytes = omega arith; least = omega arith; gates = omega arith }
+
+pub least-logged : (j k : State) (n : ℕ) → IsLogged j k n → used_of j + n ≤ used_of k
+least-logged j k n logged = let e = logged.bytes in let m = (need_most logged.from.pending n).1 in omega arith

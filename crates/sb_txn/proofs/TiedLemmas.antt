@@ -15,10 +15,10 @@ use Rattle.sb_pool.specs.State.{Held, held, NoneMoreDirty}
 use Rattle.sb_pool.specs.State as pool
 use Rattle.sb_pool.proofs.StoreLemmas.{ArePagesOn-kept, IsStoreOn-with}
 use Rattle.sb_txn.specs.Book.{Out, Book, actives, called, with_out}
-use Rattle.sb_txn.specs.Clauses.{Parts, IsStoreOf, Loads, Refused}
+use Rattle.sb_txn.specs.Clauses.{Parts, HoldsAll, Loads, Refused}
 use Rattle.sb_txn.specs.State.{together}
 use Rattle.sb_txn.specs.Tied.{IsBookOf, HasReserve, Ties}
-use Rattle.sb_txn.proofs.RoomLemmas.{SameRoom, SameRoom-forced, lens-same}
+use Rattle.sb_txn.proofs.RoomLemmas.{SameRoom, SameRoom-forced}
 
 -- ---- room
 -- a journal whose chunks take as many bytes and gates has as much of both in reserve
@@ -32,9 +32,9 @@ HasReserve-same j k book same spare = record {
 -- ---- a page is brought into memory
 module _ (want now : ℕ → List ℕ) (told new : Option Story) (size len : ℕ) (j k : journal.State) (p after : pool.State) (book : Book) (opened pending : List Record) where
   -- the store after a call of the pool that keeps the pages
-  pub IsStoreOf-kept : Ties want now told size j p book opened pending → after.geometry ≡ p.geometry → after.position ≡ p.position → KeepsPages k p after told new → NoneMoreDirty p after → IsReadyWith want p.geometry (opened ++ pending) k told new
-      → IsSameOrForced j k → Serves new len k after.geometry → AgreesOn new k after → IsStoreOf want now (record { told = new; size = len; store = together k after book })
-  IsStoreOf-kept ties sizes position kept fewer still forced serves agrees =
+  pub HoldsAll-kept : Ties want now told size j p book opened pending → after.geometry ≡ p.geometry → after.position ≡ p.position → KeepsPages k p after told new → NoneMoreDirty p after → IsReadyWith want p.geometry (opened ++ pending) k told new
+      → IsSameOrForced j k → Serves new len k after.geometry → AgreesOn new k after → HoldsAll want now (opened ++ pending) (record { told = new; size = len; store = together k after book })
+  HoldsAll-kept ties sizes position kept fewer still forced serves agrees =
       let room = SameRoom-forced j k forced in
       let goes = IsStoreOn-with want now j k p.geometry opened pending (actives book.out) told new ties.store still in (
         goes.opened_now,
@@ -50,6 +50,7 @@ module _ (want now : ℕ → List ℕ) (told new : Option Story) (size len : ℕ
           knows = subst (λ (l : List Record). IsBookOf after.geometry.pages l book) (sym goes.same) (subst (λ (g : Geometry). IsBookOf g.pages (opened ++ pending) book) (sym sizes) ties.knows);
           spare = HasReserve-same j k book room ties.spare;
         },
+        goes.same,
       )
 
 -- ---- what the calls say of it
@@ -58,13 +59,11 @@ called-first : (book : Book) (o : Out) (rest : List Out) → book.out ≡ o ∷ 
 called-first book o rest is = subst (λ (l : List Out). called o.tx (with_out book l) ≡ with_out book l) (sym is) (rw (eq-eqb o.tx o.tx refl) refl)
 
 pub Refused-loads : (old new : Parts) (o : Out) (rest : List Out) → old.store.book.out ≡ o ∷ rest → Loads old new → Refused o.tx old new
-Refused-loads old new o rest is loads =
-    let room = SameRoom-forced old.store.journal new.store.journal loads.journal in
-    record {
-      book = loads.book ∙ sym (called-first old.store.book o rest is);
-      pages = loads.pages;
-      grows = record { bytes = let e = room.used in omega arith; gates = lens-same old.store.journal new.store.journal room };
-    }
+Refused-loads old new o rest is loads = record {
+  book = loads.book ∙ sym (called-first old.store.book o rest is);
+  pages = loads.pages;
+  journal = loads.journal;
+}
 
 -- the bytes of a page that is held are those now
 pub bytes_now : (now : ℕ → List ℕ) (old new : Option Story) (k : journal.State) (p : pool.State) (n : ℕ) (bytes : List ℕ) (dirty : Bool) → is_some old ≡ is_some new → ArePagesOn now new k p → k.failed ≡ false → n < p.geometry.pages

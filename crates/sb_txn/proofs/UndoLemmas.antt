@@ -177,7 +177,7 @@ module _ (told : Option Story) (size : ℕ) (j : journal.State) (p : pool.State)
     others = pops.others;
     last = u;
     was = pops.was;
-    out = ap (λ (b : Book). b.out) (caught.book ∙ pops.is);
+    book = caught.book ∙ pops.is;
     pages = λ want now store.
         subst (λ (l : List ℕ). IsStoreOf want (with_bytes u.page u.offset l now) end) same (caught.pages want now (IsAhead-undo want now store));
     journal = caught.journal;

@@ -1,5 +1,5 @@
 -- What a store has in memory of its log.
-use Rattle.std.specs.Prelude.{◌≡◌, ◌⊎◌, ℕ, ◌+◌, ◌*◌, ◌≤◌, ◌==◌, Bool, true, false, cond, not, Option, Some, None, IsSome, List, [], ◌∷◌, ◌++◌, length, replicate, slice_index_or, slice_set}
+use Rattle.std.specs.Prelude.{◌≡◌, ◌⊎◌, ℕ, ◌+◌, ◌-◌, ◌*◌, ◌^◌, ◌<◌, ◌≤◌, ◌==◌, Bool, true, false, cond, not, Option, Some, None, IsSome, List, [], ◌∷◌, ◌++◌, length, replicate, slice_index_or, slice_set}
 use Rattle.std.specs.List.{All}
 use Rattle.sb_log.specs.Views.{Active, active_with}
 use Rattle.sb_txn.specs.declared.changing.Wants.{Wants}
@@ -31,7 +31,7 @@ actives (o ∷ os) = active_with o.tx (length o.undos) ∷ actives os
 
 -- the book of a store of so many pages whose log is empty
 abbrev pub empty_book : ℕ → Book
-empty_book pages = record { next = 0; imaged = replicate pages false; out = []; down = false }
+empty_book pages = record { next = 1; imaged = replicate pages false; out = []; down = false }
 
 -- a transaction that has changed nothing
 abbrev pub new_out : ℕ → Out
@@ -40,6 +40,16 @@ new_out tx = record { tx = tx; undos = []; begun = false; undone = false }
 -- the book with a transaction more
 abbrev pub begun_book : Book → Book
 begun_book book = record book { next = book.next + 1; out = book.out ++ new_out book.next ∷ [] }
+
+-- how many of these transactions have a record in the log
+abbrev pub begun_in : List Out → ℕ
+begun_in [] = 0
+begun_in (o ∷ os) = cond o.begun 1 0 + begun_in os
+
+-- A transaction more may begin: fewer than eight are out. Beside others it needs a number that is left; where none is out, a checkpoint gives the numbers back long before the last.
+pub record MayBegin (book : Book) : Type 0 where
+  pub few : length book.out < 8
+  pub numbered : 0 < length book.out → book.next < 2 ^ 32 - 1
 
 -- the book of a log that was emptied
 abbrev pub emptied_book : Book → Book

@@ -1,9 +1,10 @@
 -- What the steps of a change want and leave.
-use Rattle.std.specs.Prelude.{◌≡◌, ℕ, ◌+◌, ◌<◌, ◌≤◌, Option, List, [], ◌∷◌, length, take, drop}
+use Rattle.std.specs.Prelude.{◌≡◌, ℕ, ◌+◌, ◌^◌, ◌<◌, ◌≤◌, Option, List, [], ◌∷◌, length, take, drop}
 use Rattle.sb_journal.specs.State.{used_of}
 use Rattle.sb_journal.specs.State as journal
 use Rattle.sb_pool.specs.Pages.{bytes_or}
 use Rattle.sb_pool.specs.State.{Held}
+use Rattle.sb_pool.specs.State as pool
 use Rattle.sb_txn.specs.Book.{Undo, Out, Book, with_change}
 use Rattle.sb_txn.specs.Clauses.{Parts, need_of}
 use Rattle.sb_txn.specs.declared.fault.StoreFault.{StoreFault}
@@ -17,6 +18,15 @@ undo_at h page offset count = record { page = page; offset = offset; before = ta
 abbrev pub AddsUndo : Option Held → Book → Book → ℕ → ℕ → ℕ → Type 0
 AddsUndo h old new page offset count =
     (o : Out) (rest : List Out) → old.out ≡ o ∷ rest → new ≡ with_change old o rest (undo_at h page offset count)
+
+-- Journal and book are sized as a store's, and a transaction is out.
+pub record IsInStore (j : journal.State) (p : pool.State) (book : Book) : Type 0 where
+  pub log : p.geometry.log ≡ j.log.len
+  pub short : j.log.len < 2 ^ 32
+  pub used : used_of j ≤ j.log.len
+  pub gates : j.gates.len ≡ 65536
+  pub some : 0 < length book.out
+  pub most : length book.out ≤ 8
 
 -- Why there is no room for a change of so many bytes: the log hasn't the bytes, or it has them and no gate is left.
 abbrev pub NoRoom : journal.State → Book → Out → ℕ → ℕ → StoreFault → Type 0

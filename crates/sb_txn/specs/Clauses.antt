@@ -3,16 +3,19 @@ use Rattle.std.specs.Prelude.{◌≡◌, ◌⊎◌, ℕ, ◌+◌, ◌*◌, ◌<�
 use Rattle.sb_disk.specs.Causes.{Rose}
 use Rattle.sb_disk.specs.Disk.{Story}
 use Rattle.sb_disk.specs.Moments.{LeavesOnly}
-use Rattle.sb_journal.specs.State.{used_of}
-use Rattle.sb_log.specs.Records.{Change, Record, Changed}
+use Rattle.sb_journal.specs.State.{used_of, after_append}
+use Rattle.sb_journal.specs.State as journal
+use Rattle.sb_log.specs.Records.{Change, Record, Begin, Image, Changed, Back}
 use Rattle.sb_log.specs.Views.{active_with}
 use Rattle.sb_images.specs.Images.{Restores, IsOldOrNew}
 use Rattle.sb_images.specs.Store.{IfTold, own_of, with_changes}
 use Rattle.sb_pool.specs.Calls.{IsSameOrForced}
 use Rattle.sb_pool.specs.Pages.{with_bytes}
-use Rattle.sb_txn.specs.Book.{Undo, Out, Book, called, new_out, changed_out, undone_out, wants_of, change_len}
-use Rattle.sb_txn.specs.State.{State}
-use Rattle.sb_txn.specs.Tied.{Ties, reserve}
+use Rattle.sb_txn.specs.Book.{Undo, Out, Book, called, new_out, begun_book, emptied_book, with_out, with_change, undone_out, wants_of, change_len}
+use Rattle.sb_txn.specs.State.{State, together}
+use Rattle.sb_txn.specs.Steps.{TakesCheckpoint, some}
+use Rattle.sb_txn.specs.Tied.{Ties, reserve, gates_used}
+use Rattle.sb_txn.specs.declared.changing.Wants.{Wants}
 use Rattle.sb_txn.specs.declared.fault.StoreFault.{StoreFault}
 use Rattle.sb_txn.specs.declared.fault.StoreFault.TheVariants.{Fault, LogFull, GatesFull, Down, NoMemory}
 
@@ -75,22 +78,32 @@ IsFaultOrDown Fault = Unit {0}
 IsFaultOrDown Down = Unit {0}
 IsFaultOrDown e = ⊥
 
--- the log takes at most so many bytes more, and so many gates
+-- ---- how the log grows
+-- The log takes at most so many bytes more, and none less; and at most so many gates more, where what is pending counts as a chunk.
 pub record Grows (s t : State) (more_bytes more_gates : ℕ) : Type 0 where
   pub bytes : used_of t.journal ≤ used_of s.journal + more_bytes
-  pub gates : length t.journal.lens ≤ length s.journal.lens + more_gates
+  pub least : used_of s.journal ≤ used_of t.journal
+  pub gates : gates_used t.journal ≤ gates_used s.journal + more_gates
 
--- The call of this transaction has changed nothing.
+-- So many bytes more are logged, with a length field where nothing was pending any more. Before that and behind it what was pending may be forced.
+pub record IsLogged (j k : journal.State) (n : ℕ) : Type 0 where
+  pub from : journal.State
+  pub first : IsSameOrForced j from
+  pub then : IsSameOrForced (after_append n from) k
+  pub bytes : used_of k ≡ used_of j + journal.need_of from.pending n
+
+-- The call of this transaction has changed nothing, and no byte more of the log is used; what was pending may be forced.
 pub record Refused (tx : ℕ) (old new : Parts) : Type 0 where
   pub book : new.store.book ≡ called tx old.store.book
   pub pages : Leads old new (λ now. now)
-  pub grows : Grows old.store new.store 0 1
+  pub journal : IsSameOrForced old.store.journal new.store.journal
 
 -- ---- page
--- A page was brought into memory: the book is as it was, and so are all pages; what was pending may be forced now.
+-- A page was brought into memory: the book is as it was, and so are all pages and records; what was pending may be forced now.
 pub record Loads (old new : Parts) : Type 0 where
   pub book : new.store.book ≡ old.store.book
   pub pages : Leads old new (λ now. now)
+  pub logged : (want now : ℕ → List ℕ) (opened pending : List Record) → Holds want now opened pending old → HoldsAll want now (opened ++ pending) new
   pub journal : IsSameOrForced old.store.journal new.store.journal
 
 -- What `page` leaves: nothing has changed.
@@ -102,28 +115,59 @@ pub record IsPaged {D T : Type 0} (told : D → Option Story) (len faults : D �
   pub keeps : Keeps told len faults old new s t result
 
 -- ---- begin
--- a begin, also one that takes a checkpoint first
+-- Behind a checkpoint the numbers begin anew, at 1.
+pub record IsAnew (s t : State) (tx : ℕ) : Type 0 where
+  pub number : tx ≡ 1
+  pub log : used_of t.journal ≡ 0
+  pub chunks : t.journal.lens ≡ []
+  pub book : t.book ≡ begun_book (emptied_book s.book)
+
+-- A begin: the number of the one behind it will be one more. Without a checkpoint only the book has changed, and the number is the next one.
 pub record Begins (old new : Parts) (tx : ℕ) : Type 0 where
   pub out : new.store.book.out ≡ old.store.book.out ++ new_out tx ∷ []
+  pub next : new.store.book.next ≡ tx + 1
   pub pages : Leads old new (λ now. now)
+  pub at_once : (TakesCheckpoint old.store.journal old.store.book → ⊥)
+      → new.store ≡ together old.store.journal old.store.pool (begun_book old.store.book)
+  pub anew : TakesCheckpoint old.store.journal old.store.book → IsAnew old.store new.store tx
+
+-- a begin that takes no checkpoint makes no call on the disk
+abbrev pub AsksNothing : {D : Type 0} → D → D → State → Type 0
+AsksNothing old new s = (TakesCheckpoint s.journal s.book → ⊥) → new ≡ old
 
 -- ---- change
 -- how many bytes of the log a change of so many bytes wants: its records, a length field, and the reserve of each transaction that is out
 abbrev pub need_of : Book → Out → ℕ → ℕ → ℕ
 need_of book o page count = change_len (wants_of book o page) count + 4 + reserve * length book.out
 
--- so it is with some records, of which this change is the last
-abbrev pub EndsIn : (ℕ → List ℕ) → (ℕ → List ℕ) → Change → Parts → Type 0
-EndsIn want now c p = (earlier : List Record) × HoldsAll want now (earlier ++ Changed c ∷ []) p
+-- the records of a change, with those that are wanted before it
+abbrev pub records_of : Wants → Out → List ℕ → Change → List Record
+records_of w o image c =
+    some w.begin (Begin o.tx) ++ (some w.back (Back o.tx (length o.undos)) ++ (some w.image (Image c.page image) ++ Changed c ∷ []))
 
--- a change of the transaction: its range has these bytes now, and can be given back what it had; the log has it behind all other records
+-- the bytes of a page in a range
+abbrev pub range_of : ℕ → ℕ → List ℕ → List ℕ
+range_of offset count image = take count (drop offset image)
+
+-- a change of so many bytes of a page that was so, by this transaction
+abbrev pub change_in : Out → ℕ → ℕ → ℕ → List ℕ → List ℕ → Change
+change_in o owner page offset image bytes =
+    record { tx = o.tx; owner = owner; page = page; offset = offset; before = range_of offset (length bytes) image; after = bytes }
+
+-- what undoes it
+abbrev pub undo_in : ℕ → ℕ → List ℕ → List ℕ → Undo
+undo_in page offset image bytes = record { page = page; offset = offset; before = range_of offset (length bytes) image }
+
+-- A change of the transaction: its range has these bytes now, and can be given back what it had. The log has its records behind all others, and no more.
 pub record Changes (old new : Parts) (o : Out) (rest : List Out) (owner page offset : ℕ) (bytes : List ℕ) : Type 0 where
-  pub before : List ℕ
-  pub was : (want now : ℕ → List ℕ) → IsStoreOf want now old → IfTold old.told (before ≡ take (length bytes) (drop offset (now page)))
-  pub out : new.store.book.out ≡ changed_out o (record { page = page; offset = offset; before = before }) ∷ rest
+  pub image : List ℕ
+  pub was : (want now : ℕ → List ℕ) → IsStoreOf want now old → IfTold old.told (image ≡ now page)
+  pub book : new.store.book ≡ with_change old.store.book o rest (undo_in page offset image bytes)
   pub pages : Leads old new (with_bytes page offset bytes)
-  pub logged : (want now : ℕ → List ℕ) → IsStoreOf want now old → EndsIn want (with_bytes page offset bytes now)
-      (record { tx = o.tx; owner = owner; page = page; offset = offset; before = before; after = bytes }) new
+  pub logged : (want now : ℕ → List ℕ) (opened pending : List Record) → Holds want now opened pending old
+      → HoldsAll want (with_bytes page offset bytes now)
+      ((opened ++ pending) ++ records_of (wants_of old.store.book o page) o image (change_in o owner page offset image bytes)) new
+  pub journal : IsLogged old.store.journal new.store.journal (change_len (wants_of old.store.book o page) (length bytes))
   pub grows : Grows old.store new.store 12400 3
   pub least : used_of old.store.journal + change_len (wants_of old.store.book o page) (length bytes) ≤ used_of new.store.journal
 
@@ -159,27 +203,22 @@ pub record UndoesLast (old new : Parts) (o : Out) (rest : List Out) : Type 0 whe
   pub others : List Undo
   pub last : Undo
   pub was : o.undos ≡ others ++ last ∷ []
-  pub out : new.store.book.out ≡ undone_out o others ∷ rest
+  pub book : new.store.book ≡ with_out old.store.book (undone_out o others ∷ rest)
   pub pages : Leads old new (with_bytes last.page last.offset last.before)
   pub journal : IsSameOrForced old.store.journal new.store.journal
 
--- those behind the first n are undone
-pub record Undoes (old new : Parts) (o : Out) (rest : List Out) (n : ℕ) : Type 0 where
-  pub out : new.store.book.out ≡ cut_back o n ∷ rest
+-- Back to the first n changes of the transaction. No byte more of the log is used; what was pending may be forced.
+pub record GoesBack (old new : Parts) (o : Out) (rest : List Out) (n : ℕ) : Type 0 where
+  pub book : new.store.book ≡ with_out old.store.book (cut_back o n ∷ rest)
   pub pages : Leads old new (unwound (drop n o.undos))
   pub journal : IsSameOrForced old.store.journal new.store.journal
 
--- back to the first n changes of the transaction
-pub record GoesBack (old new : Parts) (o : Out) (rest : List Out) (n : ℕ) : Type 0 where
-  pub out : new.store.book.out ≡ cut_back o n ∷ rest
-  pub pages : Leads old new (unwound (drop n o.undos))
-  pub grows : Grows old.store new.store 0 1
-
--- the end of a transaction without a commit
+-- The end of a transaction without a commit, and without a byte more of the log. Where it was the only one, the pages now are those wanted, which are those at its begin.
 pub record Aborts (old new : Parts) (o : Out) (rest : List Out) : Type 0 where
-  pub out : new.store.book.out ≡ rest
+  pub book : new.store.book ≡ with_out old.store.book rest
   pub pages : Leads old new (unwound o.undos)
-  pub grows : Grows old.store new.store 0 1
+  pub alone : rest ≡ [] → (want now : ℕ → List ℕ) → IsStoreOf want now old → IsStoreOf want want new
+  pub journal : IsSameOrForced old.store.journal new.store.journal
 
 -- ---- commit
 -- the pages wanted, with the changes of the transaction that stand
@@ -188,11 +227,12 @@ committed_pages recs o want = with_changes (own_of recs (active_with o.tx (lengt
 
 -- After a commit these are the pages wanted. The pages now stay, and the others are out still.
 pub record Commits (old new : Parts) (o : Out) (rest : List Out) : Type 0 where
-  pub out : new.store.book.out ≡ rest
+  pub book : new.store.book ≡ with_out old.store.book rest
   pub pages : (want now : ℕ → List ℕ) (opened pending : List Record) → Holds want now opened pending old
       → IsStoreOf (committed_pages (opened ++ pending) o want) now new
   pub alone : rest ≡ [] → (want now : ℕ → List ℕ) → IsStoreOf want now old → IsStoreOf now now new
   pub grows : Grows old.store new.store 1024 1
+  pub chunks : length new.store.journal.lens ≤ length old.store.journal.lens + 1
 
 -- at each moment of it, at a fault too, a crash leaves the old pages wanted or the new ones
 abbrev pub LeavesCommit : Parts → Parts → Out → Type 0
@@ -209,8 +249,17 @@ abbrev pub IsIdle : {D : Type 0} → Out → D → D → State → State → Typ
 IsIdle o old new s t = o.begun ≡ false → (new ≡ old) × (t.journal ≡ s.journal)
 
 -- ---- checkpoint
--- the log is empty after it, and the pages now are those wanted
+-- The log is empty after it, the numbers begin anew, and the pages now are those wanted.
 pub record Checkpoints (old new : Parts) : Type 0 where
   pub out : new.store.book.out ≡ []
+  pub book : new.store.book ≡ emptied_book old.store.book
   pub log : used_of new.store.journal ≡ 0
+  pub chunks : new.store.journal.lens ≡ []
   pub pages : (want now : ℕ → List ℕ) → IsStoreOf want now old → Holds want now [] [] new
+
+-- What a begin does first: it takes a checkpoint, or leaves the store as it is.
+pub record MakesRoom (old new : Parts) : Type 0 where
+  pub out : new.store.book.out ≡ old.store.book.out
+  pub pages : Leads old new (λ now. now)
+  pub stays : (TakesCheckpoint old.store.journal old.store.book → ⊥) → new.store ≡ old.store
+  pub empties : TakesCheckpoint old.store.journal old.store.book → Checkpoints old new

@@ -11,3 +11,4 @@ pub mod Logging
 pub mod Ahead
 pub mod Changes
 pub mod Laws
+pub mod Beside

@@ -9,10 +9,11 @@ use Rattle.sb_recover.specs.declared.fault.OpenFault.TheVariants.{Fault, BadLog,
 use Rattle.sb_txn.specs.Book.{empty_book}
 use Rattle.sb_txn.specs.Clauses.{Parts, Holds, IsReady}
 
--- The store has the pages that its log restored, whatever they are: they are wanted, and they are the pages now. Its log is empty, and no transaction is out.
+-- There was a store of these sizes, and its log restored its pages, whatever they are: they are wanted, and they are the pages now. Its log is empty, and no transaction is out.
 pub record IsOpened (old new : Parts) : Type 0 where
   pub book : new.store.book ≡ empty_book new.store.pool.geometry.pages
   pub lens : new.store.journal.lens ≡ []
+  pub restart : WhereTold old.told new.told (IsRestarted new.store.pool.geometry)
   pub ready : IsReady new
   pub sizes : (want : ℕ → List ℕ) (g : Geometry) → IsMounted want old.told g → IfTold old.told (g ≡ new.store.pool.geometry)
   pub pages : (want : ℕ → List ℕ) (g : Geometry) → IsMounted want old.told g → Holds want want [] [] new

@@ -56,8 +56,13 @@ pub record KeepsSizes {D T : Type 0} (len faults : D → ℕ) (old new : D) (j :
   pub err : IfErr result (λ e. e ≡ Fault)
   pub cause : OnErr result ((j.failed ≡ true) ⊎ Rose (faults old) (faults new))
 
--- No more than half of the log is used, of its gates, or of the numbers of transactions.
+-- No more than half of the log is used, nor of its gates, nor of the numbers of transactions, which nobody reaches.
 pub record HasHalf (j : journal.State) (book : Book) : Type 0 where
   pub bytes : 2 * used_of j ≤ j.log.len
   pub chunks : 2 * length j.lens ≤ 65536
   pub next : book.next < 2 ^ 31
+
+-- A begin takes a checkpoint exactly here: no transaction is out, and more than half of something is used.
+pub record TakesCheckpoint (j : journal.State) (book : Book) : Type 0 where
+  pub none : book.out ≡ []
+  pub over : HasHalf j book → ⊥

@@ -12,7 +12,7 @@ use Rattle.sb_images.specs.Store.{IsStoreOn}
 use Rattle.sb_pool.specs.Calls.{Serves, AreImaged}
 use Rattle.sb_pool.specs.Pages.{AgreesOn, ArePagesOn}
 use Rattle.sb_pool.specs.State as pool
-use Rattle.sb_txn.specs.Book.{Undo, Out, Book, actives}
+use Rattle.sb_txn.specs.Book.{Undo, Out, Book, actives, begun_in}
 
 -- the undo says where the change is, and the bytes that were there, as many as it wrote
 pub record IsUndo (u : Undo) (c : Change) : Type 0 where
@@ -66,7 +66,7 @@ pub record IsBookOf (pages : ℕ) (recs : List Record) (book : Book) : Type 0 wh
   pub once : AreOnce book.out
   pub most : length book.out ≤ 8
 
--- the bytes of the log that are kept for what ends each transaction that is out
+-- the bytes of the log that are kept for what ends a transaction
 abbrev pub reserve : ℕ
 reserve = 1024
 
@@ -74,11 +74,11 @@ reserve = 1024
 abbrev pub gates_used : journal.State → ℕ
 gates_used j = length (sealed j.pending j.lens)
 
--- There is room, and a gate, for what ends each transaction that is out; each of its changes took a byte of the log.
+-- There is room, and a gate, for what ends each transaction that has a record in the log; each change that stands took a byte of the log.
 pub record HasReserve (j : journal.State) (book : Book) : Type 0 where
   pub few : All (λ o. length o.undos ≤ used_of j) book.out
-  pub room : used_of j + reserve * length book.out ≤ j.log.len
-  pub gates : gates_used j + length book.out ≤ j.gates.len
+  pub room : used_of j + reserve * begun_in book.out ≤ j.log.len
+  pub gates : gates_used j + begun_in book.out ≤ j.gates.len
 
 -- Disk, journal, pool and book are those of a store with these pages wanted and these now, and these records open and pending.
 pub record Ties (want now : ℕ → List ℕ) (told : Option Story) (size : ℕ) (j : journal.State) (p : pool.State) (book : Book)

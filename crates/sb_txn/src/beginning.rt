@@ -1,10 +1,11 @@
 //! How a transaction begins, where need be behind a checkpoint.
 
-ghost use Rattle.std.specs.Prelude.{◌≡◌, ◌^◌, ◌<◌, [], false, IfOk, IfErr, OnOk};
+ghost use Rattle.std.specs.Prelude.{◌≡◌, ◌^◌, ◌-◌, ◌<◌, [], true, false, length, IfOk, IfErr, OnOk};
 ghost use Rattle.sb_journal.specs.State.{used_of};
-ghost use Rattle.sb_txn.specs.Clauses.{parts, IsReady, IsFaultOrDown, Keeps, Leads, LeavesWanted, Begins, Checkpoints};
+ghost use Rattle.sb_txn.specs.Book.{MayBegin};
+ghost use Rattle.sb_txn.specs.Clauses.{parts, IsReady, IsFaultOrDown, Keeps, Leads, LeavesWanted, Begins, AsksNothing, Checkpoints, MakesRoom};
 ghost use Rattle.sb_txn.specs.State.{together};
-ghost use Rattle.sb_txn.specs.Steps.{HasHalf};
+ghost use Rattle.sb_txn.specs.Steps.{HasHalf, TakesCheckpoint};
 
 use crate::book::Book;
 use crate::{StoreFault, steps};
@@ -18,7 +19,7 @@ const HALF_OF_GATES: u32 = 32768;
 /// Half of the numbers that transactions may have.
 const HALF_OF_NUMBERS: u32 = 0x8000_0000;
 
-/// Begins a transaction, behind a checkpoint where more than half of something is used.
+/// Begins a transaction, behind a checkpoint where one is due.
 pub(crate) fn begin<D: Disk>(
     disk: &mut D,
     journal: &mut Journal,
@@ -26,10 +27,11 @@ pub(crate) fn begin<D: Disk>(
     book: &mut Book,
 ) -> Result<u32, StoreFault>
     requires ready { IsReady (parts D.told D.len disk.old (together journal.old pool.old book.old)) }
-    requires none { book.old.out ≡ [] }
+    requires room { book.old.down ≡ false → MayBegin book.old }
 
     ensures begins { IfOk result (Begins (parts D.told D.len disk.old (together journal.old pool.old book.old))
         (parts D.told D.len disk.new (together journal.new pool.new book.new))) }
+    ensures quiet { AsksNothing disk.old disk.new (together journal.old pool.old book.old) }
     ensures any_moment { LeavesWanted (parts D.told D.len disk.old (together journal.old pool.old book.old))
         (parts D.told D.len disk.new (together journal.new pool.new book.new)) }
     ensures err { IfErr result IsFaultOrDown }
@@ -40,7 +42,7 @@ pub(crate) fn begin<D: Disk>(
     Ok(book.begin())
 }
 
-/// Takes a checkpoint where more than half of something is used.
+/// Takes a checkpoint where one is due.
 fn make_room<D: Disk>(
     disk: &mut D,
     journal: &mut Journal,
@@ -48,13 +50,14 @@ fn make_room<D: Disk>(
     book: &mut Book,
 ) -> Result<(), StoreFault>
     requires ready { IsReady (parts D.told D.len disk.old (together journal.old pool.old book.old)) }
-    requires none { book.old.out ≡ [] }
+    requires room { book.old.down ≡ false → MayBegin book.old }
 
-    ensures none { OnOk result (book.new.out ≡ []) }
+    ensures few { OnOk result (length book.new.out < 8) }
+    ensures number { OnOk result (book.new.next < 2 ^ 32 - 1) }
     ensures up { OnOk result (book.new.down ≡ false) }
-    ensures half { OnOk result (HasHalf journal.new book.new) }
-    ensures pages { OnOk result (Leads (parts D.told D.len disk.old (together journal.old pool.old book.old))
-        (parts D.told D.len disk.new (together journal.new pool.new book.new)) (λ now. now)) }
+    ensures made { OnOk result (MakesRoom (parts D.told D.len disk.old (together journal.old pool.old book.old))
+        (parts D.told D.len disk.new (together journal.new pool.new book.new))) }
+    ensures quiet { AsksNothing disk.old disk.new (together journal.old pool.old book.old) }
     ensures any_moment { LeavesWanted (parts D.told D.len disk.old (together journal.old pool.old book.old))
         (parts D.told D.len disk.new (together journal.new pool.new book.new)) }
     ensures err { IfErr result IsFaultOrDown }
@@ -64,17 +67,31 @@ fn make_room<D: Disk>(
     if book.is_down() {
         return Err(StoreFault::Down);
     }
-    if is_half_used(journal, book, pool.geometry().log) {
+    if takes_checkpoint(journal, book, pool.geometry().log) {
         return checkpoint(disk, journal, pool, book);
     }
     Ok(())
 }
 
-/// Whether more than half of the log is used, of its gates, or of the numbers of transactions.
-fn is_half_used(journal: &Journal, book: &Book, log: u64) -> bool
+/// Whether no transaction is out and more than half of something is used.
+fn takes_checkpoint(journal: &Journal, book: &Book, log: u64) -> bool
     requires log { log < 2 ^ 32 }
     requires used { used_of journal.now < 2 ^ 32 }
-    ensures { result ≡ false → log ≡ journal.now.log.len → HasHalf journal.now book.now }
+    requires same { log ≡ journal.now.log.len }
+    ensures due { result ≡ true → TakesCheckpoint journal.now book.now }
+    ensures other { result ≡ false → TakesCheckpoint journal.now book.now → ⊥ }
+    ensures number { result ≡ false → MayBegin book.now → book.now.next < 2 ^ 32 - 1 }
+{
+    book.out() == 0 && is_over_half(journal, book, log)
+}
+
+/// Whether more than half of the log is used, of its gates, or of the numbers of transactions.
+fn is_over_half(journal: &Journal, book: &Book, log: u64) -> bool
+    requires log { log < 2 ^ 32 }
+    requires used { used_of journal.now < 2 ^ 32 }
+    requires same { log ≡ journal.now.log.len }
+    ensures over { result ≡ true → HasHalf journal.now book.now → ⊥ }
+    ensures half { result ≡ false → HasHalf journal.now book.now }
 {
     2 * journal.used() > log || journal.chunks() > HALF_OF_GATES || book.next() >= HALF_OF_NUMBERS
 }
@@ -87,7 +104,7 @@ pub(crate) fn checkpoint<D: Disk>(
     book: &mut Book,
 ) -> Result<(), StoreFault>
     requires ready { IsReady (parts D.told D.len disk.old (together journal.old pool.old book.old)) }
-    requires none { book.old.out ≡ [] }
+    requires none { book.old.down ≡ false → book.old.out ≡ [] }
 
     ensures checkpoints { OnOk result (Checkpoints (parts D.told D.len disk.old (together journal.old pool.old book.old))
         (parts D.told D.len disk.new (together journal.new pool.new book.new))) }
@@ -95,7 +112,6 @@ pub(crate) fn checkpoint<D: Disk>(
         (parts D.told D.len disk.new (together journal.new pool.new book.new)) (λ now. now)) }
     ensures none { OnOk result (book.new.out ≡ []) }
     ensures up { OnOk result (book.new.down ≡ false) }
-    ensures half { OnOk result (HasHalf journal.new book.new) }
     ensures any_moment { LeavesWanted (parts D.told D.len disk.old (together journal.old pool.old book.old))
         (parts D.told D.len disk.new (together journal.new pool.new book.new)) }
     ensures err { IfErr result IsFaultOrDown }

@@ -1,7 +1,7 @@
 //! What a store has in memory of its log.
 
 ghost use Rattle.std.specs.Prelude.{◌≡◌, ◌==◌, ◌+◌, ◌-◌, ◌^◌, ◌<◌, ◌≤◌, ◌∷◌, ◌++◌, [], ℕ, List, suc, true, false, Some, length, map, take, drop, position, IfOk, IfErr, OnOk, OnErr};
-ghost use Rattle.sb_txn.specs.Book.{Out as Outs, IsAmong, standing_of as count_of, called, empty_book, new_out, begun_book, emptied_book, changed_out, with_change, wants_of, standing_in, with_out, Pops};
+ghost use Rattle.sb_txn.specs.Book.{Out as Outs, MayBegin, IsAmong, standing_of as count_of, called, empty_book, new_out, begun_book, emptied_book, changed_out, with_change, wants_of, standing_in, with_out, Pops};
 ghost use Rattle.sb_txn.specs.View.{undo_of, out_of};
 
 use crate::StoreFault;
@@ -11,6 +11,9 @@ use std::marker::Model;
 
 /// The most transactions that may be out at once.
 const MOST_OUT: usize = 8;
+
+/// The number of the first transaction behind a checkpoint.
+const FIRST_NUMBER: u32 = 1;
 
 /// A change that can be undone: its place, and the bytes before it.
 #[derive(Drop)]
@@ -99,7 +102,7 @@ impl Book {
         let imaged = vec![in alloc; false; pages as usize]?;
         let out = Vec::with_capacity(alloc, MOST_OUT)?;
         Ok(Book {
-            next: 0,
+            next: FIRST_NUMBER,
             imaged,
             out,
             down: false,
@@ -134,11 +137,19 @@ impl Book {
         self.out.len()
     }
 
+    /// Whether a transaction more may begin.
+    pub fn may_begin(&self) -> bool
+        ensures yes { result ≡ true → MayBegin self.now }
+        ensures no { result ≡ false → MayBegin self.now → ⊥ }
+    {
+        self.out.len() < MOST_OUT && (self.out.is_empty() || self.next < u32::MAX)
+    }
+
     /// The log is empty now: no page has an Image, and the numbers begin anew.
     pub fn empty(&mut self)
         ensures { self.new ≡ emptied_book self.old }
     {
-        self.next = 0;
+        self.next = FIRST_NUMBER;
         self.imaged.fill(false);
     }
 
@@ -175,12 +186,14 @@ impl Book {
         Ok(())
     }
 
-    /// How many changes of a transaction that is out stand.
+    /// How many changes of a transaction stand: none of one that isn't out.
     pub fn standing_of(&self, tx: u32) -> usize
-        requires { IsAmong tx self.now.out }
         ensures { result ≡ count_of tx self.now.out }
     {
-        self.out[self.place(tx)].undos.len()
+        match place_of(&self.out, tx) {
+            Some(at) => self.out[at].undos.len(),
+            None => 0,
+        }
     }
 
     /// The place of a transaction among those that are out.

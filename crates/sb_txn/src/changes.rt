@@ -1,10 +1,9 @@
 //! How a transaction changes a range of a page.
 
-ghost use Rattle.std.specs.Prelude.{◌≡◌, ◌∷◌, ◌+◌, ◌<◌, ◌≤◌, ◌^◌, ℕ, List, Some, cond, false, length, IfErr, OnErr, OnOk};
-ghost use Rattle.sb_journal.specs.State.{used_of};
+ghost use Rattle.std.specs.Prelude.{◌≡◌, ◌∷◌, ◌+◌, ◌<◌, ◌≤◌, ℕ, List, Some, cond, false, length, IfErr, OnErr, OnOk};
 ghost use Rattle.sb_pool.specs.State.{IsHeld, held};
 ghost use Rattle.sb_txn.specs.Book.{Out as Outs, IsAmong, out_with, others, AreClear, IsFirst, change_len as len_of_change};
-ghost use Rattle.sb_txn.specs.Changes.{AddsUndo, NoRoom, AddErr};
+ghost use Rattle.sb_txn.specs.Changes.{AddsUndo, IsInStore, NoRoom, AddErr};
 ghost use Rattle.sb_txn.specs.Clauses.{parts, IsReady, IsFaultOrDown, Keeps, LeavesWanted, Changes, ChangeErr, HasRoom};
 ghost use Rattle.sb_txn.specs.State.{together};
 
@@ -127,13 +126,8 @@ fn check_room(
     page: u32,
     count: usize,
 ) -> Result<(), StoreFault>
-    requires log { pool.now.geometry.log ≡ journal.now.log.len }
-    requires short { journal.now.log.len < 2 ^ 32 }
-    requires used { used_of journal.now ≤ journal.now.log.len }
-    requires gates { journal.now.gates.len ≡ 65536 }
+    requires store { IsInStore journal.now pool.now book.now }
     requires page { page < length book.now.imaged }
-    requires some { 0 < length book.now.out }
-    requires most { length book.now.out ≤ 8 }
     requires count { count ≤ 4096 }
 
     ensures ok { OnOk result ((o : Outs) (rest : List Outs) → book.now.out ≡ o ∷ rest
@@ -199,7 +193,6 @@ fn add_change<D: Disk>(
         → Changes (parts D.told D.len disk.old (together journal.old pool.old book.old))
         (parts D.told D.len disk.new (together journal.new pool.new book.new))
         o rest edit.now.owner edit.now.page edit.now.offset edit.now.bytes.now) }
-    ensures chunks { OnOk result (length journal.new.lens ≤ length journal.old.lens + 1) }
     ensures refused { IfErr result (AddErr (parts D.told D.len disk.old (together journal.old pool.old book.old))
         (parts D.told D.len disk.new (together journal.new pool.new book.new))) }
     ensures any_moment { LeavesWanted (parts D.told D.len disk.old (together journal.old pool.old book.old))

@@ -19,5 +19,5 @@ mod tests;
 mod writing;
 
 pub use fault::StoreFault;
-pub use laws::back_gives_what_was;
+pub use laws::{back_gives_what_was, log_grows_by_the_sum};
 pub use store::{Mark, Store, Tx};

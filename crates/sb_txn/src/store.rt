@@ -1,14 +1,14 @@
 //! The store and its calls.
 
-ghost use Rattle.std.specs.Prelude.{◌≡◌, ◌<◌, ◌≤◌, ◌∷◌, [], false, ℕ, List, Some, length, IfOk, IfErr, IsErrOf, OnOk};
+ghost use Rattle.std.specs.Prelude.{◌≡◌, ◌<◌, ◌≤◌, ◌∷◌, [], true, false, ℕ, List, Some, length, IfOk, IfErr, IsErrOf, OnOk};
 ghost use Rattle.sb_disk.specs.Causes.{Rose};
 ghost use Rattle.sb_disk.specs.Moments.{LeavesOnly};
 ghost use Rattle.sb_log.specs.declared.geometry.Geometry.{Geometry};
 ghost use Rattle.sb_images.specs.Images.{Restores};
 ghost use Rattle.sb_images.specs.Store.{IfTold, IsMounted};
 ghost use Rattle.sb_pool.specs.State.{held, IsHeld, is_dirty};
-ghost use Rattle.sb_txn.specs.Book.{Out, IsAmong, out_with, others, standing_of};
-ghost use Rattle.sb_txn.specs.Clauses.{parts, IsReady, IsStoreOf, Keeps, IsFaultOrDown, LeavesWanted, Loads, IsPaged, Begins, GoesBack, Aborts, Commits, LeavesCommit, LeavesOne, IsIdle, Checkpoints};
+ghost use Rattle.sb_txn.specs.Book.{Out, MayBegin, IsAmong, out_with, others, standing_of};
+ghost use Rattle.sb_txn.specs.Clauses.{parts, IsReady, IsStoreOf, Keeps, IsFaultOrDown, LeavesWanted, Loads, IsPaged, Begins, AsksNothing, GoesBack, Aborts, Commits, LeavesCommit, LeavesOne, IsIdle, Checkpoints};
 ghost use Rattle.sb_txn.specs.Opened.{IsOpened, OpenErr};
 
 use crate::StoreFault;
@@ -28,6 +28,15 @@ use std::marker::Model;
 /// A transaction that is out. It is spent by `commit` or `abort`.
 pub struct Tx {
     pub(crate) number: u32,
+}
+
+impl Tx {
+    /// Its number: from 1 on behind a checkpoint, and each begin's is one more than the last one's.
+    pub fn number(&self) -> u32
+        ensures { result ≡ self.now.number }
+    {
+        self.number
+    }
 }
 
 /// How many changes of a transaction stood.
@@ -98,12 +107,13 @@ impl Store {
         self.pool.pages()
     }
 
-    /// Begins a transaction. A checkpoint is taken first where the log or its gates are more than half used, or the numbers of transactions are.
+    /// Begins a transaction, beside up to seven others. With none out, a checkpoint is taken first where more than half of the log or of its gates is used, or of the numbers of transactions. Else disk and journal stay as they were.
     pub fn begin<D: Disk>(&mut self, disk: &mut D) -> Result<Tx, StoreFault>
         requires ready { IsReady (parts D.told D.len disk.old self.old) }
-        requires none { self.old.book.out ≡ [] }
+        requires room { self.old.book.down ≡ false → MayBegin self.old.book }
 
         ensures begins { IfOk result (λ tx. Begins (parts D.told D.len disk.old self.old) (parts D.told D.len disk.new self.new) tx.number) }
+        ensures quiet { AsksNothing disk.old disk.new self.old }
         ensures any_moment { LeavesWanted (parts D.told D.len disk.old self.old) (parts D.told D.len disk.new self.new) }
         ensures err { IfErr result IsFaultOrDown }
         ensures keeps { Keeps D.told D.len D.faults disk.old disk.new self.old self.new result }
@@ -114,9 +124,16 @@ impl Store {
         }
     }
 
-    /// How many changes of the transaction stand now.
+    /// Whether a transaction may begin: fewer than eight are out, and a number is left.
+    pub fn may_begin(&self) -> bool
+        ensures yes { result ≡ true → MayBegin self.now.book }
+        ensures no { result ≡ false → MayBegin self.now.book → ⊥ }
+    {
+        self.book.may_begin()
+    }
+
+    /// How many changes of the transaction stand now. A store that is down may be asked too.
     pub fn mark(&self, tx: &Tx) -> Mark
-        requires among { IsAmong tx.now.number self.now.book.out }
         ensures { result.changes ≡ standing_of tx.now.number self.now.book.out }
     {
         Mark {
@@ -203,7 +220,7 @@ impl Store {
     /// Writes the changed pages to the disk and empties the log.
     pub fn checkpoint<D: Disk>(&mut self, disk: &mut D) -> Result<(), StoreFault>
         requires ready { IsReady (parts D.told D.len disk.old self.old) }
-        requires none { self.old.book.out ≡ [] }
+        requires none { self.old.book.down ≡ false → self.old.book.out ≡ [] }
 
         ensures checkpoints { OnOk result (Checkpoints (parts D.told D.len disk.old self.old) (parts D.told D.len disk.new self.new)) }
         ensures any_moment { LeavesWanted (parts D.told D.len disk.old self.old) (parts D.told D.len disk.new self.new) }

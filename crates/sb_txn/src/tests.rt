@@ -1,7 +1,8 @@
-//! Three transactions over four pages, stopped at each call and restarted, and with each call failing in turn. And a log that fills.
+//! Four transactions over four pages, the last two of them in turns, stopped at each call and restarted, and with each call failing in turn. And a log that fills, and the numbers of transactions.
 
-ghost use Rattle.std.specs.Prelude.{◌≡◌, ◌<◌, ◌≤◌, [], false, length, IfSome, OnOk, OnErr};
-ghost use Rattle.sb_txn.specs.Book.{IsOnly, standing_of};
+ghost use Rattle.std.specs.Prelude.{◌≡◌, ◌<◌, ◌≤◌, [], true, false, length, IfSome, OnOk, OnErr};
+ghost use Rattle.sb_txn.specs.Beside.{IsOne, AreTwo};
+ghost use Rattle.sb_txn.specs.Book.{IsAmong, IsOnly, standing_of};
 ghost use Rattle.sb_txn.specs.Clauses.{parts, IsReady};
 
 use crate::{Mark, Store, StoreFault, Tx};
@@ -19,14 +20,20 @@ const LOG: u64 = 2_097_152;
 /// The bytes that it takes of a disk.
 const SIZE: u64 = 2_428_928;
 
-/// Three bytes of each of four pages.
-type Found = [[u8; 3]; 4];
+/// Where a transaction writes in a page, and where the one beside it does.
+const LOW: u16 = 5;
 
-/// They are so before the first commit, behind it, and behind the second.
-const STATES: [Found; 3] = [
-    [[0; 3]; 4],
-    [*b"aaa", *b"bbb", [0; 3], [0; 3]],
-    [*b"aaa", *b"ccc", [0; 3], *b"eee"],
+const HIGH: u16 = 105;
+
+/// Three bytes of each of four pages, and three others of the first one.
+type Found = [[u8; 3]; 5];
+
+/// They are so before the first commit, behind it, behind the second, and behind the third.
+const STATES: [Found; 4] = [
+    [[0; 3]; 5],
+    [*b"aaa", *b"bbb", [0; 3], [0; 3], [0; 3]],
+    [*b"aaa", *b"ccc", [0; 3], *b"eee", [0; 3]],
+    [*b"aaa", *b"ccc", [0; 3], *b"eee", *b"hhh"],
 ];
 
 /// How many bytes of a write are stored at a stop: none, one, half of a change or of an Image, all.
@@ -56,26 +63,28 @@ fn opened<D: Disk>(alloc: Global, disk: &mut D) -> Option<Store>
 }
 
 // Three bytes of a page.
-fn three<D: Disk>(store: &mut Store, disk: &mut D, n: u32) -> Result<[u8; 3], StoreFault>
+fn three<D: Disk>(store: &mut Store, disk: &mut D, n: u32, at: usize) -> Result<[u8; 3], StoreFault>
     requires ready { IsReady (parts D.told D.len disk.old store.old) }
     requires pages { 64 ≤ store.old.pool.geometry.pages }
     requires page { n < 64 }
+    requires place { at < 4000 }
     ensures ready { IsReady (parts D.told D.len disk.new store.new) }
     ensures out { OnOk result (store.new.book.out ≡ store.old.book.out) }
     ensures pages { 64 ≤ store.new.pool.geometry.pages }
 {
     let page = store.page(disk, n)?;
-    Ok([page[5], page[6], page[7]])
+    Ok([page[at], page[at + 1], page[at + 2]])
 }
 
-// Those of the first four pages, by a store that is opened.
+// Those of the first four pages, and the others, by a store that is opened.
 fn look<D: Disk>(alloc: Global, disk: &mut D) -> Option<Found> {
     let mut store = opened(alloc, disk)?;
-    let first = three(&mut store, disk, 0).ok()?;
-    let second = three(&mut store, disk, 1).ok()?;
-    let third = three(&mut store, disk, 2).ok()?;
-    let fourth = three(&mut store, disk, 3).ok()?;
-    Some([first, second, third, fourth])
+    let first = three(&mut store, disk, 0, LOW as usize).ok()?;
+    let second = three(&mut store, disk, 1, LOW as usize).ok()?;
+    let third = three(&mut store, disk, 2, LOW as usize).ok()?;
+    let fourth = three(&mut store, disk, 3, LOW as usize).ok()?;
+    let other = three(&mut store, disk, 0, HIGH as usize).ok()?;
+    Some([first, second, third, fourth, other])
 }
 
 // Puts bytes into a page, behind its first five.
@@ -97,7 +106,7 @@ fn put<D: Disk>(
     ensures standing { OnOk result (standing_of tx.now.number store.old.book.out ≤ standing_of tx.now.number store.new.book.out) }
     ensures pages { 64 ≤ store.new.pool.geometry.pages }
 {
-    store.change(disk, tx, 1, page, 5, bytes)
+    store.change(disk, tx, 1, page, LOW, bytes)
 }
 
 // Takes the changes behind the mark back.
@@ -213,7 +222,111 @@ fn second<D: Disk>(store: &mut Store, disk: &mut D) -> Result<(), StoreFault>
     finish(store, disk, tx, done)
 }
 
-// The third, which isn't committed. Its end makes no call on the disk.
+// Puts bytes into a page by the first of two transactions that are out.
+fn put_low<D: Disk>(
+    store: &mut Store,
+    disk: &mut D,
+    low: &Tx,
+    high: &Tx,
+    page: u32,
+    bytes: &[u8],
+) -> Result<(), StoreFault>
+    requires ready { IsReady (parts D.told D.len disk.old store.old) }
+    requires two { store.old.book.down ≡ false → AreTwo true low.now.number high.now.number store.old.book.out }
+    requires pages { 64 ≤ store.old.pool.geometry.pages }
+    requires page { page < 64 }
+    requires some { 0 < length bytes.now }
+    requires few { length bytes.now ≤ 90 }
+    ensures ready { IsReady (parts D.told D.len disk.new store.new) }
+    ensures two { store.new.book.down ≡ false → AreTwo true low.now.number high.now.number store.new.book.out }
+    ensures pages { 64 ≤ store.new.pool.geometry.pages }
+{
+    store.change(disk, low, 1, page, LOW, bytes)
+}
+
+// Puts bytes into a page by the second one.
+fn put_high<D: Disk>(
+    store: &mut Store,
+    disk: &mut D,
+    low: &Tx,
+    high: &Tx,
+    page: u32,
+    bytes: &[u8],
+) -> Result<(), StoreFault>
+    requires ready { IsReady (parts D.told D.len disk.old store.old) }
+    requires two { store.old.book.down ≡ false → AreTwo true low.now.number high.now.number store.old.book.out }
+    requires pages { 64 ≤ store.old.pool.geometry.pages }
+    requires page { page < 64 }
+    requires some { 0 < length bytes.now }
+    requires few { length bytes.now ≤ 90 }
+    ensures ready { IsReady (parts D.told D.len disk.new store.new) }
+    ensures two { store.new.book.down ≡ false → AreTwo true low.now.number high.now.number store.new.book.out }
+    ensures pages { 64 ≤ store.new.pool.geometry.pages }
+{
+    store.change(disk, high, 1, page, HIGH, bytes)
+}
+
+// The two change a page in turns.
+fn take_turns<D: Disk>(
+    store: &mut Store,
+    disk: &mut D,
+    low: &Tx,
+    high: &Tx,
+) -> Result<(), StoreFault>
+    requires ready { IsReady (parts D.told D.len disk.old store.old) }
+    requires two { store.old.book.down ≡ false → AreTwo true low.now.number high.now.number store.old.book.out }
+    requires pages { 64 ≤ store.old.pool.geometry.pages }
+    ensures ready { IsReady (parts D.told D.len disk.new store.new) }
+    ensures two { store.new.book.down ≡ false → AreTwo true low.now.number high.now.number store.new.book.out }
+    ensures pages { 64 ≤ store.new.pool.geometry.pages }
+{
+    put_low(store, disk, low, high, 0, b"fff")?;
+    put_high(store, disk, low, high, 0, b"hhh")?;
+    put_low(store, disk, low, high, 2, b"ggg")
+}
+
+// Commits the second one, or takes it out again. The first is out still.
+fn finish_high<D: Disk>(
+    store: &mut Store,
+    disk: &mut D,
+    low: &Tx,
+    high: Tx,
+    done: Result<(), StoreFault>,
+) -> Result<(), StoreFault>
+    requires ready { IsReady (parts D.told D.len disk.old store.old) }
+    requires two { store.old.book.down ≡ false → AreTwo true low.now.number high.number store.old.book.out }
+    requires pages { 64 ≤ store.old.pool.geometry.pages }
+    ensures ready { IsReady (parts D.told D.len disk.new store.new) }
+    ensures only { store.new.book.down ≡ false → IsOnly low.now.number store.new.book.out }
+    ensures pages { 64 ≤ store.new.pool.geometry.pages }
+{
+    match done {
+        Ok(()) => store.commit(disk, high),
+        Err(fault) => {
+            let _left = store.abort(disk, high).is_ok();
+            Err(fault)
+        }
+    }
+}
+
+// What a transaction does beside another one.
+fn beside<D: Disk>(store: &mut Store, disk: &mut D, low: &Tx) -> Result<(), StoreFault>
+    requires ready { IsReady (parts D.told D.len disk.old store.old) }
+    requires one { store.old.book.down ≡ false → IsOne true low.now.number store.old.book.out }
+    requires pages { 64 ≤ store.old.pool.geometry.pages }
+    ensures ready { IsReady (parts D.told D.len disk.new store.new) }
+    ensures only { store.new.book.down ≡ false → IsOnly low.now.number store.new.book.out }
+    ensures pages { 64 ≤ store.new.pool.geometry.pages }
+{
+    if !store.may_begin() {
+        return Ok(());
+    }
+    let high = store.begin(disk)?;
+    let done = take_turns(store, disk, low, &high);
+    finish_high(store, disk, low, high, done)
+}
+
+// The third, which isn't committed, and the fourth beside it, which is. The end of the third makes no call on the disk.
 fn third<D: Disk>(store: &mut Store, disk: &mut D) -> Result<(), StoreFault>
     requires ready { IsReady (parts D.told D.len disk.old store.old) }
     requires none { store.old.book.out ≡ [] }
@@ -221,19 +334,16 @@ fn third<D: Disk>(store: &mut Store, disk: &mut D) -> Result<(), StoreFault>
     ensures ready { IsReady (parts D.told D.len disk.new store.new) }
     ensures pages { 64 ≤ store.new.pool.geometry.pages }
 {
-    let tx = store.begin(disk)?;
-    let done = match put(store, disk, &tx, 0, b"fff") {
-        Ok(()) => put(store, disk, &tx, 2, b"ggg"),
-        Err(fault) => Err(fault),
-    };
-    let ended = store.abort(disk, tx);
+    let low = store.begin(disk)?;
+    let done = beside(store, disk, &low);
+    let ended = store.abort(disk, low);
     match done {
         Ok(()) => ended,
         Err(fault) => Err(fault),
     }
 }
 
-// All three, with the number of commits that were answered Ok, and whether no call failed.
+// All four, with the number of commits that were answered Ok, and whether no call failed.
 fn run<D: Disk>(store: &mut Store, disk: &mut D) -> (u32, bool)
     requires ready { IsReady (parts D.told D.len disk.old store.old) }
     requires none { store.old.book.out ≡ [] }
@@ -243,7 +353,10 @@ fn run<D: Disk>(store: &mut Store, disk: &mut D) -> (u32, bool)
 {
     match first(store, disk) {
         Ok(()) => match second(store, disk) {
-            Ok(()) => (2, third(store, disk).is_ok()),
+            Ok(()) => match third(store, disk) {
+                Ok(()) => (3, true),
+                Err(_) => (2, false),
+            },
             Err(_) => (1, false),
         },
         Err(_) => (0, false),
@@ -262,6 +375,7 @@ fn commits_of(found: Option<Found>) -> Option<u32> {
         Some(found) if found == STATES[0] => Some(0),
         Some(found) if found == STATES[1] => Some(1),
         Some(found) if found == STATES[2] => Some(2),
+        Some(found) if found == STATES[3] => Some(3),
         _ => None,
     }
 }
@@ -317,7 +431,7 @@ fn a_stop_leaves_a_prefix_with_each_acknowledged_commit(rt: HostRuntime) -> Resu
     let alloc = rt.alloc();
     let image = made(alloc, SIZE)?.image()?;
     let (from, to) = clocks(alloc, image.as_slice())?;
-    assert!(rt; from < to && to - from == 26, "{from} and {to}");
+    assert!(rt; from < to && to - from == 33, "{from} and {to}");
     for call in from..to {
         for torn in TORN {
             assert!(rt;
@@ -338,7 +452,7 @@ fn test_fault(alloc: Global, image: &[u8], call: u64) -> Result<bool, AllocError
     disk.fail_at(&[call])?;
     let (committed, done) = run(&mut store, &mut disk);
     let calls = disk.calls();
-    let down = three(&mut store, &mut disk, 0) == Err(StoreFault::Down);
+    let down = three(&mut store, &mut disk, 0, LOW as usize) == Err(StoreFault::Down);
     let mut left = MemDisk::from_image(alloc, disk.image()?.as_slice())?;
     Ok(!done && down && disk.calls() == calls && is_kept(look(alloc, &mut left), committed))
 }
@@ -358,7 +472,7 @@ fn after_a_failed_call_the_store_is_down(rt: HostRuntime) -> Result<(), Fail> {
     let alloc = rt.alloc();
     let image = made(alloc, SIZE)?.image()?;
     let (from, to) = calls_of(alloc, image.as_slice())?;
-    assert!(rt; from < to && to - from == 30, "{from} and {to}");
+    assert!(rt; from < to && to - from == 37, "{from} and {to}");
     for call in from..to {
         assert!(rt; test_fault(alloc, image.as_slice(), call)?, "call {call}");
     }
@@ -407,7 +521,7 @@ fn full<D: Disk>(
     let tx = store.begin(disk)?;
     let (changes, fault) = fill(store, disk, &tx);
     leave(store, disk, tx)?;
-    let back = three(store, disk, 0)?;
+    let back = three(store, disk, 0, LOW as usize)?;
     store.checkpoint(disk)?;
     first(store, disk)?;
     Ok((changes, fault, back))
@@ -435,5 +549,47 @@ fn a_full_log_is_emptied_by_a_checkpoint(rt: HostRuntime) -> Result<(), Fail> {
     );
     let mut left = MemDisk::from_image(alloc, disk.image()?.as_slice())?;
     assert_eq!(rt; look(alloc, &mut left), Some(STATES[1]));
+    Ok(())
+}
+
+// The number of a transaction that changes nothing.
+fn number_of_one<D: Disk>(store: &mut Store, disk: &mut D) -> Result<u32, StoreFault>
+    requires ready { IsReady (parts D.told D.len disk.old store.old) }
+    requires none { store.old.book.out ≡ [] }
+    requires pages { 64 ≤ store.old.pool.geometry.pages }
+    ensures ready { IsReady (parts D.told D.len disk.new store.new) }
+    ensures none { OnOk result (store.new.book.out ≡ []) }
+    ensures pages { 64 ≤ store.new.pool.geometry.pages }
+{
+    let tx = store.begin(disk)?;
+    let number = tx.number();
+    leave(store, disk, tx)?;
+    Ok(number)
+}
+
+// The numbers of two transactions, and of one behind a checkpoint.
+fn numbers<D: Disk>(store: &mut Store, disk: &mut D) -> Result<[u32; 3], StoreFault>
+    requires ready { IsReady (parts D.told D.len disk.old store.old) }
+    requires none { store.old.book.out ≡ [] }
+    requires pages { 64 ≤ store.old.pool.geometry.pages }
+{
+    let first = number_of_one(store, disk)?;
+    let second = number_of_one(store, disk)?;
+    store.checkpoint(disk)?;
+    let third = number_of_one(store, disk)?;
+    Ok([first, second, third])
+}
+
+// By a store that is opened.
+fn counted<D: Disk>(alloc: Global, disk: &mut D) -> Option<[u32; 3]> {
+    let mut store = opened(alloc, disk)?;
+    numbers(&mut store, disk).ok()
+}
+
+#[test]
+fn numbers_begin_anew_behind_a_checkpoint(rt: HostRuntime) -> Result<(), Fail> {
+    let alloc = rt.alloc();
+    let mut disk = made(alloc, SIZE)?;
+    assert_eq!(rt; counted(alloc, &mut disk), Some([1, 2, 1]));
     Ok(())
 }

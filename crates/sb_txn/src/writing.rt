@@ -2,7 +2,7 @@
 
 ghost use Rattle.std.specs.Prelude.{◌≡◌, ◌<◌, ◌≤◌, ◌∷◌, List, false, IfErr, OnOk};
 ghost use Rattle.sb_txn.specs.Book.{Out as Outs, standing_in};
-ghost use Rattle.sb_txn.specs.Clauses.{parts, IsReady, IsFaultOrDown, Keeps, LeavesWanted, UndoesLast, Undoes, GoesBack};
+ghost use Rattle.sb_txn.specs.Clauses.{parts, IsReady, IsFaultOrDown, Keeps, LeavesWanted, UndoesLast, GoesBack};
 ghost use Rattle.sb_txn.specs.State.{together};
 
 use crate::StoreFault;
@@ -56,9 +56,6 @@ pub(crate) fn back_to<D: Disk>(
     requires up { book.old.down ≡ false }
     requires mark { n ≤ standing_in book.old.out }
 
-    ensures undoes { OnOk result ((o : Outs) (rest : List Outs) → book.old.out ≡ o ∷ rest
-        → Undoes (parts D.told D.len disk.old (together journal.old pool.old book.old))
-        (parts D.told D.len disk.new (together journal.new pool.new book.new)) o rest n) }
     ensures back { OnOk result ((o : Outs) (rest : List Outs) → book.old.out ≡ o ∷ rest
         → GoesBack (parts D.told D.len disk.old (together journal.old pool.old book.old))
         (parts D.told D.len disk.new (together journal.new pool.new book.new)) o rest n) }

@@ -1,6 +1,6 @@
-use Rattle.std.proofs.Common.{◌≡◌, ℕ, false, List, [], ◌∷◌, ◌++◌, sym, ◌∙◌, ap, subst}
-use Rattle.sb_txn.specs.Book.{Out, Book, new_out}
-use Rattle.sb_txn.specs.State.{together}
+use Rattle.std.proofs.Common.{◌≡◌, ℕ, ◌+◌, false, List, [], ◌∷◌, ◌++◌, sym, ◌∙◌, ap, subst}
+use Rattle.sb_txn.specs.Book.{Out, Book, new_out, begun_book}
+use Rattle.sb_txn.specs.State.{State, together}
 use Rattle.sb_txn.specs.Tied.{Ties}
 use Rattle.sb_txn.proofs.BeginLemmas.{Ties-begin}
 use Rattle.sb_txn.proofs.KeepsLemmas.{Keeps-ok, Keeps-up}
@@ -9,16 +9,30 @@ use Rattle.sb_txn.proofs.beginning.begin.Goals as goal
 pub returns-clause-begins : goal.returns-clause-begins
 returns-clause-begins g c =
     let room = c.in_ok-make_room.ensures in
+    let made = room.made in
+    let begun = c.begin.ensures.out in
+    let number = c.begin.ensures.number in
     record {
-      out = ap (λ (b : Book). b.out) c.begin.ensures.out ∙ ap (λ (l : List Out). l ++ new_out c.make_room.new.book.next ∷ []) (room.none ∙ sym c.requires.none)
-          ∙ ap (λ (n : ℕ). c.args.book.now.out ++ new_out n ∷ []) (sym c.begin.ensures.number);
+      out = ap (λ (b : Book). b.out) begun ∙ ap (λ (l : List Out). l ++ new_out c.make_room.new.book.next ∷ []) made.out ∙ ap (λ (n : ℕ). c.args.book.now.out ++ new_out n ∷ []) (sym number);
+      next = ap (λ (b : Book). b.next) begun ∙ ap (λ (n : ℕ). n + 1) (sym number);
       pages = λ want now store.
-          let mid = room.pages want now store in (
+          let mid = made.pages want now store in (
             mid.0,
             mid.1,
-            subst (λ (b : Book). Ties want now (g.D.Disk.told c.make_room.new.disk) (g.D.Disk.len c.make_room.new.disk) c.make_room.new.journal c.make_room.new.pool b mid.0 mid.1) (sym c.begin.ensures.out)
-                (Ties-begin want now (g.D.Disk.told c.make_room.new.disk) (g.D.Disk.len c.make_room.new.disk) c.make_room.new.journal c.make_room.new.pool c.make_room.new.book mid.0 mid.1 mid.2 room.none room.half),
+            subst (λ (b : Book). Ties want now (g.D.Disk.told c.make_room.new.disk) (g.D.Disk.len c.make_room.new.disk) c.make_room.new.journal c.make_room.new.pool b mid.0 mid.1) (sym begun)
+                (Ties-begin want now (g.D.Disk.told c.make_room.new.disk) (g.D.Disk.len c.make_room.new.disk) c.make_room.new.journal c.make_room.new.pool c.make_room.new.book mid.0 mid.1 mid.2 room.few),
           );
+      at_once = λ not.
+          ap (λ (b : Book). together c.make_room.new.journal c.make_room.new.pool b) begun
+          ∙ ap (λ (s : State). together s.journal s.pool (begun_book s.book)) (made.stays not);
+      anew = λ takes.
+          let done = made.empties takes in
+          record {
+            number = number ∙ ap (λ (b : Book). b.next) done.book;
+            log = done.log;
+            chunks = done.chunks;
+            book = begun ∙ ap begun_book done.book;
+          };
     }
 
 pub returns-clause-keeps : goal.returns-clause-keeps

@@ -14,14 +14,19 @@ returns-then-is_down-clause-any_moment g c = LeavesWanted-none _
 pub returns-in-Ok-clause-checkpoints : goal.returns-in-Ok-clause-checkpoints
 returns-in-Ok-clause-checkpoints g c =
     let call = c.in-Ok.ensures in
+    let up : c.args.book.now.down ≡ false = sym c.is_down.ensures ∙ c.if-is_down.false in
+    let none = c.requires.none up in
+    let closed = used-closed (after_force c.args.journal.now) c.checkpoint.new.journal call.journal in
     record {
-      out = ap (λ (b : Book). b.out) c.empty.ensures ∙ c.requires.none;
-      log = used-closed (after_force c.args.journal.now) c.checkpoint.new.journal call.journal;
+      out = ap (λ (b : Book). b.out) c.empty.ensures ∙ none;
+      book = c.empty.ensures;
+      log = closed.0;
+      chunks = closed.1;
       pages = λ want now store.
-          let was = subst (λ (l : List Out). IsStoreOn want now (g.D.Disk.told c.args.disk.now) c.args.journal.now c.args.pool.now.geometry store.0 store.1 (actives l)) c.requires.none store.2.store in
+          let was = subst (λ (l : List Out). IsStoreOn want now (g.D.Disk.told c.args.disk.now) c.args.journal.now c.args.pool.now.geometry store.0 store.1 (actives l)) none store.2.store in
           subst (λ (b : Book). Ties want now (g.D.Disk.told c.checkpoint.new.disk) (g.D.Disk.len c.checkpoint.new.disk) c.checkpoint.new.journal c.checkpoint.new.pool b [] []) (sym c.empty.ensures)
           (Ties-checkpoint want now (g.D.Disk.told c.args.disk.now) (g.D.Disk.told c.checkpoint.new.disk) (g.D.Disk.len c.args.disk.now) (g.D.Disk.len c.checkpoint.new.disk) c.args.journal.now c.checkpoint.new.journal c.args.pool.now c.checkpoint.new.pool c.args.book.now store.0 store.1
-          store.2 c.requires.none call.journal call.pool (call.store want now store.0 store.1 was store.2.dirty store.2.pages) call.serves call.agrees (call.pages now store.2.pages));
+          store.2 none call.journal call.pool (call.store want now store.0 store.1 was store.2.dirty store.2.pages) call.serves call.agrees (call.pages now store.2.pages));
     }
 
 pub returns-in-Ok-clause-pages : goal.returns-in-Ok-clause-pages

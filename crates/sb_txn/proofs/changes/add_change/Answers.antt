@@ -8,7 +8,7 @@ use Rattle.sb_txn.specs.Book.{Book, with_change}
 use Rattle.sb_txn.specs.Clauses.{parts, LeavesWanted, Changes}
 use Rattle.sb_txn.specs.Logging.{HasSpace, records_len}
 use Rattle.sb_txn.specs.State.{together}
-use Rattle.sb_txn.proofs.EditLemmas.{LeavesChange, StoresChange, HasSpace-edit, LeavesWanted-edit, IsAhead-edit, LeavesWanted-edited, lens-edited, Changes-edited, first_with, one_first, code_change, as_edit, AddErr-write}
+use Rattle.sb_txn.proofs.EditLemmas.{LeavesChange, StoresChange, HasSpace-edit, LeavesWanted-edit, IsAhead-edit, LeavesWanted-edited, Changes-edited, first_with, one_first, code_change, as_edit, AddErr-write}
 use Rattle.sb_txn.proofs.KeepsLemmas.{LeavesWanted-none, Keeps-fault, Keeps-after}
 use Rattle.sb_txn.proofs.ResultLemmas.{OnOk-map}
 use Rattle.sb_txn.proofs.changes.add_change.Goals as goal
@@ -114,10 +114,6 @@ returns-in-Ok g c =
           (Changes-edited told (g.D.Disk.len c.args.disk.now) c.args.journal.now c.args.pool.now c.args.book.now first.o first.rest edit.owner edit.page edit.offset image edit.bytes.now
           first.is c.requires.page c.requires.range c.page-image.ensures.long c.requires.held is_held (c.requires.room first.o first.rest first.is) (c.requires.apart first.o first.rest first.is)
           new call.logs.tells leaves (g.D.Disk.len c.log_change.new.disk) c.log_change.new.journal c.add_undo.new.book stores added done call.logs.elsewhere call.stays.stands call.stays.size end ready.0 ready.1 ready.2 caught)) c.write_range.ensures.written;
-      chunks = OnOk-map c.write_range.result _ _ (λ caught.
-          lens-edited told (g.D.Disk.len c.args.disk.now) c.args.journal.now c.args.pool.now c.args.book.now first.o first.rest edit.owner edit.page edit.offset image edit.bytes.now
-          first.is c.requires.page c.requires.range c.page-image.ensures.long c.requires.held is_held (c.requires.room first.o first.rest first.is) (c.requires.apart first.o first.rest first.is)
-          new call.logs.tells leaves (g.D.Disk.len c.log_change.new.disk) c.log_change.new.journal c.add_undo.new.book stores added done call.logs.elsewhere call.stays.stands call.stays.size end caught) c.write_range.ensures.written;
       refused = AddErr-write c.write_range.result _ _ c.write_range.ensures.err (λ e. false≢true (sym up_now ∙ c.write_range.ensures.keeps.only e));
       any_moment = LeavesWanted-edited told (g.D.Disk.len c.args.disk.now) c.args.journal.now c.args.pool.now c.args.book.now first.o first.rest edit.owner edit.page edit.offset image edit.bytes.now
           first.is c.requires.page c.requires.range c.page-image.ensures.long c.requires.held is_held (c.requires.room first.o first.rest first.is) (c.requires.apart first.o first.rest first.is)

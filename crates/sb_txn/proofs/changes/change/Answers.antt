@@ -4,7 +4,7 @@ use Rattle.sb_txn.specs.Clauses.{parts}
 use Rattle.sb_txn.specs.State.{together}
 use Rattle.sb_txn.proofs.KeepsLemmas.{Keeps-up, LeavesWanted-then}
 use Rattle.sb_txn.proofs.LoadedLemmas.{HasRoom-loaded, ChangeErr-room, ChangeErr-add, Changes-loaded}
-use Rattle.sb_txn.proofs.ResultLemmas.{OnOk-both, OnOk-has, IfErr-map, IfErr-from}
+use Rattle.sb_txn.proofs.ResultLemmas.{OnOk-map, OnOk-has, IfErr-map, IfErr-from}
 use Rattle.sb_txn.proofs.changes.change.Goals as goal
 
 pub returns-in_err-check_room-clause-refused : goal.returns-in_err-check_room-clause-refused
@@ -18,10 +18,10 @@ returns-in_err-check_room-clause-refused g c =
 pub returns-clause-changes : goal.returns-clause-changes
 returns-clause-changes g c =
     let loads = c.in_ok-load.ensures.loads in
-    OnOk-both c.add_change.result _ _ _ (λ changes chunks o rest is.
+    OnOk-map c.add_change.result _ _ (λ changes o rest is.
     Changes-loaded (parts g.D.Disk.told g.D.Disk.len c.args.disk.now (together c.args.journal.now c.args.pool.now c.args.book.now)) (parts g.D.Disk.told g.D.Disk.len c.load.new.disk (together c.load.new.journal c.load.new.pool c.load.new.book)) loads
     (parts g.D.Disk.told g.D.Disk.len c.add_change.new.disk (together c.add_change.new.journal c.add_change.new.pool c.add_change.new.book)) o rest c.args.edit.now.owner c.args.edit.now.page c.args.edit.now.offset c.args.edit.now.bytes.now
-    c.load.ensures.any_moment (changes o rest (ap (λ (b : Book). b.out) loads.book ∙ is)) chunks) c.add_change.ensures.changes c.add_change.ensures.chunks
+    c.requires.range c.load.ensures.any_moment (changes o rest (ap (λ (b : Book). b.out) loads.book ∙ is))) c.add_change.ensures.changes
 
 pub returns-clause-room : goal.returns-clause-room
 returns-clause-room g c =

@@ -1,24 +1,24 @@
-use Rattle.std.proofs.Common.{◌≡◌, false, List, length, sym, ◌∙◌, ap, subst, arith}
-use Rattle.sb_txn.specs.Book.{Out, Book}
+use Rattle.std.proofs.Common.{◌≡◌, false, length, sym, ◌∙◌, ap, subst, arith}
+use Rattle.sb_txn.specs.Book.{Book}
 use Rattle.sb_txn.specs.Clauses.{parts, cut_back, Aborts}
 use Rattle.sb_txn.specs.State.{together}
-use Rattle.sb_txn.proofs.BackLemmas.{Aborts-undoes, any_first}
+use Rattle.sb_txn.proofs.BackLemmas.{Aborts-back, any_first}
 use Rattle.sb_txn.proofs.KeepsLemmas.{Keeps-still, Keeps-ok}
 use Rattle.sb_txn.proofs.ending.abort.Goals as goal
 
 pub returns-clause-aborts : goal.returns-clause-aborts
 returns-clause-aborts g c o rest is =
-    let undoes = c.in_ok-back_to.ensures.undoes o rest is in
+    let back = c.in_ok-back_to.ensures.back o rest is in
     subst (λ (b : Book). Aborts (parts g.D.Disk.told g.D.Disk.len c.args.disk.now (together c.args.journal.now c.args.pool.now c.args.book.now)) (parts g.D.Disk.told g.D.Disk.len c.back_to.new.disk (together c.back_to.new.journal c.back_to.new.pool b)) o rest)
-    (sym (c.end.ensures (cut_back o 0) rest undoes.out))
-    (Aborts-undoes (parts g.D.Disk.told g.D.Disk.len c.args.disk.now (together c.args.journal.now c.args.pool.now c.args.book.now)) (g.D.Disk.told c.back_to.new.disk) (g.D.Disk.len c.back_to.new.disk) c.back_to.new.journal c.back_to.new.pool c.back_to.new.book o rest undoes)
+    (sym (c.end.ensures (cut_back o 0) rest (ap (λ (b : Book). b.out) back.book)))
+    (Aborts-back (parts g.D.Disk.told g.D.Disk.len c.args.disk.now (together c.args.journal.now c.args.pool.now c.args.book.now)) (g.D.Disk.told c.back_to.new.disk) (g.D.Disk.len c.back_to.new.disk) c.back_to.new.journal c.back_to.new.pool c.back_to.new.book o rest back)
 
 pub end-requires : goal.end-requires
 end-requires g c =
     let back = c.in_ok-back_to.ensures in
     let up = c.requires.up in
     let first = any_first c.args.book.now.out c.requires.some in
-    let is = ap (λ (l : List Out). length l) (back.undoes first.0 first.1 first.2).out in
+    let is = ap (λ (b : Book). length b.out) (back.back first.0 first.1 first.2).book in
     omega arith
 
 pub returns-clause-keeps : goal.returns-clause-keeps
@@ -29,6 +29,6 @@ returns-clause-keeps g c =
     let first = any_first c.args.book.now.out c.requires.some in
     let aborts = returns-clause-aborts g c first.0 first.1 first.2 in
     let mid_up = Keeps-still g.D.Disk.told g.D.Disk.len g.D.Disk.faults tt c.args.disk.now c.back_to.new.disk s (together c.back_to.new.journal c.back_to.new.pool c.back_to.new.book) up back.keeps in
-    let still : c.end.new.self.down ≡ false = ap (λ (b : Book). b.down) (c.end.ensures (cut_back first.0 0) first.1 (back.undoes first.0 first.1 first.2).out) ∙ mid_up in
+    let still : c.end.new.self.down ≡ false = ap (λ (b : Book). b.down) (c.end.ensures (cut_back first.0 0) first.1 (ap (λ (b : Book). b.out) (back.back first.0 first.1 first.2).book)) ∙ mid_up in
     Keeps-ok g.D.Disk.told g.D.Disk.len g.D.Disk.faults tt c.args.disk.now c.back_to.new.disk s (together c.back_to.new.journal c.back_to.new.pool c.end.new.self) up still back.keeps.size back.keeps.geometry back.keeps.later
     (λ _. let store = c.requires.ready up in (store.0, _, aborts.pages store.0 store.1 store.2))

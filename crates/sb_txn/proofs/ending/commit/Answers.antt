@@ -1,4 +1,4 @@
-use Rattle.std.proofs.Common.{rules, ◌≡◌, false, refl, sym, ◌∙◌, ap, subst}
+use Rattle.std.proofs.Common.{rules, ◌≡◌, false, true, refl, sym, ◌∙◌, ap, subst}
 use Rattle.sb_txn.specs.Book.{Book}
 use Rattle.sb_txn.specs.Clauses.{parts, Commits}
 use Rattle.sb_txn.specs.State.{together}
@@ -43,11 +43,12 @@ returns-in-Ok-clause-any_moment g c p o rest is =
 pub returns-in-Ok-clause-commits : goal.returns-in-Ok-clause-commits
 returns-in-Ok-clause-commits g c p o rest is =
     let up = c.requires.up in
+    let begun : o.begun ≡ true = sym (c.is_begun.ensures o rest is) ∙ c.if-not-is_begun.false in
     let call = c.in-Ok.ensures in
     let finish = of_first (λ tx n undone. Finishes (g.D.Disk.told c.args.disk.now) (g.D.Disk.told c.finish.new.disk) c.args.journal.now c.finish.new.journal tx n undone) c.args.book.now.out o rest is c.args.tx c.standing.result c.is_undone.result
     c.requires.first c.standing.ensures (c.is_undone.ensures o rest is) (record { done = call.done; pages = call.pages; stands = call.stays.stands; store = call.store }) in
     subst (λ (b : Book). Commits (parts g.D.Disk.told g.D.Disk.len c.args.disk.now (together c.args.journal.now p c.args.book.now)) (parts g.D.Disk.told g.D.Disk.len c.finish.new.disk (together c.finish.new.journal p b)) o rest) (sym (c.end-in-Ok.ensures o rest is))
-    (Commits-finish (g.D.Disk.told c.args.disk.now) (g.D.Disk.told c.finish.new.disk) (g.D.Disk.len c.args.disk.now) (g.D.Disk.len c.finish.new.disk) c.args.journal.now c.finish.new.journal p c.args.book.now o rest is call.stays.size finish)
+    (Commits-finish (g.D.Disk.told c.args.disk.now) (g.D.Disk.told c.finish.new.disk) (g.D.Disk.len c.args.disk.now) (g.D.Disk.len c.finish.new.disk) c.args.journal.now c.finish.new.journal p c.args.book.now o rest is begun call.stays.size finish)
 
 pub returns-in-Ok-clause-keeps : goal.returns-in-Ok-clause-keeps
 returns-in-Ok-clause-keeps g c p ready =

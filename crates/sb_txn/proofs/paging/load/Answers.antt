@@ -1,8 +1,11 @@
-use Rattle.std.proofs.Common.{◌≡◌, false, refl, sym, ◌∙◌}
+use Rattle.std.proofs.Common.{◌≡◌, ℕ, false, List, ◌++◌, refl, sym, ◌∙◌}
 use Rattle.sb_images.proofs.StoreLemmas.{IsStoreOn-ready}
+use Rattle.sb_log.specs.Records.{Record}
 use Rattle.sb_txn.specs.Book.{actives}
+use Rattle.sb_txn.specs.Clauses.{parts, Holds, HoldsAll}
+use Rattle.sb_txn.specs.State.{together}
 use Rattle.sb_txn.proofs.KeepsLemmas.{LeavesWanted-none, Keeps-ok}
-use Rattle.sb_txn.proofs.TiedLemmas.{IsStoreOf-kept}
+use Rattle.sb_txn.proofs.TiedLemmas.{HoldsAll-kept}
 use Rattle.sb_txn.proofs.paging.load.Goals as goal
 
 pub returns-then-is_down-clause-any_moment : goal.returns-then-is_down-clause-any_moment
@@ -21,15 +24,20 @@ returns-in-Ok-clause-any_moment g c = record {
 }
 
 pub returns-in-Ok-clause-loads : goal.returns-in-Ok-clause-loads
-returns-in-Ok-clause-loads g c = record {
-  book = refl;
-  pages = λ want now store.
-      let call = c.in-Ok.ensures in
-      let ready = IsStoreOn-ready want now (g.D.Disk.told c.args.disk.now) c.args.journal.now c.args.pool.now.geometry store.0 store.1 (actives c.args.book.now.out) store.2.store in
-      IsStoreOf-kept want now (g.D.Disk.told c.args.disk.now) (g.D.Disk.told c.load.new.disk) (g.D.Disk.len c.args.disk.now) (g.D.Disk.len c.load.new.disk) c.args.journal.now c.load.new.journal c.args.pool.now c.load.new.self c.args.book.now store.0 store.1 store.2
-      call.keeps.geometry call.held.1 call.pages call.dirty (call.images want store.0 store.1 ready store.2.dirty).ready call.journal call.keeps.serves call.keeps.agrees;
-  journal = c.in-Ok.ensures.journal;
-}
+returns-in-Ok-clause-loads g c =
+    let old = parts g.D.Disk.told g.D.Disk.len c.args.disk.now (together c.args.journal.now c.args.pool.now c.args.book.now) in
+    let new = parts g.D.Disk.told g.D.Disk.len c.load.new.disk (together c.load.new.journal c.load.new.self c.args.book.now) in
+    let logged : (want now : ℕ → List ℕ) (opened pending : List Record) → Holds want now opened pending old → HoldsAll want now (opened ++ pending) new = λ want now opened pending ties.
+    let call = c.in-Ok.ensures in
+    let ready = IsStoreOn-ready want now (g.D.Disk.told c.args.disk.now) c.args.journal.now c.args.pool.now.geometry opened pending (actives c.args.book.now.out) ties.store in
+    HoldsAll-kept want now (g.D.Disk.told c.args.disk.now) (g.D.Disk.told c.load.new.disk) (g.D.Disk.len c.args.disk.now) (g.D.Disk.len c.load.new.disk) c.args.journal.now c.load.new.journal c.args.pool.now c.load.new.self c.args.book.now opened pending ties
+    call.keeps.geometry call.held.1 call.pages call.dirty (call.images want opened pending ready ties.dirty).ready call.journal call.keeps.serves call.keeps.agrees in
+    record {
+      book = refl;
+      pages = λ want now store. let h = logged want now store.0 store.1 store.2 in (h.0, h.1, h.2);
+      logged = logged;
+      journal = c.in-Ok.ensures.journal;
+    }
 
 pub returns-in-Ok-clause-keeps : goal.returns-in-Ok-clause-keeps
 returns-in-Ok-clause-keeps g c =
