@@ -4,6 +4,7 @@ use Rattle.sb_rule.specs.declared.rule.Side.TheVariants.{Main, Mirror}
 use Rattle.sb_rule.specs.declared.rule.Rule.{Rule}
 use Rattle.sb_rule.specs.declared.rule.Rule.TheVariants.{JoinIndex, Refers}
 use Rattle.sb_rule.specs.Spelling.{rule_code}
+use Rattle.sb_relation.specs.Buckets.{standing_buckets}
 use Rattle.sb_relation.specs.Db.{Name, Attached, Db, relation_at, with_relation}
 
 -- the name of the mirror of an instance: its relation, a dot and its own name
@@ -16,6 +17,12 @@ mirror_of name (JoinIndex Main columns other others) = Some (other, JoinIndex Mi
 mirror_of name (Refers Main columns other others mode deferred) = Some (other, Refers Mirror others name columns mode deferred)
 mirror_of name _ = None
 
+-- the relation and the rule of the main instance of a mirror on the named relation
+abbrev pub main_of : Name → Rule → Option (Name × Rule)
+main_of name (JoinIndex Mirror columns other others) = Some (other, JoinIndex Main others name columns)
+main_of name (Refers Mirror columns other others mode deferred) = Some (other, Refers Main others name columns mode deferred)
+main_of name _ = None
+
 -- an instance behind those of its code and of lesser ones
 abbrev pub with_instance : Attached → List Attached → List Attached
 with_instance new [] = new ∷ []
@@ -24,7 +31,7 @@ with_instance new (a ∷ others) = cond (nat_le (rule_code a.rule) (rule_code ne
 abbrev pub with_attached : Db → Name → Name → Rule → Db
 with_attached db relation name rule = elim (relation_at db relation) [
   | None ↦ db
-  | Some r ↦ with_relation db relation (record r { attachments = with_instance (record { name = name; rule = rule }) r.attachments })
+  | Some r ↦ with_relation db relation (record r { attachments = with_instance (record { name = name; rule = rule; buckets = standing_buckets rule r.rows }) r.attachments })
 ]
 
 abbrev pub with_mirror : Db → Name → Name → Option (Name × Rule) → Db

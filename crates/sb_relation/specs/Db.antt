@@ -1,5 +1,5 @@
 -- The plain database: relations under their names, rows under their record keys.
-use Rattle.std.specs.Prelude.{ℕ, not, codes, List, [], ◌∷◌, Option, Some, None}
+use Rattle.std.specs.Prelude.{ℕ, not, List, [], Option, Some, None}
 use Rattle.std.specs.List.{filter_map}
 use Rattle.std.specs.Str.{bytes_eq}
 use Rattle.std.specs.FinMap.Entries.{put, find, where_key}
@@ -19,10 +19,11 @@ Key = List ℕ
 abbrev pub Rows : Type 0
 Rows = List (Key × Row)
 
--- an instance of an attachment, under its name
+-- an instance of an attachment, under its name, with the buckets that a hash index has
 pub record Attached : Type 0 where
   pub name : Name
   pub rule : Rule
+  pub buckets : ℕ
 
 -- a relation with its attachments in call order: by code, and within a code as they were attached
 pub record Relation : Type 0 where

@@ -143,15 +143,13 @@ rule_fits box db schema (Foreign code desc) = foreign_rule_fits box schema desc
 abbrev pub IsSchema : List Column → Type 0
 IsSchema schema = IsDistinct bytes_eq (map (λ c. c.name) schema)
 
--- the columns of the key are there, and the method keeps such a relation
+-- The columns of the key are there, and the method keeps such a relation. Two columns may have one name.
 pub record MayKeep (box : Option MethodRules) (method : ℕ) (schema : List Column) (key : List Name) : Type 0 where
-  pub columns : IsSchema schema
   pub named : first_unnamed (places_in schema key) ≡ None
   pub fits : method_fits box method schema key ≡ true
 
--- the relations and columns that the rule names are there, and it is well typed
+-- The relations and columns that the rule names are there, and it is well typed. Two columns may have one name.
 pub record MayStand (box : Option AttachRules) (db : Db) (schema : List Column) (rule : Rule) : Type 0 where
-  pub columns : IsSchema schema
   pub there : first_missing db (other_relations rule) ≡ None
   pub named : first_unnamed (rule_places db schema rule) ≡ None
   pub fits : rule_fits box db schema rule ≡ true

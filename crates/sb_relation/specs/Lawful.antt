@@ -1,5 +1,5 @@
 -- Rows that a relation may have.
-use Rattle.std.specs.Prelude.{◌≡◌, ◌<◌, ◌^◌, nat_lt, Bool, true, false, not, ◌||◌, T, List, length, All}
+use Rattle.std.specs.Prelude.{◌≡◌, ◌<◌, ◌^◌, ◌==◌, nat_lt, Bool, true, false, not, ◌||◌, ◌&&◌, T, List, length, All}
 use Rattle.std.specs.List.{list_any}
 use Rattle.std.specs.FinMap.Entries.{is_sorted}
 use Rattle.sb_value.specs.declared.schema.Column.{Column}
@@ -9,7 +9,7 @@ use Rattle.sb_value.specs.Order.{bytes_cmp}
 use Rattle.sb_codec.specs.Tuples.{IsTuple, tuple_spelling}
 use Rattle.sb_rule.specs.declared.rule.Rule.{Rule}
 use Rattle.sb_rule.specs.declared.rule.Rule.TheVariants.{TreeIndex, HashIndex}
-use Rattle.sb_relation.specs.Db.{Name, Row, Rows, Relation, values_in}
+use Rattle.sb_relation.specs.Db.{Name, Row, Rows, Relation, values_in, tree}
 use Rattle.sb_relation.specs.Keys.{is_record_key}
 
 -- the ordered code of the columns has more than 200 bytes
@@ -26,9 +26,10 @@ is_long_for schema row (TreeIndex columns unique) = is_long_code schema columns 
 is_long_for schema row (HashIndex columns) = is_long_code schema columns row
 is_long_for schema row _ = false
 
--- a row that a relation refuses as too long
+-- a row that a relation refuses as too long: in itself, or in the code that a tree or an index keeps of it
 abbrev pub is_too_long : Relation → Row → Bool
-is_too_long r row = is_long_row r.schema row || is_long_code r.schema r.key row || list_any (λ a. is_long_for r.schema row a.rule) r.attachments
+is_too_long r row =
+    is_long_row r.schema row || (r.method == tree && is_long_code r.schema r.key row) || list_any (λ a. is_long_for r.schema row a.rule) r.attachments
 
 -- a row of these columns: values that can be stored, each of its column's kind, none too long
 pub record IsRow (schema : List Column) (row : Row) : Type 0 where

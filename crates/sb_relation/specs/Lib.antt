@@ -1,10 +1,13 @@
 pub mod Db
 pub mod Foreign
 pub mod Keys
+pub mod Buckets
 pub mod Changes
 pub mod Rules
 pub mod Images
+pub mod Content
 pub mod Fits
 pub mod Lawful
 pub mod Build
 pub mod Limits
+pub mod Laws

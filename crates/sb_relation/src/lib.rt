@@ -2,6 +2,7 @@
 #![tactic(auto)]
 
 mod image;
+pub mod laws;
 
 pub use image::{Entries, Image, Sums};
 pub use sb_rule::{
