@@ -13,8 +13,10 @@ use Rattle.sb_ctx.specs.declared.held.Use.{Use}
 use Rattle.sb_ctx.specs.declared.held.Use.TheVariants.{Given, Edited, Freed, Fresh, Taken}
 use Rattle.sb_ctx.specs.Uses.{is_fresh_use, IsKept}
 use Rattle.sb_ctx.specs.View.{HeldPage, View, bytes_put, with_page, page_of, free_page, as_given, dropped}
-use Rattle.sb_ctx.specs.Sound.{AreSound, AreSound-bytes_put}
-use Rattle.sb_ctx.specs.HeldLaws.{Entries, has_number, with_bytes, each, Rises, Rises-below, Rises-tail}
+use Rattle.sb_ctx.specs.Sound.{AreSound}
+use Rattle.sb_ctx.proofs.SoundLaws.{AreSound-bytes_put}
+use Rattle.sb_ctx.specs.Held.{Entries, has_number, with_bytes, each, Rises}
+use Rattle.sb_ctx.proofs.HeldLaws.{Rises-below, Rises-tail}
 
 -- ---- the first element that passes, by its place
 first_at : {X : Type 0} (p : X → Bool) (xs : List X) (i : ℕ) → position p xs ≡ Some i → first p xs ≡ slice_get xs i

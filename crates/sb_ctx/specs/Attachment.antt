@@ -1,24 +1,61 @@
 -- What a box of an attachment means, and the conditions of its calls.
-use Rattle.std.specs.Prelude.{◌≡◌, true, false, Option, Some, None, IfSome}
+use Rattle.std.specs.Prelude.{◌≡◌, ◌≢◌, ℕ, ◌==◌, Bool, true, false, not, ◌||◌, [], Option, Some, None, IfSome}
 use Rattle.sb_value.specs.Fits.{Fits}
-use Rattle.sb_relation.specs.declared.image.Image.{Image}
 use Rattle.sb_rule.specs.declared.change.Change.{Change}
 use Rattle.sb_rule.specs.declared.change.Change.TheVariants as change
 use Rattle.sb_rule.specs.declared.rule.Rule.{Rule}
+use Rattle.sb_rule.specs.declared.rule.Rule.TheVariants.{JoinIndex}
 use Rattle.sb_rule.specs.Bound.{row_before, row_after}
 use Rattle.sb_rule.specs.Spelling.{SpellsRule}
-use Rattle.sb_relation.specs.Db.{Row, Rows, Relation, Db, relation_at, row_at}
+use Rattle.sb_relation.specs.Content.{Content}
+use Rattle.sb_relation.specs.Db.{Name, Row, Rows, Relation, Db, relation_at, row_at}
 use Rattle.sb_relation.specs.Fits.{MayStand}
 use Rattle.sb_relation.specs.Foreign.{AttachRules}
 use Rattle.sb_relation.specs.Keys.{is_record_key}
 use Rattle.sb_relation.specs.Lawful.{IsRow, AreRows, is_long_for}
 use Rattle.sb_forms.specs.Pages.{Pages}
 use Rattle.sb_ctx.specs.declared.instance.Instance.{Instance}
+use Rattle.sb_ctx.specs.declared.calls.AttachCall.{AttachCall}
+use Rattle.sb_ctx.specs.View.{HeldPages}
+use Rattle.sb_ctx.specs.Method.{boundless}
 
--- what it is known by apart from pages, and the content of an instance's pages, where they are formed
+-- What it is known by apart from pages; the content of an instance's pages, where they are formed; and which of the pages that a call was given it may call broken. Over formed pages: how many pages a content takes at most, how many a call edits at most between two contents, and which ones a call may ask for.
 pub record Attachment : Type 0 where
   pub rules : AttachRules
-  pub content : Instance → Pages → Option Image
+  pub content : Instance → Pages → Option Content
+  pub may_break : Instance → HeldPages → ℕ → Bool
+  pub bound : Content → ℕ
+  pub cost : AttachCall → Content → Content → ℕ
+  pub path : Instance → Pages → AttachCall → ℕ → Bool
+
+-- an attachment that calls no page broken and sets itself no bounds; a record with other members may be made of it
+abbrev pub plain_attachment : AttachRules → (Instance → Pages → Option Content) → Attachment
+plain_attachment rules content = record {
+  rules = rules;
+  content = content;
+  may_break = λ inst held n. false;
+  bound = λ content. boundless;
+  cost = λ c before after. boundless;
+  path = λ inst P c n. true;
+}
+
+-- whether instances of a code have pages of their own: all but those of check, refers and trigger
+abbrev pub keeps_pages : ℕ → Bool
+keeps_pages code = not (code == 5 || code == 6 || code == 7)
+
+-- an instance has an owner where its box keeps pages, and none where it doesn't
+abbrev pub IsOwned : Bool → Instance → Type 0
+IsOwned true inst = inst.owner ≢ 0
+IsOwned false inst = inst.owner ≡ 0
+
+-- each relation's rows are rows of it
+abbrev pub AreLawful : Db → Type 0
+AreLawful db = (name : Name) (r : Relation) → relation_at db name ≡ Some r → AreRows r.schema r.rows
+
+-- a join is of two relations
+abbrev pub JoinsAnother : Name → Rule → Type 0
+JoinsAnother name (JoinIndex side columns other others) = name ≢ other
+JoinsAnother name rule = Unit {0}
 
 -- The instance keeps the rule on a relation of the database.
 pub record StandsOn (a : Attachment) (inst : Instance) (rule : Rule) (db : Db) : Type 0 where
@@ -26,11 +63,15 @@ pub record StandsOn (a : Attachment) (inst : Instance) (rule : Rule) (db : Db) :
   pub relation : Relation
   pub there : relation_at db inst.relation ≡ Some relation
   pub schema : relation.schema ≡ inst.schema
-  pub rows : AreRows inst.schema relation.rows
+  pub lawful : AreLawful db
+  pub joins : JoinsAnother inst.relation rule
   pub may : MayStand (Some a.rules) db inst.schema rule
 
 -- there is a database with a relation on which the instance keeps its rule
 pub record IsInstance (a : Attachment) (inst : Instance) : Type 0 where
+  pub code : inst.code ≡ a.rules.code
+  pub key : inst.key ≡ []
+  pub owned : IsOwned (keeps_pages a.rules.code) inst
   pub rule : Rule
   pub db : Db
   pub stands : StandsOn a inst rule db

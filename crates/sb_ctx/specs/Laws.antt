@@ -1,24 +1,40 @@
 -- What holds of every box, beside what its calls promise.
-use Rattle.std.specs.Prelude.{◌≡◌, true, Some}
+use Rattle.std.specs.Prelude.{◌≡◌, ◌≢◌, ◌≤◌, ℕ, true, false, [], length, Some}
+use Rattle.sb_relation.specs.Content.{Content, no_content, are_rising}
 use Rattle.sb_relation.specs.Db.{Rows}
-use Rattle.sb_relation.specs.Images.{no_image}
 use Rattle.sb_relation.specs.Lawful.{AreRows}
-use Rattle.sb_forms.specs.Pages.{Pages}
+use Rattle.sb_forms.specs.Pages.{Pages, ArePages, page_count}
 use Rattle.sb_forms.specs.ListPages.{list_rows}
 use Rattle.sb_ctx.specs.declared.instance.Instance.{Instance}
+use Rattle.sb_ctx.specs.View.{HeldPages, AreSomeOf}
 use Rattle.sb_ctx.specs.Method.{Method}
 use Rattle.sb_ctx.specs.Attachment.{Attachment}
 
 -- the storage method of code 2 is durable and keeps its rows in list pages
 pub record IsTree (m : Method) : Type 0 where
   pub durable : m.rules.durable ≡ true
-  pub rows : (inst : Instance) (P : Pages) → m.read inst P ≡ list_rows inst.schema inst.key P
+  pub rows : (inst : Instance) (P : Pages) → m.read inst P ≡ list_rows inst.root inst.schema inst.key P
 
--- A standard code has its own pages. Formed pages hold rows of the relation, fewer than 2 to the 48th.
+-- Formed pages hold rows of the relation, fewer than 2 to the 48th; the root is one of them, they are within the bound, and none of them may be called broken.
+pub record HoldRows (m : Method) (inst : Instance) (P : Pages) (rows : Rows) : Type 0 where
+  pub lawful : AreRows inst.schema rows
+  pub root : P inst.root ≢ []
+  pub bound : ArePages P → page_count P ≤ m.bound (length rows)
+  pub whole : (held : HeldPages) (n : ℕ) → AreSomeOf held P → m.may_break inst held n ≡ false
+
+-- what is so of formed pages, and of the pages of a standard code
 pub record IsMethod (m : Method) : Type 0 where
   pub tree : m.rules.code ≡ 2 → IsTree m
-  pub rows : (inst : Instance) (P : Pages) (rows : Rows) → m.read inst P ≡ Some rows → AreRows inst.schema rows
+  pub formed : (inst : Instance) (P : Pages) (rows : Rows) → m.read inst P ≡ Some rows → HoldRows m inst P rows
 
--- A check has no content. What a standard code admits, its rule says; what a foreign one contains depends on the rows of its own relation alone, and nothing follows from it.
+-- Formed pages hold rising entries; the root is one of them where they have an owner, they are within the bound, and none of them may be called broken.
+pub record HoldContent (a : Attachment) (inst : Instance) (P : Pages) (content : Content) : Type 0 where
+  pub rising : are_rising content.entries ≡ true
+  pub root : inst.owner ≢ 0 → P inst.root ≢ []
+  pub bound : ArePages P → page_count P ≤ a.bound content
+  pub whole : (held : HeldPages) (n : ℕ) → AreSomeOf held P → a.may_break inst held n ≡ false
+
+-- the same of an attachment; a check without an owner and without pages is formed, and has no content
 pub record IsAttachment (a : Attachment) : Type 0 where
-  pub check : a.rules.code ≡ 5 → (inst : Instance) (P : Pages) → a.content inst P ≡ Some no_image
+  pub check : a.rules.code ≡ 5 → (inst : Instance) (P : Pages) → inst.owner ≡ 0 → ((n : ℕ) → P n ≡ []) → a.content inst P ≡ Some no_content
+  pub formed : (inst : Instance) (P : Pages) (content : Content) → a.content inst P ≡ Some content → HoldContent a inst P content

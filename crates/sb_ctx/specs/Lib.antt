@@ -1,9 +1,7 @@
 pub mod View
-pub mod HeldLaws
+pub mod Held
 pub mod Sound
-pub mod ViewLaws
-pub mod ListedLaws
-pub mod DrivingLaws
+pub mod Sized
 pub mod Uses
 pub mod Method
 pub mod MethodAnswers

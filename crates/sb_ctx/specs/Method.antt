@@ -1,5 +1,5 @@
 -- What a box of a storage method means, and the conditions of its calls.
-use Rattle.std.specs.Prelude.{◌≡◌, false, Option, Some}
+use Rattle.std.specs.Prelude.{◌≡◌, ◌≢◌, ℕ, ◌^◌, Bool, true, false, [], Option, Some}
 use Rattle.sb_relation.specs.Db.{Key, Row, Rows, values_in}
 use Rattle.sb_relation.specs.Fits.{MayKeep}
 use Rattle.sb_relation.specs.Foreign.{MethodRules}
@@ -8,15 +8,40 @@ use Rattle.sb_relation.specs.Lawful.{IsRow, is_long_code}
 use Rattle.sb_value.specs.Code.{ordered_code}
 use Rattle.sb_forms.specs.Pages.{Pages}
 use Rattle.sb_ctx.specs.declared.instance.Instance.{Instance}
+use Rattle.sb_ctx.specs.declared.calls.MethodCall.{MethodCall}
+use Rattle.sb_ctx.specs.View.{HeldPages}
 
--- what it is known by apart from pages, and the rows that an instance's pages hold, where they are formed
+-- What it is known by apart from pages; the rows that an instance's pages hold, where they are formed; and which of the pages that a call was given it may call broken. Over formed pages: how many pages so many rows take at most, how many a call edits at most, and which ones a call may ask for.
 pub record Method : Type 0 where
   pub rules : MethodRules
   pub read : Instance → Pages → Option Rows
+  pub may_break : Instance → HeldPages → ℕ → Bool
+  pub bound : ℕ → ℕ
+  pub cost : MethodCall → Rows → ℕ
+  pub path : Instance → Pages → MethodCall → ℕ → Bool
 
--- the instance is of a relation that the box may keep
-abbrev pub IsInstance : Method → Instance → Type 0
-IsInstance m inst = MayKeep (Some m.rules) m.rules.code inst.schema inst.key
+-- more pages than an instance has with all fresh ones, and more than a call edits
+abbrev pub boundless : ℕ
+boundless = 2 ^ 18
+
+-- a method that calls no page broken and sets itself no bounds; a record with other members may be made of it
+abbrev pub plain_method : MethodRules → (Instance → Pages → Option Rows) → Method
+plain_method rules read = record {
+  rules = rules;
+  read = read;
+  may_break = λ inst held n. false;
+  bound = λ rows. boundless;
+  cost = λ c rows. boundless;
+  path = λ inst P c n. true;
+}
+
+-- the instance is of a relation that the box may keep, in pages of its own
+pub record IsInstance (m : Method) (inst : Instance) : Type 0 where
+  pub code : inst.code ≡ m.rules.code
+  pub durable : inst.durable ≡ m.rules.durable
+  pub desc : inst.desc ≡ []
+  pub owned : inst.owner ≢ 0
+  pub may : MayKeep (Some m.rules) m.rules.code inst.schema inst.key
 
 -- the ordered code of the key columns
 abbrev pub code_of : Instance → Row → Key

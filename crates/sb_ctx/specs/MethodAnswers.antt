@@ -1,26 +1,61 @@
 -- What the calls of a storage method answer, and what they make of the pages.
-use Rattle.std.specs.Prelude.{◌≡◌, ℕ, Bool, true, [], Option, Some, None, IsSome}
+use Rattle.std.specs.Prelude.{◌≡◌, ℕ, ◌+◌, ◌-◌, ◌<◌, ◌≤◌, max, Bool, true, [], length, Option, Some, None, IsSome}
 use Rattle.std.specs.Ordering.{is_lt}
 use Rattle.std.specs.List.{find as first}
 use Rattle.sb_value.specs.Order.{bytes_cmp}
 use Rattle.sb_relation.specs.Db.{Key, Row, Rows, row_at, with_row, without_row}
-use Rattle.sb_relation.specs.Keys.{NewKeys, AnyOf, Just, Taken, NoGreater, keying_of, new_keys}
-use Rattle.sb_forms.specs.Pages.{Pages, new_pages}
+use Rattle.sb_relation.specs.Keys.{NewKeys, AnyOf, Just, Taken, NoGreater, keying_of, new_keys, is_record_key}
+use Rattle.sb_relation.specs.Lawful.{IsRow}
+use Rattle.sb_forms.specs.Pages.{Pages, page_count, new_pages}
 use Rattle.sb_ctx.specs.declared.instance.Instance.{Instance}
 use Rattle.sb_ctx.specs.declared.calls.MethodCall.{MethodCall}
 use Rattle.sb_ctx.specs.declared.calls.MethodCall.TheVariants as call
 use Rattle.sb_ctx.specs.declared.moves.Move.{Move}
 use Rattle.sb_ctx.specs.declared.moves.Move.TheVariants.{Done, Need, Fresh, After, NoRecord, Duplicate, Range, Key as Keyed, Row as Rowed, End, Broken, NoMemory}
-use Rattle.sb_ctx.specs.View.{View, page_of, next_of, free_page, dropped, HoldsPart, stored}
+use Rattle.sb_ctx.specs.View.{View, given_at, page_of, next_of, free_page, fresh_pages, dropped, edits_of, HoldsPart, stored}
+use Rattle.sb_ctx.specs.Sized.{IsCtx}
 use Rattle.sb_ctx.specs.Method.{Method, code_of}
 
--- ---- what may be asked for: only what isn't held. A page that is called broken is held.
+-- ---- what may be asked for: only what isn't held; a page that is called broken is held
 abbrev pub AsksFor : View → Move → Type 0
 AsksFor c (Need n) = page_of c n ≡ None
 AsksFor c Fresh = free_page c ≡ None
 AsksFor c (After n) = next_of c n ≡ None
 AsksFor c (Broken n) = IsSome (page_of c n)
 AsksFor c _ = Unit {0}
+
+-- a page that is called broken is one that may be, as it was given
+abbrev pub IsBroken : Method → Instance → View → Move → Type 0
+IsBroken m inst c (Broken n) = m.may_break inst (given_at c) n ≡ true
+IsBroken m inst c move = Unit {0}
+
+-- ---- what may end a call, whatever the pages hold
+-- a row that the relation may have, under a record key
+pub record IsRowOf (inst : Instance) (key : Key) (row : Row) : Type 0 where
+  pub is_key : is_record_key key ≡ true
+  pub is_row : IsRow inst.schema row
+
+-- A question, want of memory, or one of the ends of the call. A storage method asks no find and vetoes nothing.
+abbrev pub MayEnd : Instance → MethodCall → Move → Type 0
+MayEnd inst c (Need n) = Unit {0}
+MayEnd inst c Fresh = Unit {0}
+MayEnd inst c (After n) = Unit {0}
+MayEnd inst c (Broken n) = Unit {0}
+MayEnd inst c NoMemory = Unit {0}
+MayEnd inst call.Prepare Done = Unit {0}
+MayEnd inst (call.Insert row) (Keyed key) = is_record_key key ≡ true
+MayEnd inst (call.Insert row) Duplicate = Unit {0}
+MayEnd inst (call.Insert row) Range = Unit {0}
+MayEnd inst (call.Delete at) Done = Unit {0}
+MayEnd inst (call.Delete at) NoRecord = Unit {0}
+MayEnd inst (call.Update at row) (Keyed key) = is_record_key key ≡ true
+MayEnd inst (call.Update at row) NoRecord = Unit {0}
+MayEnd inst (call.Update at row) Duplicate = Unit {0}
+MayEnd inst (call.Get at) (Rowed key row) = IsRowOf inst key row
+MayEnd inst (call.Get at) NoRecord = Unit {0}
+MayEnd inst (call.Next low) (Rowed key row) = IsRowOf inst key row
+MayEnd inst (call.Next low) End = Unit {0}
+MayEnd inst c move = ⊥
 
 -- the pages hold these rows
 abbrev pub Holds : Method → Instance → Pages → Rows → Type 0
@@ -87,19 +122,60 @@ Ends m inst (call.Update key row) P after move = OfRows m inst P (λ rows. Updat
 Ends m inst (call.Get key) P after move = OfRows m inst P (λ rows. Got key (row_at rows key) move)
 Ends m inst (call.Next low) P after move = OfRows m inst P (λ rows. NextIs (row_above low rows) move)
 
--- a call that asks for something has no end yet, and want of memory is free
+-- when an instance is prepared, no page of a new one is called broken
+abbrev pub NotNew : Instance → MethodCall → Pages → Type 0
+NotNew inst call.Prepare P = ((n : ℕ) → P n ≡ new_pages inst.root n) → ⊥
+NotNew inst c P = Unit {0}
+
+-- A call that asks for something has no end yet, and want of memory is free. A page is called broken by its own condition too.
 abbrev pub Answers : Method → Instance → MethodCall → Pages → Pages → Move → Type 0
 Answers m inst c P after (Need n) = Unit {0}
 Answers m inst c P after Fresh = Unit {0}
 Answers m inst c P after (After n) = Unit {0}
+Answers m inst c P after (Broken n) = NotNew inst c P
 Answers m inst c P after NoMemory = Unit {0}
 Answers m inst c P after move = Ends m inst c P after move
 
--- A changing call: what was given stays as it was given, it asks only for what isn't held, and over all pages of which it holds a part it answers as the rows say.
+-- ---- what a call takes
+-- how many rows there are after a call
+abbrev pub rows_after : MethodCall → ℕ → ℕ
+rows_after (call.Insert row) rows = rows + 1
+rows_after (call.Delete key) rows = rows - 1
+rows_after c rows = rows
+
+-- the most pages of the instance during a call, with the fresh ones
+abbrev pub most_pages : Method → MethodCall → ℕ → ℕ
+most_pages m c rows = max (m.bound rows) (m.bound (rows_after c rows))
+
+-- a page that is asked for is one of the call's path
+abbrev pub IsOnPath : Method → Instance → MethodCall → Pages → Move → Type 0
+IsOnPath m inst c P (Need n) = m.path inst P c n ≡ true
+IsOnPath m inst c P move = Unit {0}
+
+-- a fresh page is asked for only where it is within the bound
+abbrev pub HasRoom : ℕ → Pages → View → Move → Type 0
+HasRoom most P c Fresh = page_count P + length (fresh_pages c) < most
+HasRoom most P c move = Unit {0}
+
+-- the pages before a call hold these rows; those of a new instance hold none
+abbrev pub Before : Method → Instance → MethodCall → Pages → Rows → Type 0
+Before m inst call.Prepare P rows = ((n : ℕ) → P n ≡ new_pages inst.root n) × (rows ≡ [])
+Before m inst c P rows = Holds m inst P rows
+
+-- over pages that hold these rows it stays on its path, within its bound and within its cost
+pub record Spends (m : Method) (inst : Instance) (c : MethodCall) (P : Pages) (rows : Rows) (new : View) (move : Move) : Type 0 where
+  pub path : IsOnPath m inst c P move
+  pub room : HasRoom (most_pages m c (length rows)) P new move
+  pub edits : edits_of new ≤ m.cost c rows
+
+-- A changing call: what was given stays as it was given, it asks only for what isn't held, it ends in one of its ways, and over all pages of which it holds a part it answers as the rows say.
 pub record Changes (m : Method) (inst : Instance) (c : MethodCall) (old new : View) (move : Move) : Type 0 where
   pub given : dropped new ≡ old
   pub asks : AsksFor new move
+  pub broken : IsBroken m inst old move
+  pub ends : MayEnd inst c move
   pub answers : (P : Pages) → HoldsPart old P → Answers m inst c P (stored new P) move
+  pub spends : IsCtx new → (P : Pages) → HoldsPart old P → (rows : Rows) → Before m inst c P rows → Spends m inst c P rows new move
 
 -- a reading call asks for no fresh page
 abbrev pub Reads : Move → Type 0
@@ -111,4 +187,7 @@ pub record Looks (m : Method) (inst : Instance) (c : MethodCall) (old new : View
   pub same : new ≡ old
   pub reads : Reads move
   pub asks : AsksFor old move
+  pub broken : IsBroken m inst old move
+  pub ends : MayEnd inst c move
   pub answers : (P : Pages) → HoldsPart old P → Answers m inst c P P move
+  pub path : (P : Pages) → HoldsPart old P → (rows : Rows) → Holds m inst P rows → IsOnPath m inst c P move

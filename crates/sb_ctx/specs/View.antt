@@ -1,5 +1,5 @@
 -- What a boxed call sees: the pages of its instance that it was given, and what it has made of them.
-use Rattle.std.specs.Prelude.{◌≡◌, ℕ, ◌+◌, ◌-◌, ◌^◌, min, ◌==◌, Bool, true, false, cond, not, ◌&&◌, List, [], ◌∷◌, ◌++◌, length, take, drop, map, filter, All, Option, Some, None, is_none, option_map}
+use Rattle.std.specs.Prelude.{◌≡◌, ℕ, ◌+◌, ◌-◌, ◌^◌, ◌<◌, min, ◌==◌, Bool, true, false, cond, not, ◌&&◌, List, [], ◌∷◌, ◌++◌, length, take, drop, map, filter, All, Option, Some, None, is_none, option_map}
 use Rattle.std.specs.List.{find as first}
 use Rattle.std.specs.Ordering.{nat_cmp}
 use Rattle.std.specs.Option.{option_eq}
@@ -13,7 +13,7 @@ use Rattle.sb_relation.specs.Db.{Name, Key, Db, rows_at, schema_at}
 use Rattle.sb_relation.specs.Fits.{is_empty, places_in, first_unnamed}
 use Rattle.sb_relation.specs.Keys.{is_record_key}
 use Rattle.sb_relation.specs.Rules.{has_values}
-use Rattle.sb_forms.specs.Pages.{Pages, IsNext}
+use Rattle.sb_forms.specs.Pages.{Pages, ArePages, IsNext}
 
 -- A page that is held: its bytes as they were given, its bytes now, and whether it was given as a fresh one. A page without bytes isn't the instance's: it never was, or isn't taken yet, or was freed.
 pub record HeldPage : Type 0 where
@@ -35,6 +35,14 @@ nothing = record { held = []; nexts = []; found = []; asks = 0 }
 -- ---- what is held
 abbrev pub held_at : View → ℕ → Option HeldPage
 held_at c n = option_map (λ e. e.1) (first (λ e. e.0 == n) c.held)
+
+-- the bytes of pages by their numbers, where they are held
+abbrev pub HeldPages : Type 0
+HeldPages = ℕ → Option (List ℕ)
+
+-- the bytes of a page as it was given, where it is held
+abbrev pub given_at : View → HeldPages
+given_at c n = option_map (λ h. h.given) (held_at c n)
 
 -- the bytes of a page now, where it is held
 abbrev pub page_of : View → ℕ → Option (List ℕ)
@@ -96,6 +104,10 @@ fresh_pages c = map (λ e. (e.0, not (is_empty e.1.now))) (filter (λ e. e.1.fre
 abbrev pub freed_pages : View → List ℕ
 freed_pages c = map (λ e. e.0) (filter (λ e. is_freed e.1) c.held)
 
+-- how many pages are written and change their owner: the edited ones, and the taken and the freed ones once more
+abbrev pub edits_of : View → ℕ
+edits_of c = length (edited_pages c) + length (filter (λ e. e.1) (fresh_pages c)) + length (freed_pages c)
+
 -- ---- what is given
 -- one gift more, up to the greatest u32
 abbrev pub counted : View → View
@@ -117,8 +129,14 @@ abbrev pub with_found : Found → View → View
 with_found f c = counted (record c { found = f ∷ c.found })
 
 -- ---- what is held of some pages and of a database
--- it holds a part of these pages, as they are
+-- pages that are held are some of these, as they are
+abbrev pub AreSomeOf : HeldPages → Pages → Type 0
+AreSomeOf held P = (n : ℕ) (bytes : List ℕ) → held n ≡ Some bytes → P n ≡ bytes
+
+-- It holds a part of an instance's pages, as they are, and fresh pages that may become the instance's.
 pub record HoldsPart (c : View) (P : Pages) : Type 0 where
+  pub are_pages : ArePages P
+  pub fresh : (n : ℕ) (h : HeldPage) → held_at c n ≡ Some h → h.fresh ≡ true → n < 65536
   pub pages : (n : ℕ) (h : HeldPage) → held_at c n ≡ Some h → P n ≡ h.given
   pub nexts : All (λ e. IsNext P e.0 e.1) c.nexts
 

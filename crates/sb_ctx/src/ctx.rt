@@ -6,6 +6,7 @@ ghost use Rattle.std.specs.Ordering.{nat_cmp};
 ghost use Rattle.std.specs.FinMap.Entries.{put};
 ghost use Rattle.sb_relation.specs.Fits.{is_empty};
 ghost use Rattle.sb_forms.specs.Pages.{zeros};
+ghost use Rattle.sb_ctx.specs.Sized.{IsSized, IsCtx};
 ghost use Rattle.sb_ctx.specs.Sound.{IsSound, MayBeHeld};
 ghost use Rattle.sb_ctx.specs.View.{nothing, page_of, next_of, found_of, with_page, free_page, as_given, dropped, edited_pages, fresh_pages, freed_pages, with_held, given_page, fresh_page, with_next, with_found, spliced, room_of};
 
@@ -25,6 +26,7 @@ pub struct Ctx {
 }
 
 impl Model for Ctx {
+    ghost use Rattle.sb_ctx.specs.Sized.{AreSized};
     ghost use Rattle.sb_ctx.specs.Sound.{AreSound};
     ghost use Rattle.sb_ctx.specs.View.{View};
 
@@ -32,7 +34,7 @@ impl Model for Ctx {
 
     ghost view = { λ c. record { held = c.held.items; nexts = c.nexts.items; found = c.found.items; asks = c.asks } };
 
-    ghost invariant = { λ c. AreSound c.held.items };
+    ghost invariant = { λ c. AreSound c.held.items × AreSized c.held.items };
 }
 
 /// The caller's side.
@@ -121,10 +123,16 @@ impl Ctx {
 
     /// How often something was given to this Ctx, or 2^32 - 1 where it was oftener.
     pub fn asks(&self) -> u32
-        ensures asks { result ≡ self.now.asks }
-        ensures sound { IsSound self.now }
+        ensures { result ≡ self.now.asks }
     {
         self.asks
+    }
+
+    /// A lemma: what is so of the pages of every Ctx.
+    pub fn is_ctx(&self)
+        ensures { IsCtx self.now }
+    {
+        let _ = &self.held;
     }
 }
 
@@ -221,7 +229,8 @@ impl Ctx {
     }
 
     fn hold(&mut self, page: Held) -> Result<(), AllocError>
-        requires { MayBeHeld page.1 }
+        requires may { MayBeHeld page.1 }
+        requires sized { IsSized page.1 }
         ensures ok { OnOk result (self.new ≡ with_held page.0 page.1 self.old) }
         ensures err { OnErr result (self.new ≡ self.old) }
     {

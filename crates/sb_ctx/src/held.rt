@@ -1,7 +1,8 @@
 //! One page as a Ctx holds it.
 
-ghost use Rattle.std.specs.Prelude.{◌≡◌, ◌+◌, ◌≤◌, true, [], length, replicate, OnOk, OnErr, IfOk};
+ghost use Rattle.std.specs.Prelude.{◌≡◌, ◌+◌, ◌<◌, ◌≤◌, All, true, [], length, replicate, OnOk, OnErr, IfOk};
 ghost use Rattle.sb_ctx.specs.View.{HeldPage, given_page, fresh_page, as_given, spliced, is_edited, is_freed, is_answer_to};
+ghost use Rattle.sb_ctx.specs.Sized.{IsSized};
 ghost use Rattle.sb_forms.specs.Pages.{zeros};
 
 use crate::Keys;
@@ -43,7 +44,8 @@ impl Model for Held {
 impl Held {
     /// A page as the driver has it. Without bytes it isn't one of the instance's.
     pub fn given(number: u32, bytes: Vec<u8>) -> Held
-        ensures { result ≡ (number, given_page bytes.items) }
+        ensures page { result ≡ (number, given_page bytes.items) }
+        ensures sized { IsSized result.1 }
     {
         let work = Vec::new(*bytes.allocator());
         Held {
@@ -56,7 +58,8 @@ impl Held {
 
     /// A fresh page, that isn't taken yet.
     pub fn fresh(alloc: Global, number: u32) -> Result<Held, AllocError>
-        ensures { IfOk result (λ h. h ≡ (number, fresh_page)) }
+        ensures page { IfOk result (λ h. h ≡ (number, fresh_page)) }
+        ensures sized { IfOk result (λ h. IsSized h.1) }
     {
         Ok(Held {
             number,
@@ -109,6 +112,7 @@ impl Held {
         requires { offset + length bytes.now ≤ length self.old.1.now }
         ensures ok { OnOk result (self.new ≡ (self.old.0, record self.old.1 { now = spliced offset bytes.now self.old.1.now })) }
         ensures err { OnErr result (self.new ≡ self.old) }
+        ensures bytes { All (λ b. b < 256) bytes.now }
     {
         match self.state {
             Use::Given => {

@@ -2,9 +2,9 @@
 use Rattle.std.proofs.Common.{◌≡◌, ℕ, ◌^◌, ◌<◌, List, [], Option, Some, None, option_map, refl, sym, ap, subst, ◌∙◌, arith}
 use Rattle.sb_forms.specs.Pages.{Pages}
 use Rattle.sb_ctx.specs.View.{HeldPage, View, held_at, page_of, next_of, as_given, dropped, with_held, given_page, fresh_page, with_next, HoldsPart, IsClean}
-use Rattle.sb_ctx.specs.DrivingLaws.{HoldsPart-given, HoldsPart-fresh, HoldsPart-with_next, IsClean-given, IsClean-fresh, IsClean-with_next}
-use Rattle.sb_ctx.specs.HeldLaws.{page_in-each}
-use Rattle.sb_ctx.specs.ViewLaws.{not_held}
+use Rattle.sb_ctx.proofs.DrivingLaws.{HoldsPart-given, HoldsPart-fresh, HoldsPart-with_next, IsClean-given, IsClean-fresh, IsClean-with_next}
+use Rattle.sb_ctx.proofs.HeldLaws.{page_in-each}
+use Rattle.sb_ctx.proofs.ViewLaws.{not_held}
 use Rattle.sb_drive.specs.declared.turns.Ask.{Ask}
 use Rattle.sb_drive.specs.declared.turns.Ask.TheVariants.{Page, Fresh, After}
 use Rattle.sb_drive.specs.Asks.{IsGiven, IsNumbered}
@@ -31,7 +31,7 @@ IsClean-IsGiven s owner c new (After low) given clean = subst IsClean (sym given
 pub HoldsPart-IsGiven : (s : Slots) (owner : ℕ) (c new : View) (ask : Ask) → IsGiven s owner c ask new → HoldsPart c (owned s owner) → HoldsPart new (owned s owner)
 HoldsPart-IsGiven s owner c new (Page n) given part = subst (λ (v : View). HoldsPart v (owned s owner)) (sym given) (HoldsPart-given c (owned s owner) n part)
 HoldsPart-IsGiven s owner c new Fresh given part =
-    subst (λ (v : View). HoldsPart v (owned s owner)) (sym given.2) (HoldsPart-fresh c (owned s owner) given.0 (bytes_for-free owner (s given.0) given.1.free) part)
+    subst (λ (v : View). HoldsPart v (owned s owner)) (sym given.2) (HoldsPart-fresh c (owned s owner) given.0 (bytes_for-free owner (s given.0) given.1.free) given.1.below part)
 HoldsPart-IsGiven s owner c new (After low) given part =
     subst (λ (v : View). HoldsPart v (owned s owner)) (sym given.2) (HoldsPart-with_next c (owned s owner) low given.0 given.1 part)
 

@@ -1,6 +1,7 @@
 pub mod SlotsLemmas
 pub mod SearchLemmas
 pub mod WritesLemmas
+pub mod WholeLemmas
 pub mod OwnedLemmas
 pub mod StoresLemmas
 pub mod TurnsLemmas

@@ -4,8 +4,9 @@ use Rattle.std.specs.List.{find as first}
 use Rattle.std.specs.Option.{option_eq}
 use Rattle.std.proofs.lemmas.Bool.Decides.{nat_tests}
 use Rattle.sb_ctx.specs.View.{HeldPage, View, page_of, next_of, with_held, with_next}
-use Rattle.sb_ctx.specs.HeldLaws.{page_in, page_in-put}
-use Rattle.sb_ctx.specs.DrivingLaws.{page_of-with_held, next_of-with_next}
+use Rattle.sb_ctx.specs.Held.{page_in}
+use Rattle.sb_ctx.proofs.HeldLaws.{page_in-put}
+use Rattle.sb_ctx.proofs.DrivingLaws.{page_of-with_held, next_of-with_next}
 
 -- how many numbers below a bound pass a test
 unfoldable pub left : (ℕ → Bool) → ℕ → ℕ

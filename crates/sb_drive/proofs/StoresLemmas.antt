@@ -9,18 +9,22 @@ use Rattle.std.proofs.lemmas.List.Folds.{list_any_at, list_any-append}
 use Rattle.std.proofs.lemmas.Option.{slice_get_within, get_or_from_slice_get}
 use Rattle.std.proofs.lemmas.Slice.Eq.{bytes_eq-Decides}
 use Rattle.sb_relation.specs.Fits.{is_empty}
-use Rattle.sb_forms.specs.Pages.{Pages}
-use Rattle.sb_ctx.specs.View.{HeldPage, View, held_at, page_of, as_given, dropped, is_edited, is_freed, edited_pages, freed_pages, HoldsPart, stored}
-use Rattle.sb_ctx.specs.HeldLaws.{Entries, each}
-use Rattle.sb_ctx.specs.ListedLaws.{IsListed, edited-page, freed-page, stored-not_listed}
+use Rattle.sb_forms.specs.Pages.{Pages, IsWhole, ArePages}
+use Rattle.sb_ctx.specs.View.{HeldPage, View, held_at, page_of, as_given, dropped, is_edited, is_freed, edited_pages, fresh_pages, freed_pages, edits_of, HoldsPart, stored}
+use Rattle.sb_ctx.specs.Held.{Entries, each}
+use Rattle.sb_ctx.proofs.HeldLaws.{page_in-place}
+use Rattle.sb_ctx.proofs.ListedLaws.{IsListed, edited-page, freed-page, stored-not_listed}
+use Rattle.sb_ctx.specs.Sized.{IsCtx}
 use Rattle.sb_ctx.specs.Sound.{IsSound}
-use Rattle.sb_ctx.specs.ViewLaws.{no_bytes, stored_by}
+use Rattle.sb_ctx.proofs.PageLaws.{ArePages-stored}
+use Rattle.sb_ctx.proofs.ViewLaws.{no_bytes, stored_by}
 use Rattle.sb_drive.specs.declared.slots.Write.{Write}
-use Rattle.sb_drive.specs.Slots.{Slot, Slots, nobodys, bytes_for, owned}
+use Rattle.sb_drive.specs.Slots.{Slot, Slots, IsPage, nobodys, bytes_for, owned}
 use Rattle.sb_drive.specs.Stores.{Adds, MayWrite, slot_of, bytes_in, writes_to}
-use Rattle.sb_drive.specs.Writes.{written, AreAmong}
+use Rattle.sb_drive.specs.Writes.{written, AreAmong, ArePagesTo}
 use Rattle.sb_drive.proofs.OwnedLemmas.{bytes_for-own, bytes_for-other, bytes_for-free}
 use Rattle.sb_drive.proofs.SlotsLemmas.{bytes_for-nobodys}
+use Rattle.sb_drive.proofs.WholeLemmas.{IsPage-nobodys}
 
 abbrev pub write_of : ℕ → View → ℕ → Write
 write_of owner c n = record { number = n; slot = slot_of owner (bytes_in c n) }
@@ -48,6 +52,32 @@ pub AreAmong-Adds : (s : Slots) (owner : ℕ) (c : View) (ns : List ℕ) (new : 
 AreAmong-Adds s owner c ns new added =
     subst (λ (ws : List Write). AreAmong 65536 ws) (sym added.writes)
     (All-map (λ w. w.number < 65536) (write_of owner c) ns (All-weaker (MayWrite s owner) (λ n. n < 65536) (λ n may. may.below) ns added.may))
+
+-- ---- what is written is whole
+bytes_in-whole : (c : View) (P : Pages) (n : ℕ) → ArePages (stored c P) → bytes_in c n ≢ [] → IsWhole (bytes_in c n)
+bytes_in-whole c P n are some = by (held_at c n) refl some
+  where
+    bytes_of : Option HeldPage → List ℕ
+    bytes_of o = elim (option_map (λ (h : HeldPage). h.now) o) [ None ↦ [] | Some bytes ↦ bytes ]
+
+    by : (o : Option HeldPage) → held_at c n ≡ o → bytes_of o ≢ [] → IsWhole (bytes_of o)
+    by None there some = absurd (some refl)
+    by (Some h) there some =
+        let same : stored c P n ≡ h.now = ap (λ (o : Option HeldPage). stored_by (P n) o) there in
+        subst IsWhole same (are.whole n (λ none. some (sym same ∙ none)))
+
+slot_of-whole : (owner : ℕ) (bytes : List ℕ) → (bytes ≢ [] → IsWhole bytes) → IsPage (slot_of owner bytes)
+slot_of-whole owner bytes whole = by (is_empty bytes)
+  where
+    by : (b : Bool) → IsPage (cond b nobodys (owner, bytes))
+    by true = IsPage-nobodys
+    by false = whole
+
+pub ArePagesTo-Adds : (s : Slots) (owner : ℕ) (c : View) (P : Pages) (ns : List ℕ) (new : List Write) → IsCtx c → HoldsPart c P → Adds s owner c ns [] new → ArePagesTo new
+ArePagesTo-Adds s owner c P ns new is part added =
+    subst ArePagesTo (sym added.writes)
+    (All-map (λ w. IsPage w.slot) (write_of owner c) ns (All-weaker (MayWrite s owner) (λ n. IsPage (slot_of owner (bytes_in c n)))
+    (λ n may. slot_of-whole owner (bytes_in c n) (bytes_in-whole c P n (ArePages-stored c P is.sized part))) ns added.may))
 
 -- a page is as it was written last, or as it was
 pub written-at : (f : ℕ → Slot) (ns : List ℕ) (s : Slots) (m : ℕ) → written (map (λ n. record { number = n; slot = f n }) ns) s m ≡ cond (list_any (λ n. n == m) ns) (f m) (s m)
@@ -180,3 +210,40 @@ made_pages-clean c clean =
 
 pub none_written : (s : Slots) (owner : ℕ) (c : View) (ws : List Write) → dropped c ≡ c → Adds s owner c (made_pages c) [] ws → ws ≡ []
 none_written s owner c ws clean added = added.writes ∙ ap (writes_to owner c) (made_pages-clean c clean)
+
+-- ---- the edits of a clean Ctx
+-- a fresh page was given without bytes
+abbrev AreEmptyFresh : Entries → Type 0
+AreEmptyFresh held = (i : ℕ) (e : ℕ × HeldPage) → slice_get held i ≡ Some e → e.1.fresh ≡ true → e.1.given ≡ []
+
+-- how many of them are taken
+abbrev taken_in : Entries → ℕ
+taken_in held = length (filter (λ (e : ℕ × Bool). e.1) (map (λ e. (e.0, not (is_empty e.1.now))) held))
+
+taken_in-given : (n : ℕ) (h : HeldPage) (held : Entries) → h.given ≡ [] → taken_in ((n, as_given h) ∷ held) ≡ taken_in held
+taken_in-given n h held none = ap (λ (bytes : List ℕ). length (cond (not (is_empty bytes)) ((n, not (is_empty bytes)) ∷ pages) pages)) none
+  where
+    pages : List (ℕ × Bool)
+    pages = filter (λ (e : ℕ × Bool). e.1) (map (λ (e : ℕ × HeldPage). (e.0, not (is_empty e.1.now))) held)
+
+-- no page is edited, taken or freed
+no_taken : (held : Entries) → AreEmptyFresh held → taken_in (filter (λ e. e.1.fresh) (each as_given held)) ≡ 0
+no_taken [] none = refl
+no_taken (x ∷ held) none = by x.1.fresh refl (no_taken held (λ i e is. none (suc i) e is))
+  where
+    by : (b : Bool) → x.1.fresh ≡ b → taken_in (filter (λ e. e.1.fresh) (each as_given held)) ≡ 0 →
+        taken_in (cond b ((x.0, as_given x.1) ∷ filter (λ e. e.1.fresh) (each as_given held)) (filter (λ e. e.1.fresh) (each as_given held))) ≡ 0
+    by true fresh later = taken_in-given x.0 x.1 (filter (λ e. e.1.fresh) (each as_given held)) (none 0 x refl fresh) ∙ later
+    by false old later = later
+
+pub edits_of-clean : (c : View) → IsSound c → dropped c ≡ c → edits_of c ≡ 0
+edits_of-clean c sound clean = ap edits_of (sym clean) ∙ none
+  where
+    edited : length (edited_pages (dropped c)) ≡ 0
+    edited = ap (λ (ns : List ℕ). length ns) (none_pass is_edited not_edited c.held)
+
+    freed : length (freed_pages (dropped c)) ≡ 0
+    freed = ap (λ (ns : List ℕ). length ns) (none_pass is_freed not_freed c.held)
+
+    none : edits_of (dropped c) ≡ 0
+    none = omega (arith, edited, freed, no_taken c.held (λ i e is fresh. sound.fresh e.0 e.1 (page_in-place c.held i e sound.rises is) fresh))

@@ -6,10 +6,9 @@ use Rattle.sb_ctx.specs.declared.instance.Instance.{Instance}
 use Rattle.sb_ctx.specs.declared.calls.AttachCall.{AttachCall}
 use Rattle.sb_ctx.specs.declared.calls.AttachCall.TheVariants as call
 use Rattle.sb_ctx.specs.declared.moves.Move.{Move}
-use Rattle.sb_ctx.specs.declared.moves.Move.TheVariants.{Broken}
-use Rattle.sb_ctx.specs.View.{View, HoldsPart, IsClean}
+use Rattle.sb_ctx.specs.View.{View, HeldPages, AreSomeOf, HoldsPart, IsClean}
 use Rattle.sb_ctx.specs.Attachment.{Attachment, MayHold, MayMeet}
-use Rattle.sb_ctx.specs.AttachAnswers.{Answers, AsksFor}
+use Rattle.sb_ctx.specs.AttachAnswers.{AsksFor, NotNew}
 use Rattle.sb_drive.specs.declared.turns.DriveFault.{DriveFault}
 use Rattle.sb_drive.specs.declared.turns.DriveFault.TheVariants.{Damaged, NoMemory}
 use Rattle.sb_drive.specs.Slots.{Contents, pages_of}
@@ -34,7 +33,14 @@ pub record HandsUp (owner : ℕ) (before after : Contents) (c : View) (move : Mo
   pub part : HoldsPart c (pages_of after.now owner)
   pub asks : AsksFor c move
 
--- Damaged comes only where the box may answer Broken over these pages
-abbrev pub HasCause : Attachment → Instance → AttachCall → View → Pages → DriveFault → Type 0
-HasCause a inst call c P (Damaged n) = (after : Pages) × Answers a inst call c P after (Broken n)
-HasCause a inst call c P NoMemory = Unit {0}
+-- A page that the box may call broken, of some of these pages that it was given; when an instance is prepared, they aren't those of a new one.
+pub record IsDamaged (a : Attachment) (inst : Instance) (c : AttachCall) (P : Pages) (n : ℕ) : Type 0 where
+  pub held : HeldPages
+  pub given : AreSomeOf held P
+  pub may : a.may_break inst held n ≡ true
+  pub not_new : NotNew a inst c P
+
+-- Damaged names such a page
+abbrev pub HasCause : Attachment → Instance → AttachCall → Pages → DriveFault → Type 0
+HasCause a inst c P (Damaged n) = IsDamaged a inst c P n
+HasCause a inst c P NoMemory = Unit {0}

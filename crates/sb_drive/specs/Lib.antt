@@ -6,3 +6,4 @@ pub mod Asks
 pub mod Stores
 pub mod MethodCalls
 pub mod AttachCalls
+pub mod Examples

@@ -1,12 +1,12 @@
 -- Driven calls of a storage method.
-use Rattle.std.specs.Prelude.{◌≡◌}
+use Rattle.std.specs.Prelude.{◌≡◌, ℕ, true}
 use Rattle.sb_forms.specs.Pages.{Pages}
 use Rattle.sb_ctx.specs.declared.instance.Instance.{Instance}
 use Rattle.sb_ctx.specs.declared.calls.MethodCall.{MethodCall}
 use Rattle.sb_ctx.specs.declared.calls.MethodCall.TheVariants as call
-use Rattle.sb_ctx.specs.declared.moves.Move.TheVariants.{Broken}
+use Rattle.sb_ctx.specs.View.{HeldPages, AreSomeOf}
 use Rattle.sb_ctx.specs.Method.{Method, MayHold}
-use Rattle.sb_ctx.specs.MethodAnswers.{Answers}
+use Rattle.sb_ctx.specs.MethodAnswers.{NotNew}
 use Rattle.sb_drive.specs.declared.turns.DriveFault.{DriveFault}
 use Rattle.sb_drive.specs.declared.turns.DriveFault.TheVariants.{Damaged, NoMemory}
 
@@ -22,7 +22,14 @@ IsReading (call.Get key) = Unit {0}
 IsReading (call.Next low) = Unit {0}
 IsReading c = ⊥
 
--- Damaged comes only where the box may answer Broken over these pages
+-- A page that the box may call broken, of some of these pages that it was given; when an instance is prepared, they aren't those of a new one.
+pub record IsDamaged (m : Method) (inst : Instance) (c : MethodCall) (P : Pages) (n : ℕ) : Type 0 where
+  pub held : HeldPages
+  pub given : AreSomeOf held P
+  pub may : m.may_break inst held n ≡ true
+  pub not_new : NotNew inst c P
+
+-- Damaged names such a page
 abbrev pub HasCause : Method → Instance → MethodCall → Pages → DriveFault → Type 0
-HasCause m inst c P (Damaged n) = (after : Pages) × Answers m inst c P after (Broken n)
+HasCause m inst c P (Damaged n) = IsDamaged m inst c P n
 HasCause m inst c P NoMemory = Unit {0}

@@ -1,7 +1,7 @@
 -- Pages of several owners in memory.
-use Rattle.std.specs.Prelude.{◌≡◌, ℕ, ◌==◌, cond, List, [], map, get_or}
+use Rattle.std.specs.Prelude.{◌≡◌, ◌≢◌, ℕ, ◌==◌, cond, List, [], map, get_or}
 use Rattle.std.specs.List.{range_with_len}
-use Rattle.sb_forms.specs.Pages.{Pages}
+use Rattle.sb_forms.specs.Pages.{Pages, IsWhole}
 
 -- the owner of a page and its bytes; owner 0 is nobody
 abbrev pub Slot : Type 0
@@ -32,6 +32,13 @@ owned s owner n = bytes_for owner (s n)
 
 abbrev pub pages_of : List Slot → ℕ → Pages
 pages_of pages owner = owned (slots pages) owner
+
+-- each page has no bytes or is whole
+abbrev pub IsPage : Slot → Type 0
+IsPage slot = slot.1 ≢ [] → IsWhole slot.1
+
+abbrev pub AreWhole : Slots → Type 0
+AreWhole s = (n : ℕ) → IsPage (s n)
 
 -- one page with its owner changed
 abbrev pub with_slot : ℕ → Slot → Slots → Slots

@@ -1,7 +1,7 @@
 -- Pages that are written in a row, and written back.
-use Rattle.std.specs.Prelude.{ℕ, ◌<◌, List, [], ◌∷◌, All}
+use Rattle.std.specs.Prelude.{ℕ, ◌<◌, ◌≤◌, List, [], ◌∷◌, length, All}
 use Rattle.sb_drive.specs.declared.slots.Write.{Write}
-use Rattle.sb_drive.specs.Slots.{Slots, with_slot}
+use Rattle.sb_drive.specs.Slots.{Slot, Slots, IsPage, AreWhole, slots, with_slot}
 
 -- the pages once these are written, the first one first
 abbrev pub written : List Write → Slots → Slots
@@ -16,3 +16,14 @@ undone (w ∷ ws) s = with_slot w.number w.slot (undone ws s)
 -- each of them is one of so many pages
 abbrev pub AreAmong : ℕ → List Write → Type 0
 AreAmong most ws = All (λ w. w.number < most) ws
+
+-- what is written is whole, or no page
+abbrev pub ArePagesTo : List Write → Type 0
+ArePagesTo ws = All (λ w. IsPage w.slot) ws
+
+-- What is so of a memory's pages and of what it writes back: there are 65,536 numbers, and all pages are whole, now and before.
+pub record IsMemory (pages : List Slot) (undo : List Write) : Type 0 where
+  pub most : length pages ≤ 65536
+  pub among : AreAmong (length pages) undo
+  pub now : AreWhole (slots pages)
+  pub was : AreWhole (undone undo (slots pages))

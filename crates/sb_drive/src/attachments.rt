@@ -2,7 +2,7 @@
 
 ghost use Rattle.std.specs.Prelude.{◌≡◌, IfOk, IfErr, OnErr};
 ghost use Rattle.sb_ctx.specs.Attachment.{IsInstance};
-ghost use Rattle.sb_ctx.specs.AttachAnswers.{Answers, Changes};
+ghost use Rattle.sb_ctx.specs.AttachAnswers.{Answers, Changes, MayEnd};
 ghost use Rattle.sb_ctx.specs.View.{IsClean, HoldsPart};
 ghost use Rattle.sb_drive.specs.AttachCalls.{Fits, IsReading, HandsUp, HasCause};
 ghost use Rattle.sb_drive.specs.Slots.{Keeps, pages_of};
@@ -31,6 +31,7 @@ pub fn drive_attachment(
     requires part { HoldsPart ctx.old (pages_of memory.old.now inst.now.owner) }
     ensures answers { IfOk result (λ move. Answers (attachment boxed.now) inst.now call.now ctx.old
         (pages_of memory.old.now inst.now.owner) (pages_of memory.new.now inst.now.owner) move) }
+    ensures may { IfOk result (MayEnd call.now) }
     ensures ends { IfOk result IsEnd }
     ensures find { IfOk result (λ move. OnFind move (HandsUp inst.now.owner memory.old memory.new ctx.new move)) }
     ensures found { ctx.new.found ≡ ctx.old.found }
@@ -38,7 +39,7 @@ pub fn drive_attachment(
     ensures others { Keeps inst.now.owner memory.old memory.new }
     ensures reads { IsReading call.now → memory.new ≡ memory.old }
     ensures err { OnErr result (memory.new ≡ memory.old) }
-    ensures damaged { IfErr result (HasCause (attachment boxed.now) inst.now call.now ctx.old (pages_of memory.old.now inst.now.owner)) }
+    ensures damaged { IfErr result (HasCause (attachment boxed.now) inst.now call.now (pages_of memory.old.now inst.now.owner)) }
 {
     loop {
         let made = make_call(boxed, alloc, ctx, inst, call);

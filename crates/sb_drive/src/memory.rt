@@ -1,11 +1,11 @@
 //! Pages in memory, and what was there when the command began.
 
 ghost use Rattle.std.specs.Prelude.{◌≡◌, ◌≢◌, ℕ, ◌<◌, ◌≤◌, ◌↔◌, IsTrue, [], OnOk, OnErr, IfOk, IfSome, IfNone};
-ghost use Rattle.sb_forms.specs.Pages.{IsNext, new_pages};
+ghost use Rattle.sb_forms.specs.Pages.{ArePages, IsNext, new_pages};
 ghost use Rattle.sb_drive.specs.Asks.{IsNextFrom};
 ghost use Rattle.sb_drive.specs.Instances.{IsLeastOwner, IsLeastFree, IsUsed};
 ghost use Rattle.sb_drive.specs.Slots.{Keeps, nothing, slots, pages_of};
-ghost use Rattle.sb_drive.specs.Writes.{written, AreAmong};
+ghost use Rattle.sb_drive.specs.Writes.{written, AreAmong, ArePagesTo};
 
 use crate::slots::{Slot, Write, exchange_all, has_owner, make_room};
 use std::alloc::{AllocError, Global};
@@ -22,15 +22,14 @@ pub struct Memory {
 }
 
 impl Model for Memory {
-    ghost use Rattle.std.specs.Prelude.{◌≤◌, length};
     ghost use Rattle.sb_drive.specs.Slots.{Contents, slots, listed};
-    ghost use Rattle.sb_drive.specs.Writes.{undone, AreAmong};
+    ghost use Rattle.sb_drive.specs.Writes.{undone, IsMemory};
 
     ghost Value = { Contents };
 
     ghost view = { λ m. record { now = listed (slots m.pages.items); was = listed (undone m.undo.items (slots m.pages.items)) } };
 
-    ghost invariant = { λ m. (length m.pages.items ≤ 65536) × AreAmong (length m.pages.items) m.undo.items };
+    ghost invariant = { λ m. IsMemory m.pages.items m.undo.items };
 }
 
 impl Memory {
@@ -125,7 +124,8 @@ impl Memory {
 
     /// Makes the writes in a row, all of them or none.
     pub fn write(&mut self, writes: Vec<Write>) -> Result<(), AllocError>
-        requires { AreAmong 65536 writes.items }
+        requires among { AreAmong 65536 writes.items }
+        requires whole { ArePagesTo writes.items }
         ensures now { OnOk result (slots self.new.now ≡ written writes.items (slots self.old.now)) }
         ensures was { self.new.was ≡ self.old.was }
         ensures err { OnErr result (self.new ≡ self.old) }
@@ -138,6 +138,14 @@ impl Memory {
             unreachable!()
         };
         Ok(())
+    }
+
+    /// A lemma: each page of an owner is whole.
+    pub fn are_pages(&self)
+        ensures now { (owner : ℕ) → ArePages (pages_of self.now.now owner) }
+        ensures was { (owner : ℕ) → ArePages (pages_of self.now.was owner) }
+    {
+        let _ = &self.pages;
     }
 
     /// The least page that is nobody's.

@@ -2,7 +2,7 @@
 
 ghost use Rattle.std.specs.Prelude.{◌≡◌, IfOk, IfErr, OnErr};
 ghost use Rattle.sb_ctx.specs.Method.{IsInstance};
-ghost use Rattle.sb_ctx.specs.MethodAnswers.{Answers, Changes};
+ghost use Rattle.sb_ctx.specs.MethodAnswers.{Answers, Changes, MayEnd};
 ghost use Rattle.sb_ctx.specs.View.{IsClean, HoldsPart};
 ghost use Rattle.sb_drive.specs.MethodCalls.{Fits, IsReading, HasCause};
 ghost use Rattle.sb_drive.specs.Slots.{Keeps, pages_of};
@@ -27,12 +27,14 @@ pub fn drive_method(
     requires fits { Fits (method boxed.now) inst.now call.now }
     ensures answers { IfOk result (λ move. Answers (method boxed.now) inst.now call.now
         (pages_of memory.old.now inst.now.owner) (pages_of memory.new.now inst.now.owner) move) }
+    ensures may { IfOk result (MayEnd inst.now call.now) }
     ensures ends { IfOk result IsEnd }
     ensures others { Keeps inst.now.owner memory.old memory.new }
     ensures reads { IsReading call.now → memory.new ≡ memory.old }
     ensures err { OnErr result (memory.new ≡ memory.old) }
     ensures damaged { IfErr result (HasCause (method boxed.now) inst.now call.now (pages_of memory.old.now inst.now.owner)) }
 {
+    memory.are_pages();
     let mut ctx = Ctx::new(alloc);
     loop {
         let made = make_call(boxed, alloc, &mut ctx, inst, call);

@@ -27,8 +27,7 @@ pub fn store(
     let mut writes = Vec::new(alloc);
     add_edited(memory, alloc, inst.owner, ctx, &mut writes)?;
     add_freed(memory, alloc, inst.owner, ctx, &mut writes)?;
-    // For its clause that no number stands twice in a Ctx.
-    let _ = ctx.asks();
+    ctx.is_ctx();
     if writes.is_empty() {
         return Ok(());
     }

@@ -1,14 +1,19 @@
 //! What no clause says: that calls succeed while memory lasts, and pages of which the boxes here say nothing.
 
-ghost use Rattle.std.specs.Prelude.{◌≡◌, true, [], None, IfOk};
+ghost use Rattle.std.specs.Prelude.{◌≡◌, ◌≢◌, true, is_some, None, IfOk, IfSome};
+ghost use Rattle.sb_ctx.specs.AttachAnswers.{AsksFor as AsksForAttached};
+ghost use Rattle.sb_ctx.specs.Attachment.{plain_attachment};
+ghost use Rattle.sb_ctx.specs.Method.{plain_method};
 ghost use Rattle.sb_ctx.specs.MethodAnswers.{AsksFor};
-ghost use Rattle.sb_ctx.specs.View.{IsClean, dropped};
+ghost use Rattle.sb_ctx.specs.View.{HoldsPart, IsClean, dropped};
+ghost use Rattle.sb_drive.specs.Examples.{IsPlain, IsMade, IsFindOrNoMemory};
+ghost use Rattle.sb_drive.specs.Slots.{pages_of};
 ghost use Rattle.sb_relation.specs.Images.{no_image};
 
 use crate::{DriveFault, Memory, drive_attachment, drive_method};
-use sb_ctx::{AttachCall, Attachment, Ctx, Instance, MethodCall, Move, StorageMethod};
+use sb_ctx::{AttachCall, Attachment, Ctx, Instance, Keys, MethodCall, Move, StorageMethod};
 use sb_relation::Change;
-use sb_value::{Bytes, Names, RecKey, Schema, Str, Tuple};
+use sb_value::{Bytes, Names, RecKey, Schema, Str, Tuple, Value};
 use std::alloc::{AllocError, Global};
 use std::test::*;
 
@@ -17,9 +22,8 @@ use std::test::*;
 struct Scribe {}
 
 impl StorageMethod for Scribe {
-    ghost method = { λ _. record {
-      rules = record { code = 1000; durable = true; fits = λ schema key. true };
-      read = λ inst P. None;
+    ghost method = { λ _. record (plain_method (record { code = 1000; durable = true; fits = λ schema key. true }) (λ inst P. None)) {
+      may_break = λ inst held n. is_some (held n);
     } };
 
     fn code(&self) -> u16 {
@@ -46,7 +50,8 @@ impl StorageMethod for Scribe {
         match key.as_slice() {
             b"take" => take(ctx),
             b"free" => free(ctx, inst.root),
-            _ => write(ctx, inst.root),
+            b"behind" => write(ctx, 1, 7),
+            _ => write(ctx, inst.root, 7),
         }
     }
 
@@ -61,12 +66,12 @@ impl StorageMethod for Scribe {
         Move::NoMemory
     }
 
-    /// NoRecord where the instance has a second page, else End.
+    /// NoRecord where the instance has a second page, else NoMemory.
     fn get(&self, _alloc: Global, ctx: &mut Ctx, inst: &Instance, _key: &RecKey) -> Move {
         match ctx.after(Some(inst.root)) {
             None => Move::After(Some(inst.root)),
             Some(Some(_)) => Move::NoRecord,
-            Some(None) => Move::End,
+            Some(None) => Move::NoMemory,
         }
     }
 
@@ -85,6 +90,7 @@ fn take(ctx: &mut Ctx) -> Move
     requires { IsClean ctx.old }
     ensures given { dropped ctx.new ≡ ctx.old }
     ensures asks { AsksFor ctx.new result }
+    ensures made { IsMade ctx.old result }
 {
     match ctx.fresh() {
         Some(_) => Move::Done,
@@ -96,6 +102,7 @@ fn free(ctx: &mut Ctx, n: u32) -> Move
     requires { IsClean ctx.old }
     ensures given { dropped ctx.new ≡ ctx.old }
     ensures asks { AsksFor ctx.new result }
+    ensures made { IsMade ctx.old result }
 {
     match ctx.page(n) {
         None => return Move::Need(n),
@@ -108,17 +115,18 @@ fn free(ctx: &mut Ctx, n: u32) -> Move
     }
 }
 
-fn write(ctx: &mut Ctx, n: u32) -> Move
+fn write(ctx: &mut Ctx, n: u32, byte: u8) -> Move
     requires { IsClean ctx.old }
     ensures given { dropped ctx.new ≡ ctx.old }
     ensures asks { AsksFor ctx.new result }
+    ensures made { IsMade ctx.old result }
 {
     match ctx.page(n) {
         None => return Move::Need(n),
         Some([]) => return Move::Broken(n),
         Some(_) => {}
     }
-    match ctx.edit(n, 0, &[7]) {
+    match ctx.edit(n, 0, &[byte]) {
         Ok(()) => Move::Done,
         Err(_) => Move::NoMemory,
     }
@@ -129,14 +137,13 @@ fn write(ctx: &mut Ctx, n: u32) -> Move
 struct Marker {}
 
 impl Attachment for Marker {
-    ghost attachment = { λ _. record {
-      rules = record {
-        code = 1000;
-        fits = λ schema desc. true;
-        admits = λ desc db name change. true;
-        image = λ desc schema rows. no_image;
-      };
-      content = λ inst P. None;
+    ghost attachment = { λ _. record (plain_attachment (record {
+      code = 1000;
+      fits = λ schema desc. true;
+      admits = λ desc db name change. true;
+      image = λ desc schema rows. no_image;
+    }) (λ inst P. None)) {
+      may_break = λ inst held n. is_some (held n);
     } };
 
     fn code(&self) -> u16 {
@@ -163,19 +170,17 @@ impl Attachment for Marker {
     }
 
     fn on_change(&self, _alloc: Global, ctx: &mut Ctx, inst: &Instance, _change: &Change) -> Move {
-        match ctx.page(inst.root) {
-            None => return Move::Need(inst.root),
-            Some([]) => return Move::Broken(inst.root),
-            Some(_) => {}
-        }
-        match ctx.edit(inst.root, 0, &[5]) {
-            Ok(()) => Move::Done,
-            Err(_) => Move::NoMemory,
-        }
+        write(ctx, inst.root, 5)
     }
 
-    fn late_check(&self, _alloc: Global, _ctx: &mut Ctx, _inst: &Instance, _entry: &Bytes) -> Move {
-        Move::NoMemory
+    /// Asks for the rows of eight numbers, one after another.
+    fn late_check(&self, alloc: Global, ctx: &mut Ctx, _inst: &Instance, _entry: &Bytes) -> Move {
+        for number in 0..8 {
+            if let Some(made) = find(alloc, ctx, number) {
+                return made;
+            }
+        }
+        Move::Done
     }
 
     fn next_entry(
@@ -194,10 +199,48 @@ impl Attachment for Marker {
     }
 }
 
+/// The find of this number's rows, where it isn't answered yet.
+fn find(alloc: Global, ctx: &Ctx, number: i64) -> Option<Move>
+    ensures asks { IfSome result (AsksForAttached ctx.now) }
+    ensures ends { IfSome result IsFindOrNoMemory }
+{
+    let (Ok(relation), Ok(columns), Ok(values)) = (
+        text(alloc, "r"),
+        names(alloc, "a"),
+        tuple(alloc, number),
+    ) else {
+        return Some(Move::NoMemory);
+    };
+    if ctx.found(&relation, &columns, &values).is_some() {
+        return None;
+    }
+    if ctx.finds() < 8 {
+        Some(Move::Find {
+            relation,
+            columns,
+            values,
+        })
+    } else {
+        Some(Move::NoMemory)
+    }
+}
+
+fn text(alloc: Global, text: &str) -> Result<Str, AllocError> {
+    Ok(Str::from_string(String::from_str(alloc, text)?))
+}
+
+fn names(alloc: Global, name: &str) -> Result<Names, AllocError> {
+    Ok(Names::from_vec(vec![in alloc; text(alloc, name)?]?))
+}
+
+fn tuple(alloc: Global, number: i64) -> Result<Tuple, AllocError> {
+    Ok(Tuple::from_vec(vec![in alloc; Value::Int(number)]?))
+}
+
 /// An instance on a relation without columns.
 fn instance(alloc: Global, owner: u16, root: u32) -> Result<Instance, AllocError>
-    ensures schema { IfOk result (λ i. i.schema ≡ []) }
-    ensures key { IfOk result (λ i. i.key ≡ []) }
+    requires { owner ≢ 0 }
+    ensures { IfOk result IsPlain }
 {
     Ok(Instance {
         relation: Str::from_string(String::from_str(alloc, "r")?),
@@ -224,21 +267,19 @@ fn delete(
     inst: &Instance,
     bytes: &[u8],
 ) -> Result<Move, DriveFault>
-    requires schema { inst.now.schema ≡ [] }
-    requires key { inst.now.key ≡ [] }
+    requires { IsPlain inst.now }
 {
     let call = MethodCall::Delete(key(alloc, bytes)?);
     drive_method(memory, alloc, &Scribe {}, inst, &call)
 }
 
 /// Whether the instance has a page behind its root.
-fn has_second(memory: &mut Memory, alloc: Global, inst: &Instance) -> Result<bool, DriveFault>
-    requires schema { inst.now.schema ≡ [] }
-    requires key { inst.now.key ≡ [] }
+fn has_second(memory: &mut Memory, alloc: Global, inst: &Instance) -> Result<bool, AllocError>
+    requires { IsPlain inst.now }
 {
     let call = MethodCall::Get(key(alloc, b"")?);
-    let end = drive_method(memory, alloc, &Scribe {}, inst, &call)?;
-    Ok(matches!(end, Move::NoRecord))
+    let end = drive_method(memory, alloc, &Scribe {}, inst, &call);
+    Ok(matches!(end, Ok(Move::NoRecord)))
 }
 
 #[derive(Debug, Drop)]
@@ -255,10 +296,10 @@ fn a_page_is_taken_and_undone(rt: HostRuntime) -> Result<(), Fail> {
     let end = delete(&mut memory, alloc, &inst, b"take").map_err(|_| Stopped)?;
     assert!(rt; matches!(end, Move::Done) && memory.owner_of(1) == 3);
     assert_eq!(rt; memory.page(3, 1), [0; 4096].as_slice());
-    assert!(rt; has_second(&mut memory, alloc, &inst).map_err(|_| Stopped)?);
+    assert!(rt; has_second(&mut memory, alloc, &inst)?);
     memory.undo();
     assert!(rt; memory.owner_of(1) == 0 && memory.page(3, 0).len() == 4096);
-    assert!(rt; !has_second(&mut memory, alloc, &inst).map_err(|_| Stopped)?);
+    assert!(rt; !has_second(&mut memory, alloc, &inst)?);
     Ok(())
 }
 
@@ -300,6 +341,18 @@ fn another_owners_page_is_not_given(rt: HostRuntime) -> Result<(), Fail> {
     Ok(())
 }
 
+/// The page that the box names is the one that is called damaged: not its root, which is whole.
+#[test]
+fn the_damaged_page_is_named(rt: HostRuntime) -> Result<(), Fail> {
+    let alloc = rt.alloc();
+    let mut memory = Memory::new(alloc);
+    let (owner, root) = memory.new_instance(&[])?;
+    let inst = instance(alloc, owner, root)?;
+    let end = delete(&mut memory, alloc, &inst, b"behind");
+    assert!(rt; root == 0 && matches!(end, Err(DriveFault::Damaged { page: 1 })));
+    Ok(())
+}
+
 #[test]
 fn an_attachment_is_driven(rt: HostRuntime) -> Result<(), Fail> {
     let alloc = rt.alloc();
@@ -307,6 +360,7 @@ fn an_attachment_is_driven(rt: HostRuntime) -> Result<(), Fail> {
     let (owner, root) = memory.new_instance(&[])?;
     let inst = instance(alloc, owner, root)?;
     let mut ctx = Ctx::new(alloc);
+    memory.are_pages();
     let call = AttachCall::Changed(Change::Delete {
         key: key(alloc, b"k")?,
         old: Tuple::from_vec(Vec::new(alloc)),
@@ -314,5 +368,44 @@ fn an_attachment_is_driven(rt: HostRuntime) -> Result<(), Fail> {
     let end = drive_attachment(&mut memory, alloc, &Marker {}, &inst, &call, &mut ctx);
     assert!(rt; matches!(end, Ok(Move::Done)));
     assert_eq!(rt; memory.page(3, 0).first().copied(), Some(5));
+    Ok(())
+}
+
+/// How many finds a late check asks, each of which is answered with no rows.
+fn finds(
+    memory: &mut Memory,
+    alloc: Global,
+    inst: &Instance,
+    ctx: &mut Ctx,
+) -> Result<u32, DriveFault>
+    requires inst { IsPlain inst.now }
+    requires clean { IsClean ctx.old }
+    requires part { HoldsPart ctx.old (pages_of memory.old.now inst.now.owner) }
+{
+    for answered in 0..9 {
+        let call = AttachCall::Late(Bytes::new(alloc));
+        match drive_attachment(memory, alloc, &Marker {}, inst, &call, ctx)? {
+            Move::Find {
+                relation,
+                columns,
+                values,
+            } => ctx.give_found(&relation, &columns, &values, &Keys::new(alloc))?,
+            _ => return Ok(answered),
+        }
+    }
+    Ok(9)
+}
+
+#[test]
+fn eight_finds_are_answered(rt: HostRuntime) -> Result<(), Fail> {
+    let alloc = rt.alloc();
+    let mut memory = Memory::new(alloc);
+    let (owner, root) = memory.new_instance(&[])?;
+    let inst = instance(alloc, owner, root)?;
+    let mut ctx = Ctx::new(alloc);
+    memory.are_pages();
+    let asked = finds(&mut memory, alloc, &inst, &mut ctx).map_err(|_| Stopped)?;
+    assert_eq!(rt; asked, 8);
+    assert_eq!(rt; ctx.finds(), 8);
     Ok(())
 }

@@ -11,11 +11,7 @@ use Rattle.sb_value.specs.declared.schema.Column.{Column}
 use Rattle.sb_value.specs.Order.{bytes_cmp}
 use Rattle.sb_relation.specs.Db.{Name, Key, Row, Rows}
 use Rattle.sb_relation.specs.Fits.{is_empty}
-use Rattle.sb_forms.specs.Pages.{Pages}
-
--- the numbers of the instance's pages, rising
-unfoldable pub page_numbers : Pages → List ℕ
-page_numbers P = filter (λ n. not (is_empty (P n))) (range_with_len 0 65536)
+use Rattle.sb_forms.specs.Pages.{Pages, page_numbers}
 
 -- how many keys a page has: its first two bytes
 abbrev pub count_of : List ℕ → ℕ
@@ -50,8 +46,9 @@ is_one_number (c ∷ []) (name ∷ []) = is_int c.kind && bytes_eq c.name name
     is_int kind.Text = false
 is_one_number _ _ = false
 
--- the rows of these pages, where each is of its form and the keys rise through all of them
-abbrev pub list_rows : List Column → List Name → Pages → Option Rows
-list_rows schema key P =
+-- the rows of these pages, where the root is one of them, each is of its form and the keys rise through all of them
+abbrev pub list_rows : ℕ → List Column → List Name → Pages → Option Rows
+list_rows root schema key P =
     let rows : Rows = map (λ k. (k, row_of k)) (list_keys P) in
-    cond (is_one_number schema key && list_all (λ n. is_list_page (P n)) (page_numbers P) && is_sorted bytes_cmp rows) (Some rows) None
+    cond (not (is_empty (P root)) && is_one_number schema key && list_all (λ n. is_list_page (P n)) (page_numbers P) && is_sorted bytes_cmp rows)
+    (Some rows) None

@@ -1,5 +1,5 @@
 -- The keys of a relation of one number, and the law of its pages.
-use Rattle.std.proofs.Common.{◌≡◌, ℕ, zero, suc, ◌+◌, ◌-◌, ◌*◌, ◌/◌, ◌%◌, ◌^◌, ◌<◌, ◌≤◌, ◌==◌, nat_lt, nat_le, Bool, true, false, cond, not, ◌&&◌, List, [], ◌∷◌, ◌++◌, length, get_or, drop, filter, map, All, Option, Some, None, option_map, option_and_then, ℤ, pos, ◌-ℤ◌, FitsSigned, T, refl, ap, sym, ◌∙◌, subst, arith, true≢false, eq-eqb, eqb-true, length-append}
+use Rattle.std.proofs.Common.{◌≡◌, ◌≢◌, ℕ, zero, suc, ◌+◌, ◌-◌, ◌*◌, ◌/◌, ◌%◌, ◌^◌, ◌<◌, ◌≤◌, ◌==◌, nat_lt, nat_le, Bool, true, false, cond, not, ◌&&◌, List, [], ◌∷◌, ◌++◌, length, get_or, drop, filter, map, All, Option, Some, None, option_map, option_and_then, ℤ, pos, ◌-ℤ◌, FitsSigned, T, refl, ap, sym, ◌∙◌, subst, arith, true≢false, eq-eqb, eqb-true, length-append}
 use Rattle.std.specs.List.{list_all, flat_map, position, range_with_len, slice_get, cons_option}
 use Rattle.std.specs.Int.{to_be_bytes, from_be_bytes, bytes_high_first, byte_at, w64}
 use Rattle.std.specs.Str.{bytes_eq}
@@ -27,22 +27,23 @@ use Rattle.sb_relation.specs.Db.{Name, Key, Row, Rows, values_in}
 use Rattle.sb_relation.specs.Lawful.{IsRow, AreRows}
 use Rattle.sb_relation.specs.Keys.{is_record_key}
 use Rattle.sb_relation.specs.Fits.{is_empty}
-use Rattle.sb_forms.specs.Pages.{Pages, zeros, new_pages}
-use Rattle.sb_forms.specs.ListPages.{page_numbers, count_of, keys_from, page_keys, is_list_page, is_one_number, list_keys, list_rows, row_of}
+use Rattle.sb_forms.specs.Pages.{Pages, zeros, new_pages, page_numbers}
+use Rattle.sb_forms.specs.ListPages.{count_of, keys_from, page_keys, is_list_page, is_one_number, list_keys, list_rows, row_of}
 use Rattle.sb_ctx.specs.declared.instance.Instance.{Instance}
 use Rattle.sb_ctx.specs.declared.calls.MethodCall.TheVariants.{Prepare}
 use Rattle.sb_ctx.specs.declared.moves.Move.TheVariants.{Done}
-use Rattle.sb_ctx.specs.View.{View, dropped, HoldsPart, stored}
-use Rattle.sb_ctx.specs.ViewLaws.{stored-clean}
+use Rattle.sb_ctx.specs.View.{View, HeldPages, AreSomeOf, dropped, HoldsPart, stored}
+use Rattle.sb_ctx.proofs.ViewLaws.{stored-clean}
 use Rattle.sb_ctx.specs.Method.{code_of}
 use Rattle.sb_ctx.specs.MethodAnswers.{Changes}
 use Rattle.sb_ctx.specs.Laws.{IsMethod}
+use Rattle.sb_ctx.proofs.BoundLaws.{page_count-few}
 use Rattle.sb_listmethod.specs.Keys.{is_key, are_keys}
-use Rattle.sb_listmethod.specs.Listed.{list_method, most_pages, are_list_pages, keys_in}
+use Rattle.sb_listmethod.specs.Listed.{list_method, is_misformed, most_pages, are_list_pages, keys_in}
 use Rattle.sb_listmethod.specs.Answered.{IsKeyFor}
 use Rattle.sb_listmethod.proofs.NumberLemmas.{has_bytes}
-use Rattle.sb_listmethod.proofs.WritingLemmas.{page_numbers-is, length-zeros}
-use Rattle.sb_listmethod.proofs.MethodLemmas.{formed_parts, rows_from}
+use Rattle.sb_listmethod.proofs.WritingLemmas.{page_numbers-is, length-zeros, not_empty}
+use Rattle.sb_listmethod.proofs.MethodLemmas.{formed_parts, rows_from, spends_free}
 use Rattle.sb_listmethod.proofs.PageLemmas.{is_byte, row_of-code, IsPage, IsPage-from, are_keys-page, bytes_of_zeros}
 use Rattle.sb_listmethod.proofs.RowLemmas.{rows_of}
 
@@ -164,7 +165,7 @@ number_below key all =
 number_fits : (m : ℕ) → m < 2 ^ 64 → FitsSigned w64 (pos m -ℤ pos (2 ^ 63))
 number_fits m less = omega (arith, ints)
 
-row_is : (schema : List Column) (key : List Name) (k : Key) → is_one_number schema key ≡ true → is_key k ≡ true → IsRow schema (row_of k)
+pub row_is : (schema : List Column) (key : List Name) (k : Key) → is_one_number schema key ≡ true → is_key k ≡ true → IsRow schema (row_of k)
 row_is [] key k one is = cc
 row_is (c ∷ []) [] k one is = cc
 row_is (c ∷ []) (name ∷ []) k one is =
@@ -191,9 +192,9 @@ each_key (k ∷ ks) all =
     let long : length k ≡ 8 = eqb-true (length k) 8 (and_parts (length k == 8) (list_all is_byte k) parts.0).0 in
     All-cons (λ row. is_record_key row.0 ≡ true) (k, row_of k) (rows_of ks) (ap (λ n. nat_le n 200) long) (each_key ks parts.1)
 
-pub are_rows : (schema : List Column) (key : List Name) (P : Pages) (rows : Rows) → list_rows schema key P ≡ Some rows → AreRows schema rows
-are_rows schema key P rows holds =
-    let f = formed_parts schema key P rows holds in
+pub are_rows : (root : ℕ) (schema : List Column) (key : List Name) (P : Pages) (rows : Rows) → list_rows root schema key P ≡ Some rows → AreRows schema rows
+are_rows root schema key P rows holds =
+    let f = formed_parts root schema key P rows holds in
     let keys = keys_all P (page_numbers P) f.formed in
     subst (AreRows schema) (sym f.rows) (record {
       rising = subst T (sym f.rising) tt;
@@ -202,8 +203,54 @@ are_rows schema key P rows holds =
       few = omega (arith, length-map {B = Key × Row} (list_keys P) (λ k. (k, row_of k)), keys_few P (page_numbers P) f.formed, length-page_numbers P);
     })
 
+-- what is so of all numbers in a range that pass, is so of one
+one_in : (p q : ℕ → Bool) (low len n : ℕ) → low ≤ n → n < low + len → p n ≡ true → list_all q (filter p (range_with_len low len)) ≡ true → q n ≡ true
+one_in p q low zero n from to passes all = absurd (omega arith)
+one_in p q low (suc len) n from to passes all =
+    by (low == n) refl (p low) refl all (λ more rest. one_in p q (low + 1) len n more (omega arith) passes rest)
+  where
+    F : List ℕ
+    F = filter p (range_with_len (low + 1) len)
+
+    next : (a b : ℕ) → a ≤ b → a ≢ b → a + 1 ≤ b
+    next a b from other = omega arith
+
+    rest_of : (b : Bool) → list_all q (cond b (low ∷ F) F) ≡ true → list_all q F ≡ true
+    rest_of true all = (and_parts (q low) (list_all q F) all).1
+    rest_of false all = all
+
+    by : (t : Bool) → low == n ≡ t → (b : Bool) → p low ≡ b → list_all q (cond b (low ∷ F) F) ≡ true → (low + 1 ≤ n → list_all q F ≡ true → q n ≡ true) → q n ≡ true
+    by true same true is all more = subst (λ m. q m ≡ true) (eqb-true low n same) (and_parts (q low) (list_all q F) all).0
+    by true same false is all more = absurd (true≢false (sym passes ∙ ap p (sym (eqb-true low n same)) ∙ is))
+    by false other b is all more = more (next low n from (λ e. true≢false (sym (eq-eqb low n e) ∙ other))) (rest_of b all)
+
+none_misformed : (P : Pages) (held : HeldPages) (n : ℕ) → are_list_pages P (page_numbers P) ≡ true → AreSomeOf held P → is_misformed held n ≡ false
+none_misformed P held n formed some = by (held n) refl
+  where
+    less : (m : ℕ) → nat_lt m 65536 ≡ true → m < 0 + most_pages
+    less m is = grind (arith, nat_tests)
+
+    there : (bytes : List ℕ) → P n ≡ bytes → (t : Bool) → nat_lt n 65536 ≡ t → (e : Bool) → is_empty bytes ≡ e → (t && not e && not (is_list_page bytes)) ≡ false
+    there bytes is false far e none = refl
+    there bytes is true near true none = refl
+    there bytes is true near false none =
+        ap not (ap is_list_page (sym is) ∙ one_in (has_bytes P) (λ m. is_list_page (P m)) 0 most_pages n (omega arith) (less n near)
+        (ap (λ (l : List ℕ). not (is_empty l)) is ∙ ap not none) (ap (list_all (λ m. is_list_page (P m))) (sym (page_numbers-is P)) ∙ formed))
+
+    by : (o : Option (List ℕ)) → held n ≡ o → elim o [ None ↦ false | Some bytes ↦ nat_lt n 65536 && not (is_empty bytes) && not (is_list_page bytes) ] ≡ false
+    by None is = refl
+    by (Some bytes) is = there bytes (some n bytes is) (nat_lt n 65536) refl (is_empty bytes) refl
+
 pub IsMethod-list_method : IsMethod list_method
-IsMethod-list_method = record { tree = λ is. record { durable = refl; rows = λ inst P. refl }; rows = λ inst P rows holds. are_rows inst.schema inst.key P rows holds }
+IsMethod-list_method = record {
+  tree = λ is. record { durable = refl; rows = λ inst P. refl };
+  formed = λ inst P rows holds. record {
+    lawful = are_rows inst.root inst.schema inst.key P rows holds;
+    root = λ none. true≢false (sym (ap is_empty none) ∙ (formed_parts inst.root inst.schema inst.key P rows holds).rooted);
+    bound = λ pages. omega (arith, page_count-few P);
+    whole = λ held n some. none_misformed P held n (formed_parts inst.root inst.schema inst.key P rows holds).formed some;
+  };
+}
 
 -- ---- a new instance
 count-zeros : count_of zeros ≡ 0
@@ -241,8 +288,11 @@ pub Changes-prepared : (inst : Instance) (old : View) → dropped old ≡ old �
 Changes-prepared inst old clean one = record {
   given = clean;
   asks = tt;
+  broken = tt;
+  ends = tt;
+  spends = spends_free inst Prepare old old Done clean;
   answers = λ P part is.
       let none = no_keys P (page_numbers P) (λ n. (new_page P inst.root n (is n)).0) in
       let formed : are_list_pages P (page_numbers P) ≡ true = ap (are_list_pages P) (page_numbers-is P) ∙ all_kept (has_bytes P) (λ n. is_list_page (P n)) (range_with_len 0 most_pages) (λ n some. (new_page P inst.root n (is n)).1 some) in
-      ap (list_rows inst.schema inst.key) (stored-clean old P clean part) ∙ rows_from inst.schema inst.key P [] one (record { numbers = refl; formed = formed; keys = none }) tt;
+      ap (list_rows inst.root inst.schema inst.key) (stored-clean old P clean part) ∙ rows_from inst.root inst.schema inst.key P [] (ap is_empty (is inst.root) ∙ ap (λ b. is_empty (cond b zeros [])) (eq-eqb inst.root inst.root refl) ∙ not_empty zeros 4096 length-zeros (omega arith)) one (record { numbers = refl; formed = formed; keys = none }) tt;
 }

@@ -11,15 +11,17 @@ use Rattle.std.proofs.lemmas.List.Folds.{list_all-append}
 use Rattle.std.proofs.lemmas.Option.{same_Some}
 use Rattle.sb_value.specs.declared.schema.Column.{Column}
 use Rattle.sb_value.specs.Order.{bytes_cmp}
-use Rattle.sb_relation.specs.Db.{Name, Key}
-use Rattle.sb_forms.specs.Pages.{Pages, IsAbove, IsNext}
-use Rattle.sb_forms.specs.ListPages.{page_numbers, page_keys, is_list_page, is_one_number, list_keys, list_rows, row_of}
+use Rattle.sb_relation.specs.Db.{Key}
+use Rattle.sb_relation.specs.Fits.{is_empty}
+use Rattle.sb_forms.specs.Pages.{Pages, IsAbove, IsNext, page_numbers}
+use Rattle.sb_forms.specs.ListPages.{page_keys, is_list_page, is_one_number, list_keys, list_rows, row_of}
 use Rattle.sb_ctx.specs.declared.moves.Move.{Move}
 use Rattle.sb_ctx.specs.declared.moves.Move.TheVariants.{Need, Broken, NoMemory}
-use Rattle.sb_ctx.specs.View.{View, page_of, room_of, next_of, dropped, HoldsPart}
-use Rattle.sb_ctx.specs.ViewLaws.{given-page, room_of-page}
+use Rattle.sb_ctx.specs.View.{HeldPage, View, held_at, given_at, as_given, page_of, room_of, next_of, dropped, HoldsPart}
+use Rattle.sb_ctx.proofs.HeldLaws.{page_in-each}
+use Rattle.sb_ctx.proofs.ViewLaws.{given-page, room_of-page}
 use Rattle.sb_listmethod.specs.Keys.{are_keys}
-use Rattle.sb_listmethod.specs.Listed.{most_pages, pages_from, behind, below_limit, IsNextBelow, are_list_pages, keys_in, are_whole, Front, Lists, IsFront, IsListed, Reads, StopsAt, MayBe, IsAsk}
+use Rattle.sb_listmethod.specs.Listed.{most_pages, pages_from, behind, below_limit, IsNextBelow, are_list_pages, keys_in, are_whole, Front, Lists, IsFront, IsListed, Reads, StopsAt, IsAsk}
 use Rattle.sb_listmethod.proofs.NumberLemmas.{page_numbers-from, pages_from-next, pages_from-none}
 use Rattle.sb_listmethod.proofs.PageLemmas.{IsPage, IsPage-from, are_keys-page}
 
@@ -108,30 +110,31 @@ front_more c ns ks last n more others front clean less next reads =
     }))
 
 -- ---- what stops the reading
-two_false : (a b c : Bool) → b ≡ false → (a && b && c) ≡ false
-two_false true b c is = ap (λ t. t && c) is
-two_false false b c is = refl
+given_is : (c : View) (n : ℕ) → dropped c ≡ c → given_at c n ≡ page_of c n
+given_is c n clean =
+    sym (ap (option_map (λ (h : HeldPage). h.now)) (page_in-each as_given c.held n) ∙ by (held_at c n)) ∙ ap (λ (v : View). page_of v n) clean
+  where
+    by : (o : Option HeldPage) → option_map (λ (h : HeldPage). h.now) (option_map as_given o) ≡ option_map (λ (h : HeldPage). h.given) o
+    by None = refl
+    by (Some h) = refl
 
-unformed : (schema : List Column) (key : List Name) (P : Pages) → are_list_pages P (page_numbers P) ≡ false → list_rows schema key P ≡ None
-unformed schema key P not_all = cond-false _ _ _ (two_false (is_one_number schema key) (are_list_pages P (page_numbers P)) _ not_all)
-
-one_false : (a b c : Bool) → b ≡ false → (a && (b && c)) ≡ false
-one_false true b c is = ap (λ t. t && c) is
-one_false false b c is = refl
+misformed : (n : ℕ) (page : List ℕ) → n < most_pages → is_empty page ≡ false → is_list_page page ≡ false → (nat_lt n 65536 && not (is_empty page) && not (is_list_page page)) ≡ true
+misformed n page less some bad = ap (λ t. t && not (is_empty page) && not (is_list_page page)) (below n less) ∙ ap (λ t. not t && not (is_list_page page)) some ∙ ap not bad
+  where
+    below : (n : ℕ) → n < 65536 → nat_lt n 65536 ≡ true
+    below n less = grind (arith, nat_tests)
 
 held_some : (c : View) (n : ℕ) (page : List ℕ) → page_of c n ≡ Some page → IsSome (page_of c n)
 held_some c n page is = subst (λ (o : Option (List ℕ)). IsSome o) (sym is) refl
 
 pub front_stops : (c : View) (ns : List ℕ) (ks : List Key) (last : Option ℕ) (n : ℕ) (move : Move) → IsFront c ns ks last → dropped c ≡ c
-    → ((P : Pages) → HoldsPart c P → IsNextBelow P last (Some n)) → StopsAt c n move → IsAsk c move
-front_stops c ns ks last n (Need m) front clean next stops = record { reads = tt; asks = subst (λ k. page_of c k ≡ None) (sym stops.0) stops.1; may = λ P part. tt }
-front_stops c ns ks last n NoMemory front clean next stops = record { reads = tt; asks = tt; may = λ P part. tt }
-front_stops c ns ks last n (Broken m) front clean next (same, page, held, broken) = record {
+    → n < most_pages → StopsAt c n move → IsAsk c move
+front_stops c ns ks last n (Need m) front clean less stops = record { reads = tt; asks = subst (λ k. page_of c k ≡ None) (sym stops.0) stops.1; may = tt }
+front_stops c ns ks last n NoMemory front clean less stops = record { reads = tt; asks = tt; may = tt }
+front_stops c ns ks last n (Broken m) front clean less (same, page, held, broken, some) = record {
   reads = tt;
   asks = held_some c m page (ap (page_of c) same ∙ held);
-  may = λ P part schema key.
-      let numbers : page_numbers P ≡ ns ++ n ∷ pages_from (n + 1) P = (front.pages P part).numbers ∙ ap (λ (l : List ℕ). ns ++ l) (pages_from-next P last n (next P part)) in
-      unformed schema key P (ap (are_list_pages P) numbers ∙ list_all-append (λ k. is_list_page (P k)) ns (n ∷ pages_from (n + 1) P)
-      ∙ one_false (are_list_pages P ns) (is_list_page (P n)) (are_list_pages P (pages_from (n + 1) P)) (ap is_list_page (given-page c P n page clean part held) ∙ broken));
+  may = ap (λ (o : Option (List ℕ)). elim o [ None ↦ false | Some bytes ↦ nat_lt m 65536 && not (is_empty bytes) && not (is_list_page bytes) ])
+      (given_is c m clean ∙ ap (page_of c) same ∙ held) ∙ misformed m page (subst (λ k. k < most_pages) (sym same) less) some broken;
 }
-front_stops c ns ks last n move front clean next stops = absurd stops
+front_stops c ns ks last n move front clean less stops = absurd stops

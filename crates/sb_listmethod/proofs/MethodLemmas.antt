@@ -1,5 +1,5 @@
 -- What the box answers is what the rows say.
-use Rattle.std.proofs.Common.{◌≡◌, ℕ, ◌==◌, Bool, true, false, cond, not, ◌&&◌, ◌||◌, List, [], ◌∷◌, Option, Some, None, option_map, is_none, T, refl, ap, sym, ◌∙◌, subst, true≢false}
+use Rattle.std.proofs.Common.{◌≡◌, ℕ, ◌==◌, nat_lt, nat_le, length, eqb-true, Bool, true, false, cond, not, ◌&&◌, ◌||◌, List, [], ◌∷◌, Option, Some, None, option_map, is_none, T, refl, ap, sym, ◌∙◌, subst, true≢false}
 use Rattle.std.specs.List.{list_all, find as first}
 use Rattle.std.specs.Str.{bytes_eq}
 use Rattle.std.specs.FinMap.Entries.{is_sorted, is_sorted-put, is_sorted-where_key}
@@ -10,20 +10,24 @@ use Rattle.sb_value.specs.declared.schema.Column.{Column}
 use Rattle.sb_value.specs.Equal.{bytes_same}
 use Rattle.sb_value.specs.Order.{bytes_cmp}
 use Rattle.sb_relation.specs.Db.{Name, Key, Row, Rows, row_at, with_row, without_row}
-use Rattle.sb_relation.specs.Keys.{NewKeys, Just, Taken, Coded, is_free, new_keys}
-use Rattle.sb_forms.specs.Pages.{Pages}
-use Rattle.sb_forms.specs.ListPages.{page_numbers, is_list_page, is_one_number, list_keys, list_rows, row_of}
+use Rattle.sb_relation.specs.Keys.{NewKeys, Just, Taken, Coded, is_free, new_keys, is_record_key}
+use Rattle.sb_forms.specs.Pages.{Pages, page_numbers}
+use Rattle.sb_forms.specs.ListPages.{is_list_page, is_one_number, list_keys, list_rows, row_of}
 use Rattle.sb_ctx.specs.declared.instance.Instance.{Instance}
 use Rattle.sb_ctx.specs.declared.calls.MethodCall.{MethodCall}
 use Rattle.sb_ctx.specs.declared.calls.MethodCall.TheVariants as call
 use Rattle.sb_ctx.specs.declared.moves.Move.{Move}
 use Rattle.sb_ctx.specs.declared.moves.Move.TheVariants.{Done, Need, Fresh, After, NoRecord, Duplicate, Key as Keyed, Row as Rowed, End, Broken, NoMemory}
 use Rattle.sb_ctx.specs.View.{View, dropped, HoldsPart, stored}
-use Rattle.sb_ctx.specs.ViewLaws.{stored-clean}
+use Rattle.sb_ctx.proofs.ViewLaws.{stored-clean}
 use Rattle.sb_ctx.specs.Method.{Method, code_of}
-use Rattle.sb_ctx.specs.MethodAnswers.{Answers, Changes, Looks, Gets, Got, NextIs, Updated, Deleted, is_above, row_above}
-use Rattle.sb_listmethod.specs.Keys.{with_key, without_key, stands}
-use Rattle.sb_listmethod.specs.Listed.{list_method, are_list_pages, keys_in, Lists, IsListed, MayBe, IsAsk}
+use Rattle.sb_ctx.specs.MethodAnswers.{Answers, IsBroken, IsRowOf as IsRowIn, MayEnd, Before, Holds, Spends, IsOnPath, Changes, Looks, Gets, Got, NextIs, Updated, Deleted, is_above, row_above, NotNew}
+use Rattle.sb_ctx.specs.Sized.{IsCtx}
+use Rattle.sb_ctx.proofs.BoundLaws.{IsBoundless, IsOnPath-boundless, Spends-boundless}
+use Rattle.sb_relation.specs.Fits.{is_empty}
+use Rattle.sb_relation.specs.Lawful.{IsRow}
+use Rattle.sb_listmethod.specs.Keys.{is_key, are_keys, with_key, without_key, stands}
+use Rattle.sb_listmethod.specs.Listed.{list_method, are_list_pages, keys_in, Lists, IsListed, MayAsk, IsAsk}
 use Rattle.sb_listmethod.specs.Written.{HoldsKeys, Became, Stops}
 use Rattle.sb_listmethod.specs.Answered.{IsKeyFor, IsRowOf, IsNextMove, IsPut}
 use Rattle.sb_listmethod.proofs.RowLemmas.{rows_of, row_at-rows_of, row_above-rows_of, with_row-rows_of, without_row-rows_of}
@@ -33,8 +37,9 @@ some_of : {X : Type 0} (t : Bool) (x y : X) → cond t (Some x) None ≡ Some y 
 some_of true x y is = (refl, same_Some x y is)
 some_of false x y is = cc
 
--- there is one column of numbers, and the rows are those of rising keys
-record AreRowsOf (schema : List Column) (key : List Name) (rows : Rows) (ks : List Key) : Type 0 where
+-- the root has bytes, there is one column of numbers, and the rows are those of rising keys
+record AreRowsOf (root : ℕ) (schema : List Column) (key : List Name) (P : Pages) (rows : Rows) (ks : List Key) : Type 0 where
+  rooted : is_empty (P root) ≡ false
   one : is_one_number schema key ≡ true
   rising : T (is_sorted bytes_cmp (rows_of ks))
   same : rows ≡ rows_of ks
@@ -46,88 +51,173 @@ T_true : (t : Bool) → T t → t ≡ true
 T_true true h = refl
 T_true false h = absurd h
 
-pub record FormedParts (schema : List Column) (key : List Name) (P : Pages) (all : Rows) : Type 0 where
+not_true : (b : Bool) → not b ≡ true → b ≡ false
+not_true false e = refl
+not_true true e = cc
+
+pub record FormedParts (root : ℕ) (schema : List Column) (key : List Name) (P : Pages) (all : Rows) : Type 0 where
+  pub rooted : is_empty (P root) ≡ false
   pub one : is_one_number schema key ≡ true
   pub formed : are_list_pages P (page_numbers P) ≡ true
   pub rising : is_sorted bytes_cmp (rows_of (list_keys P)) ≡ true
   pub rows : all ≡ rows_of (list_keys P)
 
-pub formed_parts : (schema : List Column) (key : List Name) (P : Pages) (all : Rows) → list_rows schema key P ≡ Some all → FormedParts schema key P all
-formed_parts schema key P all is =
+pub formed_parts : (root : ℕ) (schema : List Column) (key : List Name) (P : Pages) (all : Rows) → list_rows root schema key P ≡ Some all → FormedParts root schema key P all
+formed_parts root schema key P all is =
     let sorted = is_sorted bytes_cmp (rows_of (list_keys P)) in
-    let some = some_of (is_one_number schema key && are_list_pages P (page_numbers P) && sorted) (rows_of (list_keys P)) all is in
-    let two = and_parts (is_one_number schema key && are_list_pages P (page_numbers P)) sorted some.0 in
-    let one = and_parts (is_one_number schema key) (are_list_pages P (page_numbers P)) two.0 in
-    record { one = one.0; formed = one.1; rising = two.1; rows = sym some.1 }
+    let some = some_of (not (is_empty (P root)) && is_one_number schema key && are_list_pages P (page_numbers P) && sorted) (rows_of (list_keys P)) all is in
+    let three = and_parts (not (is_empty (P root)) && is_one_number schema key && are_list_pages P (page_numbers P)) sorted some.0 in
+    let two = and_parts (not (is_empty (P root)) && is_one_number schema key) (are_list_pages P (page_numbers P)) three.0 in
+    let one = and_parts (not (is_empty (P root))) (is_one_number schema key) two.0 in
+    record { rooted = not_true (is_empty (P root)) one.0; one = one.1; formed = two.1; rising = three.1; rows = sym some.1 }
 
-rows_are : (schema : List Column) (key : List Name) (P : Pages) (rows : Rows) (ns : List ℕ) (ks : List Key) → list_rows schema key P ≡ Some rows → Lists P ns ks → AreRowsOf schema key rows ks
-rows_are schema key P rows ns ks is lists =
+rows_are : (root : ℕ) (schema : List Column) (key : List Name) (P : Pages) (rows : Rows) (ns : List ℕ) (ks : List Key) → list_rows root schema key P ≡ Some rows → Lists P ns ks → AreRowsOf root schema key P rows ks
+rows_are root schema key P rows ns ks is lists =
     let keys : list_keys P ≡ ks = ap (keys_in P) lists.numbers ∙ lists.keys in
-    let f = formed_parts schema key P rows is in
-    record { one = f.one; rising = true_T (is_sorted bytes_cmp (rows_of ks)) (ap (λ (l : List Key). is_sorted bytes_cmp (rows_of l)) (sym keys) ∙ f.rising); same = f.rows ∙ ap rows_of keys }
+    let f = formed_parts root schema key P rows is in
+    record {
+      rooted = f.rooted;
+      one = f.one;
+      rising = true_T (is_sorted bytes_cmp (rows_of ks)) (ap (λ (l : List Key). is_sorted bytes_cmp (rows_of l)) (sym keys) ∙ f.rising);
+      same = f.rows ∙ ap rows_of keys;
+    }
 
 both : (a b : Bool) → a ≡ true → b ≡ true → (a && b) ≡ true
 both a b p q = ap (λ t. t && b) p ∙ q
 
-pub rows_from : (schema : List Column) (key : List Name) (Q : Pages) (ks : List Key) → is_one_number schema key ≡ true → HoldsKeys Q ks → T (is_sorted bytes_cmp (rows_of ks)) → list_rows schema key Q ≡ Some (rows_of ks)
-rows_from schema key Q ks one holds rising =
+pub rows_from : (root : ℕ) (schema : List Column) (key : List Name) (Q : Pages) (ks : List Key) → is_empty (Q root) ≡ false → is_one_number schema key ≡ true → HoldsKeys Q ks
+    → T (is_sorted bytes_cmp (rows_of ks)) → list_rows root schema key Q ≡ Some (rows_of ks)
+rows_from root schema key Q ks rooted one holds rising =
     let sorted = is_sorted bytes_cmp (rows_of (list_keys Q)) in
-    cond-true (is_one_number schema key && are_list_pages Q (page_numbers Q) && sorted) (Some (rows_of (list_keys Q))) None
-    (both (is_one_number schema key && are_list_pages Q (page_numbers Q)) sorted (both (is_one_number schema key) (are_list_pages Q (page_numbers Q)) one holds.formed)
+    let there = not (is_empty (Q root)) in
+    cond-true (there && is_one_number schema key && are_list_pages Q (page_numbers Q) && sorted) (Some (rows_of (list_keys Q))) None
+    (both (there && is_one_number schema key && are_list_pages Q (page_numbers Q)) sorted
+    (both (there && is_one_number schema key) (are_list_pages Q (page_numbers Q)) (both there (is_one_number schema key) (ap not rooted) one) holds.formed)
     (ap (λ (l : List Key). is_sorted bytes_cmp (rows_of l)) holds.keys ∙ T_true (is_sorted bytes_cmp (rows_of ks)) rising))
     ∙ ap (λ (l : List Key). Some (rows_of l)) holds.keys
+
+-- ---- no bounds
+pub no_bounds : IsBoundless list_method
+no_bounds = record { bound = λ rows. refl; cost = λ c rows. refl; path = λ inst P c n. refl }
+
+pub spends_free : (inst : Instance) (c : MethodCall) (old new : View) (made : Move) → dropped new ≡ old → IsCtx new → (P : Pages) → HoldsPart old P → (rows : Rows) → Before list_method inst c P rows
+    → Spends list_method inst c P rows new made
+spends_free inst c old new made given ctx P part rows before = Spends-boundless list_method inst c P rows old new made no_bounds given ctx part
+
+path_free : (inst : Instance) (c : MethodCall) (old : View) (made : Move) → (P : Pages) → HoldsPart old P → (rows : Rows) → Holds list_method inst P rows → IsOnPath list_method inst c P made
+path_free inst c old made P part rows holds = IsOnPath-boundless list_method inst c P made no_bounds
+
+-- ---- keys that were read
+pub record_key : (k : Key) → is_key k ≡ true → is_record_key k ≡ true
+record_key k is = ap (λ n. nat_le n 200) (eqb-true (length k) 8 (and_parts (length k == 8) (list_all (λ b. nat_lt b 256) k) is).0)
+
+key_standing : (key : Key) (ks : List Key) → are_keys ks ≡ true → stands key ks ≡ true → is_key key ≡ true
+key_standing key [] all there = cc
+key_standing key (k ∷ ks) all there =
+    let parts = and_parts (is_key k) (are_keys ks) all in
+    by (bytes_eq key k) refl there parts.0 (key_standing key ks parts.1)
+  where
+    by : (t : Bool) → bytes_eq key k ≡ t → (t || stands key ks) ≡ true → is_key k ≡ true → (stands key ks ≡ true → is_key key ≡ true) → is_key key ≡ true
+    by true same there is more = ap is_key ((bytes_same key k).0 same) ∙ is
+    by false other there is more = more there
+
+key_first : (p : Key → Bool) (ks : List Key) (k : Key) → are_keys ks ≡ true → Some k ≡ first p ks → is_key k ≡ true
+key_first p [] k all found = cc
+key_first p (x ∷ ks) k all found =
+    let parts = and_parts (is_key x) (are_keys ks) all in
+    by (p x) found parts.0 (key_first p ks k parts.1)
+  where
+    by : (t : Bool) → Some k ≡ cond t (Some x) (first p ks) → is_key x ≡ true → (Some k ≡ first p ks → is_key k ≡ true) → is_key k ≡ true
+    by true found is more = ap is_key (same_Some k x found) ∙ is
+    by false found is more = more found
 
 -- ---- a call that asks
 abbrev pub IsOfRows : MethodCall → Type 0
 IsOfRows call.Prepare = ⊥
 IsOfRows _ = Unit {0}
 
-not_some : (o : Option Rows) (rows : Rows) → o ≡ None → o ≡ Some rows → ⊥
-not_some o rows none some = cc
+asked_answers : (inst : Instance) (c : MethodCall) (old : View) (P after : Pages) (move : Move) → NotNew inst c P → MayAsk old move → Answers list_method inst c P after move
+asked_answers inst c old P after (Need n) other may = tt
+asked_answers inst c old P after (After n) other may = tt
+asked_answers inst c old P after NoMemory other may = tt
+asked_answers inst c old P after (Broken n) other may = other
+asked_answers inst c old P after move other may = absurd may
 
-asked_answers : (inst : Instance) (c : MethodCall) (P after : Pages) (move : Move) → IsOfRows c → MayBe P move → Answers list_method inst c P after move
-asked_answers inst call.Prepare P after move of may = absurd of
-asked_answers inst c P after (Need n) of may = tt
-asked_answers inst c P after (After n) of may = tt
-asked_answers inst c P after NoMemory of may = tt
-asked_answers inst (call.Insert row) P after (Broken n) of may = λ rows holds. absurd (not_some (list_rows inst.schema inst.key P) rows (may inst.schema inst.key) holds)
-asked_answers inst (call.Delete key) P after (Broken n) of may = λ rows holds. absurd (not_some (list_rows inst.schema inst.key P) rows (may inst.schema inst.key) holds)
-asked_answers inst (call.Update key row) P after (Broken n) of may = λ rows holds. absurd (not_some (list_rows inst.schema inst.key P) rows (may inst.schema inst.key) holds)
-asked_answers inst (call.Get key) P after (Broken n) of may = λ rows holds. absurd (not_some (list_rows inst.schema inst.key P) rows (may inst.schema inst.key) holds)
-asked_answers inst (call.Next low) P after (Broken n) of may = λ rows holds. absurd (not_some (list_rows inst.schema inst.key P) rows (may inst.schema inst.key) holds)
-asked_answers inst c P after move of may = absurd may
+asked_broken : (inst : Instance) (old : View) (move : Move) → MayAsk old move → IsBroken list_method inst old move
+asked_broken inst old (Broken n) may = may
+asked_broken inst old (Need n) may = tt
+asked_broken inst old (After n) may = tt
+asked_broken inst old NoMemory may = tt
+asked_broken inst old move may = absurd may
 
-pub Changes-asked : (inst : Instance) (c : MethodCall) (old : View) (move : Move) → IsOfRows c → dropped old ≡ old → IsAsk old move → Changes list_method inst c old old move
-Changes-asked inst c old move of clean ask = record { given = clean; asks = ask.asks; answers = λ P part. asked_answers inst c P (stored old P) move of (ask.may P part) }
+asked_ends : (inst : Instance) (c : MethodCall) (old : View) (move : Move) → MayAsk old move → MayEnd inst c move
+asked_ends inst c old (Broken n) may = tt
+asked_ends inst c old (Need n) may = tt
+asked_ends inst c old (After n) may = tt
+asked_ends inst c old NoMemory may = tt
+asked_ends inst c old move may = absurd may
 
-pub Looks-asked : (inst : Instance) (c : MethodCall) (old : View) (move : Move) → IsOfRows c → IsAsk old move → Looks list_method inst c old old move
-Looks-asked inst c old move of ask = record { same = refl; reads = ask.reads; asks = ask.asks; answers = λ P part. asked_answers inst c P P move of (ask.may P part) }
+pub Changes-asked : (inst : Instance) (c : MethodCall) (old : View) (move : Move) → ((P : Pages) → NotNew inst c P) → dropped old ≡ old → IsAsk old move → Changes list_method inst c old old move
+Changes-asked inst c old move other clean ask = record {
+  given = clean;
+  asks = ask.asks;
+  broken = asked_broken inst old move ask.may;
+  ends = asked_ends inst c old move ask.may;
+  answers = λ P part. asked_answers inst c old P (stored old P) move (other P) ask.may;
+  spends = spends_free inst c old old move clean;
+}
+
+pub Looks-asked : (inst : Instance) (c : MethodCall) (old : View) (move : Move) → ((P : Pages) → NotNew inst c P) → IsAsk old move → Looks list_method inst c old old move
+Looks-asked inst c old move other ask = record {
+  same = refl;
+  reads = ask.reads;
+  asks = ask.asks;
+  broken = asked_broken inst old move ask.may;
+  ends = asked_ends inst c old move ask.may;
+  answers = λ P part. asked_answers inst c old P P move (other P) ask.may;
+  path = path_free inst c old move;
+}
 
 pub Changes-stopped : (inst : Instance) (c : MethodCall) (old new : View) (move : Move) → Stops old new move → Changes list_method inst c old new move
-Changes-stopped inst c old new Fresh s = record { given = s.given; asks = s.may; answers = λ P part. tt }
-Changes-stopped inst c old new NoMemory s = record { given = s.given; asks = tt; answers = λ P part. tt }
+Changes-stopped inst c old new Fresh s = record { given = s.given; asks = s.may; broken = tt; ends = tt; answers = λ P part. tt; spends = spends_free inst c old new Fresh s.given }
+Changes-stopped inst c old new NoMemory s = record { given = s.given; asks = tt; broken = tt; ends = tt; answers = λ P part. tt; spends = spends_free inst c old new NoMemory s.given }
 Changes-stopped inst c old new move s = absurd s.may
 
+pub Changes-memory : (inst : Instance) (c : MethodCall) (old : View) → dropped old ≡ old → Changes list_method inst c old old NoMemory
+Changes-memory inst c old clean = record { given = clean; asks = tt; broken = tt; ends = tt; answers = λ P part. tt; spends = spends_free inst c old old NoMemory clean }
+
+pub Looks-memory : (inst : Instance) (c : MethodCall) (old : View) → Looks list_method inst c old old NoMemory
+Looks-memory inst c old = record { same = refl; reads = tt; asks = tt; broken = tt; ends = tt; answers = λ P part. tt; path = path_free inst c old NoMemory }
+
 -- ---- reading calls
-pub Looks-got : (inst : Instance) (key : Key) (old : View) (ns : List ℕ) (ks : List Key) (move : Move) → IsListed old ns ks → stands key ks ≡ true → IsRowOf key move → Looks list_method inst (call.Get key) old old move
-Looks-got inst key old ns ks NoMemory listed there is = record { same = refl; reads = tt; asks = tt; answers = λ P part. tt }
-Looks-got inst key old ns ks (Rowed k row) listed there is = record {
+rowed_at : (inst : Instance) (key k : Key) (row : Row) → is_record_key key ≡ true → IsRow inst.schema (row_of key) → (k ≡ key) × (row ≡ row_of key) → IsRowIn inst k row
+rowed_at inst key k row is fits same = record { is_key = ap is_record_key same.0 ∙ is; is_row = subst (IsRow inst.schema) (sym same.1) fits }
+
+pub Looks-got : (inst : Instance) (key : Key) (old : View) (ns : List ℕ) (ks : List Key) (move : Move) → ((k : Key) → is_key k ≡ true → IsRow inst.schema (row_of k)) → IsListed old ns ks → stands key ks ≡ true → IsRowOf key move → Looks list_method inst (call.Get key) old old move
+Looks-got inst key old ns ks NoMemory row_fits listed there is = Looks-memory inst _ old
+Looks-got inst key old ns ks (Rowed k row) row_fits listed there is = record {
   same = refl;
   reads = tt;
   asks = tt;
+  broken = tt;
+  ends = rowed_at inst key k row (record_key key (key_standing key ks listed.keys there)) (row_fits key (key_standing key ks listed.keys there)) is;
+  path = path_free inst (call.Get key) old (Rowed k row);
   answers = λ P part rows holds.
-      let r = rows_are inst.schema inst.key P rows ns ks holds (listed.pages P part) in
+      let r = rows_are inst.root inst.schema inst.key P rows ns ks holds (listed.pages P part) in
       subst (λ (o : Option Row). Got key o (Rowed k row)) (sym (ap (λ (l : Rows). row_at l key) r.same ∙ row_at-rows_of key ks ∙ ap (λ t. cond t (Some (row_of key)) None) there)) (λ i. Rowed (is.0 i) (is.1 i));
 }
-Looks-got inst key old ns ks move listed there is = absurd is
+Looks-got inst key old ns ks move row_fits listed there is = absurd is
 
 pub Looks-no_record : (inst : Instance) (key : Key) (old : View) (ns : List ℕ) (ks : List Key) → IsListed old ns ks → stands key ks ≡ false → Looks list_method inst (call.Get key) old old NoRecord
 Looks-no_record inst key old ns ks listed gone = record {
   same = refl;
   reads = tt;
   asks = tt;
+  broken = tt;
+  ends = tt;
+  path = path_free inst (call.Get key) old NoRecord;
   answers = λ P part rows holds.
-      let r = rows_are inst.schema inst.key P rows ns ks holds (listed.pages P part) in
+      let r = rows_are inst.root inst.schema inst.key P rows ns ks holds (listed.pages P part) in
       subst (λ (o : Option Row). Got key o NoRecord) (sym (ap (λ (l : Rows). row_at l key) r.same ∙ row_at-rows_of key ks ∙ ap (λ t. cond t (Some (row_of key)) None) gone)) refl;
 }
 
@@ -138,31 +228,37 @@ next_is (Some k) NoMemory is more = absurd (more refl)
 next_is None move is more = absurd is
 next_is (Some k) move is more = absurd is
 
-pub Looks-next : (inst : Instance) (low : Option Key) (old : View) (ns : List ℕ) (ks : List Key) (found : Option Key) (move : Move) → IsListed old ns ks → found ≡ first (is_above low) ks → IsNextMove found move
+pub Looks-next : (inst : Instance) (low : Option Key) (old : View) (ns : List ℕ) (ks : List Key) (found : Option Key) (move : Move) → ((k : Key) → is_key k ≡ true → IsRow inst.schema (row_of k)) → IsListed old ns ks → found ≡ first (is_above low) ks → IsNextMove found move
     → Looks list_method inst (call.Next low) old old move
-Looks-next inst low old ns ks None End listed is next = record {
+Looks-next inst low old ns ks None End row_fits listed is next = record {
   same = refl;
   reads = tt;
   asks = tt;
+  broken = tt;
+  ends = tt;
+  path = path_free inst (call.Next low) old End;
   answers = λ P part rows holds.
-      let r = rows_are inst.schema inst.key P rows ns ks holds (listed.pages P part) in
+      let r = rows_are inst.root inst.schema inst.key P rows ns ks holds (listed.pages P part) in
       subst (λ (o : Option (Key × Row)). NextIs o End) (sym (ap (row_above low) r.same ∙ row_above-rows_of low ks ∙ ap (option_map (λ k. (k, row_of k))) (sym is))) refl;
 }
-Looks-next inst low old ns ks (Some k) NoMemory listed is next = record { same = refl; reads = tt; asks = tt; answers = λ P part. tt }
-Looks-next inst low old ns ks (Some k) (Rowed key row) listed is next = record {
+Looks-next inst low old ns ks (Some k) NoMemory row_fits listed is next = Looks-memory inst _ old
+Looks-next inst low old ns ks (Some k) (Rowed key row) row_fits listed is next = record {
   same = refl;
   reads = tt;
   asks = tt;
+  broken = tt;
+  ends = rowed_at inst k key row (record_key k (key_first (is_above low) ks k listed.keys is)) (row_fits k (key_first (is_above low) ks k listed.keys is)) next;
+  path = path_free inst (call.Next low) old (Rowed key row);
   answers = λ P part rows holds.
-      let r = rows_are inst.schema inst.key P rows ns ks holds (listed.pages P part) in
+      let r = rows_are inst.root inst.schema inst.key P rows ns ks holds (listed.pages P part) in
       subst (λ (o : Option (Key × Row)). NextIs o (Rowed key row)) (sym (ap (row_above low) r.same ∙ row_above-rows_of low ks ∙ ap (option_map (λ k. (k, row_of k))) (sym is))) (λ i. Rowed (next.0 i) (next.1 i));
 }
-Looks-next inst low old ns ks None move listed is next = absurd next
-Looks-next inst low old ns ks (Some k) move listed is next = absurd next
+Looks-next inst low old ns ks None move row_fits listed is next = absurd next
+Looks-next inst low old ns ks (Some k) move row_fits listed is next = absurd next
 
 -- ---- changing calls
-holds_still : (inst : Instance) (old : View) (P : Pages) (rows : Rows) → dropped old ≡ old → HoldsPart old P → list_rows inst.schema inst.key P ≡ Some rows → list_rows inst.schema inst.key (stored old P) ≡ Some rows
-holds_still inst old P rows clean part holds = ap (list_rows inst.schema inst.key) (stored-clean old P clean part) ∙ holds
+holds_still : (inst : Instance) (old : View) (P : Pages) (rows : Rows) → dropped old ≡ old → HoldsPart old P → list_rows inst.root inst.schema inst.key P ≡ Some rows → list_rows inst.root inst.schema inst.key (stored old P) ≡ Some rows
+holds_still inst old P rows clean part holds = ap (list_rows inst.root inst.schema inst.key) (stored-clean old P clean part) ∙ holds
 
 none_at : (key : Key) (rows : Rows) (ks : List Key) (t : Bool) → rows ≡ rows_of ks → stands key ks ≡ t → is_none (row_at rows key) ≡ not t
 none_at key rows ks t same is = ap (λ (l : Rows). is_none (row_at l key)) same ∙ ap is_none (row_at-rows_of key ks ∙ ap (λ b. cond b (Some (row_of key)) None) is) ∙ by t
@@ -176,11 +272,11 @@ keys_for : (rows : Rows) (own : Option Key) (code : Key) (t : Bool) → is_free 
 keys_for rows own code t is = ap (λ b. cond b (Just code) Taken) is
 
 got_key : (inst : Instance) (rows : Rows) (own : Option Key) (code : Key) (with_key : Key → Rows) (after : Pages) (key : Key) → is_free rows own code ≡ true → key ≡ code
-    → list_rows inst.schema inst.key after ≡ Some (with_key key) → Gets list_method inst (new_keys Coded rows own code) rows with_key after (Keyed key)
+    → list_rows inst.root inst.schema inst.key after ≡ Some (with_key key) → Gets list_method inst (new_keys Coded rows own code) rows with_key after (Keyed key)
 got_key inst rows own code with_key after key free is holds = subst (λ (n : NewKeys). Gets list_method inst n rows with_key after (Keyed key)) (sym (keys_for rows own code true free)) (is, holds)
 
 got_none : (inst : Instance) (rows : Rows) (own : Option Key) (code : Key) (with_key : Key → Rows) (after : Pages) → is_free rows own code ≡ false
-    → list_rows inst.schema inst.key after ≡ Some rows → Gets list_method inst (new_keys Coded rows own code) rows with_key after Duplicate
+    → list_rows inst.root inst.schema inst.key after ≡ Some rows → Gets list_method inst (new_keys Coded rows own code) rows with_key after Duplicate
 got_none inst rows own code with_key after taken holds = subst (λ (n : NewKeys). Gets list_method inst n rows with_key after Duplicate) (sym (keys_for rows own code false taken)) holds
 
 rising_with : (key : Key) (ks : List Key) → stands key ks ≡ false → T (is_sorted bytes_cmp (rows_of ks)) → T (is_sorted bytes_cmp (rows_of (with_key key ks)))
@@ -194,11 +290,14 @@ pub Changes-inserted : (inst : Instance) (row : Row) (code : Key) (old new : Vie
 Changes-inserted inst row code old new ns ks listed key fresh became = record {
   given = became.given;
   asks = tt;
+  broken = tt;
+  ends = record_key code key.key;
+  spends = spends_free inst _ old new _ became.given;
   answers = λ P part rows holds.
-      let r = rows_are inst.schema inst.key P rows ns ks holds (listed.pages P part) in
+      let r = rows_are inst.root inst.schema inst.key P rows ns ks holds (listed.pages P part) in
       got_key inst rows None (code_of inst row) (λ k. with_row rows k row) (stored new P) code
       (ap (λ k. is_none (row_at rows k)) (sym key.code) ∙ none_at code rows ks false r.same fresh) key.code
-      (rows_from inst.schema inst.key (stored new P) (with_key code ks) key.one (became.holds P part (listed.pages P part).numbers) (rising_with code ks fresh r.rising)
+      (rows_from inst.root inst.schema inst.key (stored new P) (with_key code ks) (became.kept P part inst.root r.rooted) key.one (became.holds P part (listed.pages P part).numbers) (rising_with code ks fresh r.rising)
       ∙ ap Some (sym (with_row-rows_of code ks fresh) ∙ (λ i. with_row (sym r.same i) code (key.row i))));
 }
 
@@ -207,8 +306,11 @@ pub Changes-duplicate : (inst : Instance) (row : Row) (code : Key) (old : View) 
 Changes-duplicate inst row code old ns ks clean listed key there = record {
   given = clean;
   asks = tt;
+  broken = tt;
+  ends = tt;
+  spends = spends_free inst _ old old _ clean;
   answers = λ P part rows holds.
-      let r = rows_are inst.schema inst.key P rows ns ks holds (listed.pages P part) in
+      let r = rows_are inst.root inst.schema inst.key P rows ns ks holds (listed.pages P part) in
       got_none inst rows None (code_of inst row) (λ k. with_row rows k row) (stored old P)
       (ap (λ k. is_none (row_at rows k)) (sym key.code) ∙ none_at code rows ks true r.same there) (holds_still inst old P rows clean part holds);
 }
@@ -221,10 +323,13 @@ pub Changes-deleted : (inst : Instance) (key : Key) (old new : View) (ns : List 
 Changes-deleted inst key old new ns ks listed there became = record {
   given = became.given;
   asks = tt;
+  broken = tt;
+  ends = tt;
+  spends = spends_free inst _ old new _ became.given;
   answers = λ P part rows holds.
-      let r = rows_are inst.schema inst.key P rows ns ks holds (listed.pages P part) in
+      let r = rows_are inst.root inst.schema inst.key P rows ns ks holds (listed.pages P part) in
       subst (λ (o : Option Row). Deleted list_method inst key o rows (stored new P) Done) (sym (row_there key rows ks true r.same there))
-      (rows_from inst.schema inst.key (stored new P) (without_key key ks) r.one (became.holds P part (listed.pages P part).numbers) (rising_without key ks r.rising)
+      (rows_from inst.root inst.schema inst.key (stored new P) (without_key key ks) (became.kept P part inst.root r.rooted) r.one (became.holds P part (listed.pages P part).numbers) (rising_without key ks r.rising)
       ∙ ap Some (sym (without_row-rows_of key ks) ∙ ap (λ (l : Rows). without_row l key) (sym r.same)));
 }
 
@@ -233,8 +338,11 @@ pub Changes-no_record : (inst : Instance) (key : Key) (old : View) (ns : List �
 Changes-no_record inst key old ns ks clean listed gone = record {
   given = clean;
   asks = tt;
+  broken = tt;
+  ends = tt;
+  spends = spends_free inst _ old old _ clean;
   answers = λ P part rows holds.
-      let r = rows_are inst.schema inst.key P rows ns ks holds (listed.pages P part) in
+      let r = rows_are inst.root inst.schema inst.key P rows ns ks holds (listed.pages P part) in
       subst (λ (o : Option Row). Deleted list_method inst key o rows (stored old P) NoRecord) (sym (row_there key rows ks false r.same gone)) (holds_still inst old P rows clean part holds);
 }
 
@@ -243,8 +351,11 @@ pub Changes-no_row : (inst : Instance) (key : Key) (row : Row) (old : View) (ns 
 Changes-no_row inst key row old ns ks clean listed gone = record {
   given = clean;
   asks = tt;
+  broken = tt;
+  ends = tt;
+  spends = spends_free inst _ old old _ clean;
   answers = λ P part rows holds.
-      let r = rows_are inst.schema inst.key P rows ns ks holds (listed.pages P part) in
+      let r = rows_are inst.root inst.schema inst.key P rows ns ks holds (listed.pages P part) in
       subst (λ (o : Option Row). Updated list_method inst key row o rows (stored old P) NoRecord) (sym (row_there key rows ks false r.same gone)) (holds_still inst old P rows clean part holds);
 }
 
@@ -254,8 +365,11 @@ pub Changes-taken : (inst : Instance) (key : Key) (row : Row) (code : Key) (old 
 Changes-taken inst key row code old ns ks clean listed for there other taken = record {
   given = clean;
   asks = tt;
+  broken = tt;
+  ends = tt;
+  spends = spends_free inst _ old old _ clean;
   answers = λ P part rows holds.
-      let r = rows_are inst.schema inst.key P rows ns ks holds (listed.pages P part) in
+      let r = rows_are inst.root inst.schema inst.key P rows ns ks holds (listed.pages P part) in
       subst (λ (o : Option Row). Updated list_method inst key row o rows (stored old P) Duplicate) (sym (row_there key rows ks true r.same there))
       (got_none inst rows (Some key) (code_of inst row) (λ new. with_row (without_row rows key) new row) (stored old P)
       (ap (λ k. bytes_eq key k || is_none (row_at rows k)) (sym for.code) ∙ ap (λ t. t || is_none (row_at rows code)) other ∙ none_at code rows ks true r.same taken)
@@ -303,13 +417,16 @@ pub Changes-updated : (inst : Instance) (key : Key) (row : Row) (code : Key) (ol
 Changes-updated inst key row code old new ns ks listed for there free became = record {
   given = became.given;
   asks = tt;
+  broken = tt;
+  ends = record_key code for.key;
+  spends = spends_free inst _ old new _ became.given;
   answers = λ P part rows holds.
-      let r = rows_are inst.schema inst.key P rows ns ks holds (listed.pages P part) in
+      let r = rows_are inst.root inst.schema inst.key P rows ns ks holds (listed.pages P part) in
       let fresh = gone_then key code ks free in
       subst (λ (o : Option Row). Updated list_method inst key row o rows (stored new P) (Keyed code)) (sym (row_there key rows ks true r.same there))
       (got_key inst rows (Some key) (code_of inst row) (λ new. with_row (without_row rows key) new row) (stored new P) code
       (ap (λ k. bytes_eq key k || is_none (row_at rows k)) (sym for.code) ∙ ap (λ t. bytes_eq key code || t) (none_at code rows ks (stands code ks) r.same refl) ∙ free) for.code
-      (rows_from inst.schema inst.key (stored new P) (with_key code (without_key key ks)) for.one (became.holds P part (listed.pages P part).numbers) (rising_with code (without_key key ks) fresh (rising_without key ks r.rising))
+      (rows_from inst.root inst.schema inst.key (stored new P) (with_key code (without_key key ks)) (became.kept P part inst.root r.rooted) for.one (became.holds P part (listed.pages P part).numbers) (rising_with code (without_key key ks) fresh (rising_without key ks r.rising))
       ∙ ap Some (sym (with_row-rows_of code (without_key key ks) fresh) ∙ ap (λ (l : Rows). with_row l code (row_of code)) (sym (without_row-rows_of key ks)) ∙ (λ i. with_row (without_row (sym r.same i) key) code (for.row i)))));
 }
 

@@ -4,8 +4,7 @@ use Rattle.std.specs.List.{list_all, list_any, range_with_len}
 use Rattle.std.proofs.lemmas.Bool.{and_parts, cond-true, cond-false}
 use Rattle.std.proofs.lemmas.Bool.Decides.{nat_tests}
 use Rattle.sb_relation.specs.Fits.{is_empty}
-use Rattle.sb_forms.specs.Pages.{Pages, IsAbove}
-use Rattle.sb_forms.specs.ListPages.{page_numbers}
+use Rattle.sb_forms.specs.Pages.{Pages, IsAbove, page_numbers}
 use Rattle.sb_listmethod.specs.Keys.{placed}
 use Rattle.sb_listmethod.specs.Listed.{most_pages, pages_from, behind, IsNextBelow}
 use Rattle.sb_listmethod.specs.Written.{with_number}

@@ -7,15 +7,15 @@ use Rattle.std.proofs.lemmas.List.{append-nil, take-append-drop, length-replicat
 use Rattle.std.proofs.Math.Seq.{drop-cons}
 use Rattle.sb_relation.specs.Db.{Key}
 use Rattle.sb_relation.specs.Fits.{is_empty}
-use Rattle.sb_forms.specs.Pages.{Pages, zeros}
-use Rattle.sb_forms.specs.ListPages.{page_numbers, page_keys, is_list_page}
+use Rattle.sb_forms.specs.Pages.{Pages, zeros, page_numbers}
+use Rattle.sb_forms.specs.ListPages.{page_keys, is_list_page}
 use Rattle.sb_ctx.specs.declared.moves.Move.TheVariants.{NoMemory}
 use Rattle.sb_ctx.specs.View.{View, spliced, page_of, room_of, free_page, dropped, with_page, HoldsPart, stored}
-use Rattle.sb_ctx.specs.ViewLaws.{IsFree-free_page, page_of-with_page, page_of-same, free_page-unused, stored-with_page, stored-same, stored-clean, room_of-page, dropped-with_page}
+use Rattle.sb_ctx.proofs.ViewLaws.{IsFree-free_page, page_of-with_page, page_of-same, free_page-unused, stored-with_page, stored-same, stored-clean, room_of-page, dropped-with_page}
 use Rattle.sb_ctx.specs.Sound.{IsSound}
 use Rattle.sb_listmethod.specs.Keys.{is_key, are_keys, placed}
 use Rattle.sb_listmethod.specs.Listed.{most_pages, are_list_pages, keys_in, are_whole, Lists}
-use Rattle.sb_listmethod.specs.Written.{page_of_keys, with_keys, left, with_number, HoldsKeys, Became, Stops}
+use Rattle.sb_listmethod.specs.Written.{page_of_keys, with_keys, left, with_number, HoldsKeys, Became, Stops, KeepsPages}
 use Rattle.sb_listmethod.proofs.NumberLemmas.{has_bytes}
 use Rattle.sb_listmethod.proofs.PageLemmas.{parts_of, length-page_of_keys, page_keys-page_of_keys, is_list_page-page_of_keys}
 
@@ -109,7 +109,7 @@ same_numbers : (P Q : Pages) → ((m : ℕ) → has_bytes P m ≡ has_bytes Q m)
 same_numbers P Q same = page_numbers-is P ∙ (λ i. filter (λ m. same m i) (range_with_len 0 most_pages)) ∙ sym (page_numbers-is Q)
 
 -- ---- whole pages stay whole
-not_empty : (bytes : List ℕ) (n : ℕ) → length bytes ≡ n → 0 < n → is_empty bytes ≡ false
+pub not_empty : (bytes : List ℕ) (n : ℕ) → length bytes ≡ n → 0 < n → is_empty bytes ≡ false
 not_empty [] n long some = absurd (omega arith)
 not_empty (b ∷ bytes) n long some = refl
 
@@ -247,6 +247,26 @@ fresh_given c new f clean is = ap dropped is ∙ dropped-with_page c f zeros ∙
 pub fresh_stops : (c new : View) (f : ℕ) → dropped c ≡ c → new ≡ with_page f zeros c → Stops c new NoMemory
 fresh_stops c new f clean is = record { given = fresh_given c new f clean is; may = tt }
 
+pub same_kept : (c : View) (P : Pages) → dropped c ≡ c → HoldsPart c P → KeepsPages P (stored c P)
+same_kept c P clean part = λ n some. ap (λ (Q : Pages). is_empty (Q n)) (stored-clean c P clean part) ∙ some
+
+pub fresh_kept : (c new : View) (P : Pages) (f : ℕ) → IsSound c → dropped c ≡ c → Some f ≡ free_page c → new ≡ with_page f zeros c → HoldsPart c P → KeepsPages P (stored new P)
+fresh_kept c new P f sound clean is taken part = λ n some.
+    ap (λ (v : View). is_empty (stored v P n)) taken
+    ∙ ap is_empty (stored-with_page c P f n zeros (free_held c f sound (sym is)) ∙ ap (λ (l : List ℕ). cond (f == n) zeros l) (λ i. stored-clean c P clean part i n))
+    ∙ by (f == n) (P n) some
+  where
+    by : (b : Bool) (bytes : List ℕ) → is_empty bytes ≡ false → is_empty (cond b zeros bytes) ≡ false
+    by true bytes some = not_empty zeros 4096 length-zeros (omega arith)
+    by false bytes some = some
+
+written_kept : (ns : List ℕ) (ks : List Key) (c : View) (P : Pages) → are_whole c ns ≡ true → (n : ℕ) → is_empty (stored c P n) ≡ false → is_empty (stored (with_keys ns ks c) P n) ≡ false
+written_kept ns ks c P whole n some = has_bytes_after ns ks c P n whole ∙ by (is_in n ns) (is_empty (stored c P n)) some
+  where
+    by : (t b : Bool) → b ≡ false → cond t false b ≡ false
+    by true b e = refl
+    by false b e = e
+
 pub roomy_numbers : (c new : View) (P : Pages) (f : ℕ) (ns more : List ℕ) → IsSound c → dropped c ≡ c → Some f ≡ free_page c → f < most_pages → new ≡ with_page f zeros c → more ≡ with_number f ns
     → HoldsPart c P → page_numbers P ≡ ns → page_numbers (stored new P) ≡ more
 roomy_numbers c new P f ns more sound clean is less taken put part numbers =
@@ -290,8 +310,9 @@ write_more ns i k rest here more c new c0 W L within count front back is written
     }
 
 pub stored_became : (c mid new : View) (ns more : List ℕ) (ks : List Key) → dropped mid ≡ c → dropped new ≡ dropped mid → ((P : Pages) → HoldsPart c P → page_numbers P ≡ ns → page_numbers (stored mid P) ≡ more)
-    → are_whole mid more ≡ true → are_keys ks ≡ true → (new ≡ with_keys more ks mid) × (left more ks ≡ []) → Became c new ns ks
-stored_became c mid new ns more ks given same numbers whole keys written = record {
+    → ((P : Pages) → HoldsPart c P → KeepsPages P (stored mid P)) → are_whole mid more ≡ true → are_keys ks ≡ true → (new ≡ with_keys more ks mid) × (left more ks ≡ []) → Became c new ns ks
+stored_became c mid new ns more ks given same numbers kept whole keys written = record {
   given = same ∙ given;
   holds = λ P part is. subst (λ (v : View). HoldsKeys (stored v P) ks) (sym written.0) (written_holds mid P more ks (numbers P part is) whole keys written.1);
+  kept = λ P part n some. ap (λ (v : View). is_empty (stored v P n)) written.0 ∙ written_kept more ks mid P whole n (kept P part n some);
 }

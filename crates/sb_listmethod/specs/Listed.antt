@@ -1,24 +1,27 @@
 -- What the box means, and what it reads of its pages.
-use Rattle.std.specs.Prelude.{◌≡◌, ◌≢◌, ℕ, ◌+◌, ◌-◌, ◌<◌, ◌≤◌, ◌==◌, nat_lt, Bool, true, false, cond, not, List, [], ◌∷◌, ◌++◌, filter, Option, Some, None}
+use Rattle.std.specs.Prelude.{◌≡◌, ◌≢◌, ℕ, ◌+◌, ◌-◌, ◌<◌, ◌≤◌, ◌==◌, nat_lt, Bool, true, false, cond, not, ◌&&◌, List, [], ◌∷◌, ◌++◌, filter, Option, Some, None}
 use Rattle.std.specs.List.{list_all, flat_map, range_with_len}
 use Rattle.sb_value.specs.declared.schema.Column.{Column}
 use Rattle.sb_relation.specs.Db.{Name, Key}
 use Rattle.sb_relation.specs.Fits.{is_empty}
 use Rattle.sb_relation.specs.Foreign.{MethodRules}
-use Rattle.sb_forms.specs.Pages.{Pages, IsAbove}
-use Rattle.sb_forms.specs.ListPages.{page_numbers, page_keys, is_list_page, is_one_number, list_rows}
+use Rattle.sb_forms.specs.Pages.{Pages, IsAbove, page_numbers}
+use Rattle.sb_forms.specs.ListPages.{page_keys, is_list_page, is_one_number, list_rows}
 use Rattle.sb_ctx.specs.declared.moves.Move.{Move}
 use Rattle.sb_ctx.specs.declared.moves.Move.TheVariants.{Need, After, Broken, NoMemory}
-use Rattle.sb_ctx.specs.View.{View, page_of, room_of, HoldsPart}
-use Rattle.sb_ctx.specs.Method.{Method}
+use Rattle.sb_ctx.specs.View.{View, HeldPages, given_at, page_of, room_of, HoldsPart}
+use Rattle.sb_ctx.specs.Method.{Method, plain_method}
 use Rattle.sb_ctx.specs.MethodAnswers.{AsksFor, Reads as Reading}
 use Rattle.sb_listmethod.specs.Keys.{are_keys}
 
+-- a page that is held, of a number that a page may have, with bytes and not of a list page
+abbrev pub is_misformed : HeldPages → ℕ → Bool
+is_misformed held n = elim (held n) [ None ↦ false | Some bytes ↦ nat_lt n 65536 && not (is_empty bytes) && not (is_list_page bytes) ]
+
 -- its rows are those of list pages
 abbrev pub list_method : Method
-list_method = record {
-  rules = record { code = 2; durable = true; fits = is_one_number };
-  read = λ inst P. list_rows inst.schema inst.key P;
+list_method = record (plain_method (record { code = 2; durable = true; fits = is_one_number }) (λ inst P. list_rows inst.root inst.schema inst.key P)) {
+  may_break = λ inst held n. is_misformed held n;
 }
 
 -- ---- the pages below the limit of numbers
@@ -87,22 +90,22 @@ pub record Reads (c : View) (n : ℕ) (ns : List ℕ) (ks : List Key) (more : Li
   pub keys : others ≡ ks ++ page_keys page
 
 -- ---- what is asked
--- pages that aren't formed, where one is called broken
-abbrev pub MayBe : Pages → Move → Type 0
-MayBe P (Need n) = Unit {0}
-MayBe P (After n) = Unit {0}
-MayBe P NoMemory = Unit {0}
-MayBe P (Broken n) = (schema : List Column) (key : List Name) → list_rows schema key P ≡ None
-MayBe P move = ⊥
+-- what may be asked: a page that isn't of its form is called broken
+abbrev pub MayAsk : View → Move → Type 0
+MayAsk c (Need n) = Unit {0}
+MayAsk c (After n) = Unit {0}
+MayAsk c NoMemory = Unit {0}
+MayAsk c (Broken n) = is_misformed (given_at c) n ≡ true
+MayAsk c move = ⊥
 
 -- what may stop the reading of one page
 abbrev pub StopsAt : View → ℕ → Move → Type 0
 StopsAt c n (Need m) = (m ≡ n) × (page_of c n ≡ None)
-StopsAt c n (Broken m) = (m ≡ n) × (page : List ℕ) × (page_of c n ≡ Some page) × (is_list_page page ≡ false)
+StopsAt c n (Broken m) = (m ≡ n) × (page : List ℕ) × (page_of c n ≡ Some page) × (is_list_page page ≡ false) × (is_empty page ≡ false)
 StopsAt c n NoMemory = Unit {0}
 StopsAt c n move = ⊥
 
 pub record IsAsk (c : View) (move : Move) : Type 0 where
   pub reads : Reading move
   pub asks : AsksFor c move
-  pub may : (P : Pages) → HoldsPart c P → MayBe P move
+  pub may : MayAsk c move

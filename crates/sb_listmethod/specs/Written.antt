@@ -1,10 +1,10 @@
 -- What the box writes to its pages.
-use Rattle.std.specs.Prelude.{◌≡◌, ℕ, ◌-◌, ◌*◌, ◌<◌, nat_lt, List, [], ◌∷◌, ◌++◌, length, take, drop, replicate, Option, Some, None}
+use Rattle.std.specs.Prelude.{◌≡◌, ℕ, ◌-◌, ◌*◌, ◌<◌, nat_lt, false, List, [], ◌∷◌, ◌++◌, length, take, drop, replicate, Option, Some, None}
 use Rattle.std.specs.List.{concat}
 use Rattle.std.specs.Int.{to_be_bytes, w16}
 use Rattle.sb_relation.specs.Db.{Key}
-use Rattle.sb_forms.specs.Pages.{Pages}
-use Rattle.sb_forms.specs.ListPages.{page_numbers}
+use Rattle.sb_relation.specs.Fits.{is_empty}
+use Rattle.sb_forms.specs.Pages.{Pages, page_numbers}
 use Rattle.sb_ctx.specs.declared.moves.Move.{Move}
 use Rattle.sb_ctx.specs.declared.moves.Move.TheVariants.{Fresh, NoMemory}
 use Rattle.sb_ctx.specs.View.{View, free_page, dropped, with_page, HoldsPart, stored}
@@ -37,10 +37,15 @@ with_number n = placed (λ m. nat_lt m n) n
 abbrev pub HoldsKeys : Pages → List Key → Type 0
 HoldsKeys P keys = Lists P (page_numbers P) keys
 
+-- each page that has bytes keeps some
+abbrev pub KeepsPages : Pages → Pages → Type 0
+KeepsPages P Q = (n : ℕ) → is_empty (P n) ≡ false → is_empty (Q n) ≡ false
+
 -- the pages that hold these keys once what was made of them is stored; what was given stays
 pub record Became (old new : View) (ns : List ℕ) (ks : List Key) : Type 0 where
   pub given : dropped new ≡ old
   pub holds : (P : Pages) → HoldsPart old P → page_numbers P ≡ ns → HoldsKeys (stored new P) ks
+  pub kept : (P : Pages) → HoldsPart old P → KeepsPages P (stored new P)
 
 -- a fresh page is asked for where none is left; want of memory is free
 abbrev pub MayStop : View → Move → Type 0

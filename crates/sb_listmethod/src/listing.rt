@@ -47,6 +47,9 @@ fn read_page(alloc: Global, ctx: &Ctx, n: u32, listed: &mut Listed) -> Result<()
     let Some(page) = ctx.page(n) else {
         return Err(Move::Need(n));
     };
+    if page.is_empty() {
+        return Err(Move::NoMemory);
+    }
     if !is_formed(page) {
         return Err(Move::Broken(n));
     }

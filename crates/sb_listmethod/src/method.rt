@@ -123,7 +123,10 @@ impl StorageMethod for ListMethod {
         put_key(alloc, ctx, listed, code)
     }
 
-    fn get(&self, alloc: Global, ctx: &mut Ctx, _inst: &Instance, key: &RecKey) -> Move {
+    fn get(&self, alloc: Global, ctx: &mut Ctx, inst: &Instance, key: &RecKey) -> Move {
+        if !keeps(&inst.schema, &inst.key) {
+            return Move::NoMemory;
+        }
         let listed = match read_all(alloc, ctx) {
             Ok(listed) => listed,
             Err(ask) => return ask,
@@ -135,7 +138,10 @@ impl StorageMethod for ListMethod {
         }
     }
 
-    fn next(&self, alloc: Global, ctx: &mut Ctx, _inst: &Instance, after: Option<&RecKey>) -> Move {
+    fn next(&self, alloc: Global, ctx: &mut Ctx, inst: &Instance, after: Option<&RecKey>) -> Move {
+        if !keeps(&inst.schema, &inst.key) {
+            return Move::NoMemory;
+        }
         let listed = match read_all(alloc, ctx) {
             Ok(listed) => listed,
             Err(ask) => return ask,

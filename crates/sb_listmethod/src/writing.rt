@@ -1,12 +1,11 @@
 //! Keys written to the pages of an instance.
 
 ghost use Rattle.std.specs.Prelude.{◌≡◌, ◌≤◌, length, nat_lt, take_while, true, [], IfOk, IfErr, OnOk, OnErr};
-ghost use Rattle.sb_forms.specs.Pages.{Pages};
-ghost use Rattle.sb_forms.specs.ListPages.{page_numbers};
+ghost use Rattle.sb_forms.specs.Pages.{Pages, page_numbers};
 ghost use Rattle.sb_ctx.specs.View.{room_of, dropped, with_page, HoldsPart, stored};
 ghost use Rattle.sb_listmethod.specs.Keys.{are_keys};
 ghost use Rattle.sb_listmethod.specs.Listed.{are_whole};
-ghost use Rattle.sb_listmethod.specs.Written.{page_of_keys, with_keys, left, with_number, Became, Stops};
+ghost use Rattle.sb_listmethod.specs.Written.{page_of_keys, with_keys, left, with_number, KeepsPages, Became, Stops};
 
 use crate::listing::MOST_PAGES;
 use crate::page::{MOST_KEYS, page_image};
@@ -63,6 +62,7 @@ fn roomy(ctx: &mut Ctx, numbers: Vec<u32>, count: usize) -> Result<Vec<u32>, Mov
     requires clean { dropped ctx.old ≡ ctx.old }
     requires whole { are_whole ctx.old numbers.items ≡ true }
     ensures numbers { IfOk result (λ ns. (P : Pages) → HoldsPart ctx.old P → page_numbers P ≡ numbers.items → page_numbers (stored ctx.new P) ≡ ns.items) }
+    ensures kept { IfOk result (λ ns. (P : Pages) → HoldsPart ctx.old P → KeepsPages P (stored ctx.new P)) }
     ensures whole { IfOk result (λ ns. are_whole ctx.new ns.items ≡ true) }
     ensures given { dropped ctx.new ≡ ctx.old }
     ensures stops { IfErr result (Stops ctx.old ctx.new) }

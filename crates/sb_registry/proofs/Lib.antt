@@ -1,2 +1,3 @@
 pub mod BoxesLemmas
 pub mod CodesLemmas
+pub mod TestLemmas

@@ -1,6 +1,8 @@
 -- What boxes mean, by the meaning of a value of each type that is boxed.
 use Rattle.std.specs.Prelude.{◌≡◌, ℕ, ◌==◌, Bool, true, false, List, ◌++◌, map, Option}
 use Rattle.std.specs.List.{find}
+use Rattle.std.specs.declared.dyn_box.DynBox.{DynBox}
+use Rattle.std.specs.declared.alloc.Global.{Global}
 use Rattle.sb_ctx.specs.Method.{Method}
 use Rattle.sb_ctx.specs.Attachment.{Attachment}
 use Rattle.sb_registry.specs.declared.extensions.Extensions.{Extensions}
@@ -20,12 +22,12 @@ pub record Meanings : Type 0 where
   pub spare_methods : List Method
   pub spare_attachments : List Attachment
 
-abbrev pub meanings : {I J : Type 0} {F : I → Type 0} {G : J → Type 0} → ((i : I) → F i → Method) → ((j : J) → G j → Attachment) → Extensions I J F G → Meanings
+abbrev pub meanings : {I J : Type 0} {F : I → Type 0} {G : J → Type 0} → (DynBox I Global F → Method) → (DynBox J Global G → Attachment) → Extensions I J F G → Meanings
 meanings of_method of_attachment exts = record {
-  methods = map (λ b. of_method b.vtable b.value) exts.methods.items;
-  attachments = map (λ b. of_attachment b.vtable b.value) exts.attachments.items;
-  spare_methods = map (λ b. of_method b.vtable b.value) exts.spare_methods.items;
-  spare_attachments = map (λ b. of_attachment b.vtable b.value) exts.spare_attachments.items;
+  methods = map of_method exts.methods.items;
+  attachments = map of_attachment exts.attachments.items;
+  spare_methods = map of_method exts.spare_methods.items;
+  spare_attachments = map of_attachment exts.spare_attachments.items;
 }
 
 -- the first code that repeats among the storage methods, or else among the attachments, the live ones before the spare ones

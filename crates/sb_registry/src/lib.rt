@@ -6,7 +6,7 @@ mod coded;
 mod extensions;
 mod registry;
 
-pub use extensions::Extensions;
+pub use extensions::{Extensions, Meant};
 pub use registry::Registry;
 
 #[cfg(test)]

@@ -2,6 +2,8 @@
 
 ghost use Rattle.std.specs.Prelude.{◌≡◌, ◌+◌, true, Some, None};
 ghost use Rattle.sb_relation.specs.Images.{no_image};
+ghost use Rattle.sb_ctx.specs.Attachment.{plain_attachment};
+ghost use Rattle.sb_ctx.specs.Method.{plain_method};
 
 use crate::{Extensions, Registry};
 use sb_ctx::{Attachment, Ctx, Instance, Move, StorageMethod};
@@ -17,10 +19,7 @@ struct Numbered {
 }
 
 impl StorageMethod for Numbered {
-    ghost method = { λ m. record {
-      rules = record { code = 1000 + m.number; durable = true; fits = λ schema key. true };
-      read = λ inst P. None;
-    } };
+    ghost method = { λ m. plain_method (record { code = 1000 + m.number; durable = true; fits = λ schema key. true }) (λ inst P. None) };
 
     fn code(&self) -> u16 {
         1000 + u16::from(self.number)
@@ -72,25 +71,22 @@ impl StorageMethod for Numbered {
     }
 }
 
-/// An attachment without pages, whose calls all want memory.
+/// An attachment of code 1000 and this number more, whose calls all want memory.
 #[derive(Drop)]
 struct Plain {
-    code: u16,
+    number: u8,
 }
 
 impl Attachment for Plain {
-    ghost attachment = { λ a. record {
-      rules = record {
-        code = a.code;
-        fits = λ schema desc. true;
-        admits = λ desc db name change. true;
-        image = λ desc schema rows. no_image;
-      };
-      content = λ inst P. Some no_image;
-    } };
+    ghost attachment = { λ a. plain_attachment (record {
+      code = 1000 + a.number;
+      fits = λ schema desc. true;
+      admits = λ desc db name change. true;
+      image = λ desc schema rows. no_image;
+    }) (λ inst P. None) };
 
     fn code(&self) -> u16 {
-        self.code
+        1000 + u16::from(self.number)
     }
 
     fn fits(&self, _schema: &Schema, _desc: &Bytes) -> bool {
@@ -142,12 +138,12 @@ impl Attachment for Plain {
     }
 }
 
-/// Boxes to be taken, by their numbers and codes, and the code that is refused.
+/// Boxes to be taken, by their numbers, and the code that is refused.
 struct Row {
     methods: &'static [u8],
     spare_methods: &'static [u8],
-    attachments: &'static [u16],
-    spare_attachments: &'static [u16],
+    attachments: &'static [u8],
+    spare_attachments: &'static [u8],
     refused: Option<u16>,
 }
 
@@ -163,13 +159,13 @@ const ROWS: [Row; 7] = [
     NONE,
     Row {
         attachments: &[5, 5],
-        refused: Some(5),
+        refused: Some(1005),
         ..NONE
     },
     Row {
         attachments: &[5, 7],
         spare_attachments: &[6, 7, 5],
-        refused: Some(7),
+        refused: Some(1007),
         ..NONE
     },
     Row {
@@ -187,14 +183,14 @@ const ROWS: [Row; 7] = [
     Row {
         methods: &[1],
         spare_methods: &[2],
-        attachments: &[1001],
-        spare_attachments: &[1002],
+        attachments: &[1],
+        spare_attachments: &[2],
         ..NONE
     },
     Row {
         methods: &[1, 2, 3],
         attachments: &[5],
-        spare_attachments: &[1000],
+        spare_attachments: &[0],
         ..NONE
     },
 ];
@@ -210,12 +206,12 @@ fn refusal(alloc: Global, row: &Row) -> Result<Option<u16>, AllocError> {
         spare_methods.push(Box::new(alloc, Numbered { number: *number })?)?;
     }
     let mut attachments: Vec<Box<dyn Attachment>> = Vec::new(alloc);
-    for code in row.attachments {
-        attachments.push(Box::new(alloc, Plain { code: *code })?)?;
+    for number in row.attachments {
+        attachments.push(Box::new(alloc, Plain { number: *number })?)?;
     }
     let mut spare_attachments: Vec<Box<dyn Attachment>> = Vec::new(alloc);
-    for code in row.spare_attachments {
-        spare_attachments.push(Box::new(alloc, Plain { code: *code })?)?;
+    for number in row.spare_attachments {
+        spare_attachments.push(Box::new(alloc, Plain { number: *number })?)?;
     }
     let exts = Extensions {
         methods,
@@ -253,12 +249,12 @@ fn one_code_twice_is_refused(rt: HostRuntime) -> Result<(), Fail> {
 #[derive(Debug, Drop)]
 struct Refused;
 
-/// An attachment of code 5 goes and comes back.
+/// An attachment goes and comes back.
 #[test]
 fn attachment_moved(rt: HostRuntime) -> Result<(), Fail> {
     let alloc = rt.alloc();
     let mut attachments: Vec<Box<dyn Attachment>> = Vec::new(alloc);
-    attachments.push(Box::new(alloc, Plain { code: 5 })?)?;
+    attachments.push(Box::new(alloc, Plain { number: 5 })?)?;
     let exts = Extensions {
         methods: Vec::new(alloc),
         attachments,
@@ -266,11 +262,11 @@ fn attachment_moved(rt: HostRuntime) -> Result<(), Fail> {
         spare_attachments: Vec::new(alloc),
     };
     let mut registry = Registry::take(exts).map_err(|_| Refused)?;
-    let before = registry.register(false, 5)?;
-    let gone = registry.retire(false, 5)?;
-    let none = registry.attachment(5).is_none();
-    let back = registry.register(false, 5)?;
-    let there = registry.attachment(5).is_some();
+    let before = registry.register(false, 1005)?;
+    let gone = registry.retire(false, 1005)?;
+    let none = registry.attachment(1005).is_none();
+    let back = registry.register(false, 1005)?;
+    let there = registry.attachment(1005).is_some();
     assert!(rt; !before && gone && none && back && there);
     Ok(())
 }

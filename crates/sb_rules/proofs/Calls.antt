@@ -1,7 +1,9 @@
 -- What a check answers to each call is what its rule says.
-use Rattle.std.proofs.Common.{◌≡◌, ℕ, ◌==◌, Bool, true, false, not, List, length, Option, Some, None, inl, inr, refl, ap, sym, ◌∙◌, subst}
+use Rattle.std.proofs.Common.{◌≡◌, ℕ, ◌==◌, Bool, true, false, not, ◌||◌, cond, List, [], length, Option, Some, None, inl, inr, refl, ap, sym, ◌∙◌, subst}
 use Rattle.std.specs.List.{list_any, list_all}
+use Rattle.std.proofs.lemmas.Option.{same_Some}
 use Rattle.sb_codec.specs.Tuples.{IsTuple, tuple_spelling}
+use Rattle.sb_value.specs.Fits.{Fits}
 use Rattle.sb_pred.specs.Tree.{Tree}
 use Rattle.sb_pred.specs.Truth.{truth}
 use Rattle.sb_rule.specs.Bound.{row_after}
@@ -9,22 +11,32 @@ use Rattle.sb_rule.specs.declared.change.Change.{Change}
 use Rattle.sb_rule.specs.declared.change.Change.TheVariants as change
 use Rattle.sb_rule.specs.declared.rule.Rule.{Rule}
 use Rattle.sb_rule.specs.declared.rule.Rule.TheVariants.{Check}
+use Rattle.sb_rule.specs.Spelling.{rule_code}
 use Rattle.sb_relation.specs.Changes.{changed, changed_rows, of_new}
-use Rattle.sb_relation.specs.Db.{Key, Row, Db, rows_at, schema_at}
-use Rattle.sb_relation.specs.Rules.{holds, entry_fails}
+use Rattle.sb_relation.specs.Content.{Content, no_content}
+use Rattle.sb_relation.specs.Db.{Name, Key, Row, Rows, Db, rows_at, schema_at, values_in}
+use Rattle.sb_relation.specs.Rules.{holds, entry_of, entry_fails, has_values}
 use Rattle.sb_relation.specs.Lawful.{IsRow}
-use Rattle.sb_forms.specs.Pages.{Pages}
+use Rattle.sb_forms.specs.Pages.{Pages, page_count}
 use Rattle.sb_ctx.specs.declared.instance.Instance.{Instance}
 use Rattle.sb_ctx.specs.declared.calls.AttachCall.TheVariants as call
 use Rattle.sb_ctx.specs.declared.moves.Move.{Move}
-use Rattle.sb_ctx.specs.declared.moves.Move.TheVariants.{Done, Veto}
-use Rattle.sb_ctx.specs.View.{View, IsClean, FoundIn, found_of, stored}
+use Rattle.sb_ctx.specs.declared.moves.Move.TheVariants.{Done, Veto, NoMemory}
+use Rattle.sb_ctx.specs.View.{View, IsClean, FoundIn, found_of}
 use Rattle.sb_ctx.specs.Attachment.{StandsOn}
-use Rattle.sb_ctx.specs.AttachAnswers.{Answers, Ends, AsksFor, Reads, Changes, Looks, Changed}
-use Rattle.sb_rules.specs.Checks.{check, check_rules, Keeps, verdict_of, asked, IsOrMemory}
-use Rattle.sb_rules.proofs.Columns.{names}
-use Rattle.sb_rules.proofs.Entries.{fails_at, none_fails, whole_fails, finds_it, those_fail, no_keys, found_keys}
+use Rattle.sb_ctx.specs.AttachAnswers.{Answers, Ends, AsksFor, Reads, MayEnd, Changes, Looks, Changed, Built, BeforeBuild, BeforeChange, first_content}
+use Rattle.sb_rules.specs.Checks.{check, check_rules, AreNames, Keeps, verdict_of, queued, asked, IsOrMemory, IsAsked}
+use Rattle.sb_rules.proofs.Entries.{fails_at, none_fails, whole_fails, none_stands_so, no_keys, found_keys}
+use Rattle.sb_rules.proofs.Meaning.{AsksNoPage, changes, looks, formed}
 use Rattle.sb_rules.proofs.Stood.{schema_is, schema_stays, rows_are}
+
+abbrev passes : Instance → Tree → Row → Bool
+passes inst pred row = truth inst.schema None (Some row) pred
+
+-- ---- verdicts
+no_page : (t : Bool) → AsksNoPage (verdict_of t)
+no_page true = tt
+no_page false = tt
 
 pub asks_nothing : (c : View) (t : Bool) → AsksFor c (verdict_of t)
 asks_nothing c true = tt
@@ -34,8 +46,34 @@ reads_late : (entry : List ℕ) (t : Bool) → Reads (call.Late entry) (verdict_
 reads_late entry true = tt
 reads_late entry false = tt
 
-abbrev passes : Instance → Tree → Row → Bool
-passes inst pred row = truth inst.schema None (Some row) pred
+ends_late : (entry : List ℕ) (t : Bool) → MayEnd (call.Late entry) (verdict_of t)
+ends_late entry true = tt
+ends_late entry false = tt
+
+ends_build : (key : Key) (row : Row) (t : Bool) → MayEnd (call.Build key row) (verdict_of t)
+ends_build key row true = tt
+ends_build key row false = tt
+
+ends_change : (ch : Change) (t : Bool) → MayEnd (call.Changed ch) (verdict_of t)
+ends_change ch true = tt
+ends_change ch false = tt
+
+-- ---- a row that is built
+built : (inst : Instance) (pred : Tree) (deferred : Bool) (key : Key) (row : Row) (old : View) (P : Pages) (t : Bool) → Keeps inst pred deferred → passes inst pred row ≡ t
+    → Answers check inst (call.Build key row) old P P (verdict_of t)
+built inst pred deferred key row old P true keeps is = λ rule db stands rows buckets.
+    let F : Rule → Type 0 = λ r. BeforeBuild check inst r db rows buckets key row old P → Built check inst r db rows buckets key row P Done in
+    subst F (sym (keeps rule stands.spelled)) (λ before. (ap (λ s. truth s None (Some row) pred) (schema_is inst rule db stands) ∙ is, before.content))
+built inst pred deferred key row old P false keeps is = λ rule db stands rows buckets.
+    let F : Rule → Type 0 = λ r. BeforeBuild check inst r db rows buckets key row old P → Built check inst r db rows buckets key row P Veto in
+    subst F (sym (keeps rule stands.spelled)) (λ before. (ap (λ s. truth s None (Some row) pred) (schema_is inst rule db stands) ∙ is, (_, before.content)))
+
+pub Changes-built : (inst : Instance) (pred : Tree) (deferred : Bool) (key : Key) (row : Row) (old : View) (move : Move) → IsClean old → Keeps inst pred deferred
+    → move ≡ verdict_of (passes inst pred row) → Changes check inst (call.Build key row) old old move
+Changes-built inst pred deferred key row old move clean keeps is =
+    let t = passes inst pred row in
+    subst (λ m. Changes check inst (call.Build key row) old old m) (sym is)
+    (changes inst (call.Build key row) old (verdict_of t) clean (no_page t) (asks_nothing old t) (ends_build key row t) (λ P. built inst pred deferred key row old P t keeps refl))
 
 -- ---- a change
 of_new_row : (ch : Change) (row : Row) (f : Row → Bool) → row_after ch ≡ Some row → of_new ch (λ key new. f new) ≡ f row
@@ -43,36 +81,79 @@ of_new_row (change.Delete key old) row f e = cc
 of_new_row (change.Insert key new) row f e = let same : new ≡ row = cc in ap f same
 of_new_row (change.Update from old to new) row f e = let same : new ≡ row = cc in ap f same
 
-tested : (inst : Instance) (pred : Tree) (ch : Change) (db : Db) (after : Pages) (row : Row) (t : Bool) → row_after ch ≡ Some row → truth (schema_at db inst.relation) None (Some row) pred ≡ t
-    → Changed check inst (Check pred false) db ch after (verdict_of t)
-tested inst pred ch db after row true e is = (of_new_row ch row (λ r. truth (schema_at db inst.relation) None (Some r) pred) e ∙ is, refl, refl, refl, refl)
-tested inst pred ch db after row false e is = of_new_row ch row (λ r. truth (schema_at db inst.relation) None (Some r) pred) e ∙ is
-
 -- the answer of the check that is kept is that of the rule
-of_rule : (inst : Instance) (pred : Tree) (deferred : Bool) (ch : Change) (old : View) (P after : Pages) (move : Move) → Keeps inst pred deferred
-    → ((db : Db) → schema_at db inst.relation ≡ inst.schema → Changed check inst (Check pred deferred) db ch after move) → Ends check inst (call.Changed ch) old P after move
-of_rule inst pred deferred ch old P after move keeps answer = λ rule db stands is are found held.
-    let F : Rule → Type 0 = λ r. Changed check inst r (changed db inst.relation ch) ch after move in
-    subst F (sym (keeps rule stands.spelled)) (answer (changed db inst.relation ch) (schema_stays inst rule db (changed_rows (rows_at db inst.relation) ch) stands))
+of_rule : (inst : Instance) (pred : Tree) (deferred : Bool) (ch : Change) (old : View) (P : Pages) (move : Move) → Keeps inst pred deferred
+    → ((db : Db) (buckets : ℕ) → schema_at (changed db inst.relation ch) inst.relation ≡ inst.schema → BeforeChange check inst (Check pred deferred) db buckets ch old P
+    → Changed check inst (Check pred deferred) db buckets ch P move) → Ends check inst (call.Changed ch) old P P move
+of_rule inst pred deferred ch old P move keeps answer = λ rule db stands buckets.
+    let F : Rule → Type 0 = λ r. BeforeChange check inst r db buckets ch old P → Changed check inst r db buckets ch P move in
+    subst F (sym (keeps rule stands.spelled)) (answer db buckets (schema_stays inst rule db ch stands))
 
--- what the tested row's verdict is
-verdict_ends : (inst : Instance) (pred : Tree) (ch : Change) (old : View) (P : Pages) (row : Row) (t : Bool) → Keeps inst pred false → row_after ch ≡ Some row → passes inst pred row ≡ t
-    → Answers check inst (call.Changed ch) old P (stored old P) (verdict_of t)
-verdict_ends inst pred ch old P row true keeps some e =
-    of_rule inst pred false ch old P (stored old P) Done keeps (λ db is. tested inst pred ch db (stored old P) row true some (ap (λ s. truth s None (Some row) pred) is ∙ e))
-verdict_ends inst pred ch old P row false keeps some e =
-    of_rule inst pred false ch old P (stored old P) Veto keeps (λ db is. tested inst pred ch db (stored old P) row false some (ap (λ s. truth s None (Some row) pred) is ∙ e))
+tested : (inst : Instance) (pred : Tree) (ch : Change) (old : View) (P : Pages) (row : Row) (t : Bool) → Keeps inst pred false → row_after ch ≡ Some row → passes inst pred row ≡ t
+    → Answers check inst (call.Changed ch) old P P (verdict_of t)
+tested inst pred ch old P row true keeps some e = of_rule inst pred false ch old P Done keeps (λ db buckets schema before. record {
+  admitted = of_new_row ch row (λ r. truth (schema_at (changed db inst.relation ch) inst.relation) None (Some r) pred) some ∙ ap (λ s. truth s None (Some row) pred) schema ∙ e;
+  holds = before.content;
+  now_are = refl;
+  late_are = refl;
+  checks_are = refl;
+})
+tested inst pred ch old P row false keeps some e = of_rule inst pred false ch old P Veto keeps (λ db buckets schema before. (
+  of_new_row ch row (λ r. truth (schema_at (changed db inst.relation ch) inst.relation) None (Some r) pred) some ∙ ap (λ s. truth s None (Some row) pred) schema ∙ e,
+  (_, before.content),
+))
 
 pub Changes-tested : (inst : Instance) (ch : Change) (old : View) (pred : Tree) (deferred : Bool) (row : Row) (move : Move) → IsClean old → Keeps inst pred deferred → deferred ≡ false → row_after ch ≡ Some row
     → move ≡ verdict_of (passes inst pred row) → Changes check inst (call.Changed ch) old old move
 Changes-tested inst ch old pred deferred row move clean keeps at_once some is =
-    let F : Move → Type 0 = λ m. Changes check inst (call.Changed ch) old old m in
-    let K : Bool → Type 0 = λ d. Keeps inst pred d in
-    subst F (sym is) (record {
-      given = clean.unchanged;
-      asks = asks_nothing old (passes inst pred row);
-      answers = λ P part. verdict_ends inst pred ch old P row (passes inst pred row) (subst K at_once keeps) some refl;
-    })
+    let t = passes inst pred row in
+    let kept = subst (λ d. Keeps inst pred d) at_once keeps in
+    subst (λ m. Changes check inst (call.Changed ch) old old m) (sym is)
+    (changes inst (call.Changed ch) old (verdict_of t) clean (no_page t) (asks_nothing old t) (ends_change ch t) (λ P. tested inst pred ch old P row t kept some refl))
+
+-- a row that goes is not tested
+or_true : (t : Bool) → (t || true) ≡ true
+or_true true = refl
+or_true false = refl
+
+abbrev no_checks : List (List ℕ)
+no_checks = []
+
+none_both : (t : Bool) → cond t no_checks no_checks ≡ no_checks
+none_both true = refl
+none_both false = refl
+
+gone : (inst : Instance) (pred : Tree) (deferred : Bool) (ch : Change) (old : View) (P : Pages) → Keeps inst pred deferred → row_after ch ≡ None → Answers check inst (call.Changed ch) old P P Done
+gone inst pred deferred (change.Insert key new) old P keeps none = cc
+gone inst pred deferred (change.Update from last to new) old P keeps none = cc
+gone inst pred deferred (change.Delete key last) old P keeps none = of_rule inst pred deferred (change.Delete key last) old P Done keeps (λ db buckets schema before. record {
+  admitted = or_true deferred;
+  holds = before.content;
+  now_are = refl;
+  late_are = refl;
+  checks_are = sym (none_both deferred);
+})
+
+pub Changes-gone : (inst : Instance) (ch : Change) (old : View) (pred : Tree) (deferred : Bool) → IsClean old → Keeps inst pred deferred → row_after ch ≡ None → Changes check inst (call.Changed ch) old old Done
+Changes-gone inst ch old pred deferred clean keeps none = changes inst (call.Changed ch) old Done clean tt tt tt (λ P. gone inst pred deferred ch old P keeps none)
+
+-- a deferred check leaves the new row for the commit
+left : (inst : Instance) (pred : Tree) (ch : Change) (old : View) (P : Pages) (row : Row) → Keeps inst pred true → row_after ch ≡ Some row → Answers check inst (call.Changed ch) old P P (queued row)
+left inst pred ch old P row keeps some = of_rule inst pred true ch old P (queued row) keeps (λ db buckets schema before. record {
+  admitted = refl;
+  holds = before.content;
+  now_are = refl;
+  late_are = refl;
+  checks_are = ap (λ (o : Option Row). entry_of o) (sym some);
+})
+
+pub Changes-left : (inst : Instance) (ch : Change) (old : View) (pred : Tree) (deferred : Bool) (row : Row) (move : Move) → IsClean old → Keeps inst pred deferred → deferred ≡ true → row_after ch ≡ Some row
+    → IsOrMemory (queued row) move → Changes check inst (call.Changed ch) old old move
+Changes-left inst ch old pred deferred row move clean keeps late some (inr memory) =
+    subst (λ m. Changes check inst (call.Changed ch) old old m) (sym memory) (changes inst (call.Changed ch) old NoMemory clean tt tt tt (λ P. tt))
+Changes-left inst ch old pred deferred row move clean keeps late some (inl is) =
+    let kept = subst (λ d. Keeps inst pred d) late keeps in
+    subst (λ m. Changes check inst (call.Changed ch) old old m) (sym is) (changes inst (call.Changed ch) old (queued row) clean tt tt tt (λ P. left inst pred ch old P row kept some))
 
 -- ---- an entry
 entry_test : (inst : Instance) (pred : Tree) (deferred : Bool) (entry : List ℕ) (rule : Rule) (db : Db) → Keeps inst pred deferred → StandsOn check inst rule db
@@ -84,15 +165,10 @@ entry_test inst pred deferred entry rule db keeps stands =
 -- the predicate holds of each row that the entry may spell
 pub Looks-passed : (inst : Instance) (entry : List ℕ) (old : View) (pred : Tree) (deferred : Bool) → Keeps inst pred deferred
     → ((row : Row) → IsRow inst.schema row → entry ≡ tuple_spelling row → passes inst pred row ≡ true) → Looks check inst (call.Late entry) old old Done
-Looks-passed inst entry old pred deferred keeps passed = record {
-  same = refl;
-  reads = tt;
-  asks = tt;
-  answers = λ P part rule db stands found held.
-      entry_test inst pred deferred entry rule db keeps stands ∙ none_fails inst.schema pred entry passed (rows_at db inst.relation) (rows_are inst rule db stands).each;
-}
+Looks-passed inst entry old pred deferred keeps passed = looks inst entry old Done tt tt tt tt (λ P rule db stands buckets before.
+    entry_test inst pred deferred entry rule db keeps stands ∙ none_fails inst.schema pred entry passed (rows_at db inst.relation) (rows_are inst rule db stands).each)
 
--- of the row that the entry spells it doesn't hold: the keys that are found say whether the row stands
+-- of the row that the entry spells it doesn't hold: the keys that are found say whether a row has its values
 not_true : (b : Bool) → not b ≡ true → b ≡ false
 not_true false e = refl
 not_true true e = cc
@@ -101,47 +177,68 @@ not_false : (b : Bool) → not b ≡ false → b ≡ true
 not_false true e = refl
 not_false false e = cc
 
-pub found_fail : (inst : Instance) (pred : Tree) (deferred : Bool) (entry : List ℕ) (t : Row) (c : View) (keys : List Key) (rule : Rule) (db : Db) → StandsOn check inst rule db → FoundIn c db
-    → found_of c inst.relation (names inst.schema) t ≡ Some keys → IsTuple t → entry ≡ tuple_spelling t → passes inst pred t ≡ false
-    → (length keys == 0) ≡ not (list_any (fails_at inst.schema pred entry) (rows_at db inst.relation))
-found_fail inst pred deferred entry t c keys rule db stands found known tuple spelled fails =
-    let rows = rows_at db inst.relation in
-    let each = (rows_are inst rule db stands).each in
-    ap (λ (ks : List Key). length ks == 0) (found_keys db inst.relation (names inst.schema) t c.found keys found known)
-    ∙ no_keys db inst.relation inst.schema t (schema_is inst rule db stands)
-    ∙ ap not (finds_it inst.schema t stands.may.columns rows each ∙ those_fail inst.schema pred entry t tuple spelled fails rows each)
+-- a row that was read of an entry, and fails
+pub record FailsAt (inst : Instance) (pred : Tree) (entry : List ℕ) (row : Row) : Type 0 where
+  pub tuple : IsTuple row
+  pub spelled : entry ≡ tuple_spelling row
+  pub fits : Fits inst.schema row
+  pub fails : passes inst pred row ≡ false
 
-late_by : (inst : Instance) (pred : Tree) (deferred : Bool) (entry : List ℕ) (row : Row) (c : View) (P : Pages) (keys : List Key) (t : Bool) → (length keys == 0) ≡ t → Keeps inst pred deferred
-    → found_of c inst.relation (names inst.schema) row ≡ Some keys → IsTuple row → entry ≡ tuple_spelling row → passes inst pred row ≡ false → Answers check inst (call.Late entry) c P P (verdict_of t)
-late_by inst pred deferred entry row c P keys true is keeps known tuple spelled fails = λ rule db stands found held.
-    entry_test inst pred deferred entry rule db keeps stands
-    ∙ not_true (list_any (fails_at inst.schema pred entry) (rows_at db inst.relation)) (sym (found_fail inst pred deferred entry row c keys rule db stands found known tuple spelled fails) ∙ is)
-late_by inst pred deferred entry row c P keys false is keeps known tuple spelled fails = λ rule db stands found held.
-    let some = not_false (list_any (fails_at inst.schema pred entry) (rows_at db inst.relation)) (sym (found_fail inst pred deferred entry row c keys rule db stands found known tuple spelled fails) ∙ is) in
-    ap (λ r. holds (Some check_rules) db inst.relation r) (keeps rule stands.spelled)
-    ∙ ap (λ s. list_all (λ row. truth s None (Some row.1) pred) (rows_at db inst.relation)) (schema_is inst rule db stands)
-    ∙ whole_fails inst.schema pred entry (rows_at db inst.relation) some
+late_by : (inst : Instance) (pred : Tree) (deferred : Bool) (entry : List ℕ) (row : Row) (names : List Name) (c : View) (P : Pages) (keys : List Key) (t : Bool) → (length keys == 0) ≡ t
+    → Keeps inst pred deferred → AreNames inst.schema names → found_of c inst.relation names (values_in inst.schema row names) ≡ Some keys → FailsAt inst pred entry row
+    → Answers check inst (call.Late entry) c P P (verdict_of t)
+late_by inst pred deferred entry row names c P keys t is keeps are known failed = by t is
+  where
+    some : (rule : Rule) (db : Db) → StandsOn check inst rule db → FoundIn c db
+        → (length keys == 0) ≡ not (list_any (λ r. has_values inst.schema names (values_in inst.schema row names) r.1) (rows_at db inst.relation))
+    some rule db stands found =
+        ap (λ (ks : List Key). length ks == 0) (found_keys db inst.relation names (values_in inst.schema row names) c.found keys found known)
+        ∙ no_keys db inst.relation inst.schema names (values_in inst.schema row names) (schema_is inst rule db stands) are.named
 
-pub Looks-found : (inst : Instance) (entry : List ℕ) (old : View) (pred : Tree) (deferred : Bool) (row : Row) (keys : List Key) → Keeps inst pred deferred
-    → found_of old inst.relation (names inst.schema) row ≡ Some keys → IsTuple row → entry ≡ tuple_spelling row → passes inst pred row ≡ false
-    → Looks check inst (call.Late entry) old old (verdict_of (length keys == 0))
-Looks-found inst entry old pred deferred row keys keeps known tuple spelled fails = record {
-  same = refl;
-  reads = reads_late entry (length keys == 0);
-  asks = asks_nothing old (length keys == 0);
-  answers = λ P part. late_by inst pred deferred entry row old P keys (length keys == 0) refl keeps known tuple spelled fails;
-}
+    by : (t : Bool) → (length keys == 0) ≡ t → Answers check inst (call.Late entry) c P P (verdict_of t)
+    by true is = λ rule db stands buckets before.
+        entry_test inst pred deferred entry rule db keeps stands
+        ∙ none_stands_so inst.schema pred entry names row failed.tuple failed.spelled (rows_at db inst.relation) (rows_are inst rule db stands).each
+        (not_true (list_any (λ r. has_values inst.schema names (values_in inst.schema row names) r.1) (rows_at db inst.relation)) (sym (some rule db stands before.found) ∙ is))
+    by false is = λ rule db stands buckets before.
+        ap (λ r. holds (Some check_rules) db inst.relation r) (keeps rule stands.spelled)
+        ∙ ap (λ s. list_all (λ row. truth s None (Some row.1) pred) (rows_at db inst.relation)) (schema_is inst rule db stands)
+        ∙ whole_fails inst.schema pred names row are failed.fits failed.fails (rows_at db inst.relation) (rows_are inst rule db stands).each
+        (not_false (list_any (λ r. has_values inst.schema names (values_in inst.schema row names) r.1) (rows_at db inst.relation)) (sym (some rule db stands before.found) ∙ is))
 
--- Asked for the row, the Ctx tells whether it stands, or has to be given the find.
-pub Looks-asked : (inst : Instance) (entry : List ℕ) (old : View) (pred : Tree) (deferred : Bool) (row : Row) (known : Option (List Key)) (move : Move) → Keeps inst pred deferred
-    → found_of old inst.relation (names inst.schema) row ≡ known → IsTuple row → entry ≡ tuple_spelling row → passes inst pred row ≡ false
-    → IsOrMemory (asked known inst.relation (names inst.schema) row) move → AsksFor old move → Looks check inst (call.Late entry) old old move
-Looks-asked inst entry old pred deferred row known move keeps is tuple spelled fails (inr memory) asks =
-    let F : Move → Type 0 = λ m. Looks check inst (call.Late entry) old old m in
-    subst F (sym memory) (record { same = refl; reads = tt; asks = tt; answers = λ P part. tt })
-Looks-asked inst entry old pred deferred row (Some keys) move keeps is tuple spelled fails (inl answered) asks =
-    let F : Move → Type 0 = λ m. Looks check inst (call.Late entry) old old m in
-    subst F (sym answered) (Looks-found inst entry old pred deferred row keys keeps is tuple spelled fails)
-Looks-asked inst entry old pred deferred row None move keeps is tuple spelled fails (inl answered) asks =
-    let F : Move → Type 0 = λ m. Looks check inst (call.Late entry) old old m in
-    subst F (sym answered) (record { same = refl; reads = tt; asks = subst (AsksFor old) answered asks; answers = λ P part. tt })
+late_asked : (inst : Instance) (pred : Tree) (deferred : Bool) (entry : List ℕ) (row : Row) (names : List Name) (old : View) (known : Option (List Key)) → Keeps inst pred deferred
+    → AreNames inst.schema names → found_of old inst.relation names (values_in inst.schema row names) ≡ known → FailsAt inst pred entry row
+    → AsksFor old (asked known inst.relation names (values_in inst.schema row names)) → Looks check inst (call.Late entry) old old (asked known inst.relation names (values_in inst.schema row names))
+late_asked inst pred deferred entry row names old (Some keys) keeps are is failed asks =
+    let t = length keys == 0 in
+    looks inst entry old (verdict_of t) (no_page t) (reads_late entry t) (asks_nothing old t) (ends_late entry t) (λ P. late_by inst pred deferred entry row names old P keys t refl keeps are is failed)
+late_asked inst pred deferred entry row names old None keeps are is failed asks =
+    looks inst entry old (asked None inst.relation names (values_in inst.schema row names)) tt tt asks tt (λ P. tt)
+
+pub Looks-memory : (inst : Instance) (entry : List ℕ) (old : View) → Looks check inst (call.Late entry) old old NoMemory
+Looks-memory inst entry old = looks inst entry old NoMemory tt tt tt tt (λ P. tt)
+
+-- Asked for the row's values, the Ctx tells whether a row has them, or has to be given the find.
+pub Looks-asked : (inst : Instance) (entry : List ℕ) (old : View) (pred : Tree) (deferred : Bool) (row : Row) (move : Move) → Keeps inst pred deferred
+    → FailsAt inst pred entry row → IsAsked old inst row move → AsksFor old move → Looks check inst (call.Late entry) old old move
+Looks-asked inst entry old pred deferred row move keeps failed (inr memory) asks =
+    subst (λ m. Looks check inst (call.Late entry) old old m) (sym memory) (Looks-memory inst entry old)
+Looks-asked inst entry old pred deferred row move keeps failed (inl so) asks =
+    subst (λ m. Looks check inst (call.Late entry) old old m) (sym so.is)
+    (late_asked inst pred deferred entry row so.columns old (found_of old inst.relation so.columns (values_in inst.schema row so.columns)) keeps so.names refl failed (subst (AsksFor old) so.is asks))
+
+-- ---- the first call, and want of memory
+-- every rule of its code is a check
+first_none : (inst : Instance) (rule : Rule) (db : Db) → 5 ≡ rule_code rule → first_content check inst rule db ≡ no_content
+first_none inst (Check pred deferred) db coded = refl
+first_none inst _ db coded = cc
+
+pub Changes-prepared : (inst : Instance) (old : View) → IsClean old → inst.owner ≡ 0 → Changes check inst call.Prepare old old Done
+Changes-prepared inst old clean owner = changes inst call.Prepare old Done clean tt tt tt (λ P at rule db stands.
+    formed inst P owner at ∙ ap Some (sym (first_none inst rule db stands.spelled.coded)))
+
+pub Changes-memory-build : (inst : Instance) (key : Key) (row : Row) (old : View) → IsClean old → Changes check inst (call.Build key row) old old NoMemory
+Changes-memory-build inst key row old clean = changes inst (call.Build key row) old NoMemory clean tt tt tt (λ P. tt)
+
+pub Changes-memory : (inst : Instance) (ch : Change) (old : View) → IsClean old → Changes check inst (call.Changed ch) old old NoMemory
+Changes-memory inst ch old clean = changes inst (call.Changed ch) old NoMemory clean tt tt tt (λ P. tt)

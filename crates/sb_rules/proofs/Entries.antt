@@ -1,5 +1,5 @@
 -- Which rows an entry names, and what a find says of them.
-use Rattle.std.proofs.Common.{suc, arith, ◌≡◌, ℕ, ◌==◌, Bool, true, false, cond, not, ◌&&◌, ◌||◌, List, [], ◌∷◌, map, filter, length, All, Option, Some, None, is_none, option_map, IfSome, MatchOption, Result, Ok, Err, IsOk, is_err, refl, ap, sym, ◌∙◌, subst}
+use Rattle.std.proofs.Common.{suc, arith, ◌≡◌, ℕ, ◌==◌, Bool, true, false, cond, not, ◌&&◌, ◌||◌, List, [], ◌∷◌, map, filter, length, All, Option, Some, None, is_none, option_map, IfSome, MatchOption, Result, Ok, Err, IsOk, is_err, refl, ap, sym, ◌∙◌, subst, true≢false}
 use Rattle.std.specs.List.{find as first, list_any, list_all}
 use Rattle.std.specs.Str.{bytes_eq}
 use Rattle.std.specs.Cmp.Lexicographic.{pointwise, pointwise_decides}
@@ -9,33 +9,47 @@ use Rattle.sb_value.specs.declared.value.Value.{Value}
 use Rattle.sb_value.specs.declared.schema.Column.{Column}
 use Rattle.sb_value.specs.declared.schema.TypeFault.{TypeFault}
 use Rattle.sb_value.specs.Equal.{tuple_eq, tuple_same, bytes_same}
+use Rattle.sb_value.specs.Fits.{Fits}
 use Rattle.sb_codec.specs.Tuples.{IsTuple, tuple_spelling}
 use Rattle.sb_codec.proofs.TupleLaws.{one_tuple}
 use Rattle.sb_pred.specs.Tree.{Tree}
 use Rattle.sb_pred.specs.Truth.{truth}
-use Rattle.sb_relation.specs.Db.{Name, Key, Row, Rows, Db, rows_at, schema_at}
-use Rattle.sb_relation.specs.Fits.{IsSchema, first_unnamed, places_in}
+use Rattle.sb_relation.specs.Db.{Name, Key, Row, Rows, Db, rows_at, schema_at, values_in}
+use Rattle.sb_relation.specs.Fits.{first_unnamed, places_in}
 use Rattle.sb_relation.specs.Lawful.{IsRow}
 use Rattle.sb_relation.specs.Rules.{has_values, spells}
 use Rattle.sb_ctx.specs.declared.held.Found.{Found}
 use Rattle.sb_ctx.specs.View.{keys_with, is_answer_to}
-use Rattle.sb_rules.proofs.Columns.{names, values_in-names, none_unnamed}
+use Rattle.sb_rules.specs.Checks.{AreNames}
+use Rattle.sb_rules.proofs.Columns.{truth_under}
 
--- ---- tests of rows that agree
-same_tests : (a b : Bool) → (a ≡ true → b ≡ true) → (b ≡ true → a ≡ true) → a ≡ b
-same_tests true b there back = sym (there refl)
-same_tests false true there back = back refl
-same_tests false false there back = refl
-
-any_agrees : {X : Type 0} (P : X → Type 0) (p q : X → Bool) → ((x : X) → P x → p x ≡ q x) → (xs : List X) → All P xs → list_any p xs ≡ list_any q xs
-any_agrees P p q same [] each = refl
-any_agrees P p q same (x ∷ xs) each =
-    ap (λ t. t || list_any p xs) (same x (All-head P x xs each)) ∙ ap (λ t. q x || t) (any_agrees P p q same xs (All-tail P x xs each))
-
+-- ---- tests of rows
 none_any : {X : Type 0} (P : X → Type 0) (p : X → Bool) → ((x : X) → P x → p x ≡ false) → (xs : List X) → All P xs → list_any p xs ≡ false
 none_any P p fails [] each = refl
 none_any P p fails (x ∷ xs) each =
     ap (λ t. t || list_any p xs) (fails x (All-head P x xs each)) ∙ none_any P p fails xs (All-tail P x xs each)
+
+-- where each row that passes one test passes another, and none passes that
+none_passes : {X : Type 0} (P : X → Type 0) (p q : X → Bool) → ((x : X) → P x → q x ≡ false → p x ≡ false) → (xs : List X) → All P xs → list_any q xs ≡ false → list_any p xs ≡ false
+none_passes P p q fails [] each none = refl
+none_passes P p q fails (x ∷ xs) each none =
+    let parts = neither (q x) (list_any q xs) none in
+    ap (λ t. t || list_any p xs) (fails x (All-head P x xs each) parts.0) ∙ none_passes P p q fails xs (All-tail P x xs each) parts.1
+  where
+    neither : (a b : Bool) → (a || b) ≡ false → (a ≡ false) × (b ≡ false)
+    neither false b e = (refl, e)
+    neither true b e = cc
+
+-- where a row that passes one test fails another, not all pass that
+not_all : {X : Type 0} (P : X → Type 0) (p q : X → Bool) → ((x : X) → P x → p x ≡ true → q x ≡ false) → (xs : List X) → All P xs → list_any p xs ≡ true → list_all q xs ≡ false
+not_all P p q fails [] each some = cc
+not_all P p q fails (x ∷ xs) each some = by (p x) (q x) (fails x (All-head P x xs each)) some (not_all P p q fails xs (All-tail P x xs each))
+  where
+    by : (a b : Bool) → (a ≡ true → b ≡ false) → (a || list_any p xs) ≡ true → (list_any p xs ≡ true → list_all q xs ≡ false) → (b && list_all q xs) ≡ false
+    by true true fails some more = absurd (true≢false (fails refl))
+    by true false fails some more = refl
+    by false true fails some more = more some
+    by false false fails some more = refl
 
 -- ---- rows that fail
 -- the entry spells this row, and the predicate fails of it
@@ -56,41 +70,30 @@ none_fails schema pred entry passes rows each =
     none_any (IsRowOf schema) (fails_at schema pred entry)
     (λ row is. no_failure (spells entry row.1) (truth schema None (Some row.1) pred) (λ e. passes row.1 is ((bytes_same entry (tuple_spelling row.1)).0 e))) rows each
 
--- a row that fails is one of which the predicate doesn't hold
-fails_whole : (spelled passes rest others : Bool) → ((spelled && not passes) || rest) ≡ true → (rest ≡ true → others ≡ false) → (passes && others) ≡ false
-fails_whole spelled false rest others h more = refl
-fails_whole true true rest others h more = more h
-fails_whole false true rest others h more = more h
-
-pub whole_fails : (schema : List Column) (pred : Tree) (entry : List ℕ) (rows : Rows) → list_any (fails_at schema pred entry) rows ≡ true
+-- ---- the rows with the values of a row of which the predicate doesn't hold
+-- such a row fails too
+pub whole_fails : (schema : List Column) (pred : Tree) (names : List Name) (t : Row) → AreNames schema names → Fits schema t → truth schema None (Some t) pred ≡ false
+    → (rows : Rows) → All (λ row. IsRow schema row.1) rows → list_any (λ row. has_values schema names (values_in schema t names) row.1) rows ≡ true
     → list_all (λ row. truth schema None (Some row.1) pred) rows ≡ false
-whole_fails schema pred entry [] h = cc
-whole_fails schema pred entry (row ∷ rows) h =
-    fails_whole (spells entry row.1) (truth schema None (Some row.1) pred) (list_any (fails_at schema pred entry) rows) (list_all (λ row. truth schema None (Some row.1) pred) rows) h
-    (whole_fails schema pred entry rows)
+whole_fails schema pred names t are fits fails =
+    not_all (IsRowOf schema) (λ row. has_values schema names (values_in schema t names) row.1) (λ row. truth schema None (Some row.1) pred)
+    (λ row is same. truth_under schema row.1 t names pred are is.fits fits ((tuple_same (values_in schema row.1 names) (values_in schema t names)).0 same) ∙ fails)
 
--- ---- the find of one whole row
--- it finds the rows that are this one
-pub finds_it : (schema : List Column) (t : Row) → IsSchema schema → (rows : Rows) → All (λ row. IsRow schema row.1) rows
-    → list_any (λ row. has_values schema (names schema) t row.1) rows ≡ list_any (λ row. tuple_eq row.1 t) rows
-finds_it schema t distinct =
-    any_agrees (IsRowOf schema) (λ row. has_values schema (names schema) t row.1) (λ row. tuple_eq row.1 t)
-    (λ row is. ap (λ values. tuple_eq values t) (values_in-names schema row.1 is.fits distinct))
-
--- of a row of which the predicate doesn't hold, they are those that fail
-both_same : (spelled same passes : Bool) → spelled ≡ same → (same ≡ true → passes ≡ false) → same ≡ (spelled && not passes)
-both_same spelled true passes e fails = ap (λ t. t && true) (sym e) ∙ ap (λ t. spelled && not t) (sym (fails refl))
-both_same spelled false passes e fails = ap (λ t. t && not passes) (sym e)
-
-pub those_fail : (schema : List Column) (pred : Tree) (entry : List ℕ) (t : Row) → IsTuple t → entry ≡ tuple_spelling t → truth schema None (Some t) pred ≡ false
-    → (rows : Rows) → All (λ row. IsRow schema row.1) rows → list_any (λ row. tuple_eq row.1 t) rows ≡ list_any (fails_at schema pred entry) rows
-those_fail schema pred entry t tuple spelled fails =
-    any_agrees (IsRowOf schema) (λ row. tuple_eq row.1 t) (fails_at schema pred entry) (λ row is.
-    both_same (spells entry row.1) (tuple_eq row.1 t) (truth schema None (Some row.1) pred)
-    (same_tests (spells entry row.1) (tuple_eq row.1 t)
-    (λ e. (tuple_same row.1 t).1 (one_tuple row.1 t is.tuple tuple (sym ((bytes_same entry (tuple_spelling row.1)).0 e) ∙ spelled)))
-    (λ e. (bytes_same entry (tuple_spelling row.1)).1 (spelled ∙ ap tuple_spelling (sym ((tuple_same row.1 t).0 e)))))
-    (λ e. ap (λ r. truth schema None (Some r) pred) ((tuple_same row.1 t).0 e) ∙ fails))
+-- where there is none, no row fails that the entry spells
+pub none_stands_so : (schema : List Column) (pred : Tree) (entry : List ℕ) (names : List Name) (t : Row) → IsTuple t → entry ≡ tuple_spelling t
+    → (rows : Rows) → All (λ row. IsRow schema row.1) rows → list_any (λ row. has_values schema names (values_in schema t names) row.1) rows ≡ false
+    → list_any (fails_at schema pred entry) rows ≡ false
+none_stands_so schema pred entry names t tuple spelled =
+    none_passes (IsRowOf schema) (fails_at schema pred entry) (λ row. has_values schema names (values_in schema t names) row.1)
+    (λ row is other. other_row row.1 is other (spells entry row.1) refl)
+  where
+    other_row : (row : Row) → IsRow schema row → has_values schema names (values_in schema t names) row ≡ false → (b : Bool) → spells entry row ≡ b
+        → (b && not (truth schema None (Some row) pred)) ≡ false
+    other_row row is other false e = refl
+    other_row row is other true e =
+        let same : row ≡ t = one_tuple row t is.tuple tuple (sym ((bytes_same entry (tuple_spelling row)).0 e) ∙ spelled) in
+        let has : has_values schema names (values_in schema t names) row ≡ true = (tuple_same (values_in schema row names) (values_in schema t names)).1 (ap (λ r. values_in schema r names) same) in
+        absurd (true≢false (sym has ∙ other))
 
 -- ---- the keys that a find gives
 not_zero : (n : ℕ) → (suc n == 0) ≡ false
@@ -100,12 +103,12 @@ none_kept : {X Y : Type 0} (f : X → Y) (q : X → Bool) (xs : List X) → (len
 none_kept f q [] = refl
 none_kept f q (x ∷ xs) = elim (q x) as (λ t. (length (map f (cond t (x ∷ filter q xs) (filter q xs))) == 0) ≡ not (t || list_any q xs)) [ true ↦ not_zero (length (map f (filter q xs))) | false ↦ none_kept f q xs ]
 
-pub no_keys : (db : Db) (name : Name) (schema : List Column) (t : Row) → schema_at db name ≡ schema
-    → (length (keys_with db name (names schema) t) == 0) ≡ not (list_any (λ row. has_values schema (names schema) t row.1) (rows_at db name))
-no_keys db name schema t is =
-    ap (λ s. length (cond (is_none (first_unnamed (places_in s (names schema)))) (map (λ row. row.0) (filter (λ row. has_values s (names schema) t row.1) (rows_at db name))) []) == 0) is
-    ∙ ap (λ o. length (cond (is_none o) (map (λ row. row.0) (filter (λ row. has_values schema (names schema) t row.1) (rows_at db name))) []) == 0) (none_unnamed schema)
-    ∙ none_kept (λ row. row.0) (λ row. has_values schema (names schema) t row.1) (rows_at db name)
+pub no_keys : (db : Db) (name : Name) (schema : List Column) (names : List Name) (values : List Value) → schema_at db name ≡ schema → first_unnamed (places_in schema names) ≡ None
+    → (length (keys_with db name names values) == 0) ≡ not (list_any (λ row. has_values schema names values row.1) (rows_at db name))
+no_keys db name schema names values is named =
+    ap (λ s. length (cond (is_none (first_unnamed (places_in s names))) (map (λ row. row.0) (filter (λ row. has_values s names values row.1) (rows_at db name))) []) == 0) is
+    ∙ ap (λ o. length (cond (is_none o) (map (λ row. row.0) (filter (λ row. has_values schema names values row.1) (rows_at db name))) []) == 0) named
+    ∙ none_kept (λ row. row.0) (λ row. has_values schema names values row.1) (rows_at db name)
 
 -- what a Ctx has found over a database
 both_true : (a b : Bool) → (a && b) ≡ true → (a ≡ true) × (b ≡ true)
@@ -152,6 +155,11 @@ one_row o row t a b = cc
 pub at_some : (o : Option Row) (P : Row → Type 0) (row : Row) → o ≡ Some row → IfSome o P → P row
 at_some None P row e h = cc
 at_some (Some t) P row e h = let same : t ≡ row = cc in subst P same h
+
+pub fits_so : (o : Option ℕ) (r : Result (Unit {0}) TypeFault) → MatchOption o (IsOk r) (λ n. r ≡ Err (record { column = n })) → is_err r ≡ false → o ≡ None
+fits_so None r h e = refl
+fits_so (Some n) (Ok u) h e = cc
+fits_so (Some n) (Err x) h e = cc
 
 pub misfit_not_none : (o : Option ℕ) (r : Result (Unit {0}) TypeFault) → MatchOption o (IsOk r) (λ n. r ≡ Err (record { column = n })) → is_err r ≡ true → o ≡ None → ⊥
 misfit_not_none None (Ok u) h e none = cc

@@ -1,5 +1,6 @@
 pub mod Columns
 pub mod Stood
+pub mod Meaning
 pub mod Entries
 pub mod Calls
 pub mod Examples

@@ -78,7 +78,7 @@ impl Attachment for Check {
         if inst.schema.fits(&row).is_err() || eval(&kept.pred, &inst.schema, None, Some(&row)) {
             return Move::Done;
         }
-        none_stands(alloc, ctx, inst, row)
+        none_stands(alloc, ctx, inst, &row)
     }
 
     fn next_entry(

@@ -1,13 +1,16 @@
 //! What a check's instance keeps.
 
-ghost use Rattle.std.specs.Prelude.{◌≡◌, map, IfOk};
+ghost use Rattle.std.specs.Prelude.{◌≡◌, Some, IfOk};
+ghost use Rattle.std.specs.Option.{option_copied};
+ghost use Rattle.sb_pred.specs.Columns.{place_of, column_value};
+ghost use Rattle.sb_relation.specs.Db.{values_in};
 ghost use Rattle.sb_ctx.specs.Attachment.{IsInstance};
-ghost use Rattle.sb_rules.specs.Checks.{check, Keeps};
+ghost use Rattle.sb_rules.specs.Checks.{check, is_in, AreNames, Keeps};
 
 use sb_ctx::Instance;
 use sb_pred::Pred;
 use sb_relation::{Rule, read_rule};
-use sb_value::{Names, Schema};
+use sb_value::{Names, Schema, Str, Tuple, Value};
 use std::alloc::{AllocError, Global};
 
 const CODE: u16 = 5;
@@ -29,13 +32,56 @@ pub fn kept_by(alloc: Global, inst: &Instance) -> Result<Kept, AllocError>
     }
 }
 
-/// The names of the columns, in their order.
+fn is_known(names: &[Str], name: &Str) -> bool
+    ensures { result ≡ is_in names.now name.now }
+{
+    names.iter().any(|known| known == name)
+}
+
+/// The names of the columns, each once, in the order of the columns.
 pub fn names_of(alloc: Global, schema: &Schema) -> Result<Names, AllocError>
-    ensures { IfOk result (λ names. names ≡ map (λ c. c.name) schema.now) }
+    ensures { IfOk result (AreNames schema.now) }
 {
     let mut names = Vec::new(alloc);
     for column in schema.as_slice() {
-        names.push(column.name.copy()?)?;
+        if !is_known(&names, &column.name) {
+            names.push(column.name.copy()?)?;
+        }
     }
     Ok(Names::from_vec(names))
+}
+
+/// Where the first column of this name stands.
+fn place_under(schema: &Schema, name: &Str) -> Option<usize>
+    ensures { result ≡ place_of schema.now name.now }
+{
+    schema
+        .as_slice()
+        .iter()
+        .position(|column| column.name == *name)
+}
+
+/// What the row has in the first column of this name.
+fn value_under<'a>(schema: &Schema, row: &'a Tuple, name: &Str) -> Option<&'a Value>
+    ensures { option_copied result ≡ column_value schema.now (Some row.now) name.now }
+{
+    row.as_slice().get(place_under(schema, name)?)
+}
+
+/// The row's values under these names.
+pub fn values_of(
+    alloc: Global,
+    schema: &Schema,
+    row: &Tuple,
+    names: &Names,
+) -> Result<Tuple, AllocError>
+    ensures { IfOk result (λ values. values ≡ values_in schema.now row.now names.now) }
+{
+    let mut values = Vec::new(alloc);
+    for name in names.as_slice() {
+        if let Some(value) = value_under(schema, row, name) {
+            values.push(value.copy()?)?;
+        }
+    }
+    Ok(Tuple::from_vec(values))
 }

@@ -1,15 +1,14 @@
 //! What a check answers.
 
-ghost use Rattle.std.specs.Prelude.{◌≡◌, ◌∷◌, [], map, IfOk};
+ghost use Rattle.std.specs.Prelude.{◌≡◌, ◌∷◌, [], IfOk};
 ghost use Rattle.std.specs.Option.{option_copied};
 ghost use Rattle.sb_codec.specs.Tuples.{tuple_spelling, IsTuple};
-ghost use Rattle.sb_ctx.specs.View.{found_of};
 ghost use Rattle.sb_ctx.specs.AttachAnswers.{AsksFor};
 ghost use Rattle.sb_rule.specs.Bound.{row_after};
 ghost use Rattle.sb_ctx.specs.declared.moves.Move.TheVariants.{Find as Finds};
-ghost use Rattle.sb_rules.specs.Checks.{verdict_of, queued, asked, IsOrMemory};
+ghost use Rattle.sb_rules.specs.Checks.{verdict_of, queued, IsAsked, IsOrMemory};
 
-use crate::keeping::names_of;
+use crate::keeping::{names_of, values_of};
 use sb_codec::encode_tuple;
 use sb_ctx::{Actions, Checks, Ctx, Instance, Move};
 use sb_relation::Change;
@@ -59,20 +58,22 @@ pub fn queue(alloc: Global, row: &Tuple) -> Move
 /// So many finds a call may ask for.
 const MOST_FINDS: u32 = 8;
 
-/// Done where no row of the relation is this one.
-pub fn none_stands(alloc: Global, ctx: &Ctx, inst: &Instance, row: Tuple) -> Move
-    ensures answers { IsOrMemory (asked (found_of ctx.now inst.now.relation (map (λ c. c.name) inst.now.schema) row)
-        inst.now.relation (map (λ c. c.name) inst.now.schema) row) result }
+/// Done where no row of the relation has this row's values.
+pub fn none_stands(alloc: Global, ctx: &Ctx, inst: &Instance, row: &Tuple) -> Move
+    ensures answers { IsAsked ctx.now inst.now row.now result }
     ensures asks { AsksFor ctx.now result }
 {
     let Ok(columns) = names_of(alloc, &inst.schema) else {
         return Move::NoMemory;
     };
-    if let Some(keys) = ctx.found(&inst.relation, &columns, &row) {
+    let Ok(values) = values_of(alloc, &inst.schema, row, &columns) else {
+        return Move::NoMemory;
+    };
+    if let Some(keys) = ctx.found(&inst.relation, &columns, &values) {
         return verdict(keys.as_slice().is_empty());
     }
     if ctx.finds() < MOST_FINDS {
-        find(inst, columns, row)
+        find(inst, columns, values)
     } else {
         Move::NoMemory
     }

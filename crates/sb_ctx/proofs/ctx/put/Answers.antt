@@ -1,7 +1,7 @@
 use Rattle.std.proofs.Common.{◌≡◌, ◌<◌, ℕ, Some, length, insert, set, slice_get, refl, sym, ap, ◌∙◌, arith}
 use Rattle.std.proofs.lemmas.Option.{slice_get_read, slice_get_within, same_Some}
 use Rattle.sb_ctx.specs.View.{HeldPage}
-use Rattle.sb_ctx.specs.HeldLaws.{Entries}
+use Rattle.sb_ctx.specs.Held.{Entries}
 use Rattle.sb_ctx.proofs.HeldLemmas.{place, put-set, put-insert}
 use Rattle.sb_ctx.proofs.ctx.put.Goals as goal
 use Rattle.sb_ctx.proofs.ctx.put.Goals.{else-place-len-via-then-place-len+else-number, else-place-len-via-else-place-len}

@@ -1,8 +1,8 @@
 use Rattle.std.proofs.Common.{◌≡◌, ◌<◌, ◌∙◌, refl, sym, ap, subst}
 use Rattle.sb_forms.specs.Pages.{Pages}
-use Rattle.sb_ctx.specs.AttachAnswers.{Answers, AsksFor}
+use Rattle.sb_ctx.specs.AttachAnswers.{Answers, AsksFor, MayEnd}
 use Rattle.sb_ctx.specs.View.{View, HoldsPart, IsClean, dropped, stored}
-use Rattle.sb_ctx.specs.ViewLaws.{HoldsPart-from_dropped}
+use Rattle.sb_ctx.proofs.ViewLaws.{HoldsPart-from_dropped}
 use Rattle.sb_drive.specs.declared.turns.Turn.TheVariants.{Give, Stop, End}
 use Rattle.sb_drive.specs.AttachCalls.{HasCause, HandsUp}
 use Rattle.sb_drive.specs.Slots.{Contents, Keeps, pages_of, slots}
@@ -67,12 +67,11 @@ pub returns-in-Stop-clause-damaged : goal.returns-in-Stop-clause-damaged
 returns-in-Stop-clause-damaged g c =
     let a = (goal.Attachment-dyn g c.args.boxed.now).attachment c.args.boxed.now.1 in
     let inst = c.args.inst.now in
-    let call = c.args.call.now in
     let P = pages_of c.loop-ask.memory.now inst.owner in
-    let made = stored c.make_call-made.new.ctx P in
-    subst (λ (x : Contents). HasCause a inst call c.args.ctx.now (pages_of x.now inst.owner) c.in-Stop.fault) c.loop-ask.invariant.kept
-    (HasCause-stop a inst call c.args.ctx.now P made c.make_call-made.result c.in-Stop.fault (sym c.turn_of.ensures ∙ c.in-Stop.is)
-    (Answers-found a inst call c.loop-ask.ctx c.args.ctx.now P made c.make_call-made.result c.loop-ask.invariant.found (c.make_call-made.ensures.changes.answers P c.loop-ask.invariant.part)))
+    let changes = c.make_call-made.ensures.changes in
+    subst (λ (x : Contents). HasCause a inst c.args.call.now (pages_of x.now inst.owner) c.in-Stop.fault) c.loop-ask.invariant.kept
+    (HasCause-stop a inst c.args.call.now c.loop-ask.ctx P (stored c.make_call-made.new.ctx P) c.make_call-made.result c.in-Stop.fault (sym c.turn_of.ensures ∙ c.in-Stop.is) c.loop-ask.invariant.part
+    changes.broken (changes.answers P c.loop-ask.invariant.part))
 
 pub store-requires : goal.store-requires
 store-requires g c =
@@ -94,6 +93,7 @@ returns-in-End g c =
       answers = subst (λ (x : Contents). Answers a inst call c.args.ctx.now (pages_of x.now inst.owner) after end) kept
           (Answers-end a inst call c.args.ctx.now P (stored ctx P) after c.make_call-made.result end (end-is c.make_call-made.result end turn) c.in_ok-store-in-End.ensures.pages
           (Answers-found a inst call c.loop-ask.ctx c.args.ctx.now P (stored ctx P) c.make_call-made.result c.loop-ask.invariant.found (changes.answers P c.loop-ask.invariant.part)));
+      may = subst (MayEnd call) (end-is c.make_call-made.result end turn) changes.ends;
       ends = IsEnd-end c.make_call-made.result end turn;
       find = OnFind-other end (HandsUp inst.owner c.args.memory.now c.store.new.memory ctx end) (sym c.is_find.ensures ∙ c.if-is_find.false);
       found = ap (λ (v : View). v.found) changes.given ∙ c.loop-ask.invariant.found;

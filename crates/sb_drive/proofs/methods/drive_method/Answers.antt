@@ -1,16 +1,16 @@
 use Rattle.std.proofs.Common.{◌≡◌, ◌<◌, ◌∙◌, refl, sym, ap, subst}
 use Rattle.sb_forms.specs.Pages.{Pages}
-use Rattle.sb_ctx.specs.DrivingLaws.{HoldsPart-nothing, IsClean-nothing}
+use Rattle.sb_ctx.proofs.DrivingLaws.{HoldsPart-nothing, IsClean-nothing}
 use Rattle.sb_ctx.specs.MethodAnswers.{Answers}
 use Rattle.sb_ctx.specs.View.{View, HoldsPart, IsClean, dropped, stored}
-use Rattle.sb_ctx.specs.ViewLaws.{HoldsPart-from_dropped}
+use Rattle.sb_ctx.proofs.ViewLaws.{HoldsPart-from_dropped}
 use Rattle.sb_drive.specs.declared.turns.Turn.TheVariants.{Give, Stop, End}
 use Rattle.sb_drive.specs.MethodCalls.{HasCause}
 use Rattle.sb_drive.specs.Slots.{Contents, Keeps, pages_of, slots}
 use Rattle.sb_drive.specs.Turns.{turn_of}
 use Rattle.sb_drive.proofs.AsksLemmas.{IsAsked-dropped, IsClean-IsGiven, HoldsPart-IsGiven, to_ask-IsGiven}
 use Rattle.sb_drive.proofs.MeasureLemmas.{to_ask}
-use Rattle.sb_drive.proofs.MethodLemmas.{HasCause-stop, Answers-end}
+use Rattle.sb_drive.proofs.MethodLemmas.{HasCause-stop, Answers-end, MayEnd-end}
 use Rattle.sb_drive.proofs.OwnedLemmas.{Keeps-same}
 use Rattle.sb_drive.proofs.TurnsLemmas.{IsAsked-method, end-is, OnErr-always}
 use Rattle.sb_drive.proofs.methods.drive_method.Goals as goal
@@ -18,7 +18,7 @@ use Rattle.sb_drive.proofs.methods.drive_method.Goals as goal
 pub loop-ask-init : goal.loop-ask-init
 loop-ask-init g c = record {
   clean = subst IsClean (sym c.new-ctx.ensures) IsClean-nothing;
-  part = subst (λ (v : View). HoldsPart v (pages_of c.args.memory.now.now c.args.inst.now.owner)) (sym c.new-ctx.ensures) (HoldsPart-nothing (pages_of c.args.memory.now.now c.args.inst.now.owner));
+  part = subst (λ (v : View). HoldsPart v (pages_of c.args.memory.now.now c.args.inst.now.owner)) (sym c.new-ctx.ensures) (HoldsPart-nothing (pages_of c.args.memory.now.now c.args.inst.now.owner) (c.are_pages.ensures.now c.args.inst.now.owner));
   kept = refl;
 }
 
@@ -67,8 +67,10 @@ returns-in-Stop-clause-damaged g c =
     let m = (goal.StorageMethod-dyn g c.args.boxed.now).method c.args.boxed.now.1 in
     let inst = c.args.inst.now in
     let P = pages_of c.loop-ask.memory.now inst.owner in
+    let changes = c.make_call-made.ensures.changes in
     subst (λ (x : Contents). HasCause m inst c.args.call.now (pages_of x.now inst.owner) c.in-Stop.fault) c.loop-ask.invariant.kept
-    (HasCause-stop m inst c.args.call.now P (stored c.make_call-made.new.ctx P) c.make_call-made.result c.in-Stop.fault (sym c.turn_of.ensures ∙ c.in-Stop.is) (c.make_call-made.ensures.changes.answers P c.loop-ask.invariant.part))
+    (HasCause-stop m inst c.args.call.now c.loop-ask.ctx P (stored c.make_call-made.new.ctx P) c.make_call-made.result c.in-Stop.fault (sym c.turn_of.ensures ∙ c.in-Stop.is) c.loop-ask.invariant.part
+    changes.broken (changes.answers P c.loop-ask.invariant.part))
 
 pub store-requires : goal.store-requires
 store-requires g c =
@@ -98,3 +100,7 @@ returns-in-End-clause-others g c = subst (λ (x : Contents). Keeps c.args.inst.n
 
 pub returns-in-End-clause-reads : goal.returns-in-End-clause-reads
 returns-in-End-clause-reads g c = λ reads. c.in_ok-store-in-End.ensures.clean (c.make_call-made.ensures.changes.given ∙ sym (c.make_call-made.ensures.reads reads)) ∙ c.loop-ask.invariant.kept
+
+pub returns-in-End-clause-may : goal.returns-in-End-clause-may
+returns-in-End-clause-may g c =
+    MayEnd-end c.args.inst.now c.args.call.now c.make_call-made.result c.in-End.end (end-is c.make_call-made.result c.in-End.end (sym c.turn_of.ensures ∙ c.in-End.is)) c.make_call-made.ensures.changes.ends

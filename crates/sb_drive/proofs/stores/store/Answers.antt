@@ -3,7 +3,7 @@ use Rattle.std.specs.Vec.{vec_len}
 use Rattle.sb_drive.specs.declared.slots.Write.{Write}
 use Rattle.sb_drive.specs.Slots.{Slots, slots, owned}
 use Rattle.sb_drive.specs.Writes.{written}
-use Rattle.sb_drive.proofs.StoresLemmas.{made_pages, Adds-made, AreAmong-Adds, owned-stored, owned-others, none_written}
+use Rattle.sb_drive.proofs.StoresLemmas.{made_pages, Adds-made, AreAmong-Adds, ArePagesTo-Adds, owned-stored, owned-others, none_written}
 use Rattle.sb_drive.proofs.WritesLemmas.{no_writes}
 use Rattle.sb_drive.proofs.stores.store.Goals as goal
 
@@ -16,7 +16,7 @@ returns-then-is_empty-clause-pages c =
     let all = Adds-made s owner ctx c.new-writes.result.items c.add_edited.new.writes.items ws c.new-writes.ensures.items c.in_ok-add_edited.ensures c.in_ok-add_freed.ensures in
     let size : vec_len c.add_freed.new.writes ≡ 0 = eqb-true (vec_len c.add_freed.new.writes) 0 (sym c.is_empty.ensures ∙ c.if-is_empty.true) in
     let none : ws ≡ [] = no_writes ws (omega (arith, c.add_freed.new.writes.ok.0)) in
-    ap (λ (xs : List Write). owned (written xs s) owner) (sym none) ∙ owned-stored s owner ctx ws c.asks.ensures.sound c.requires all
+    ap (λ (xs : List Write). owned (written xs s) owner) (sym none) ∙ owned-stored s owner ctx ws c.is_ctx.ensures.sound c.requires all
 
 pub write-requires : goal.write-requires
 write-requires c =
@@ -25,7 +25,7 @@ write-requires c =
     let ctx = c.args.ctx.now in
     let ws = c.add_freed.new.writes.items in
     let all = Adds-made s owner ctx c.new-writes.result.items c.add_edited.new.writes.items ws c.new-writes.ensures.items c.in_ok-add_edited.ensures c.in_ok-add_freed.ensures in
-    AreAmong-Adds s owner ctx (made_pages ctx) ws all
+    record { among = AreAmong-Adds s owner ctx (made_pages ctx) ws all; whole = ArePagesTo-Adds s owner ctx (owned s owner) (made_pages ctx) ws c.is_ctx.ensures c.requires all }
 
 pub returns-clause-pages : goal.returns-clause-pages
 returns-clause-pages c =
@@ -34,7 +34,7 @@ returns-clause-pages c =
     let ctx = c.args.ctx.now in
     let ws = c.add_freed.new.writes.items in
     let all = Adds-made s owner ctx c.new-writes.result.items c.add_edited.new.writes.items ws c.new-writes.ensures.items c.in_ok-add_edited.ensures c.in_ok-add_freed.ensures in
-    ap (λ (f : Slots). owned f owner) c.in_ok-write.ensures.now ∙ owned-stored s owner ctx ws c.asks.ensures.sound c.requires all
+    ap (λ (f : Slots). owned f owner) c.in_ok-write.ensures.now ∙ owned-stored s owner ctx ws c.is_ctx.ensures.sound c.requires all
 
 pub returns-clause-others : goal.returns-clause-others
 returns-clause-others c =

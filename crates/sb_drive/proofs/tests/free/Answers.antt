@@ -1,6 +1,6 @@
 use Rattle.std.proofs.Common.{[], ap, ◌∙◌}
 use Rattle.sb_ctx.specs.View.{dropped}
-use Rattle.sb_ctx.specs.ViewLaws.{dropped-with_page}
+use Rattle.sb_ctx.proofs.ViewLaws.{dropped-with_page}
 use Rattle.sb_drive.proofs.tests.free.Goals as goal
 
 pub returns-in-Ok-clause-given : goal.returns-in-Ok-clause-given

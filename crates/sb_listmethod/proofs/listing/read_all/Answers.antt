@@ -14,7 +14,7 @@ returns-in-None-clause-listed c =
 pub returns-in-Err-clause-asks : goal.returns-in-Err-clause-asks
 returns-in-Err-clause-asks c =
     front_stops c.args.ctx.now c.loop.listed.numbers.items c.loop.listed.keys.items c.loop.last c.in-Some.n c.in-Err.stop c.loop.invariant c.requires
-    (λ P part. subst (λ (o : Option ℕ). IsNextBelow P c.loop.last o) c.in-Some.is (c.in_ok-next_page.ensures.next P part)) c.in-Err.ensures.stops
+    (rw c.in-Some.is at c.in_ok-next_page.ensures.below) c.in-Err.ensures.stops
 
 pub loop-preserved : goal.loop-preserved
 loop-preserved c =

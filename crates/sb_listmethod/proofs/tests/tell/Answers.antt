@@ -1,7 +1,7 @@
 use Rattle.std.proofs.Common.{sym, subst}
 use Rattle.std.proofs.lemmas.Result.{on_ok_weaker}
 use Rattle.sb_ctx.specs.View.{IsClean}
-use Rattle.sb_ctx.specs.DrivingLaws.{IsClean-with_next}
+use Rattle.sb_ctx.proofs.DrivingLaws.{IsClean-with_next}
 use Rattle.sb_listmethod.proofs.tests.tell.Goals as goal
 
 pub returns : goal.returns

@@ -1,5 +1,5 @@
 use Rattle.std.proofs.Common.{sym, ◌∙◌}
-use Rattle.sb_listmethod.proofs.WritingLemmas.{same_pages, roomy_numbers, roomy_whole, fresh_given, fresh_stops}
+use Rattle.sb_listmethod.proofs.WritingLemmas.{same_pages, same_kept, fresh_kept, roomy_numbers, roomy_whole, fresh_given, fresh_stops}
 use Rattle.sb_listmethod.proofs.writing.roomy.Goals as goal
 
 pub returns-then-count-saturating_mul-clause-numbers : goal.returns-then-count-saturating_mul-clause-numbers
@@ -28,3 +28,10 @@ returns-in-Some-2-clause-given c = fresh_given c.args.ctx.now c.fresh.new.self c
 
 pub returns-in-Some-2-clause-stops : goal.returns-in-Some-2-clause-stops
 returns-in-Some-2-clause-stops c = fresh_stops c.args.ctx.now c.fresh.new.self c.in-Some-2.field-0 c.requires.clean c.in-Some-2.ensures.taken
+
+pub returns-then-count-saturating_mul-clause-kept : goal.returns-then-count-saturating_mul-clause-kept
+returns-then-count-saturating_mul-clause-kept c = λ P part. same_kept c.args.ctx.now P c.requires.clean part
+
+pub returns-in-Ok-clause-kept : goal.returns-in-Ok-clause-kept
+returns-in-Ok-clause-kept c = λ P part.
+    fresh_kept c.args.ctx.now c.fresh.new.self P c.in-Some.n c.fresh.ensures.sound c.requires.clean c.in-Some.ensures.number c.in-Some.ensures.taken part

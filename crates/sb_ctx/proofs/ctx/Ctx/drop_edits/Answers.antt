@@ -2,8 +2,11 @@ use Rattle.std.proofs.Common.{◌≡◌, length, sym, ap, subst, ◌∙◌}
 use Rattle.std.specs.Vec.{with_items}
 use Rattle.std.proofs.lemmas.List.{with_items_is, length-map}
 use Rattle.sb_ctx.specs.View.{as_given}
-use Rattle.sb_ctx.specs.HeldLaws.{each}
-use Rattle.sb_ctx.specs.Sound.{AreSound, AreSound-as_given}
+use Rattle.sb_ctx.specs.Held.{each}
+use Rattle.sb_ctx.specs.Sound.{AreSound}
+use Rattle.sb_ctx.proofs.SoundLaws.{AreSound-as_given}
+use Rattle.sb_ctx.specs.Sized.{AreSized}
+use Rattle.sb_ctx.proofs.SizedLemmas.{AreSized-as_given}
 use Rattle.sb_ctx.proofs.HeldLemmas.{each-dropped}
 use Rattle.sb_ctx.proofs.ctx.Ctx.drop_edits.Goals as goal
 
@@ -13,7 +16,10 @@ dropped_all c =
     ∙ c.drop_all_edits.ensures ∙ ap (each as_given) c.deref_mut.ensures.value
 
 pub invariant_of-self : goal.invariant_of-self
-invariant_of-self c = subst AreSound (sym (dropped_all c)) (AreSound-as_given c.self.inside.held.items c.self.invariant)
+invariant_of-self c = (
+  subst AreSound (sym (dropped_all c)) (AreSound-as_given c.self.inside.held.items c.self.invariant.0),
+  subst AreSized (sym (dropped_all c)) (AreSized-as_given c.self.inside.held.items c.self.invariant.0 c.self.invariant.1),
+)
 
 pub returns : goal.returns
 returns c = each-dropped c.self.view_is (with_items c.self.inside.held c.drop_all_edits.new.held).items (dropped_all c)

@@ -1,5 +1,5 @@
 use Rattle.std.proofs.Common.{◌≡◌, Some, None, position, option_map, sym, ap, ◌∙◌}
-use Rattle.sb_ctx.specs.HeldLaws.{has_number}
+use Rattle.sb_ctx.specs.Held.{has_number}
 use Rattle.sb_ctx.proofs.HeldLemmas.{IsFirst-read, page_of-first, page_of-none}
 use Rattle.sb_ctx.proofs.ctx.Ctx.page.Goals as goal
 

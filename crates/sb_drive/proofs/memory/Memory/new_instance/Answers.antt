@@ -5,7 +5,18 @@ use Rattle.sb_drive.specs.Slots.{Slot, Slots, slots, owned, with_slot}
 use Rattle.sb_drive.specs.Writes.{written}
 use Rattle.sb_drive.specs.declared.slots.Write.{Write}
 use Rattle.sb_drive.proofs.OwnedLemmas.{owned-new, owned-beside}
+use Rattle.sb_drive.proofs.WholeLemmas.{ArePagesTo-new}
 use Rattle.sb_drive.proofs.memory.Memory.new_instance.Goals as goal
+
+pub write-requires-clause-whole : goal.write-requires-clause-whole
+unfolding zeros
+write-requires-clause-whole c =
+    let owner = c.in_ok-owner.owner in
+    let root = c.in_ok-root.root in
+    let bytes : c.in_ok-vec.field-0.items ≡ replicate 4096 0 = search rules in
+    let slot : c.new-slot.result ≡ (owner, zeros) = c.new-slot.ensures ∙ ap (λ (l : List ℕ). (owner, l)) bytes in
+    ArePagesTo-new c.push.new.self.items root owner
+    (c.in_ok-push.ensures.items ∙ ap (λ (ws : List Write). ws ++ record { number = root; slot = c.new-slot.result } ∷ []) c.new-writes.ensures.items ∙ ap (λ (x : Slot). record { number = root; slot = x } ∷ []) slot)
 
 pub returns-clause-pages : goal.returns-clause-pages
 unfolding zeros

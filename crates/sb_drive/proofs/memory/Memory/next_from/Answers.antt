@@ -10,5 +10,5 @@ returns c = λ n from. elim (nat_lt n c.loop-n.n) as (λ b. nat_lt n c.loop-n.n 
   | false ↦ λ behind.
       let end : c.loop-n.n ≤ n = grind (arith, nat_tests) in
       let past : length c.self.inside.pages.items ≤ n = omega (arith, c.self.inside.pages.ok.0) in
-      pages_of-past c.self.inside.pages.items c.self.inside.undo.items c.args.self.now c.args.owner n c.self.view_is c.self.invariant.0 past
+      pages_of-past c.self.inside.pages.items c.self.inside.undo.items c.args.self.now c.args.owner n c.self.view_is c.self.invariant.most past
 ] refl

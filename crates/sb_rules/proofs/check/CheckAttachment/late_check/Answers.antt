@@ -4,7 +4,7 @@ use Rattle.sb_value.specs.Fits.{first_misfit}
 use Rattle.sb_relation.specs.Db.{Row}
 use Rattle.sb_pred.specs.Truth.{truth}
 use Rattle.sb_rules.proofs.Calls.{Looks-passed, Looks-asked}
-use Rattle.sb_rules.proofs.Entries.{not_none_is, one_row, at_some, misfit_not_none}
+use Rattle.sb_rules.proofs.Entries.{not_none_is, one_row, at_some, misfit_not_none, fits_so}
 use Rattle.sb_rules.proofs.check.CheckAttachment.late_check.Goals as goal
 use Rattle.sb_rules.proofs.check.CheckAttachment.late_check.Goals.{then-is_err-via-then-is_err, then-is_err-via-else-is_err+then-eval}
 
@@ -28,5 +28,10 @@ pub returns : goal.returns
 returns c =
     let P : Row → Type 0 = λ t. IsTuple t × (c.as_slice.result.now ≡ tuple_spelling t) in
     let read = at_some c.in-Ok-decode_tuple.spelled P c.in-Some.row c.in-Some.is c.in-Ok-decode_tuple.ensures.found in
-    Looks-asked c.args.inst.now c.args.entry.now c.args.ctx.now c.in-Ok.kept.pred c.in-Ok.kept.deferred c.in-Some.row _ c.none_stands.result
-    c.in-Ok.ensures refl read.0 (sym c.as_slice.ensures ∙ read.1) (sym c.eval.ensures ∙ c.if-eval.false) c.none_stands.ensures.answers c.none_stands.ensures.asks
+    Looks-asked c.args.inst.now c.args.entry.now c.args.ctx.now c.in-Ok.kept.pred c.in-Ok.kept.deferred c.in-Some.row c.none_stands.result
+    c.in-Ok.ensures (record {
+      tuple = read.0;
+      spelled = sym c.as_slice.ensures ∙ read.1;
+      fits = fits_so (first_misfit c.args.inst.now.schema c.in-Some.row) c.fits.result c.fits.ensures (sym c.is_err.ensures.value ∙ c.if-is_err.false);
+      fails = sym c.eval.ensures ∙ c.if-eval.false;
+    }) c.none_stands.ensures.answers c.none_stands.ensures.asks

@@ -6,9 +6,10 @@ use Rattle.std.proofs.lemmas.Slice.Eq.{bytes_eq-Decides}
 use Rattle.sb_relation.specs.Fits.{is_empty}
 use Rattle.sb_forms.specs.Pages.{Pages}
 use Rattle.sb_ctx.specs.View.{HeldPage, View, held_at, page_of, is_edited, is_freed, edited_pages, fresh_pages, freed_pages, HoldsPart, stored}
-use Rattle.sb_ctx.specs.HeldLaws.{Entries, page_in, page_in-cons, page_in-place}
+use Rattle.sb_ctx.specs.Held.{Entries, page_in}
+use Rattle.sb_ctx.proofs.HeldLaws.{page_in-cons, page_in-place}
 use Rattle.sb_ctx.specs.Sound.{IsSound}
-use Rattle.sb_ctx.specs.ViewLaws.{stored_by, no_bytes}
+use Rattle.sb_ctx.proofs.ViewLaws.{stored_by, no_bytes}
 
 -- it stands in the list
 abbrev pub IsListed : {X : Type 0} → List X → X → Type 0

@@ -1,5 +1,5 @@
 -- What a look-up of a page finds in a list of held pages, once it is changed; and that the numbers keep rising.
-use Rattle.std.proofs.Common.{◌≡◌, ℕ, ◌+◌, ◌==◌, Bool, true, false, cond, ◌&&◌, List, [], ◌∷◌, length, map, Option, Some, None, option_map, is_some, T, refl, sym, ap, ◌∙◌, arith, nat_cmp, is_lt, Less, Equal, Greater, true≢false, zero, suc, ◌<◌, ◌≤◌, subst, slice_get, eq-eqb, ne_eqb, ne_of_lt}
+use Rattle.std.proofs.Common.{◌≡◌, ℕ, ◌+◌, ◌==◌, Bool, true, false, cond, ◌&&◌, List, [], ◌∷◌, length, Option, Some, None, option_map, is_some, T, refl, sym, ap, ◌∙◌, arith, nat_cmp, is_lt, Less, Equal, Greater, true≢false, zero, suc, ◌<◌, ◌≤◌, subst, slice_get, eq-eqb, ne_eqb, ne_of_lt}
 use Rattle.std.specs.List.{find as first}
 use Rattle.std.specs.Ordering.{eq_by_cmp}
 use Rattle.std.specs.FinMap.Entries.{put, by_order, find, find-put, below_all, is_sorted, is_sorted-put, length-put}
@@ -8,24 +8,7 @@ use Rattle.std.proofs.lemmas.Bool.Decides.{nat_tests}
 use Rattle.std.proofs.lemmas.Option.{same_Some}
 use Rattle.std.proofs.lemmas.Cmp.{nat_cmp_total}
 use Rattle.sb_ctx.specs.View.{HeldPage, bytes_put}
-
-abbrev pub Entries : Type 0
-Entries = List (ℕ × HeldPage)
-
-abbrev pub has_number : ℕ → ℕ × HeldPage → Bool
-has_number n e = e.0 == n
-
--- the page of a number, where it is in the list
-abbrev pub page_in : Entries → ℕ → Option HeldPage
-page_in held n = option_map (λ e. e.1) (first (λ e. e.0 == n) held)
-
--- the same page with other bytes now
-abbrev pub with_bytes : List ℕ → HeldPage → HeldPage
-with_bytes bytes h = record h { now = bytes }
-
--- each page changed, under its number
-abbrev pub each : (HeldPage → HeldPage) → Entries → Entries
-each f held = map (λ e. (e.0, f e.1)) held
+use Rattle.sb_ctx.specs.Held.{Entries, page_in, with_bytes, each, Rises}
 
 -- ---- look-ups
 pub page_in-cons : (e : ℕ × HeldPage) (held : Entries) (n : ℕ) → page_in (e ∷ held) n ≡ cond (e.0 == n) (Some e.1) (page_in held n)
@@ -87,11 +70,6 @@ each-bytes_put f n bytes same (e ∷ held) =
       | true ↦ ap (λ (h : HeldPage). (e.0, h) ∷ each f held) (same e.1)
       | false ↦ ap (λ (rest : Entries). (e.0, f e.1) ∷ rest) (each-bytes_put f n bytes same held)
     ]
-
--- ---- the numbers rise
--- the numbers strictly rise
-abbrev pub Rises : Entries → Type 0
-Rises held = T (is_sorted nat_cmp held)
 
 below_all-each : (f : HeldPage → HeldPage) (n : ℕ) (held : Entries) → below_all nat_cmp n (each f held) ≡ below_all nat_cmp n held
 below_all-each f n [] = refl

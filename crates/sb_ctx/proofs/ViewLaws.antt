@@ -1,12 +1,13 @@
 -- What the author of a box cites of a Ctx, and of the pages of which it holds a part.
-use Rattle.std.proofs.Common.{◌≡◌, ℕ, ◌+◌, ◌≤◌, ◌==◌, Bool, true, false, cond, ◌&&◌, List, [], ◌∷◌, ◌++◌, length, take, drop, Option, Some, None, option_map, IsSome, slice_get, refl, sym, ap, subst, ◌∙◌, arith, eq-eqb, ne_eqb, eqb-true, All, suc, true≢false, length-append, length-take, length-drop}
+use Rattle.std.proofs.Common.{◌≡◌, ℕ, ◌+◌, ◌<◌, ◌≤◌, ◌==◌, Bool, true, false, cond, ◌&&◌, List, [], ◌∷◌, ◌++◌, length, take, drop, Option, Some, None, option_map, IsSome, slice_get, refl, sym, ap, subst, ◌∙◌, arith, eq-eqb, ne_eqb, eqb-true, All, suc, true≢false, length-append, length-take, length-drop}
 use Rattle.std.specs.List.{find as first}
 use Rattle.std.proofs.lemmas.Bool.{and_parts, and_right, cond-true, cond-false}
 use Rattle.std.proofs.lemmas.Option.{same_Some}
 use Rattle.sb_relation.specs.Fits.{is_empty}
 use Rattle.sb_forms.specs.Pages.{Pages, IsNext}
 use Rattle.sb_ctx.specs.View.{HeldPage, View, held_at, page_of, room_of, next_of, spliced, bytes_put, with_page, free_page, as_given, dropped, HoldsPart, stored}
-use Rattle.sb_ctx.specs.HeldLaws.{Entries, page_in, with_bytes, page_in-cons, page_in-each, page_in-bytes_put, page_in-place, each-each, each-bytes_put}
+use Rattle.sb_ctx.specs.Held.{Entries, page_in, with_bytes}
+use Rattle.sb_ctx.proofs.HeldLaws.{page_in-cons, page_in-each, page_in-bytes_put, page_in-place, each-each, each-bytes_put}
 use Rattle.sb_ctx.specs.Sound.{AreSound, IsSound}
 
 -- ---- a page of a Ctx once one has other bytes
@@ -156,7 +157,7 @@ stored-other c P n m bytes other = ap (λ (o : Option HeldPage). stored_by (P m)
 
 -- ---- where nothing is made of it yet
 -- a held page has the bytes that it was given with
-as_it_was : (c : View) (n : ℕ) (h : HeldPage) → dropped c ≡ c → held_at c n ≡ Some h → h.now ≡ h.given
+pub as_it_was : (c : View) (n : ℕ) (h : HeldPage) → dropped c ≡ c → held_at c n ≡ Some h → h.now ≡ h.given
 as_it_was c n h clean is =
     ap (λ (g : HeldPage). g.now) (sym (same_Some (as_given h) h (ap (option_map as_given) (sym is) ∙ sym (page_in-each as_given c.held n) ∙ ap (λ (v : View). held_at v n) clean ∙ is)))
 
@@ -176,18 +177,34 @@ stored-clean c P clean part = λ i n. by n (held_at c n) refl i
 
 -- ---- a part of the pages stays one
 pub HoldsPart-dropped : (c : View) (P : Pages) → HoldsPart c P → HoldsPart (dropped c) P
-HoldsPart-dropped c P part = record { pages = λ n h is. by n h (held_at c n) refl (sym (page_in-each as_given c.held n) ∙ is); nexts = part.nexts }
+HoldsPart-dropped c P part = record {
+  are_pages = part.are_pages;
+  fresh = λ n h is. (undone n h is).2;
+  pages = λ n h is. (undone n h is).1;
+  nexts = part.nexts;
+}
   where
-    by : (n : ℕ) (h : HeldPage) (o : Option HeldPage) → held_at c n ≡ o → option_map as_given o ≡ Some h → P n ≡ h.given
+    by : (n : ℕ) (h : HeldPage) (o : Option HeldPage) → held_at c n ≡ o → option_map as_given o ≡ Some h →
+        (g : HeldPage) × (P n ≡ h.given) × (h.fresh ≡ true → n < 65536)
     by n h None there is = cc
-    by n h (Some g) there is = part.pages n g there ∙ ap (λ (x : HeldPage). x.given) (same_Some (as_given g) h is)
+    by n h (Some g) there is =
+        let same : as_given g ≡ h = same_Some (as_given g) h is in
+        (g, part.pages n g there ∙ ap (λ (x : HeldPage). x.given) same, λ fresh. part.fresh n g there (ap (λ (x : HeldPage). x.fresh) same ∙ fresh))
+
+    undone : (n : ℕ) (h : HeldPage) → held_at (dropped c) n ≡ Some h → (g : HeldPage) × (P n ≡ h.given) × (h.fresh ≡ true → n < 65536)
+    undone n h is = by n h (held_at c n) refl (sym (page_in-each as_given c.held n) ∙ is)
 
 -- as what is made of it is not what was given
 pub HoldsPart-from_dropped : (c old : View) (P : Pages) → dropped c ≡ old → HoldsPart old P → HoldsPart c P
 HoldsPart-from_dropped c old P is part = record {
-  pages = λ n h there. part.pages n (as_given h) (ap (λ (v : View). held_at v n) (sym is) ∙ page_in-each as_given c.held n ∙ ap (option_map as_given) there);
+  are_pages = part.are_pages;
+  fresh = λ n h there. part.fresh n (as_given h) (given n h there);
+  pages = λ n h there. part.pages n (as_given h) (given n h there);
   nexts = subst (λ (v : View). All (λ e. IsNext P e.0 e.1) v.nexts) (sym is) part.nexts;
 }
+  where
+    given : (n : ℕ) (h : HeldPage) → held_at c n ≡ Some h → held_at old n ≡ Some (as_given h)
+    given n h there = ap (λ (v : View). held_at v n) (sym is) ∙ page_in-each as_given c.held n ∙ ap (option_map as_given) there
 
 pub HoldsPart-with_page : (c : View) (P : Pages) (n : ℕ) (bytes : List ℕ) → HoldsPart c P → HoldsPart (with_page n bytes c) P
 HoldsPart-with_page c P n bytes part = HoldsPart-from_dropped (with_page n bytes c) (dropped c) P (dropped-with_page c n bytes) (HoldsPart-dropped c P part)

@@ -7,35 +7,49 @@ use Rattle.std.proofs.lemmas.List.Elements.{All-nil, All-cons}
 use Rattle.std.proofs.lemmas.Option.{same_Some}
 use Rattle.sb_relation.specs.Db.{Db}
 use Rattle.sb_relation.specs.Keys.{is_record_key}
-use Rattle.sb_forms.specs.Pages.{Pages, IsNext}
+use Rattle.sb_forms.specs.Pages.{Pages, ArePages, IsNext}
 use Rattle.sb_ctx.specs.declared.held.Found.{Found}
 use Rattle.sb_ctx.specs.View.{HeldPage, View, nothing, held_at, page_of, next_of, as_given, dropped, with_held, given_page, fresh_page, with_next, with_found, HoldsPart, FoundIn, keys_with, IsClean}
-use Rattle.sb_ctx.specs.HeldLaws.{Entries, page_in, page_in-put, page_in-place, each-put, length-put_new, length_within}
+use Rattle.sb_ctx.specs.Held.{Entries, page_in}
+use Rattle.sb_ctx.proofs.HeldLaws.{page_in-put, page_in-place, each-put, length-put_new, length_within}
 use Rattle.sb_ctx.specs.Sound.{IsSound}
-use Rattle.sb_ctx.specs.ViewLaws.{dropped-dropped, not_held}
+use Rattle.sb_ctx.proofs.ViewLaws.{dropped-dropped, not_held}
 
 -- ---- a Ctx holds a part of the pages
-pub HoldsPart-nothing : (P : Pages) → HoldsPart nothing P
-HoldsPart-nothing P = record { pages = λ n h is. cc; nexts = All-nil (λ e. IsNext P e.0 e.1) }
+pub HoldsPart-nothing : (P : Pages) → ArePages P → HoldsPart nothing P
+HoldsPart-nothing P are = record { are_pages = are; fresh = λ n h is fresh. cc; pages = λ n h is. cc; nexts = All-nil (λ e. IsNext P e.0 e.1) }
 
-held_part : (c : View) (P : Pages) (n : ℕ) (h : HeldPage) → P n ≡ h.given → HoldsPart c P → HoldsPart (with_held n h c) P
-held_part c P n h same part = record { pages = λ m g is. by m g (n == m) refl (sym (page_in-put c.held n m h) ∙ is); nexts = part.nexts }
+held_part : (c : View) (P : Pages) (n : ℕ) (h : HeldPage) → P n ≡ h.given → (h.fresh ≡ true → n < 65536) → HoldsPart c P → HoldsPart (with_held n h c) P
+held_part c P n h same below part = record {
+  are_pages = part.are_pages;
+  fresh = λ m g is. (by m g (n == m) refl (sym (page_in-put c.held n m h) ∙ is)).1;
+  pages = λ m g is. (by m g (n == m) refl (sym (page_in-put c.held n m h) ∙ is)).0;
+  nexts = part.nexts;
+}
   where
-    by : (m : ℕ) (g : HeldPage) (b : Bool) → n == m ≡ b → cond b (Some h) (page_in c.held m) ≡ Some g → P m ≡ g.given
-    by m g true here is = ap P (sym (eqb-true n m here)) ∙ same ∙ ap (λ (x : HeldPage). x.given) (same_Some h g is)
-    by m g false there is = part.pages m g is
+    by : (m : ℕ) (g : HeldPage) (b : Bool) → n == m ≡ b → cond b (Some h) (page_in c.held m) ≡ Some g → (P m ≡ g.given) × (g.fresh ≡ true → m < 65536)
+    by m g true here is =
+        let at : n ≡ m = eqb-true n m here in
+        let it : h ≡ g = same_Some h g is in
+        (ap P (sym at) ∙ same ∙ ap (λ (x : HeldPage). x.given) it, λ fresh. omega (arith, at, below (ap (λ (x : HeldPage). x.fresh) it ∙ fresh)))
+    by m g false there is = (part.pages m g is, part.fresh m g is)
 
 pub HoldsPart-given : (c : View) (P : Pages) (n : ℕ) → HoldsPart c P → HoldsPart (with_held n (given_page (P n)) c) P
-HoldsPart-given c P n = held_part c P n (given_page (P n)) refl
+HoldsPart-given c P n = held_part c P n (given_page (P n)) refl (λ fresh. cc)
 
-pub HoldsPart-fresh : (c : View) (P : Pages) (n : ℕ) → P n ≡ [] → HoldsPart c P → HoldsPart (with_held n fresh_page c) P
-HoldsPart-fresh c P n unused = held_part c P n fresh_page unused
+pub HoldsPart-fresh : (c : View) (P : Pages) (n : ℕ) → P n ≡ [] → n < 65536 → HoldsPart c P → HoldsPart (with_held n fresh_page c) P
+HoldsPart-fresh c P n unused below = held_part c P n fresh_page unused (λ fresh. below)
 
 pub HoldsPart-with_next : (c : View) (P : Pages) (low next : Option ℕ) → IsNext P low next → HoldsPart c P → HoldsPart (with_next low next c) P
-HoldsPart-with_next c P low next is part = record { pages = part.pages; nexts = All-cons (λ e. IsNext P e.0 e.1) (low, next) c.nexts is part.nexts }
+HoldsPart-with_next c P low next is part = record {
+  are_pages = part.are_pages;
+  fresh = part.fresh;
+  pages = part.pages;
+  nexts = All-cons (λ e. IsNext P e.0 e.1) (low, next) c.nexts is part.nexts;
+}
 
 pub HoldsPart-with_found : (c : View) (P : Pages) (f : Found) → HoldsPart c P → HoldsPart (with_found f c) P
-HoldsPart-with_found c P f part = record { pages = part.pages; nexts = part.nexts }
+HoldsPart-with_found c P f part = record { are_pages = part.are_pages; fresh = part.fresh; pages = part.pages; nexts = part.nexts }
 
 -- ---- and its finds are answered over a database
 pub FoundIn-nothing : (db : Db) → FoundIn nothing db

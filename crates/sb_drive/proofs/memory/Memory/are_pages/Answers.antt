@@ -1,0 +1,8 @@
+use Rattle.sb_drive.proofs.WholeLemmas.{ArePages-now, ArePages-was}
+use Rattle.sb_drive.proofs.memory.Memory.are_pages.Goals as goal
+
+pub returns : goal.returns
+returns c = record {
+  now = λ owner. ArePages-now c.self.inside.pages.items c.self.inside.undo.items c.args.self.now owner c.self.view_is c.self.invariant;
+  was = λ owner. ArePages-was c.self.inside.pages.items c.self.inside.undo.items c.args.self.now owner c.self.view_is c.self.invariant;
+}

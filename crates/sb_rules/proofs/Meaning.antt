@@ -1,0 +1,199 @@
+-- A check keeps the law of attachments, and takes no pages.
+use Rattle.std.proofs.Common.{zero, suc, ◌≡◌, ◌≢◌, ℕ, ◌≤◌, ◌==◌, Bool, true, false, cond, not, ◌&&◌, List, [], ◌∷◌, length, map, filter, slice_get, Option, Some, None, option_map, refl, sym, ap, subst, ◌∙◌, arith, eq-eqb, eqb-true, true≢false, bytes_eq}
+use Rattle.std.specs.List.{range_with_len, find as first}
+use Rattle.std.proofs.lemmas.Bool.{and_parts, cond-true}
+use Rattle.std.proofs.lemmas.List.{length-map}
+use Rattle.std.proofs.lemmas.Option.{same_Some}
+use Rattle.sb_value.specs.Equal.{bytes_same}
+use Rattle.sb_relation.specs.Content.{Content, no_content}
+use Rattle.sb_relation.specs.Fits.{is_empty}
+use Rattle.sb_relation.specs.Images.{Entry}
+use Rattle.sb_forms.specs.Pages.{Pages, page_numbers, page_count}
+use Rattle.sb_ctx.specs.declared.instance.Instance.{Instance}
+use Rattle.sb_ctx.specs.declared.calls.AttachCall.{AttachCall}
+use Rattle.sb_ctx.specs.declared.calls.AttachCall.TheVariants as call
+use Rattle.sb_ctx.specs.declared.moves.Move.{Move}
+use Rattle.sb_ctx.specs.declared.moves.Move.TheVariants.{Need, Fresh, Broken, End, Sums as Summed}
+use Rattle.sb_ctx.specs.View.{HeldPage, View, held_at, is_edited, is_freed, edited_pages, fresh_pages, freed_pages, edits_of, IsClean, HoldsPart}
+use Rattle.sb_ctx.specs.Held.{Entries}
+use Rattle.sb_ctx.proofs.HeldLaws.{page_in-place}
+use Rattle.sb_ctx.proofs.ViewLaws.{given-page, stored-clean}
+use Rattle.sb_ctx.specs.Sized.{IsCtx}
+use Rattle.sb_ctx.specs.MethodAnswers.{HasRoom}
+use Rattle.sb_ctx.specs.AttachAnswers.{AsksFor, IsBroken, MayEnd, Answers, IsOnPath, Costs, most_pages, Spends, Reads, NextIs, is_entry_above, Changes, Looks}
+use Rattle.sb_ctx.specs.Laws.{HoldContent, IsAttachment}
+use Rattle.sb_ctx.proofs.BoundLaws.{count_below}
+use Rattle.sb_rules.specs.Checks.{check}
+
+-- ---- the law
+none_kept : (p : ℕ → Bool) → ((n : ℕ) → p n ≡ false) → (ns : List ℕ) → filter p ns ≡ []
+none_kept p none [] = refl
+none_kept p none (n ∷ ns) = ap (λ b. cond b (n ∷ filter p ns) (filter p ns)) (none n) ∙ none_kept p none ns
+
+no_count : (P : Pages) → ((n : ℕ) → P n ≡ []) → page_count P ≡ 0
+unfolding page_numbers
+no_count P none = ap (λ (ns : List ℕ). length ns) (none_kept (λ n. not (is_empty (P n))) (λ n. ap (λ (bytes : List ℕ). not (is_empty bytes)) (none n)) (range_with_len 0 65536))
+
+both : (a b : Bool) → a ≡ true → b ≡ true → (a && b) ≡ true
+both a b e f = ap (λ c. c && b) e ∙ f
+
+pub formed : (inst : Instance) (P : Pages) → inst.owner ≡ 0 → ((n : ℕ) → P n ≡ []) → check.content inst P ≡ Some no_content
+formed inst P owner none =
+    cond-true (inst.owner == 0 && page_count P == 0) (Some no_content) None
+    (both (inst.owner == 0) (page_count P == 0) (eq-eqb inst.owner 0 owner) (eq-eqb (page_count P) 0 (no_count P none)))
+
+holds : (inst : Instance) (P : Pages) (content : Content) → check.content inst P ≡ Some content → HoldContent check inst P content
+holds inst P content is = by (inst.owner == 0 && page_count P == 0) refl is
+  where
+    by : (b : Bool) → (inst.owner == 0 && page_count P == 0) ≡ b → cond b (Some no_content) None ≡ Some content → HoldContent check inst P content
+    by false fails is = cc
+    by true passes is =
+        let parts = and_parts (inst.owner == 0) (page_count P == 0) passes in
+        let none : page_count P ≡ 0 = eqb-true (page_count P) 0 parts.1 in
+        subst (HoldContent check inst P) (same_Some no_content content is) (record {
+          rising = refl;
+          root = λ owned. absurd (owned (eqb-true inst.owner 0 parts.0));
+          bound = λ pages. omega (arith, none);
+          whole = λ held n some. refl;
+        })
+
+no_content-only : (inst : Instance) (P : Pages) (content : Content) → check.content inst P ≡ Some content → no_content ≡ content
+no_content-only inst P content is = by (inst.owner == 0 && page_count P == 0) is
+  where
+    by : (b : Bool) → cond b (Some no_content) None ≡ Some content → no_content ≡ content
+    by true is = same_Some no_content content is
+    by false is = cc
+
+pub IsAttachment-check : IsAttachment check
+IsAttachment-check = record { check = λ code inst P owner none. formed inst P owner none; formed = holds }
+
+-- ---- nothing is made of the pages
+and_false : (b : Bool) → (b && false) ≡ false
+and_false true = refl
+and_false false = refl
+
+not_edited : (h : HeldPage) → h.now ≡ h.given → is_edited h ≡ true → ⊥
+not_edited h same edited =
+    true≢false (sym edited ∙ ap (λ b. not (is_empty h.now) && not b) ((bytes_same h.now h.given).1 same) ∙ and_false (not (is_empty h.now)))
+
+not_freed : (h : HeldPage) → h.now ≡ h.given → is_freed h ≡ true → ⊥
+not_freed h same freed = by h.now (ap (λ (bytes : List ℕ). is_empty h.now && not (is_empty bytes)) same ∙ freed)
+  where
+    by : (bytes : List ℕ) → (is_empty bytes && not (is_empty bytes)) ≡ true → ⊥
+    by [] e = cc
+    by (b ∷ bytes) e = cc
+
+abbrev taken_of : Entries → List (ℕ × Bool)
+taken_of held = map (λ (e : ℕ × HeldPage). (e.0, not (is_empty e.1.now))) (filter (λ (e : ℕ × HeldPage). e.1.fresh) held)
+
+none_taken : (held : Entries) → ((i : ℕ) (e : ℕ × HeldPage) → slice_get held i ≡ Some e → e.1.fresh ≡ true → e.1.now ≡ []) → length (filter (λ (e : ℕ × Bool). e.1) (taken_of held)) ≡ 0
+none_taken [] all = refl
+none_taken (x ∷ held) all =
+    let rest = none_taken held (λ i e is fresh. all (suc i) e is fresh) in
+    elim x.1.fresh as (λ b. x.1.fresh ≡ b → length (filter (λ (e : ℕ × Bool). e.1) (map (λ (e : ℕ × HeldPage). (e.0, not (is_empty e.1.now)))
+    (cond b (x ∷ filter (λ (e : ℕ × HeldPage). e.1.fresh) held) (filter (λ (e : ℕ × HeldPage). e.1.fresh) held)))) ≡ 0) [
+      | true ↦ λ fresh.
+          ap (λ (bytes : List ℕ). length (cond (not (is_empty bytes)) ((x.0, not (is_empty bytes)) ∷ filter (λ (e : ℕ × Bool). e.1) (taken_of held)) (filter (λ (e : ℕ × Bool). e.1) (taken_of held))))
+          (all 0 x refl fresh) ∙ rest
+      | false ↦ λ old. rest
+    ] refl
+
+no_edits : (c : View) (P : Pages) → IsCtx c → IsClean c → HoldsPart c P → edits_of c ≤ 0
+no_edits c P ctx clean part = omega (arith, edited, freed, taken)
+  where
+    as_it_was : (n : ℕ) (h : HeldPage) → held_at c n ≡ Some h → h.now ≡ h.given
+    as_it_was n h there = sym (given-page c P n h.now clean.unchanged part (ap (option_map (λ (h : HeldPage). h.now)) there)) ∙ part.pages n h there
+
+    edited : length (edited_pages c) ≤ 0
+    edited =
+        subst (λ n. n ≤ 0) (sym (length-map (filter (λ e. is_edited e.1) c.held) (λ e. e.0)))
+        (count_below is_edited c.held 0 ctx.sound.rises (λ n h there is. absurd (not_edited h (as_it_was n h there) is)))
+
+    freed : length (freed_pages c) ≤ 0
+    freed =
+        subst (λ n. n ≤ 0) (sym (length-map (filter (λ e. is_freed e.1) c.held) (λ e. e.0)))
+        (count_below is_freed c.held 0 ctx.sound.rises (λ n h there is. absurd (not_freed h (as_it_was n h there) is)))
+
+    taken : length (filter (λ (e : ℕ × Bool). e.1) (fresh_pages c)) ≡ 0
+    taken = none_taken c.held (λ i e is fresh.
+        let there = page_in-place c.held i e ctx.sound.rises is in
+        as_it_was e.0 e.1 there ∙ ctx.sound.fresh e.0 e.1 there fresh)
+
+-- ---- calls that ask for no page
+abbrev pub AsksNoPage : Move → Type 0
+AsksNoPage (Need n) = ⊥
+AsksNoPage Fresh = ⊥
+AsksNoPage (Broken n) = ⊥
+AsksNoPage move = Unit {0}
+
+on_path : (inst : Instance) (c : AttachCall) (P : Pages) (move : Move) → AsksNoPage move → IsOnPath check inst c P move
+on_path inst c P (Need n) none = absurd none
+on_path inst c P move none = tt
+
+has_room : (most : ℕ) (P : Pages) (c : View) (move : Move) → AsksNoPage move → HasRoom most P c move
+has_room most P c Fresh none = absurd none
+has_room most P c move none = tt
+
+not_broken : (inst : Instance) (c : View) (move : Move) → AsksNoPage move → IsBroken check inst c move
+not_broken inst c (Broken n) none = absurd none
+not_broken inst c move none = tt
+
+spends : (inst : Instance) (c : AttachCall) (old : View) (P : Pages) (move : Move) → AsksNoPage move → IsClean old → IsCtx old → HoldsPart old P → Spends check inst c old P old move
+spends inst c old P move none clean ctx part = by c
+  where
+    costs : (c : AttachCall) (before after : Content) → Costs check inst c P before after old move
+    costs c before after = record { path = on_path inst c P move none; room = has_room (most_pages check c before after) P old move none; edits = no_edits old P ctx clean part }
+
+    by : (c : AttachCall) → Spends check inst c old P old move
+    by call.Prepare = λ at rule db stands. costs call.Prepare _ _
+    by (call.Build key row) = λ rule db stands built buckets before. costs (call.Build key row) _ _
+    by (call.Changed change) = λ rule db stands buckets before. costs (call.Changed change) _ _
+    by (call.Late entry) = λ rule db stands buckets before. on_path inst (call.Late entry) P move none
+    by (call.NextEntry low above) = λ formed. on_path inst (call.NextEntry low above) P move none
+    by call.Sums = λ formed. on_path inst call.Sums P move none
+
+pub changes : (inst : Instance) (c : AttachCall) (old : View) (move : Move) → IsClean old → AsksNoPage move → AsksFor old move → MayEnd c move
+    → ((P : Pages) → Answers check inst c old P P move) → Changes check inst c old old move
+changes inst c old move clean none asks ends answers = record {
+  given = clean.unchanged;
+  asks = asks;
+  broken = not_broken inst old move none;
+  ends = ends;
+  answers = λ P part. subst (λ after. Answers check inst c old P after move) (sym (stored-clean old P clean.unchanged part)) (answers P);
+  spends = λ ctx P part. spends inst c old P move none clean ctx part;
+}
+
+pub looks : (inst : Instance) (entry : List ℕ) (old : View) (move : Move) → AsksNoPage move → Reads (call.Late entry) move → AsksFor old move → MayEnd (call.Late entry) move
+    → ((P : Pages) → Answers check inst (call.Late entry) old P P move) → Looks check inst (call.Late entry) old old move
+looks inst entry old move none reads asks ends answers = record {
+  same = refl;
+  reads = reads;
+  asks = asks;
+  broken = not_broken inst old move none;
+  ends = ends;
+  answers = λ P part. answers P;
+  spends = λ P part rule db stands buckets before. on_path inst (call.Late entry) P move none;
+}
+
+-- ---- what is listed
+pub Looks-end : (inst : Instance) (low : List ℕ) (above : Option Entry) (old : View) → Looks check inst (call.NextEntry low above) old old End
+Looks-end inst low above old = record {
+  same = refl;
+  reads = tt;
+  asks = tt;
+  broken = tt;
+  ends = tt;
+  answers = λ P part content is. subst (λ (c : Content). NextIs (first (is_entry_above low above) c.entries) End) (no_content-only inst P content is) refl;
+  spends = λ P part formed. tt;
+}
+
+pub Looks-sums : (inst : Instance) (old : View) → Looks check inst call.Sums old old (Summed [])
+Looks-sums inst old = record {
+  same = refl;
+  reads = tt;
+  asks = tt;
+  broken = tt;
+  ends = tt;
+  answers = λ P part content is. ap (λ (c : Content). Summed c.sums) (no_content-only inst P content is);
+  spends = λ P part formed. tt;
+}
