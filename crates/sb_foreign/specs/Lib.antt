@@ -1,0 +1,6 @@
+pub mod Watched
+pub mod Strips
+pub mod Limits
+pub mod Onces
+pub mod Counts
+pub mod Examples

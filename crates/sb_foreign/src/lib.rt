@@ -1,0 +1,17 @@
+//! Worked boxes of other authors: a storage method that picks its record keys, an attachment that vetoes some rows, one
+//! that asks which rows have a number, and one that counts the rows in a page.
+#![tactic(auto)]
+
+mod count;
+mod limit;
+mod once;
+mod strip;
+mod watched;
+
+pub use count::Count;
+pub use limit::Limit;
+pub use once::Once;
+pub use strip::Strip;
+
+#[cfg(test)]
+mod tests;
