@@ -1,6 +1,6 @@
 -- A choice by the first token.
 use Rattle.std.proofs.Common.{◌≡◌, List, [], ◌∷◌, ◌++◌, refl, sym, ◌∙◌, ap, subst, inl, inr, Bool, true, false, cond, Ok, Err}
-use Rattle.sb_plain.specs.Lang.{◌⨾◌, ◌∣◌, none, just}
+use Rattle.sb_first.specs.Lang.{◌⨾◌, ◌∣◌, none, just}
 use Rattle.sb_command.specs.Reading.{Read, mapped, starts, or_else}
 use Rattle.sb_command.proofs.Front.{Begins, left, Next, Same, Front, Reads, Tests, heads, as_read, reads_as}
 

@@ -5,13 +5,13 @@ use Rattle.sb_value.specs.declared.value.Value.{Value}
 use Rattle.sb_pred.specs.Tree.{Tree}
 use Rattle.sb_rule.specs.declared.rule.Rule.{Rule}
 use Rattle.sb_rule.specs.declared.rule.Rule.TheVariants.{TreeIndex, HashIndex, JoinIndex, Stats, Check, Refers, Trigger, Foreign}
-use Rattle.sb_plain.specs.declared.token.Sign.TheVariants.{Open, Close, Comma}
-use Rattle.sb_plain.specs.declared.token.Token.{Token}
-use Rattle.sb_plain.specs.declared.token.Token.TheVariants as token
-use Rattle.sb_plain.specs.declared.command.Command.{Command}
-use Rattle.sb_plain.specs.declared.command.Command.TheVariants.{Attach, Insert, Scan}
-use Rattle.sb_plain.specs.Lang.{◌⨾◌, ◌∣◌, items_up_to}
-use Rattle.sb_plain.specs.Grammar.{word, mark, name, constant, values_list, predicate, Spells}
+use Rattle.sb_first.specs.declared.token.Sign.TheVariants.{Open, Close, Comma}
+use Rattle.sb_first.specs.declared.token.Token.{Token}
+use Rattle.sb_first.specs.declared.token.Token.TheVariants as token
+use Rattle.sb_first.specs.declared.command.Command.{Command}
+use Rattle.sb_first.specs.declared.command.Command.TheVariants.{Attach, Insert, Scan}
+use Rattle.sb_first.specs.Lang.{◌⨾◌, ◌∣◌, items_up_to}
+use Rattle.sb_first.specs.Grammar.{word, mark, name, constant, values_list, predicate, Spells}
 use Rattle.sb_command.specs.Reading.{Read, and_then, or_else}
 use Rattle.sb_command.specs.Commands.{is_word, is_mark, word_at, mark_at, name_at, constant_at, constants_at, values_list_at, disjunction_at, unit_at, attach_at, insert_at, scan_at, command_at}
 use Rattle.sb_command.proofs.Front.{Front, left, Reads, reads_then, reads_as, reads_whole}

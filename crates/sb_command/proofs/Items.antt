@@ -1,10 +1,10 @@
 -- What a line says.
 use Rattle.std.proofs.Common.{◌≡◌, ℕ, List, [], ◌∷◌, refl, sym, ◌∙◌, ap, subst, inl, inr, Ok, Err}
-use Rattle.sb_plain.specs.declared.token.Token.{Token}
-use Rattle.sb_plain.specs.declared.command.Command.{Command}
-use Rattle.sb_plain.specs.Tokens.{IsTokens}
-use Rattle.sb_plain.specs.Grammar.{Spells, IsCommand}
-use Rattle.sb_plain.specs.Lines.{Item, Says, Bad, IsItem}
+use Rattle.sb_first.specs.declared.token.Token.{Token}
+use Rattle.sb_first.specs.declared.command.Command.{Command}
+use Rattle.sb_first.specs.Tokens.{IsTokens}
+use Rattle.sb_first.specs.Grammar.{Spells, IsCommand}
+use Rattle.sb_first.specs.Lines.{Item, Says, Bad, IsItem}
 use Rattle.sb_command.specs.declared.line.LineFault.TheVariants.{NoMemory}
 use Rattle.sb_command.specs.Reading.{Read}
 use Rattle.sb_command.specs.Commands.{command_at}

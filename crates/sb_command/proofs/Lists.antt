@@ -1,7 +1,7 @@
 -- Lists of items, each behind a sign.
 use Rattle.std.proofs.Common.{◌≡◌, ℕ, zero, suc, ◌+◌, ◌<◌, ◌≤◌, List, [], ◌∷◌, ◌++◌, refl, sym, ◌∙◌, ap, subst, inl, inr, Bool, Ok, length, arith, length-append}
 use Rattle.std.specs.List.{fold}
-use Rattle.sb_plain.specs.Lang.{◌⨾◌, ◌∣◌, none, just, more_items, items_up_to, many, grouped}
+use Rattle.sb_first.specs.Lang.{◌⨾◌, ◌∣◌, none, just, more_items, items_up_to, many, grouped}
 use Rattle.sb_command.specs.Reading.{Read, and_then, mapped, sign_at, or_else, more_at, items_at, grouped_at}
 use Rattle.sb_command.proofs.Front.{Begins, Front, Reads, Parted, Next, Tests, heads, tails, then_at, reads_then, reads_as, reads_sign, some_then}
 use Rattle.sb_command.proofs.Choice.{Avoids, Image, Alike, or_front, image_front, same_front, marked_sign, marked_image, reads_none}

@@ -2,7 +2,7 @@
 use Rattle.std.proofs.Common.{◌≡◌, ℕ, zero, suc, ◌+◌, ◌-◌, ◌<◌, ◌≤◌, List, [], ◌∷◌, ◌++◌, refl, sym, ◌∙◌, ap, subst, append_assoc, Bool, true, false, cond, Some, None, Ok, Err, length, arith, length-append}
 use Rattle.std.specs.List.{fold}
 use Rattle.std.proofs.lemmas.List.{append-nil}
-use Rattle.sb_plain.specs.declared.token.Token.{Token}
+use Rattle.sb_first.specs.declared.token.Token.{Token}
 use Rattle.sb_command.specs.declared.pieces.Fault.{Fault}
 use Rattle.sb_command.specs.declared.pieces.Fault.TheVariants.{NoMemory, Misfit}
 use Rattle.sb_command.specs.Reading.{Read, paired, and_then, mapped, token_of, sign_at, starts, more_at, grouped_at}

@@ -3,12 +3,12 @@ use Rattle.std.proofs.Common.{◌≡◌, ◌≢◌, ℕ, zero, suc, ◌-◌, Lis
 use Rattle.sb_pred.specs.declared.predicate.Op.{Op}
 use Rattle.sb_pred.specs.declared.predicate.Term.{Term}
 use Rattle.sb_pred.specs.Tree.{Tree, Always, Compare, Both, Either, Fails}
-use Rattle.sb_plain.specs.declared.token.Sign.TheVariants.{Open, Close}
-use Rattle.sb_plain.specs.declared.token.Token.{Token}
-use Rattle.sb_plain.specs.declared.token.Token.TheVariants as token
-use Rattle.sb_plain.specs.Lang.{◌⨾◌, ◌∣◌}
-use Rattle.sb_plain.specs.Words.{is_keyword}
-use Rattle.sb_plain.specs.Grammar.{word, mark, term, plain_unit, conjunction, disjunction, negation, unit_within}
+use Rattle.sb_first.specs.declared.token.Sign.TheVariants.{Open, Close}
+use Rattle.sb_first.specs.declared.token.Token.{Token}
+use Rattle.sb_first.specs.declared.token.Token.TheVariants as token
+use Rattle.sb_first.specs.Lang.{◌⨾◌, ◌∣◌}
+use Rattle.sb_first.specs.Words.{is_keyword}
+use Rattle.sb_first.specs.Grammar.{word, mark, term, plain_unit, conjunction, disjunction, negation, unit_within}
 use Rattle.sb_command.specs.Reading.{Read, paired, and_then, mapped, sign_at, starts, or_else}
 use Rattle.sb_command.specs.Commands.{is_word, is_mark, word_at, mark_at, term_at, op_at, comparison_at, always_at, plain_unit_at, conjunction_at, disjunction_at, negation_at, group_at, unit_at}
 use Rattle.sb_command.proofs.Front.{Reads, Parted, heads}

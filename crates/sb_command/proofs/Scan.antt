@@ -8,11 +8,11 @@ use Rattle.std.proofs.lemmas.Str.{IsUtf8-from_is_utf8, is_utf8-from_IsUtf8}
 use Rattle.std.proofs.lemmas.List.Folds.{length-prefix_len}
 use Rattle.std.proofs.lemmas.List.Sums.{take_while-cons}
 use Rattle.std.proofs.lemmas.Bool.Decides.{nat_tests}
-use Rattle.sb_plain.specs.declared.token.Sign.{Sign}
-use Rattle.sb_plain.specs.declared.token.Sign.TheVariants.{Open, Close, Comma, Equal, Unequal, Less, LessOrEqual, Greater, GreaterOrEqual}
-use Rattle.sb_plain.specs.declared.token.Token.{Token}
-use Rattle.sb_plain.specs.declared.token.Token.TheVariants as token
-use Rattle.sb_plain.specs.Tokens.{is_letter, is_digit, is_word_byte, is_blank, Found, value_behind, minus, number_token, starts, digits_of, one, two, less_token, greater_token, sign_token, text_behind, up_to_quote, text_token, front_token, behind_blanks, IsTokens}
+use Rattle.sb_first.specs.declared.token.Sign.{Sign}
+use Rattle.sb_first.specs.declared.token.Sign.TheVariants.{Open, Close, Comma, Equal, Unequal, Less, LessOrEqual, Greater, GreaterOrEqual}
+use Rattle.sb_first.specs.declared.token.Token.{Token}
+use Rattle.sb_first.specs.declared.token.Token.TheVariants as token
+use Rattle.sb_first.specs.Tokens.{is_letter, is_digit, is_word_byte, is_blank, Found, value_behind, minus, number_token, starts, digits_of, one, two, less_token, greater_token, sign_token, text_behind, up_to_quote, text_token, front_token, behind_blanks, IsTokens}
 
 abbrev found_or : Token × ℕ → Found → Token × ℕ
 found_or default None = default

@@ -1,7 +1,7 @@
 -- Which tokens no sentence of a grouped list goes on with.
 use Rattle.std.proofs.Common.{◌≡◌, List, [], ◌∷◌, ◌++◌, sym, ◌∙◌, ap, subst, inl, inr}
 use Rattle.std.proofs.lemmas.List.{append-nil}
-use Rattle.sb_plain.specs.Lang.{just, many, grouped}
+use Rattle.sb_first.specs.Lang.{just, many, grouped}
 use Rattle.sb_command.proofs.Front.{Parted, heads, cut}
 use Rattle.sb_command.proofs.Parts.{Solid, solid_pair, regrouped}
 use Rattle.sb_command.proofs.Lists.{not_nil, behind_first, sign_front}

@@ -9,13 +9,13 @@ use Rattle.sb_pred.specs.declared.predicate.Term.{Term}
 use Rattle.sb_pred.specs.declared.predicate.Term.TheVariants.{Const, New}
 use Rattle.sb_pred.specs.Tree.{Tree, Always, Compare, Both, Either, Fails}
 use Rattle.sb_rule.specs.declared.rule.Rule.TheVariants.{Check}
-use Rattle.sb_plain.specs.declared.token.Sign.{Sign}
-use Rattle.sb_plain.specs.declared.token.Sign.TheVariants.{Open, Close, Comma, Equal, Unequal, Less, LessOrEqual, Greater, GreaterOrEqual}
-use Rattle.sb_plain.specs.declared.token.Token.{Token}
-use Rattle.sb_plain.specs.declared.token.Token.TheVariants as token
-use Rattle.sb_plain.specs.declared.command.Command.{Command}
-use Rattle.sb_plain.specs.declared.command.Command.TheVariants.{Attach, Insert, Scan}
-use Rattle.sb_plain.specs.Words.{is_keyword}
+use Rattle.sb_first.specs.declared.token.Sign.{Sign}
+use Rattle.sb_first.specs.declared.token.Sign.TheVariants.{Open, Close, Comma, Equal, Unequal, Less, LessOrEqual, Greater, GreaterOrEqual}
+use Rattle.sb_first.specs.declared.token.Token.{Token}
+use Rattle.sb_first.specs.declared.token.Token.TheVariants as token
+use Rattle.sb_first.specs.declared.command.Command.{Command}
+use Rattle.sb_first.specs.declared.command.Command.TheVariants.{Attach, Insert, Scan}
+use Rattle.sb_first.specs.Words.{is_keyword}
 use Rattle.sb_command.specs.Reading.{Read, and_then, mapped, token_at, sign_at, or_else, items_at, grouped_at}
 
 -- ---- what one token stands for

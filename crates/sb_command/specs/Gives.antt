@@ -1,9 +1,9 @@
 -- What a reader returned, beside what reading gives.
 use Rattle.std.specs.Prelude.{◌≡◌, List, Bool, false, Option, Some, None, Result, Ok, Err, Vec}
 use Rattle.std.specs.Borrow.{Bor}
-use Rattle.sb_plain.specs.declared.token.Token.{Token}
-use Rattle.sb_plain.specs.declared.command.Command.{Command}
-use Rattle.sb_plain.specs.Grammar.{Spells}
+use Rattle.sb_first.specs.declared.token.Token.{Token}
+use Rattle.sb_first.specs.declared.command.Command.{Command}
+use Rattle.sb_first.specs.Grammar.{Spells}
 use Rattle.sb_command.specs.declared.pieces.Fault.{Fault}
 use Rattle.sb_command.specs.declared.pieces.Fault.TheVariants.{NoMemory, Misfit}
 use Rattle.sb_command.specs.Reading.{Read, starts, sign_at}

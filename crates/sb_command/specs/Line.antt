@@ -1,7 +1,7 @@
 -- What a line says, and what is answered.
 use Rattle.std.specs.Prelude.{◌≡◌, ℕ, List, Result, Ok, Err}
-use Rattle.sb_plain.specs.declared.command.Command.{Command}
-use Rattle.sb_plain.specs.Lines.{Item, Says, Bad, IsItem}
+use Rattle.sb_first.specs.declared.command.Command.{Command}
+use Rattle.sb_first.specs.Lines.{Item, Says, Bad, IsItem}
 use Rattle.sb_command.specs.declared.line.LineFault.{LineFault}
 use Rattle.sb_command.specs.declared.line.LineFault.TheVariants.{Syntax, NoMemory}
 

@@ -1,14 +1,14 @@
 //! Command lines.
 
 ghost use Rattle.std.specs.Prelude.{ℕ, List};
-ghost use Rattle.sb_plain.specs.Grammar.{IsCommand};
-ghost use Rattle.sb_plain.specs.declared.command.Command.{Command as Order};
+ghost use Rattle.sb_first.specs.Grammar.{IsCommand};
+ghost use Rattle.sb_first.specs.declared.command.Command.{Command as Order};
 ghost use Rattle.sb_command.specs.Line.{IsRead, IsOrMemory, SaysOneThing};
 
 use crate::pieces::Fault;
 use crate::reading::read_command;
 use crate::scanner::scan;
-use sb_plain::Command;
+use sb_first::Command;
 use std::alloc::{AllocError, Global};
 
 /// Why a line is no command.

@@ -6,7 +6,7 @@ ghost use Rattle.sb_command.specs.Gives.{Gives, IsBehind, behind, beside};
 ghost use Rattle.sb_command.specs.Commands as spec;
 
 use crate::words::is_keyword;
-use sb_plain::{Sign, Token};
+use sb_first::{Sign, Token};
 use sb_pred::{Op, Term};
 use sb_value::{Str, Value};
 use std::alloc::{AllocError, AllocFailed};

@@ -6,7 +6,7 @@ ghost use Rattle.sb_command.specs.Commands as spec;
 use crate::pieces::{
     Fault, behind_mark, behind_word, is_word_next, read_mark, read_op, read_term, read_word,
 };
-use sb_plain::{Sign, Token};
+use sb_first::{Sign, Token};
 use sb_pred::Pred;
 use std::alloc::Global;
 

@@ -4,10 +4,10 @@ ghost use Rattle.std.specs.Prelude.{◌≡◌, ◌++◌, codes, OnOk, OnErr};
 ghost use Rattle.std.specs.List.{flat_map};
 ghost use Rattle.hex.specs.Hex.{encode_lower};
 ghost use Rattle.std.specs.Fmt.{decimal, signed_decimal};
-ghost use Rattle.sb_plain.specs.Text.{key_text, own_key_text, pick_text, doubled, value_text, more_text, values_text, row_text, refusal_text, reply_text};
+ghost use Rattle.sb_first.specs.Text.{key_text, own_key_text, pick_text, doubled, value_text, more_text, values_text, row_text, refusal_text, reply_text};
 ghost use Rattle.sb_command.specs.Printed.{BeginsWith};
 
-use sb_plain::{Refusal, Reply};
+use sb_first::{Refusal, Reply};
 use sb_value::{Bytes, RecKey, Str, Tuple, Value};
 use std::alloc::AllocError;
 

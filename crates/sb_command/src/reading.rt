@@ -4,13 +4,13 @@ ghost use Rattle.std.specs.Prelude.{◌∷◌};
 ghost use Rattle.sb_command.specs.Reading.{mapped, more_at};
 ghost use Rattle.sb_command.specs.Gives.{Gives, IsReadFrom, beside, items_beside};
 ghost use Rattle.sb_command.specs.Commands as spec;
-ghost use Rattle.sb_plain.specs.declared.token.Sign.TheVariants.{Comma};
+ghost use Rattle.sb_first.specs.declared.token.Sign.TheVariants.{Comma};
 
 use crate::pieces::{
     Fault, behind_mark, is_word_next, read_constant, read_mark, read_name, read_word,
 };
 use crate::predicates::read_predicate;
-use sb_plain::{Command, Sign, Token};
+use sb_first::{Command, Sign, Token};
 use sb_rule::Rule;
 use sb_value::{Tuple, Value};
 use std::alloc::Global;

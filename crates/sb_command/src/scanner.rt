@@ -2,10 +2,10 @@
 
 ghost use Rattle.std.specs.Prelude.{◌≡◌, ℕ, ◌<◌, ◌≤◌, ◌^◌, false, length, take_while, IfOk, IfSome, option_map};
 ghost use Rattle.std.specs.Option.{SomeIff};
-ghost use Rattle.sb_plain.specs.Tokens as spec;
+ghost use Rattle.sb_first.specs.Tokens as spec;
 ghost use Rattle.sb_command.specs.Scanned.{IsScanned};
 
-use sb_plain::{Sign, Token};
+use sb_first::{Sign, Token};
 use sb_value::{Bytes, Str};
 use std::alloc::{AllocError, Global};
 

@@ -1,5 +1,5 @@
 use crate::{LineFault, one_item, parse_line, print_reply};
-use sb_plain::{Command, Picks, Refusal, Reply, Rows, Rule};
+use sb_first::{Command, Picks, Refusal, Reply, Rows, Rule};
 use sb_pred::{Node, Op, Pred, Term, nodes};
 use sb_value::{Bytes, RecKey, Str, Tuple, Value};
 use std::alloc::{AllocError, Global};

@@ -1,5 +1,41 @@
-pub mod LinesLemmas
-pub mod PlaysLemmas
-mod Worked
-mod WorkedChecks
-mod WorkedLines
+mod Scripts
+pub mod StepLaws
+pub mod ShapeLemmas
+pub mod SoundLemmas
+pub mod UniqueLemmas
+pub mod ChangeLemmas
+pub mod SoundChangeLemmas
+pub mod ValueLemmas
+pub mod RowLemmas
+pub mod RowStepLemmas
+pub mod LawfulLemmas
+mod A65thSavepoint
+mod ACascadeThroughSixteenLevels
+mod ADeferredReference
+mod ADetachThatIsRolledBack
+mod AForeignExtension
+mod AHeapOfThreeRows
+mod AJoinIndex
+mod ALinearHash
+mod ARowThatMatchesNoMore
+mod ARowThatMoves
+mod ASavepointTakesBackWhatWaits
+mod ASumOutside64Bits
+mod ATreeInOrderOfItsKey
+mod ATriggerWhoseInsertIsVetoed
+mod AVetoLeavesNothing
+mod AnAttachOverRowsThatStand
+mod DelicatePlacesOfTheFold
+mod RefusalsInTheirOrder
+mod RowsThatAreTooLong
+mod TheGeneratorWithOneRow
+mod ThePersonnelScript
+mod TheRoomOfAHeap
+mod TheRoomOfChanges
+mod TooManyActions
+mod WhatADropTakesAlong
+mod WhatIsRefusedBeforehand
+mod WhatShowPrints
+mod WhatWaitsInOrder
+mod PicksThatAreUsed
+mod WorkedLawful

@@ -1,136 +1,173 @@
--- What a command makes of a state.
-use Rattle.std.specs.Prelude.{Bool, true, false, cond, List, [], ◌∷◌, ◌++◌, Option, Some, None}
-use Rattle.std.specs.List.{last_or}
-use Rattle.sb_rule.specs.declared.change.Change.{Change}
-use Rattle.sb_rule.specs.declared.change.Change.TheVariants as change
-use Rattle.sb_rule.specs.declared.rule.Rule.{Rule}
-use Rattle.sb_relation.specs.Build.{with_rule}
-use Rattle.sb_relation.specs.Changes.{changed}
-use Rattle.sb_relation.specs.Db.{Name, Key, Row, Relation, Attached, Db, relation_at, rows_at, key_of}
-use Rattle.sb_relation.specs.Foreign.{Boxes}
-use Rattle.sb_relation.specs.Keys.{NewKeys, AnyOf, Just, Taken, NoGreater, keying_of, new_keys}
-use Rattle.sb_relation.specs.Rules.{admits, holds}
+-- What a command answers, and what it makes of a state.
+use Rattle.std.specs.Prelude.{ℕ, Bool, true, false, List, [], ◌∷◌, ◌++◌, drop, Option, Some, None}
+use Rattle.sb_relation.specs.Db.{Name, Key, Db, relation_at}
+use Rattle.sb_relation.specs.Keys.{Keying, Picked, Coded, Counted, keying_of}
+use Rattle.sb_fold.specs.declared.refusal.Refusal.{Refusal}
+use Rattle.sb_fold.specs.Building.{create, build, detach, drop_relation}
+use Rattle.sb_fold.specs.Extensions.{Extensions}
+use Rattle.sb_fold.specs.Finish.{finish}
+use Rattle.sb_fold.specs.Fold.{act, first_change}
+use Rattle.sb_fold.specs.Outcome.{Reached, Going, Outcome, Gives, Stopped, NoStep, Work, made, ◌>>=◌}
+use Rattle.sb_fold.specs.Wishes.{Put, Remove, Replace}
 use Rattle.sb_plain.specs.declared.command.Command.{Command}
-use Rattle.sb_plain.specs.declared.command.Command.TheVariants.{Attach, Insert, Scan}
-use Rattle.sb_plain.specs.declared.reply.Refusal.{Refusal}
-use Rattle.sb_plain.specs.declared.reply.Refusal.TheVariants.{Duplicate, Veto}
+use Rattle.sb_plain.specs.declared.command.Command.TheVariants as command
 use Rattle.sb_plain.specs.declared.reply.Reply.{Reply}
-use Rattle.sb_plain.specs.declared.reply.Reply.TheVariants.{Done, Rows, Refused}
-use Rattle.sb_plain.specs.Refusing.{Codes, attachments_at, box_of, refused}
+use Rattle.sb_plain.specs.declared.reply.Reply.TheVariants as reply
+use Rattle.sb_plain.specs.Reading.{read}
+use Rattle.sb_plain.specs.Refusing.{refused}
+use Rattle.sb_plain.specs.State.{Point, Transaction, State, committed, view, is_point, points_of, points_to, no_queue, none_gone, with_code, without_code, going_of, with_transaction, kept, ended, with_commit, with_spent, paid}
 
--- what comes of a piece of work: a value, a refusal, or nothing where these picks give no step
-pub data Outcome (A : Type 0) : Type 0 where
-  Made : A → Outcome A
-  Stopped : Refusal → Outcome A
-  NoStep : Outcome A
+-- ---- what a changing command does
+-- what it answers, but for the picks: nothing more, the record key of its row (which may be the first pick), or how many rows it changed
+pub data Answer : Type 0 where
+  Plain : Answer
+  Keyed : Key → Answer
+  PickedKey : Key → Answer
+  Counts : ℕ → Answer
 
-infixl 10 ◌>>=◌
--- a refusal ends what comes after it
-abbrev pub ◌>>=◌ : {A B : Type 0} → Outcome A → (A → Outcome B) → Outcome B
-Made a >>= f = f a
-Stopped r >>= f = Stopped r
-NoStep >>= f = NoStep
+-- a key that was picked for the command's own row isn't said again
+abbrev pub answered : Answer → List Key → Reply
+answered Plain picks = reply.Done None picks
+answered (Keyed key) picks = reply.Done (Some key) picks
+answered (PickedKey key) picks = reply.Done (Some key) (drop 1 picks)
+answered (Counts n) picks = reply.Count n picks
 
--- the database under a command, and the picks that are left
-pub record Going : Type 0 where
-  pub db : Db
-  pub picks : List Key
+abbrev pub keyed_by : Keying → Key → Answer
+keyed_by Picked key = PickedKey key
+keyed_by Coded key = Keyed key
+keyed_by Counted key = Keyed key
 
--- ---- one change
--- the first pick, where it may be picked
-abbrev pub pick : (Key → Bool) → Going → Outcome (Key × Going)
-pick may going = elim going.picks [
-  | [] ↦ NoStep
-  | key ∷ picks ↦ cond (may key) (Made (key, record going { picks = picks })) NoStep
-]
+abbrev pub row_answer : Db → Name → Option Key → Answer
+row_answer db name None = Plain
+row_answer db name (Some key) = elim (relation_at db name) [ None ↦ Plain | Some r ↦ keyed_by (keying_of r.method) key ]
 
--- The record key of a new row. No relation counts its keys yet.
-abbrev pub take_key : Name → NewKeys → Going → Outcome (Key × Going)
-take_key name (AnyOf may) going = pick may going
-take_key name (Just key) going = Made (key, going)
-take_key name Taken going = Stopped (Duplicate name)
-take_key name NoGreater going = NoStep
+abbrev pub plainly : {A : Type 0} → Work A → Work Answer
+plainly work = work >>= λ _. made Plain
 
--- the first attachment in call order that doesn't admit the change, over the changed database
-abbrev pub vetoing : Boxes → Db → Name → Change → List Attached → Option Name
-vetoing boxes db name c [] = None
-vetoing boxes db name c (a ∷ others) = cond (admits (box_of boxes a.rule) db name a.rule c) (vetoing boxes db name c others) (Some a.name)
+abbrev pub with_key : Name → Work (Option Key) → Work Answer
+with_key name work = work >>= λ key. λ going. made (row_answer going.db name key) going
 
-abbrev pub if_admitted : Name → Option Name → Going → Outcome Going
-if_admitted name None going = Made going
-if_admitted name (Some attachment) going = Stopped (Veto name attachment)
+-- the work of a command; one that changes nothing has none
+abbrev pub work_of : Extensions → Command → Option (Work Answer)
+work_of ext (command.Create relation method schema key) = Some (plainly (create ext relation method schema key))
+work_of ext (command.Drop relation) = Some (plainly (drop_relation ext relation))
+work_of ext (command.Attach relation name rule) = Some (plainly (build ext relation name rule))
+work_of ext (command.Detach relation name) = Some (plainly (detach ext relation name))
+work_of ext (command.Insert relation values) = Some (with_key relation (first_change ext relation (Put values)))
+work_of ext (command.Delete relation at) = Some (plainly (first_change ext relation (Remove at)))
+work_of ext (command.Update relation at values) = Some (with_key relation (first_change ext relation (Replace at values)))
+work_of ext (command.Act action) = Some (act (first_change ext) action >>= λ n. made (Counts n))
+work_of ext _ = None
 
--- the change is made, where all attachments of the relation admit it
-abbrev pub make_change : Boxes → Name → Change → Going → Outcome Going
-make_change boxes name c going =
-    let db = changed going.db name c in if_admitted name (vetoing boxes db name c (attachments_at db name)) (record going { db = db })
-
-abbrev pub insert_into : Boxes → Name → Relation → Row → Going → Outcome (Key × Going)
-insert_into boxes name r row going =
-    take_key name (new_keys (keying_of r.method) r.rows None (key_of r row)) going
-    >>= λ keyed. make_change boxes name (change.Insert keyed.0 row) keyed.1
-    >>= λ made. Made (keyed.0, made)
-
-abbrev pub insert_row : Boxes → Name → Row → Going → Outcome (Key × Going)
-insert_row boxes name row going = elim (relation_at going.db name) [
-  | None ↦ NoStep
-  | Some r ↦ insert_into boxes name r row going
-]
-
--- ---- commands
--- a rule is attached where it holds of the rows that stand
-abbrev pub build : Boxes → Name → Name → Rule → Going → Outcome Going
-build boxes relation name rule going =
-    cond (holds (box_of boxes rule) going.db relation rule) (Made (record going { db = with_rule going.db relation name rule })) (Stopped (Veto relation name))
-
--- what a command does and answers
-abbrev pub work : Boxes → Command → Going → Outcome (Reply × Going)
-work boxes (Attach relation name rule) going = build boxes relation name rule going >>= λ made. Made (Done None [], made)
-work boxes (Insert relation values) going = insert_row boxes relation values going >>= λ made. Made (Done (Some made.0) [], made.1)
-work boxes (Scan relation) going = Made (Rows (rows_at going.db relation), going)
-
-abbrev pub is_changing : Command → Bool
-is_changing (Attach relation name rule) = true
-is_changing (Insert relation values) = true
-is_changing (Scan relation) = false
-
--- the codes that are live, and the databases of the commits so far, the first that of the opening
-pub record State : Type 0 where
-  pub live : Codes
-  pub commits : List Db
-
-abbrev pub db_or_empty : Option Db → Db
-db_or_empty None = []
-db_or_empty (Some db) = db
-
--- the database of the last commit
-abbrev pub committed : State → Db
-committed s = db_or_empty (last_or None s.commits)
-
-abbrev pub with_commit : State → Db → State
-with_commit s db = record s { commits = s.commits ++ db ∷ [] }
-
--- a reply, or none where these picks give no step, and the state after it
+-- ---- turns
+-- a reply, or none where these picks give no step; the state after it; and the points that the work reached
 pub record Turn : Type 0 where
   pub reply : Option Reply
   pub state : State
+  pub points : List Reached
 
-abbrev pub refusing : State → Refusal → Turn
-refusing s refusal = record { reply = Some (Refused refusal); state = s }
-
--- a command that is carried out has used all picks
+-- all picks are to be used
 abbrev pub if_used : List Key → Reply → Option Reply
 if_used [] reply = Some reply
 if_used (pick ∷ picks) reply = None
 
--- a command that changes something commits by itself; a refused one leaves all as it was
-abbrev pub turn_of : State → Bool → Outcome (Reply × Going) → Turn
-turn_of s changing (Made x) = record { reply = if_used x.1.picks x.0; state = cond changing (with_commit s x.1.db) s }
-turn_of s changing (Stopped refusal) = refusing s refusal
-turn_of s changing NoStep = record { reply = None; state = s }
+-- The picks of a command that isn't refused are all used, those of a refused one are free. After a refusal the state is the given one, but for what
+-- was spent.
+abbrev pub turn_of : (Going → State) → State → Outcome Answer → Turn
+turn_of leave otherwise (Gives answer going) =
+    record { reply = if_used going.picks (answered answer going.used); state = leave going; points = going.trail.points }
+turn_of leave otherwise (Stopped r trail) = record { reply = Some (reply.Refused r); state = with_spent trail.spent otherwise; points = trail.points }
+turn_of leave otherwise (NoStep trail) = record { reply = None; state = otherwise; points = trail.points }
 
-abbrev pub step : Boxes → State → Command → List Key → Turn
-step boxes s c picks = elim (refused boxes s.live (committed s) c) [
-  | Some refusal ↦ refusing s refusal
-  | None ↦ turn_of s (is_changing c) (work boxes c (record { db = committed s; picks = picks }))
+-- a refusal, whatever the picks
+abbrev pub refusing : State → Refusal → Turn
+refusing s r = record { reply = Some (reply.Refused r); state = s; points = [] }
+
+-- a reply that wants no picks
+abbrev pub reply_without : List Key → Reply → Option Reply
+reply_without picks (reply.Refused r) = Some (reply.Refused r)
+reply_without picks reply = if_used picks reply
+
+abbrev pub answering : State → List Key → Reply → Turn
+answering s picks reply = record { reply = reply_without picks reply; state = s; points = [] }
+
+-- ---- commands that change databases
+-- work and what waits, before a commit
+abbrev pub finished : Extensions → Work Answer → Work Answer
+finished ext work = work >>= λ answer. finish ext >>= λ _. made answer
+
+abbrev pub commit_of : State → Going → State
+commit_of s going = with_commit s going.db
+
+-- inside a transaction the work is kept there; outside a command begins, works and commits in one
+abbrev pub changing : Extensions → State → List Key → Work Answer → Turn
+changing ext s picks work = elim s.transaction [
+  | None ↦ turn_of (commit_of s) s (finished ext work (going_of s picks))
+  | Some t ↦ turn_of (kept s t.points) s (work (going_of s picks))
 ]
+
+-- a commit that is refused ends the transaction
+abbrev pub committing : Extensions → State → List Key → Turn
+committing ext s picks = turn_of (commit_of s) (ended s) (finished ext (made Plain) (going_of s picks))
+
+-- ---- commands that change what a transaction or the kernel is
+abbrev pub first_spent : State → Transaction
+first_spent s = record { db = committed s; queue = no_queue; points = []; gone = none_gone; spent = 0 }
+
+abbrev pub begin : State → State
+begin s = with_transaction s (Some (first_spent s))
+
+abbrev pub in_transaction : (Transaction → Transaction) → State → State
+in_transaction f s = elim s.transaction [ None ↦ s | Some t ↦ with_transaction s (Some (f t)) ]
+
+abbrev pub with_savepoint : Name → Transaction → Transaction
+with_savepoint name t = record t { points = t.points ++ record { name = name; db = t.db; queue = t.queue; gone = t.gone } ∷ [] }
+
+-- the point's database, queue and gone are back; later points go and this one stays
+abbrev pub back_to : Name → List Point → Transaction → Transaction
+back_to name [] t = t
+back_to name (p ∷ points) t =
+    elim (is_point name p) [
+      | true ↦ record t { db = p.db; queue = p.queue; gone = p.gone; points = points_to name t.points }
+      | false ↦ back_to name points t
+    ]
+
+abbrev pub register : Bool → ℕ → State → State
+register method code s = record s { live = with_code method code s.live; spare = without_code method code s.spare }
+
+abbrev pub retire : Bool → ℕ → State → State
+retire method code s = record s { live = without_code method code s.live; spare = with_code method code s.spare }
+
+abbrev pub managed : Command → State → State
+managed command.Begin s = begin s
+managed command.Abort s = ended s
+managed (command.Savepoint name) s = in_transaction (with_savepoint name) s
+managed (command.Rollback name) s = in_transaction (back_to name (points_of s)) s
+managed (command.Register method code) s = register method code s
+managed (command.Retire method code) s = retire method code s
+managed c s = s
+
+-- ---- one step
+abbrev pub ok : Reply
+ok = reply.Done None []
+
+-- a command that only reads answers what it reads; others change a state
+abbrev pub managing : State → Command → List Key → Option Reply → Turn
+managing s c picks (Some reply) = answering s picks reply
+managing s c picks None = answering (managed c s) picks ok
+
+abbrev pub carry_out : Extensions → State → Command → List Key → Option (Work Answer) → Turn
+carry_out ext s command.Commit picks work = committing ext s picks
+carry_out ext s c picks (Some work) = changing ext s picks work
+carry_out ext s c picks None = managing s c picks (read ext (view s) c)
+
+-- a kernel that is down does nothing; each other command costs 1
+abbrev pub tested : Extensions → State → Command → List Key → Option Refusal → Turn
+tested ext s c picks (Some r) = refusing s r
+tested ext s c picks None = carry_out ext s c picks (work_of ext c)
+
+abbrev pub if_up : State → State
+if_up s = elim s.down [ true ↦ s | false ↦ paid s ]
+
+abbrev pub step : Extensions → State → Command → List Key → Turn
+step ext s c picks = tested ext (if_up s) c picks (refused ext s c)

@@ -1,8 +1,10 @@
-//! Replies and refusals.
+//! Replies.
 
 ghost use Rattle.std.specs.Prelude.{◌≡◌, []};
 
-use sb_value::{RecKey, Str, Tuple};
+use sb_fold::Refusal;
+use sb_relation::Image;
+use sb_value::{Names, RecKey, Tuple};
 use std::alloc::Global;
 use std::marker::Model;
 
@@ -48,7 +50,7 @@ impl Picks {
     }
 }
 
-/// Rows with their record keys, in the order of the keys.
+/// Rows with their record keys.
 #[derive(Drop)]
 pub struct Rows {
     rows: Vec<(RecKey, Tuple)>,
@@ -83,35 +85,15 @@ impl Rows {
     }
 }
 
-/// Why a command changes nothing.
-#[derive(Drop)]
-pub enum Refusal {
-    /// The line isn't in the grammar. Columns are counted in bytes, from 1.
-    Syntax { column: u32 },
-    /// A relation that is named isn't there: the first in the order of the line.
-    NoRelation { name: Str },
-    /// An attachment of this name is on the relation already.
-    Exists { name: Str },
-    /// A column that is named isn't there: the first in the order of the line.
-    NoName { name: Str },
-    /// No live extension has the code.
-    NoExtension { code: u16 },
-    /// Values or a rule are of other kinds than the columns.
-    Mistyped,
-    /// The relation would have more attachments, or a larger descriptor, or the rule is larger than may be.
-    Limit,
-    /// The relation has the record key in another row.
-    Duplicate { relation: Str },
-    /// An attachment doesn't admit the change.
-    Veto { relation: Str, name: Str },
-    /// Memory was wanting.
-    NoMemory,
-}
-
 /// The answer to a line.
 #[derive(Drop)]
 pub enum Reply {
+    /// The record key of the row after an insert or an update, and the other keys that were picked.
     Done { key: Option<RecKey>, picks: Picks },
+    /// How many rows a command on matching rows changed itself, and all keys that were picked.
+    Count { count: u64, picks: Picks },
     Rows { rows: Rows },
+    Entries { image: Image },
+    Lines { lines: Names },
     Refused(Refusal),
 }

@@ -1,7 +1,7 @@
 use Rattle.std.proofs.Common.{refl}
 use Rattle.std.proofs.lemmas.Result.{err_from_is_err_and}
-use Rattle.sb_plain.specs.Tokens.{IsTokens}
-use Rattle.sb_plain.specs.Lines.{Bad}
+use Rattle.sb_first.specs.Tokens.{IsTokens}
+use Rattle.sb_first.specs.Lines.{Bad}
 use Rattle.sb_command.proofs.Items.{one_command, none_spelled, memory_wanting}
 use Rattle.sb_command.proofs.line.parse_line.Goals as goal
 

@@ -1,6 +1,6 @@
 use Rattle.std.proofs.Common.{◌≡◌, ◌++◌, take}
 use Rattle.std.specs.List.{flat_map}
-use Rattle.sb_plain.specs.Text.{doubled}
+use Rattle.sb_first.specs.Text.{doubled}
 use Rattle.sb_command.proofs.printing.append_doubled.Given as goal
 
 abbrev pub invariant-loop-byte : goal.invariant-loop-byte

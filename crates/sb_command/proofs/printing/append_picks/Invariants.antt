@@ -1,6 +1,6 @@
 use Rattle.std.proofs.Common.{◌≡◌, ◌++◌, take}
 use Rattle.std.specs.List.{flat_map}
-use Rattle.sb_plain.specs.Text.{pick_text}
+use Rattle.sb_first.specs.Text.{pick_text}
 use Rattle.sb_command.proofs.printing.append_picks.Given as goal
 
 abbrev pub invariant-loop-pick : goal.invariant-loop-pick

@@ -1,9 +1,9 @@
 use Rattle.std.proofs.Common.{◌≡◌, ◌∷◌, [], List, ◌∙◌, ap, Ok, Err, refl, rules, length}
 use Rattle.std.proofs.lemmas.List.{nil_from_length}
 use Rattle.std.proofs.lemmas.Result.{err_from_is_err_and}
-use Rattle.sb_plain.specs.declared.token.Token.{Token}
-use Rattle.sb_plain.specs.declared.command.Command.{Command}
-use Rattle.sb_plain.specs.Grammar.{Spells}
+use Rattle.sb_first.specs.declared.token.Token.{Token}
+use Rattle.sb_first.specs.declared.command.Command.{Command}
+use Rattle.sb_first.specs.Grammar.{Spells}
 use Rattle.sb_command.specs.declared.pieces.Fault.{Fault}
 use Rattle.sb_command.specs.declared.pieces.Fault.TheVariants.{NoMemory, Misfit}
 use Rattle.sb_command.specs.Gives.{Fails, IsReadFrom}

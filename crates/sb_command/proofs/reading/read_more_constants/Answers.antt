@@ -1,6 +1,6 @@
 use Rattle.std.proofs.Common.{◌-◌}
 use Rattle.std.proofs.lemmas.Result.{err_from_is_err_and}
-use Rattle.sb_plain.specs.declared.token.Sign.TheVariants.{Comma}
+use Rattle.sb_first.specs.declared.token.Sign.TheVariants.{Comma}
 use Rattle.sb_command.specs.Commands.{is_mark, constant_at}
 use Rattle.sb_command.proofs.Loops.{items_go_on, items_fail, items_stop, items_done}
 use Rattle.sb_command.proofs.reading.read_more_constants.Goals as goal

@@ -1,5 +1,5 @@
 use Rattle.std.proofs.Common.{◌≡◌, ◌∷◌, ◌-◌}
-use Rattle.sb_plain.specs.declared.token.Sign.TheVariants.{Comma}
+use Rattle.sb_first.specs.declared.token.Sign.TheVariants.{Comma}
 use Rattle.sb_command.specs.Reading.{mapped, more_at}
 use Rattle.sb_command.specs.Commands.{is_mark, constant_at}
 use Rattle.sb_command.proofs.Loops.{with_front}

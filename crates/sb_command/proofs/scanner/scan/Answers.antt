@@ -1,7 +1,7 @@
 use Rattle.std.proofs.Common.{◌≡◌, ◌<◌, [], List, ℕ, length, sym, ◌∙◌, ap, arith, rules, Some, None}
 use Rattle.std.specs.Prelude.{◌≢◌}
 use Rattle.std.proofs.lemmas.List.{nil_from_length, take_rest}
-use Rattle.sb_plain.specs.Tokens.{front_token}
+use Rattle.sb_first.specs.Tokens.{front_token}
 use Rattle.sb_command.proofs.Scan.{none_so_far, one_more, all_found, none_found}
 use Rattle.sb_command.proofs.scanner.scan.Goals as goal
 

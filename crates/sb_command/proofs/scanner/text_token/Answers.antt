@@ -2,7 +2,7 @@ use Rattle.std.proofs.Common.{◌≡◌, false, refl, sym, ◌∙◌, subst, ari
 use Rattle.std.specs.Option.{IsSome}
 use Rattle.std.specs.Str.{IsUtf8}
 use Rattle.std.proofs.lemmas.Bool.{false≢true}
-use Rattle.sb_plain.specs.Tokens.{up_to_quote}
+use Rattle.sb_first.specs.Tokens.{up_to_quote}
 use Rattle.sb_command.proofs.Scan.{quote_short, text_made, no_text}
 use Rattle.sb_command.proofs.scanner.text_token.Goals as goal
 

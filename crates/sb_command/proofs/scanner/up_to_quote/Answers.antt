@@ -1,5 +1,5 @@
 use Rattle.std.proofs.Common.{◌≡◌, ◌≢◌, ◌<◌, true, false, get_or, length, drop, sym, ◌∙◌, rules}
-use Rattle.sb_plain.specs.Tokens.{text_behind, up_to_quote}
+use Rattle.sb_first.specs.Tokens.{text_behind, up_to_quote}
 use Rattle.sb_command.proofs.Scan.{quote_opens, quote_kept, byte_kept}
 use Rattle.sb_command.proofs.scanner.up_to_quote.Goals as goal
 use Rattle.sb_command.proofs.scanner.up_to_quote.Goals.{then-byte-eq39, then-is_behind_quote+in_ok-push, else-is_behind_quote, else-byte-eq39+else-is_behind_quote-2+in_ok-push-2}

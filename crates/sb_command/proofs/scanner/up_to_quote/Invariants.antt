@@ -1,5 +1,5 @@
 use Rattle.std.proofs.Common.{◌≡◌, false, drop}
-use Rattle.sb_plain.specs.Tokens.{text_behind, up_to_quote}
+use Rattle.sb_first.specs.Tokens.{text_behind, up_to_quote}
 use Rattle.sb_command.proofs.scanner.up_to_quote.Given as goal
 
 abbrev pub invariant-loop-index : goal.invariant-loop-index

@@ -1,6 +1,6 @@
 use Rattle.std.proofs.Common.{◌≡◌, ◌<◌, ◌^◌, ◌+◌, ◌*◌, ◌-◌, sym, ◌∙◌, ap, arith, get_or}
 use Rattle.std.proofs.lemmas.List.{drop_all}
-use Rattle.sb_plain.specs.Tokens.{value_behind}
+use Rattle.sb_first.specs.Tokens.{value_behind}
 use Rattle.sb_command.proofs.Scan.{value_beyond}
 use Rattle.sb_command.proofs.scanner.value_of.Goals as goal
 

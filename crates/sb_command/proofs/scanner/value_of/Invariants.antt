@@ -1,5 +1,5 @@
 use Rattle.std.proofs.Common.{◌≡◌, ◌<◌, ◌^◌, drop}
-use Rattle.sb_plain.specs.Tokens.{value_behind}
+use Rattle.sb_first.specs.Tokens.{value_behind}
 use Rattle.sb_command.proofs.scanner.value_of.Given as goal
 
 abbrev pub invariant-loop-digit : goal.invariant-loop-digit

@@ -1,0 +1,5 @@
+pub mod LinesLemmas
+pub mod PlaysLemmas
+mod Worked
+mod WorkedChecks
+mod WorkedLines

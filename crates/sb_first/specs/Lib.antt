@@ -1,0 +1,10 @@
+pub mod Refusing
+pub mod Step
+pub mod First
+pub mod Words
+pub mod Lang
+pub mod Tokens
+pub mod Grammar
+pub mod Lines
+pub mod Plays
+pub mod Text

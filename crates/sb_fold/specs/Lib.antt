@@ -1,0 +1,10 @@
+pub mod Extensions
+pub mod Outcome
+pub mod Bounds
+pub mod Costs
+pub mod Need
+pub mod Wishes
+pub mod Fold
+pub mod Building
+pub mod Finish
+pub mod Laws
