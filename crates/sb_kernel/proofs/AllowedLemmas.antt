@@ -16,25 +16,28 @@ use Rattle.sb_rule.specs.declared.rule.Rule.{Rule}
 use Rattle.sb_rule.specs.declared.rule.Rule.TheVariants.{TreeIndex, HashIndex, JoinIndex, Stats, Check, Refers, Trigger, Foreign}
 use Rattle.sb_rule.specs.Spelling.{IsShortRule, IsWithinLimits, rule_code, rule_spelling}
 use Rattle.sb_relation.specs.Db.{Name, Rows, relation_at}
-use Rattle.sb_relation.specs.Fits.{IsSchema, MayStand, Places, first_unnamed, pred_places, rule_fits, rule_places, term_places}
+use Rattle.sb_relation.specs.Fits.{MayStand, Places, first_unnamed, pred_places, rule_fits, rule_places, term_places}
 use Rattle.sb_relation.specs.Foreign.{AttachRules}
 use Rattle.sb_relation.specs.Lawful.{AreRows}
 use Rattle.sb_relation.specs.Limits.{has_long_text, is_large_rule, is_long_text}
-use Rattle.sb_plain.specs.First.{relation_r}
-use Rattle.sb_plain.specs.Refusing.{box_of, first_of, refuse_if, refused_attach}
-use Rattle.sb_plain.specs.declared.reply.Refusal.{Refusal}
-use Rattle.sb_plain.specs.declared.reply.Refusal.TheVariants.{Exists, NoName, NoExtension, Mistyped, Limit}
+use Rattle.sb_first.specs.First.{relation_r}
+use Rattle.sb_first.specs.Refusing.{box_of, first_of, refuse_if, refused_attach}
+use Rattle.sb_first.specs.declared.reply.Refusal.{Refusal}
+use Rattle.sb_first.specs.declared.reply.Refusal.TheVariants.{Exists, NoName, NoExtension, Mistyped, Limit}
+use Rattle.sb_forms.specs.Pages.{new_pages}
 use Rattle.sb_ctx.specs.declared.instance.Instance.{Instance}
-use Rattle.sb_ctx.specs.Attachment.{Attachment, StandsOn}
-use Rattle.sb_drive.specs.Slots.{Contents}
+use Rattle.sb_ctx.specs.Attachment.{Attachment, IsOwned, StandsOn, keeps_pages}
+use Rattle.sb_ctx.specs.AttachAnswers.{pages_of_new}
+use Rattle.sb_drive.specs.Slots.{Contents, pages_of}
 use Rattle.sb_registry.specs.Boxes.{Meanings, attachment_of}
 use Rattle.sb_kernel.specs.declared.kept.Kept.{Kept}
-use Rattle.sb_kernel.specs.Attaching.{IsNewFor}
+use Rattle.sb_kernel.specs.Attaching.{HasOwner, IsNewFor}
 use Rattle.sb_kernel.specs.Boxes.{IsAttachable, boxes_of, codes_of}
 use Rattle.sb_kernel.specs.Kept.{relation_of, db_of, has_no_room}
 use Rattle.sb_kernel.specs.Refusing.{refused_rule}
+use Rattle.sb_kernel.specs.Standing.{IsInstanceOf}
 use Rattle.sb_kernel.proofs.BoxesLemmas.{attachment_of-code, box_of-live}
-use Rattle.sb_kernel.proofs.KeptLemmas.{relation_at-own}
+use Rattle.sb_kernel.proofs.KeptLemmas.{AreLawful-own, joins_none, relation_at-own}
 use Rattle.sb_kernel.proofs.NamesLemmas.{no_kind}
 use Rattle.sb_kernel.proofs.RefusingLemmas.{attach_own, live_found}
 
@@ -204,23 +207,44 @@ within_limits (Stats column low width) may small = absurd may
 within_limits (Refers side columns other others mode deferred) may small = absurd may
 within_limits (Trigger event pred action deferred) may small = absurd may
 
-may_stand : (kept : Kept) (rows : Rows) (rule : Rule) (a : Attachment) → IsAttachable rule → IsAllowed kept rule a → IsSchema kept.method.schema → MayStand (Some a.rules) (db_of kept rows) kept.method.schema rule
-may_stand kept rows (Check pred deferred) a may allowed columns = record { columns = columns; there = refl; named = allowed.named; fits = allowed.fits }
-may_stand kept rows (Foreign code desc) a may allowed columns = record { columns = columns; there = refl; named = allowed.named; fits = allowed.fits }
-may_stand kept rows (TreeIndex columns unique) a may allowed is = absurd may
-may_stand kept rows (HashIndex columns) a may allowed is = absurd may
-may_stand kept rows (JoinIndex side columns other others) a may allowed is = absurd may
-may_stand kept rows (Stats column low width) a may allowed is = absurd may
-may_stand kept rows (Refers side columns other others mode deferred) a may allowed is = absurd may
-may_stand kept rows (Trigger event pred action deferred) a may allowed is = absurd may
+may_stand : (kept : Kept) (rows : Rows) (rule : Rule) (a : Attachment) → IsAttachable rule → IsAllowed kept rule a → MayStand (Some a.rules) (db_of kept rows) kept.method.schema rule
+may_stand kept rows (Check pred deferred) a may allowed = record { there = refl; named = allowed.named; fits = allowed.fits }
+may_stand kept rows (Foreign code desc) a may allowed = record { there = refl; named = allowed.named; fits = allowed.fits }
+may_stand kept rows (TreeIndex columns unique) a may allowed = absurd may
+may_stand kept rows (HashIndex columns) a may allowed = absurd may
+may_stand kept rows (JoinIndex side columns other others) a may allowed = absurd may
+may_stand kept rows (Stats column low width) a may allowed = absurd may
+may_stand kept rows (Refers side columns other others mode deferred) a may allowed = absurd may
+may_stand kept rows (Trigger event pred action deferred) a may allowed = absurd may
 
 pub StandsOn-new : (old new : Contents) (kept : Kept) (rows : Rows) (rule : Rule) (a : Attachment) (inst : Instance) → IsAttachable rule → IsAllowed kept rule a → a.rules.code ≡ rule_code rule
-    → IsNewFor kept rule old new inst → AreRows kept.method.schema rows → IsSchema kept.method.schema → StandsOn a inst rule (db_of kept rows)
-StandsOn-new old new kept rows rule a inst may allowed coded made lawful columns = record {
+    → IsNewFor kept rule old new inst → AreRows kept.method.schema rows → StandsOn a inst rule (db_of kept rows)
+StandsOn-new old new kept rows rule a inst may allowed coded made lawful = record {
   spelled = record { coded = coded; spelled = made.spelled; storable = made.storable; limited = within_limits rule may allowed.small };
   relation = relation_of kept rows;
   there = ap (relation_at (db_of kept rows)) made.relation ∙ relation_at-own kept rows;
   schema = sym made.schema;
-  rows = subst (λ (s : List Column). AreRows s rows) (sym made.schema) lawful;
-  may = subst (λ (s : List Column). MayStand (Some a.rules) (db_of kept rows) s rule) (sym made.schema) (may_stand kept rows rule a may allowed columns);
+  lawful = AreLawful-own kept rows lawful;
+  joins = joins_none inst.relation rule may;
+  may = subst (λ (s : List Column). MayStand (Some a.rules) (db_of kept rows) s rule) (sym made.schema) (may_stand kept rows rule a may allowed);
 }
+
+-- ---- and is as its box wants it
+IsOwned-has : (keeps : Bool) (inst : Instance) → HasOwner keeps inst.owner → IsOwned keeps inst
+IsOwned-has true inst has = has
+IsOwned-has false inst has = has
+
+pub IsInstanceOf-new : (old new : Contents) (kept : Kept) (rule : Rule) (a : Attachment) (inst : Instance) → a.rules.code ≡ rule_code rule → IsNewFor kept rule old new inst → IsInstanceOf a inst
+IsInstanceOf-new old new kept rule a inst coded made =
+    let code : inst.code ≡ a.rules.code = made.code ∙ sym coded in
+    record {
+      code = code;
+      key = made.key;
+      owned = subst (λ (n : ℕ). IsOwned (keeps_pages n) inst) code (IsOwned-has (keeps_pages inst.code) inst made.owned.has);
+    }
+
+-- its pages are those of a new instance
+pub pages_of_new-made : (old new : Contents) (kept : Kept) (rule : Rule) (a : Attachment) (inst : Instance) → a.rules.code ≡ rule_code rule → IsNewFor kept rule old new inst
+    → (n : ℕ) → pages_of new.now inst.owner n ≡ pages_of_new a inst n
+pages_of_new-made old new kept rule a inst coded made n =
+    made.owned.pages n ∙ ap (λ (code : ℕ). cond (keeps_pages code) (new_pages inst.root n) []) (made.code ∙ sym coded)

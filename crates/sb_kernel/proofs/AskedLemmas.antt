@@ -8,12 +8,12 @@ use Rattle.sb_relation.specs.Changes.{changed_rows}
 use Rattle.sb_relation.specs.Db.{Name, Rows}
 use Rattle.sb_relation.specs.Foreign.{AttachRules}
 use Rattle.sb_relation.specs.Rules.{admits}
-use Rattle.sb_plain.specs.Step.{vetoing}
+use Rattle.sb_first.specs.Step.{vetoing}
 use Rattle.sb_forms.specs.Pages.{Pages}
 use Rattle.sb_ctx.specs.declared.calls.AttachCall.TheVariants as call
 use Rattle.sb_ctx.specs.declared.moves.Move.{Move}
 use Rattle.sb_ctx.specs.Attachment.{Attachment, IsInstance, MayMeet}
-use Rattle.sb_ctx.specs.AttachAnswers.{Holds as HasContent, content_over}
+use Rattle.sb_ctx.specs.AttachAnswers.{Holds as HasContent, IsFormed, content_over}
 use Rattle.sb_ctx.specs.Method.{Method}
 use Rattle.sb_ctx.specs.MethodAnswers.{Holds}
 use Rattle.sb_registry.specs.Boxes.{Meanings, attachment_of}
@@ -21,11 +21,12 @@ use Rattle.sb_kernel.specs.declared.kept.Kept.{Kept}
 use Rattle.sb_kernel.specs.declared.kept.Placed.{Placed}
 use Rattle.sb_kernel.specs.Asking.{IsAsked}
 use Rattle.sb_kernel.specs.Boxes.{boxes_of}
-use Rattle.sb_kernel.specs.Changing.{IsMade, KeepsOver, IsAnswer, Judges, AreKept, AreAsked, IsApartFrom, owners_in}
-use Rattle.sb_kernel.specs.Kept.{attached_of, db_of}
+use Rattle.sb_kernel.specs.Changing.{IsMade, IsAnswer, Judges, AreKept, AreAsked, IsApartFrom, owners_in}
+use Rattle.sb_kernel.specs.Kept.{AreAttachable, attached_of, db_of}
 use Rattle.sb_drive.specs.Slots.{Slot, Contents, Keeps, pages_of}
+use Rattle.sb_kernel.specs.Standing.{KeepsOver}
 use Rattle.sb_kernel.proofs.BoxesLemmas.{box_of-live}
-use Rattle.sb_kernel.proofs.ChangingLemmas.{schema-same, MayMeet-of, StandsOn-after, Changed-asked, Says-Changed}
+use Rattle.sb_kernel.proofs.ChangingLemmas.{schema-same, MayMeet-of, StandsOn-after, Says-asked}
 
 -- ---- one attachment
 -- the live box of its code is the one that keeps its rule
@@ -34,7 +35,21 @@ box-same m s kept rows placed a over live = same_Some over.rule.box a (sym over.
 
 pub IsInstance-kept : (m : Meanings) (s : List Slot) (kept : Kept) (rows : Rows) (placed : Placed) (a : Attachment) → KeepsOver m s kept rows placed → attachment_of placed.inst.code m.attachments ≡ Some a → IsInstance a placed.inst
 IsInstance-kept m s kept rows placed a over live =
-    subst (λ (b : Attachment). IsInstance b placed.inst) (box-same m s kept rows placed a over live) (record { rule = placed.rule; db = db_of kept rows; stands = over.rule.stands })
+    subst (λ (b : Attachment). IsInstance b placed.inst) (box-same m s kept rows placed a over live) (record {
+      code = over.rule.instance.code;
+      key = over.rule.instance.key;
+      owned = over.rule.instance.owned;
+      rule = placed.rule;
+      db = db_of kept rows;
+      stands = over.rule.stands;
+    })
+
+-- its pages are formed
+pub IsFormed-kept : (m : Meanings) (s : List Slot) (kept : Kept) (rows : Rows) (placed : Placed) (a : Attachment) → KeepsOver m s kept rows placed → attachment_of placed.inst.code m.attachments ≡ Some a
+    → IsFormed a placed.inst (pages_of s placed.inst.owner)
+IsFormed-kept m s kept rows placed a over live =
+    subst (λ (b : Attachment). IsFormed b placed.inst (pages_of s placed.inst.owner)) (box-same m s kept rows placed a over live)
+    (content_over over.rule.box placed.inst placed.rule (db_of kept rows) 0, over.rule.holds)
 
 pub MayMeet-kept : (m : Meanings) (box : Method) (s : List Slot) (kept : Kept) (rows : Rows) (change : Change) (placed : Placed) (a : Attachment) →
     IsMade box s kept.method rows change → KeepsOver m s kept rows placed → attachment_of placed.inst.code m.attachments ≡ Some a → MayMeet a placed.inst change
@@ -45,11 +60,11 @@ MayMeet-kept m box s kept rows change placed a made over live =
     (schema-same over.rule.box placed.inst placed.rule kept rows stands over.relation) made.meets)
 
 -- what it answers is what the plain database says
-pub Judges-asked : (m : Meanings) (box : Method) (s t : List Slot) (kept : Kept) (rows : Rows) (change : Change) (placed : Placed) (a : Attachment) (move : Move) (admitted : Bool) →
+pub Judges-asked : (m : Meanings) (box : Method) (s t : List Slot) (kept : Kept) (rows : Rows) (change : Change) (placed : Placed) (a : Attachment) (move : Move) (admitted : Bool) → AreAttachable kept →
     IsMade box s kept.method rows change → KeepsOver m s kept rows placed → attachment_of placed.inst.code m.attachments ≡ Some a →
     IsAsked a placed.inst (call.Changed change) (db_of kept (changed_rows rows change)) (pages_of s placed.inst.owner) (pages_of t placed.inst.owner) move → IsAnswer move admitted →
     Judges m t kept rows change placed admitted
-Judges-asked m box s t kept rows change placed a move admitted made over live asked answer =
+Judges-asked m box s t kept rows change placed a move admitted all made over live asked answer =
     let b = over.rule.box in
     let inst = placed.inst in
     let stands = over.rule.stands in
@@ -57,16 +72,18 @@ Judges-asked m box s t kept rows change placed a move admitted made over live as
     let same = box-same m s kept rows placed a over live in
     let asked_it : IsAsked b inst (call.Changed change) db (pages_of s inst.owner) (pages_of t inst.owner) move =
     subst (λ (x : Attachment). IsAsked x inst (call.Changed change) db (pages_of s inst.owner) (pages_of t inst.owner) move) (sym same) asked in
-    let says = Says-Changed b inst placed.rule db change (pages_of t inst.owner) move admitted answer
-    (Changed-asked b inst placed.rule kept rows change (pages_of s inst.owner) (pages_of t inst.owner) move stands over.relation made.of made.lawful over.rule.holds asked_it) in
+    let says = Says-asked b inst placed.rule kept rows change (pages_of s inst.owner) (pages_of t inst.owner) move admitted all over.rule.attachable stands over.relation made.of made.lawful over.rule.holds
+    asked_it answer in
     record {
       says = says.says ∙ ap (λ (name : Name). admits (Some b.rules) db name placed.rule change) over.relation
           ∙ ap (λ (o : Option AttachRules). admits o db kept.method.relation placed.rule change) (sym (box_of-live m inst.code placed.rule b over.rule.live stands.spelled.coded));
       keeps = λ yes. record {
         relation = over.relation;
+        durable = over.durable;
         rule = record {
           box = b;
           live = over.rule.live;
+          instance = over.rule.instance;
           attachable = over.rule.attachable;
           stands = StandsOn-after b inst placed.rule kept rows (changed_rows rows change) stands over.rule.attachable over.relation made.lawful;
           holds = says.holds yes;
@@ -89,12 +106,14 @@ pages-kept owner o old new keeps apart =
 pub KeepsOver-pages : (m : Meanings) (s t : List Slot) (kept : Kept) (rows : Rows) (placed : Placed) → pages_of t placed.inst.owner ≡ pages_of s placed.inst.owner → KeepsOver m s kept rows placed → KeepsOver m t kept rows placed
 KeepsOver-pages m s t kept rows placed same over = record {
   relation = over.relation;
+  durable = over.durable;
   rule = record {
     box = over.rule.box;
     live = over.rule.live;
+    instance = over.rule.instance;
     attachable = over.rule.attachable;
     stands = over.rule.stands;
-    holds = subst (λ (P : Pages). HasContent over.rule.box placed.inst P (content_over over.rule.box placed.inst placed.rule (db_of kept rows))) (sym same) over.rule.holds;
+    holds = subst (λ (P : Pages). HasContent over.rule.box placed.inst P (content_over over.rule.box placed.inst placed.rule (db_of kept rows) 0)) (sym same) over.rule.holds;
   };
 }
 

@@ -1,27 +1,27 @@
 -- What the kernel stands for with one attachment more.
-use Rattle.std.proofs.Common.{◌≡◌, ◌≢◌, ℕ, suc, nat_lt, Bool, true, false, cond, List, [], ◌∷◌, map, All, Option, Some, None, refl, sym, ap, subst, ◌∙◌, bytes_eq}
+use Rattle.std.proofs.Common.{◌≡◌, ℕ, suc, nat_lt, Bool, true, false, cond, List, [], ◌∷◌, map, All, Option, Some, None, refl, sym, ap, subst, ◌∙◌, bytes_eq}
 use Rattle.std.specs.List.{list_all, position_or_len}
 use Rattle.std.proofs.lemmas.List.Elements.{All-nil, All-cons, All-head, All-tail}
 use Rattle.sb_value.specs.declared.schema.Column.{Column}
 use Rattle.sb_rule.specs.declared.rule.Rule.{Rule}
 use Rattle.sb_rule.specs.declared.rule.Rule.TheVariants.{TreeIndex, HashIndex, JoinIndex, Stats, Check, Refers, Trigger, Foreign}
 use Rattle.sb_rule.specs.Spelling.{IsShortRule, rule_code}
-use Rattle.sb_relation.specs.declared.image.Image.{Image}
 use Rattle.sb_relation.specs.Build.{with_rule}
+use Rattle.sb_relation.specs.Content.{Content, content_of}
 use Rattle.sb_relation.specs.Db.{Name, Rows, Db, relation_at, rows_at, schema_at}
 use Rattle.sb_relation.specs.Foreign.{AttachRules}
 use Rattle.sb_relation.specs.Images.{foreign_image}
 use Rattle.sb_relation.specs.Lawful.{AreRows}
 use Rattle.sb_relation.specs.Rules.{holds}
-use Rattle.sb_plain.specs.declared.command.Command.TheVariants.{Attach}
-use Rattle.sb_plain.specs.declared.reply.Refusal.TheVariants as refusal
-use Rattle.sb_plain.specs.declared.reply.Reply.TheVariants as reply
-use Rattle.sb_plain.specs.Refusing.{box_of, refused_attach}
-use Rattle.sb_plain.specs.Step.{Made, Stopped, ◌>>=◌, Going}
+use Rattle.sb_first.specs.declared.command.Command.TheVariants.{Attach}
+use Rattle.sb_first.specs.declared.reply.Refusal.TheVariants as refusal
+use Rattle.sb_first.specs.declared.reply.Reply.TheVariants as reply
+use Rattle.sb_first.specs.Refusing.{box_of, refused_attach}
+use Rattle.sb_first.specs.Step.{Made, Stopped, ◌>>=◌, Going}
 use Rattle.sb_forms.specs.Pages.{Pages}
 use Rattle.sb_ctx.specs.declared.instance.Instance.{Instance}
 use Rattle.sb_ctx.specs.Attachment.{Attachment, StandsOn}
-use Rattle.sb_ctx.specs.AttachAnswers.{Holds as HasContent, content_over}
+use Rattle.sb_ctx.specs.AttachAnswers.{Holds as HasContent, content_over, pages_of_new}
 use Rattle.sb_ctx.specs.Laws.{IsMethod}
 use Rattle.sb_ctx.specs.Method.{Method}
 use Rattle.sb_ctx.specs.MethodAnswers.{Holds}
@@ -34,13 +34,13 @@ use Rattle.sb_kernel.specs.Boxes.{IsAttachable, boxes_of, codes_of}
 use Rattle.sb_kernel.specs.Carrying.{Carries, Stops}
 use Rattle.sb_kernel.specs.Changing.{IsApartFrom}
 use Rattle.sb_kernel.specs.Kept.{relation_of, db_of}
-use Rattle.sb_kernel.specs.Standing.{AreApart, IsRelation, KeepsRows, KeepsRule, Stands}
-use Rattle.sb_kernel.proofs.AllowedLemmas.{IsAllowed-unrefused, live-unrefused, IsShortRule-allowed, StandsOn-new}
+use Rattle.sb_kernel.specs.Standing.{AreApart, IsRelation, KeepsOver, KeepsRows, Stands}
+use Rattle.sb_kernel.proofs.AllowedLemmas.{IsAllowed-unrefused, live-unrefused, IsInstanceOf-new, IsShortRule-allowed, StandsOn-new, pages_of_new-made}
 use Rattle.sb_kernel.proofs.AskedLemmas.{pages-kept}
 use Rattle.sb_kernel.proofs.BoxesLemmas.{attachment_of-code, box_of-live}
 use Rattle.sb_kernel.proofs.BuiltLemmas.{Keeps-and}
 use Rattle.sb_kernel.proofs.ChangingLemmas.{may_stand, schema-same}
-use Rattle.sb_kernel.proofs.KeptLemmas.{relation_at-own, rows_at-own, rows_at-db_of, schema_at-db_of, with_rule-db_of}
+use Rattle.sb_kernel.proofs.KeptLemmas.{AreLawful-own, joins_none, relation_at-own, rows_at-own, rows_at-db_of, schema_at-db_of, with_rule-db_of}
 use Rattle.sb_kernel.proofs.OwnersLemmas.{All-inserted, AreApart-inserted}
 use Rattle.sb_kernel.proofs.RefusingLemmas.{attach_own}
 use Rattle.sb_kernel.proofs.StandingLemmas.{HasBox-live}
@@ -51,14 +51,16 @@ MayBuild-new : (m : Meanings) (old new : Contents) (kept : Kept) (rows : Rows) (
     → Some a ≡ attachment_of (rule_code rule) m.attachments → IsNewFor kept rule old new inst → MayBuild box a new.now kept rows inst rule
 MayBuild-new m old new kept rows name rule box a inst stands live law may unrefused lives made =
     let has = HasBox-live m old.now kept rows box stands live in
-    let lawful : AreRows kept.method.schema rows = law.rows kept.method (pages_of old.now kept.method.owner) rows has.holds in
+    let lawful : AreRows kept.method.schema rows = (law.formed kept.method (pages_of old.now kept.method.owner) rows has.holds).lawful in
+    let coded : a.rules.code ≡ rule_code rule = attachment_of-code (rule_code rule) m.attachments a (sym lives) in
     let apart : (kept.method.owner ≡ inst.owner) → (kept.method.owner ≡ 0) = All-head (λ (o : ℕ). (o ≡ inst.owner) → (o ≡ 0)) kept.method.owner (map (λ placed. placed.inst.owner) kept.attachments.items) made.owned.apart in
     record {
       may = has.may;
       holds = subst (λ (P : Pages). Holds box kept.method P rows) (sym (pages-kept inst.owner kept.method.owner old new made.owned.keeps apart)) has.holds;
+      instance = IsInstanceOf-new old new kept rule a inst coded made;
       attachable = may;
       relation = made.relation;
-      stands = StandsOn-new old new kept rows rule a inst may (IsAllowed-unrefused m kept rows name rule a may unrefused (sym lives)) (attachment_of-code (rule_code rule) m.attachments a (sym lives)) made lawful has.may.columns;
+      stands = StandsOn-new old new kept rows rule a inst may (IsAllowed-unrefused m kept rows name rule a may unrefused (sym lives)) coded made lawful;
       lawful = subst (λ (s : List Column). AreRows s rows) (sym made.schema) lawful;
       apart = apart;
     }
@@ -110,9 +112,9 @@ Carries-attached m a inst kept new rows name rule may live on admitted grown =
     }
 
 -- ---- what stands doesn't depend on the other attachments
-content-same : (a : Attachment) (inst : Instance) (rule : Rule) (kept new : Kept) (rows : Rows) → IsAttachable rule → new.method ≡ kept.method → content_over a inst rule (db_of kept rows) ≡ content_over a inst rule (db_of new rows)
+content-same : (a : Attachment) (inst : Instance) (rule : Rule) (kept new : Kept) (rows : Rows) → IsAttachable rule → new.method ≡ kept.method → content_over a inst rule (db_of kept rows) 0 ≡ content_over a inst rule (db_of new rows) 0
 content-same a inst (Check pred deferred) kept new rows may same = refl
-content-same a inst (Foreign code desc) kept new rows may same = λ i. foreign_image (Some a.rules) desc (columns i) (those i)
+content-same a inst (Foreign code desc) kept new rows may same = λ i. content_of (foreign_image (Some a.rules) desc (columns i) (those i)) 0
   where
     columns : schema_at (db_of kept rows) inst.relation ≡ schema_at (db_of new rows) inst.relation
     columns = schema_at-db_of kept rows inst.relation ∙ ap (λ (x : Instance). cond (bytes_eq x.relation inst.relation) x.schema []) (sym same) ∙ sym (schema_at-db_of new rows inst.relation)
@@ -136,36 +138,38 @@ StandsOn-grown a inst rule kept new rows stands may on lawful same =
       relation = relation_of new rows;
       there = ap (relation_at (db_of new rows)) own ∙ relation_at-own new rows;
       schema = ap (λ (x : Instance). x.schema) same ∙ sym columns;
-      rows = subst (λ (s : List Column). AreRows s rows) (sym columns) lawful;
+      lawful = AreLawful-own new rows (subst (λ (x : Instance). AreRows x.schema rows) (sym same) lawful);
+      joins = joins_none inst.relation rule may;
       may = may_stand (Some a.rules) (db_of kept rows) (db_of new rows) inst.schema rule may stands.may;
     }
 
 -- an attachment keeps its rule while another one is added, whose pages are apart
-abbrev pub IsKept : Meanings → List Slot → Kept → Rows → Placed → Type 0
-IsKept m s kept rows placed = (placed.inst.relation ≡ kept.method.relation) × KeepsRule m s (db_of kept rows) placed
-
 IsKept-grown : (m : Meanings) (old after : Contents) (owner : ℕ) (kept new : Kept) (rows : Rows) (placed : Placed) → Keeps owner old after → ((placed.inst.owner ≡ owner) → (placed.inst.owner ≡ 0))
-    → AreRows kept.method.schema rows → new.method ≡ kept.method → IsKept m old.now kept rows placed → IsKept m after.now new rows placed
-IsKept-grown m old after owner kept new rows placed keeps apart lawful same (on, rule) =
-    let inst = placed.inst in (
-      on ∙ ap (λ (x : Instance). x.relation) (sym same),
-      record {
+    → AreRows kept.method.schema rows → new.method ≡ kept.method → KeepsOver m old.now kept rows placed → KeepsOver m after.now new rows placed
+IsKept-grown m old after owner kept new rows placed keeps apart lawful same over =
+    let inst = placed.inst in
+    let rule = over.rule in
+    record {
+      relation = over.relation ∙ ap (λ (x : Instance). x.relation) (sym same);
+      durable = over.durable ∙ ap (λ (x : Instance). x.durable) (sym same);
+      rule = record {
         box = rule.box;
         live = rule.live;
+        instance = rule.instance;
         attachable = rule.attachable;
-        stands = StandsOn-grown rule.box inst placed.rule kept new rows rule.stands rule.attachable on lawful same;
-        holds = subst (λ (P : Pages). HasContent rule.box inst P (content_over rule.box inst placed.rule (db_of new rows))) (sym (pages-kept owner inst.owner old after keeps apart))
-            (subst (λ (i : Image). HasContent rule.box inst (pages_of old.now inst.owner) i) (content-same rule.box inst placed.rule kept new rows rule.attachable same) rule.holds);
-      },
-    )
+        stands = StandsOn-grown rule.box inst placed.rule kept new rows rule.stands rule.attachable over.relation lawful same;
+        holds = subst (λ (P : Pages). HasContent rule.box inst P (content_over rule.box inst placed.rule (db_of new rows) 0)) (sym (pages-kept owner inst.owner old after keeps apart))
+            (subst (λ (i : Content). HasContent rule.box inst (pages_of old.now inst.owner) i) (content-same rule.box inst placed.rule kept new rows rule.attachable same) rule.holds);
+      };
+    }
 
 all_kept : (m : Meanings) (old after : Contents) (owner : ℕ) (kept new : Kept) (rows : Rows) (attachments : List Placed) → Keeps owner old after → IsApartFrom (map (λ placed. placed.inst.owner) attachments) owner
-    → AreRows kept.method.schema rows → new.method ≡ kept.method → All (IsKept m old.now kept rows) attachments → All (IsKept m after.now new rows) attachments
-all_kept m old after owner kept new rows [] keeps apart lawful same all = All-nil (IsKept m after.now new rows)
+    → AreRows kept.method.schema rows → new.method ≡ kept.method → All (KeepsOver m old.now kept rows) attachments → All (KeepsOver m after.now new rows) attachments
+all_kept m old after owner kept new rows [] keeps apart lawful same all = All-nil (KeepsOver m after.now new rows)
 all_kept m old after owner kept new rows (p ∷ ps) keeps apart lawful same all =
-    All-cons (IsKept m after.now new rows) p ps
-    (IsKept-grown m old after owner kept new rows p keeps (All-head (λ (o : ℕ). (o ≡ owner) → (o ≡ 0)) p.inst.owner (map (λ placed. placed.inst.owner) ps) apart) lawful same (All-head (IsKept m old.now kept rows) p ps all))
-    (all_kept m old after owner kept new rows ps keeps (All-tail (λ (o : ℕ). (o ≡ owner) → (o ≡ 0)) p.inst.owner (map (λ placed. placed.inst.owner) ps) apart) lawful same (All-tail (IsKept m old.now kept rows) p ps all))
+    All-cons (KeepsOver m after.now new rows) p ps
+    (IsKept-grown m old after owner kept new rows p keeps (All-head (λ (o : ℕ). (o ≡ owner) → (o ≡ 0)) p.inst.owner (map (λ placed. placed.inst.owner) ps) apart) lawful same (All-head (KeepsOver m old.now kept rows) p ps all))
+    (all_kept m old after owner kept new rows ps keeps (All-tail (λ (o : ℕ). (o ≡ owner) → (o ≡ 0)) p.inst.owner (map (λ placed. placed.inst.owner) ps) apart) lawful same (All-tail (KeepsOver m old.now kept rows) p ps all))
 
 -- ---- what comes of it
 -- the live boxes of the relation and of a rule that isn't refused
@@ -207,21 +211,28 @@ pub MayBuild-met : (m : Meanings) (old new : Contents) (kept : Kept) (rows : Row
     → IsNewFor kept rule old new inst → MayBuild box a new.now kept rows inst rule
 MayBuild-met m old new kept rows name rule box a inst met made = MayBuild-new m old new kept rows name rule box a inst met.stands met.live met.law met.may met.unrefused met.lives made
 
+pub pages_of_new-met : (m : Meanings) (old new : Contents) (kept : Kept) (rows : Rows) (name : Name) (rule : Rule) (box : Method) (a : Attachment) (inst : Instance) → IsMet m old.now kept rows name rule box a
+    → IsNewFor kept rule old new inst → (n : ℕ) → pages_of new.now inst.owner n ≡ pages_of_new a inst n
+pages_of_new-met m old new kept rows name rule box a inst met made = pages_of_new-made old new kept rule a inst (attachment_of-code (rule_code rule) m.attachments a (sym met.lives)) made
+
 -- the new attachment keeps its rule
 IsKept-new : (m : Meanings) (old mid after : Contents) (kept new : Kept) (rows : Rows) (name : Name) (rule : Rule) (box : Method) (a : Attachment) (inst : Instance) → IsMet m old.now kept rows name rule box a
-    → IsNewFor kept rule old mid inst → HoldsOver a after.now kept inst rule rows → new.method ≡ kept.method → IsKept m after.now new rows (record { name = name; rule = rule; inst = inst })
+    → IsNewFor kept rule old mid inst → HoldsOver a after.now kept inst rule rows → new.method ≡ kept.method → KeepsOver m after.now new rows (record { name = name; rule = rule; inst = inst })
 IsKept-new m old mid after kept new rows name rule box a inst met made over same =
     let may = MayBuild-met m old mid kept rows name rule box a inst met made in
-    let lawful : AreRows kept.method.schema rows = subst (λ (s : List Column). AreRows s rows) made.schema may.lawful in (
-      made.relation ∙ ap (λ (x : Instance). x.relation) (sym same),
-      record {
+    let lawful : AreRows kept.method.schema rows = subst (λ (s : List Column). AreRows s rows) made.schema may.lawful in
+    record {
+      relation = made.relation ∙ ap (λ (x : Instance). x.relation) (sym same);
+      durable = made.durable ∙ ap (λ (x : Instance). x.durable) (sym same);
+      rule = record {
         box = a;
         live = ap (λ (code : ℕ). attachment_of code m.attachments) made.code ∙ sym met.lives;
+        instance = may.instance;
         attachable = met.may;
         stands = StandsOn-grown a inst rule kept new rows may.stands met.may made.relation lawful same;
-        holds = subst (λ (i : Image). HasContent a inst (pages_of after.now inst.owner) i) (content-same a inst rule kept new rows met.may same) over;
-      },
-    )
+        holds = subst (λ (i : Content). HasContent a inst (pages_of after.now inst.owner) i) (content-same a inst rule kept new rows met.may same) over;
+      };
+    }
 
 Stands-grown : (m : Meanings) (old mid after : Contents) (kept new : Kept) (rows : Rows) (name : Name) (rule : Rule) (box : Method) (a : Attachment) (inst : Instance) → IsMet m old.now kept rows name rule box a
     → IsNewFor kept rule old mid inst → Keeps inst.owner mid after → HoldsOver a after.now kept inst rule rows → IsGrown kept new name rule inst → Stands m after.now new rows
@@ -243,13 +254,12 @@ Stands-grown m old mid after kept new rows name rule box a inst met made keeps o
         may = stands.keeps.may;
         holds = subst (λ (P : Pages). Holds stands.keeps.box kept.method P rows) (sym (pages-kept inst.owner kept.method.owner old after all may.apart)) stands.keeps.holds;
       });
-      rules = subst (λ (l : List Placed). All (IsKept m after.now new rows) l) (sym grown.attachments)
-          (All-inserted (IsKept m after.now new rows) kept.attachments.items place placed (IsKept-new m old mid after kept new rows name rule box a inst met made over grown.method)
+      rules = subst (λ (l : List Placed). All (KeepsOver m after.now new rows) l) (sym grown.attachments)
+          (All-inserted (KeepsOver m after.now new rows) kept.attachments.items place placed (IsKept-new m old mid after kept new rows name rule box a inst met made over grown.method)
           (all_kept m old after inst.owner kept new rows kept.attachments.items all others lawful grown.method stands.rules));
       apart = subst (λ (x : Instance). AreApart (x.owner ∷ map (λ p. p.inst.owner) new.attachments.items)) (sym grown.method)
           (subst (λ (l : List Placed). AreApart (kept.method.owner ∷ map (λ p. p.inst.owner) l)) (sym grown.attachments)
           (AreApart-inserted (λ p. p.inst.owner) (relation ∷ kept.attachments.items) (suc place) placed stands.apart made.owned.apart));
-      owned = subst (λ (x : Instance). x.owner ≢ 0) (sym grown.method) stands.owned;
     }
 
 pub Attaches-vetoed : (m : Meanings) (old mid after : Contents) (kept : Kept) (rows : Rows) (name own copy : Name) (rule : Rule) (box : Method) (a : Attachment) (inst : Instance) → IsMet m old.now kept rows name rule box a

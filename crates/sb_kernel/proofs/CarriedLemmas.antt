@@ -12,15 +12,14 @@ use Rattle.sb_rule.specs.Spelling.{rule_code, rule_spelling}
 use Rattle.sb_relation.specs.Db.{Name, Row, Rows, Relation, Db, relation_at, schema_at, rows_at}
 use Rattle.sb_relation.specs.Fits.{first_missing, first_unnamed, other_relations, rule_fits, rule_places}
 use Rattle.sb_relation.specs.Foreign.{Boxes}
-use Rattle.sb_plain.specs.declared.command.Command.{Command}
-use Rattle.sb_plain.specs.declared.command.Command.TheVariants.{Attach, Scan}
-use Rattle.sb_plain.specs.declared.reply.Refusal.{Refusal}
-use Rattle.sb_plain.specs.declared.reply.Refusal.TheVariants as refusal
-use Rattle.sb_plain.specs.declared.reply.Reply.{Reply}
-use Rattle.sb_plain.specs.declared.reply.Reply.TheVariants as reply
-use Rattle.sb_plain.specs.Plays.{Steps}
-use Rattle.sb_plain.specs.Refusing.{Codes, box_of, first_of, is_attached, passes_limits, refuse_if, refused, refused_attach, refused_insert}
-use Rattle.sb_plain.specs.Step.{State, Made, committed, with_commit, is_changing}
+use Rattle.sb_first.specs.declared.command.Command.{Command}
+use Rattle.sb_first.specs.declared.command.Command.TheVariants.{Attach, Scan}
+use Rattle.sb_first.specs.declared.reply.Refusal.{Refusal}
+use Rattle.sb_first.specs.declared.reply.Refusal.TheVariants as refusal
+use Rattle.sb_first.specs.declared.reply.Reply.{Reply}
+use Rattle.sb_first.specs.declared.reply.Reply.TheVariants as reply
+use Rattle.sb_first.specs.Refusing.{Codes, box_of, first_of, is_attached, passes_limits, refuse_if, refused, refused_attach, refused_insert}
+use Rattle.sb_first.specs.Step.{State, Made, committed, with_commit, is_changing}
 use Rattle.sb_registry.specs.Boxes.{Meanings}
 use Rattle.sb_kernel.specs.declared.kept.Kept.{Kept}
 use Rattle.sb_kernel.specs.declared.kept.Placed.{Placed}
@@ -28,8 +27,8 @@ use Rattle.sb_kernel.specs.Attaching.{Attaches}
 use Rattle.sb_kernel.specs.Boxes.{IsAttachable, boxes_of, codes_of}
 use Rattle.sb_kernel.specs.Kept.{IsSpelled, relation_of, db_of}
 use Rattle.sb_drive.specs.Slots.{Slot}
-use Rattle.sb_kernel.specs.Standing.{KeepsRule, Stands}
-use Rattle.sb_kernel.specs.Carrying.{Carries, Stops, Comes, Refuses, Does, LeadsTo, CarriedOut}
+use Rattle.sb_kernel.specs.Standing.{KeepsOver, Stands}
+use Rattle.sb_kernel.specs.Carrying.{Carries, Stops, Comes, Does, CarriedOut}
 use Rattle.sb_kernel.proofs.KeptLemmas.{relation_at-db_of, schema_at-own, rows_at-own}
 use Rattle.sb_kernel.proofs.SteppedLemmas.{Steps-refused, Steps-stopped, Steps-made, committed-with_commit}
 
@@ -172,7 +171,7 @@ admitted-attach boxes live kept rows relation name rule may is =
 -- the instances of a kernel that stands have the bytes of their rules
 pub IsSpelled-standing : (m : Meanings) (s : List Slot) (kept : Kept) (rows : Rows) → Stands m s kept rows → IsSpelled kept
 IsSpelled-standing m s kept rows stands =
-    All-weaker (λ (p : Placed). (p.inst.relation ≡ kept.method.relation) × KeepsRule m s (db_of kept rows) p) (λ (p : Placed). p.inst.desc ≡ rule_spelling p.rule) (λ p keeps. keeps.1.stands.spelled.spelled)
+    All-weaker (KeepsOver m s kept rows) (λ (p : Placed). p.inst.desc ≡ rule_spelling p.rule) (λ p over. over.rule.stands.spelled.spelled)
     kept.attachments.items stands.rules
 
 -- the rule that isn't refused under its name isn't refused on the one relation

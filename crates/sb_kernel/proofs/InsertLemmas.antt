@@ -8,23 +8,24 @@ use Rattle.sb_relation.specs.Changes.{changed_rows}
 use Rattle.sb_relation.specs.Db.{Name, Key, Row, Rows, Relation, Attached, Db, row_at, with_row}
 use Rattle.sb_relation.specs.Foreign.{Boxes}
 use Rattle.sb_relation.specs.Keys.{Keying, Picked, Coded, Counted, NewKeys, AnyOf, Just, Taken, NoGreater, keying_of, new_keys, is_free, is_record_key}
-use Rattle.sb_plain.specs.declared.command.Command.TheVariants.{Insert}
-use Rattle.sb_plain.specs.declared.reply.Refusal.TheVariants as refusal
-use Rattle.sb_plain.specs.declared.reply.Reply.{Reply}
-use Rattle.sb_plain.specs.declared.reply.Reply.TheVariants as reply
-use Rattle.sb_plain.specs.Refusing.{attachments_at}
-use Rattle.sb_plain.specs.Step.{Outcome, Made, NoStep, ◌>>=◌, Going, take_key, vetoing, if_admitted, make_change, insert_into, work}
+use Rattle.sb_first.specs.declared.command.Command.TheVariants.{Insert}
+use Rattle.sb_first.specs.declared.reply.Refusal.TheVariants as refusal
+use Rattle.sb_first.specs.declared.reply.Reply.{Reply}
+use Rattle.sb_first.specs.declared.reply.Reply.TheVariants as reply
+use Rattle.sb_first.specs.Refusing.{attachments_at}
+use Rattle.sb_first.specs.Step.{Outcome, Made, NoStep, ◌>>=◌, Going, take_key, vetoing, if_admitted, make_change, insert_into, work}
 use Rattle.sb_forms.specs.Pages.{Pages}
 use Rattle.sb_ctx.specs.declared.instance.Instance.{Instance}
 use Rattle.sb_ctx.specs.declared.calls.MethodCall.TheVariants as call
 use Rattle.sb_ctx.specs.declared.moves.Move.{Move}
 use Rattle.sb_ctx.specs.declared.moves.Move.TheVariants.{Done, Acts, Need, Fresh, After, Find, Veto, NoRecord, Duplicate, Range, Key as Keyed, Row as Rowed, Entry, Sums, End, Broken, NoMemory}
 use Rattle.sb_ctx.specs.Method.{Method, code_of}
-use Rattle.sb_ctx.specs.MethodAnswers.{Holds, Gets, Answers}
+use Rattle.sb_ctx.specs.MethodAnswers.{Holds, Gets, MayEnd, Answers}
+use Rattle.sb_drive.specs.Turns.{IsEnd}
 use Rattle.sb_kernel.specs.declared.kept.Kept.{Kept}
 use Rattle.sb_kernel.specs.Carrying.{Carries, Stops}
-use Rattle.sb_kernel.specs.Changing.{IsOneOf, IsPut, IsKeyIn}
-use Rattle.sb_kernel.specs.Kept.{attached_of, relation_of, db_of}
+use Rattle.sb_kernel.specs.Changing.{IsOneOf, IsPut, IsKeyOrTaken, IsKeyIn}
+use Rattle.sb_kernel.specs.Kept.{AreAttachable, attached_of, relation_of, db_of}
 use Rattle.sb_kernel.proofs.KeptLemmas.{relation_at-own, attachments_at-own, changed-own}
 
 -- ---- what the storage method answers
@@ -62,6 +63,50 @@ IsPut-answered m inst row P after rows End key answers is holds = absurd is
 IsPut-answered m inst row P after rows (Broken page) key answers is holds = absurd is
 IsPut-answered m inst row P after rows NoMemory key answers is holds = absurd is
 
+-- no relation counts its keys yet
+not_counted : (code : ℕ) → (code ≡ 2) ⊎ (1000 ≤ code) → keying_of code ≡ Counted → ⊥
+not_counted code may is = by (code == 2) (code == 3) refl refl is
+  where
+    by : (two three : Bool) → code == 2 ≡ two → code == 3 ≡ three → cond two Coded (cond three Counted Picked) ≡ Counted → ⊥
+    by true three second third is = cc
+    by false true second third is = apart may (eqb-true code 3 third)
+      where
+        apart : (code ≡ 2) ⊎ (1000 ≤ code) → code ≡ 3 → ⊥
+        apart (inl two) three = omega arith
+        apart (inr large) three = omega arith
+    by false false second third is = cc
+
+-- a relation that codes or picks its keys gives one, or another row has it
+gets_ends : (m : Method) (inst : Instance) (keying : Keying) (rows : Rows) (code : Key) (with_key : Key → Rows) (after : Pages) → (keying ≡ Counted → ⊥) → Gets m inst (new_keys keying rows None code) rows with_key after Range → ⊥
+gets_ends m inst Picked rows code with_key after counts gets = gets
+gets_ends m inst Coded rows code with_key after counts gets = by (is_free rows None code) gets
+  where
+    by : (free : Bool) → Gets m inst (cond free (Just code) Taken) rows with_key after Range → ⊥
+    by true gets = gets
+    by false gets = gets
+gets_ends m inst Counted rows code with_key after counts gets = counts refl
+
+pub IsKeyOrTaken-answered : (m : Method) (inst : Instance) (row : Row) (P after : Pages) (rows : Rows) (move : Move) → (m.rules.code ≡ 2) ⊎ (1000 ≤ m.rules.code) → Holds m inst P rows →
+    MayEnd inst (call.Insert row) move → IsEnd move → Answers m inst (call.Insert row) P after move → IsKeyOrTaken move
+IsKeyOrTaken-answered m inst row P after rows (Keyed k) code holds may end answers = tt
+IsKeyOrTaken-answered m inst row P after rows Duplicate code holds may end answers = tt
+IsKeyOrTaken-answered m inst row P after rows Range code holds may end answers =
+    absurd (gets_ends m inst (keying_of m.rules.code) rows (code_of inst row) (λ x. with_row rows x row) after (not_counted m.rules.code code) (answers rows holds))
+IsKeyOrTaken-answered m inst row P after rows Done code holds may end answers = absurd may
+IsKeyOrTaken-answered m inst row P after rows (Acts now late checks) code holds may end answers = absurd may
+IsKeyOrTaken-answered m inst row P after rows (Need n) code holds may end answers = absurd end
+IsKeyOrTaken-answered m inst row P after rows Fresh code holds may end answers = absurd end
+IsKeyOrTaken-answered m inst row P after rows (After low) code holds may end answers = absurd end
+IsKeyOrTaken-answered m inst row P after rows (Find relation columns values) code holds may end answers = absurd may
+IsKeyOrTaken-answered m inst row P after rows Veto code holds may end answers = absurd may
+IsKeyOrTaken-answered m inst row P after rows NoRecord code holds may end answers = absurd may
+IsKeyOrTaken-answered m inst row P after rows (Rowed k r) code holds may end answers = absurd may
+IsKeyOrTaken-answered m inst row P after rows (Entry first second) code holds may end answers = absurd may
+IsKeyOrTaken-answered m inst row P after rows (Sums sums) code holds may end answers = absurd may
+IsKeyOrTaken-answered m inst row P after rows End code holds may end answers = absurd may
+IsKeyOrTaken-answered m inst row P after rows (Broken page) code holds may end answers = absurd end
+IsKeyOrTaken-answered m inst row P after rows NoMemory code holds may end answers = absurd end
+
 -- ---- the key in the plain database
 -- with some picks the row gets the key, which is a record key that no row has
 pub record Takes (name : Name) (keys : NewKeys) (db : Db) (rows : Rows) (key : Key) : Type 0 where
@@ -95,19 +140,6 @@ takes_by Coded name db rows code key counts short is = by (is_free rows None cod
     }
     by false free same = absurd same
 takes_by Counted name db rows code key counts short is = absurd (counts refl)
-
--- no relation counts its keys yet
-not_counted : (code : ℕ) → (code ≡ 2) ⊎ (1000 ≤ code) → keying_of code ≡ Counted → ⊥
-not_counted code may is = by (code == 2) (code == 3) refl refl is
-  where
-    by : (two three : Bool) → code == 2 ≡ two → code == 3 ≡ three → cond two Coded (cond three Counted Picked) ≡ Counted → ⊥
-    by true three second third is = cc
-    by false true second third is = apart may (eqb-true code 3 third)
-      where
-        apart : (code ≡ 2) ⊎ (1000 ≤ code) → code ≡ 3 → ⊥
-        apart (inl two) three = omega arith
-        apart (inr large) three = omega arith
-    by false false second third is = cc
 
 pub Takes-put : (method : ℕ) (name : Name) (db : Db) (rows : Rows) (code key : Key) → (method ≡ 2) ⊎ (1000 ≤ method) → (keying_of method ≡ Coded → nat_lt 200 (length code) ≡ false) →
     IsOneOf (new_keys (keying_of method) rows None code) key → Takes name (new_keys (keying_of method) rows None code) db rows key
@@ -144,30 +176,30 @@ Stops-duplicate boxes kept rows row taken = record {
 abbrev pub asked : Key → Outcome Going → Outcome (Reply × Going)
 asked key out = (out >>= λ made. Made (key, made)) >>= answer_to
 
-make_change-own : (boxes : Boxes) (kept : Kept) (rows : Rows) (c : Change) →
+make_change-own : (boxes : Boxes) (kept : Kept) (rows : Rows) (c : Change) → AreAttachable kept →
     make_change boxes kept.method.relation c (start kept rows [])
     ≡ if_admitted kept.method.relation (vetoing boxes (db_of kept (changed_rows rows c)) kept.method.relation c (map attached_of kept.attachments.items)) (start kept (changed_rows rows c) [])
-make_change-own boxes kept rows c =
+make_change-own boxes kept rows c may =
     let name = kept.method.relation in
-    ap (λ (db : Db). if_admitted name (vetoing boxes db name c (attachments_at db name)) (record { db = db; picks = [] })) (changed-own kept rows c)
+    ap (λ (db : Db). if_admitted name (vetoing boxes db name c (attachments_at db name)) (record { db = db; picks = [] })) (changed-own kept rows c may)
     ∙ ap (λ (on : List Attached). if_admitted name (vetoing boxes (db_of kept (changed_rows rows c)) name c on) (start kept (changed_rows rows c) [])) (attachments_at-own kept (changed_rows rows c))
 
-work-put : (boxes : Boxes) (kept : Kept) (rows : Rows) (row : Row) (key : Key) (vetoes : Option Name) (takes : Takes kept.method.relation (keys_for kept rows row) (db_of kept rows) rows key) →
+work-put : (boxes : Boxes) (kept : Kept) (rows : Rows) (row : Row) (key : Key) (vetoes : Option Name) (takes : Takes kept.method.relation (keys_for kept rows row) (db_of kept rows) rows key) → AreAttachable kept →
     vetoes ≡ vetoing boxes (db_of kept (with_row rows key row)) kept.method.relation (change.Insert key row) (map attached_of kept.attachments.items) →
     work boxes (Insert kept.method.relation row) (start kept rows takes.picks) ≡ asked key (if_admitted kept.method.relation vetoes (start kept (with_row rows key row) []))
-work-put boxes kept rows row key vetoes takes is =
+work-put boxes kept rows row key vetoes takes may is =
     let name = kept.method.relation in
     work-insert boxes kept rows row takes.picks
     ∙ ap (λ (o : Outcome (Key × Going)). ((o >>= λ keyed. make_change boxes name (change.Insert keyed.0 row) keyed.1 >>= λ made. Made (keyed.0, made)) >>= answer_to)) takes.takes
-    ∙ ap (asked key) (make_change-own boxes kept rows (change.Insert key row))
+    ∙ ap (asked key) (make_change-own boxes kept rows (change.Insert key row) may)
     ∙ ap (λ (v : Option Name). asked key (if_admitted name v (start kept (with_row rows key row) []))) (sym is)
 
-pub Carries-put : (boxes : Boxes) (kept : Kept) (rows : Rows) (row : Row) (key : Key) → Takes kept.method.relation (keys_for kept rows row) (db_of kept rows) rows key →
+pub Carries-put : (boxes : Boxes) (kept : Kept) (rows : Rows) (row : Row) (key : Key) → Takes kept.method.relation (keys_for kept rows row) (db_of kept rows) rows key → AreAttachable kept →
     None ≡ vetoing boxes (db_of kept (with_row rows key row)) kept.method.relation (change.Insert key row) (map attached_of kept.attachments.items) →
     Carries boxes (db_of kept rows) (Insert kept.method.relation row) (reply.Done (Some key) []) (db_of kept (with_row rows key row))
-Carries-put boxes kept rows row key takes is = record { picks = takes.picks; made = work-put boxes kept rows row key None takes is }
+Carries-put boxes kept rows row key takes may is = record { picks = takes.picks; made = work-put boxes kept rows row key None takes may is }
 
-pub Stops-vetoed : (boxes : Boxes) (kept : Kept) (rows : Rows) (row : Row) (key : Key) (vetoes : Name) → Takes kept.method.relation (keys_for kept rows row) (db_of kept rows) rows key →
+pub Stops-vetoed : (boxes : Boxes) (kept : Kept) (rows : Rows) (row : Row) (key : Key) (vetoes : Name) → Takes kept.method.relation (keys_for kept rows row) (db_of kept rows) rows key → AreAttachable kept →
     Some vetoes ≡ vetoing boxes (db_of kept (with_row rows key row)) kept.method.relation (change.Insert key row) (map attached_of kept.attachments.items) →
     Stops boxes (db_of kept rows) (Insert kept.method.relation row) (refusal.Veto kept.method.relation vetoes)
-Stops-vetoed boxes kept rows row key vetoes takes is = record { picks = takes.picks; stopped = work-put boxes kept rows row key (Some vetoes) takes is }
+Stops-vetoed boxes kept rows row key vetoes takes may is = record { picks = takes.picks; stopped = work-put boxes kept rows row key (Some vetoes) takes may is }

@@ -1,11 +1,12 @@
 -- The database of a kernel's one relation, looked into and changed.
-use Rattle.std.proofs.Common.{◌≡◌, ℕ, suc, ◌+◌, one-add, le_antisymm, ltb-false, unwrap_or, length, position, nat_lt, nat_le, not, Bool, true, false, cond, List, [], ◌∷◌, ◌++◌, map, insert, take, drop, Option, Some, None, is_eq, nat_cmp, Ordering, Less, Equal, Greater, refl, sym, ap, ◌∙◌, arith, true≢false, bytes_eq}
+use Rattle.std.proofs.Common.{◌≡◌, ℕ, ◌+◌, one-add, le_antisymm, ltb-false, unwrap_or, length, position, nat_lt, nat_le, not, Bool, true, false, cond, List, [], ◌∷◌, map, insert, Some, None, is_eq, Ordering, Less, Equal, Greater, refl, sym, ap, subst, ◌∙◌, arith, true≢false, bytes_eq}
 use Rattle.std.specs.List.{position_or_len}
 use Rattle.std.specs.FinMap.Entries.{put, by_order}
 use Rattle.std.specs.Cmp.Lexicographic.{nat_list_eq_equiv}
 use Rattle.std.proofs.lemmas.Map.Text.{is_eq-slice_cmp}
 use Rattle.std.proofs.lemmas.Bool.Decides.{nat_tests}
 use Rattle.std.proofs.lemmas.List.Sums.{prefix_len-le-length}
+use Rattle.std.proofs.lemmas.Option.{same_Some}
 use Rattle.sb_value.specs.Order.{bytes_cmp}
 use Rattle.sb_value.specs.declared.schema.Column.{Column}
 use Rattle.sb_rule.specs.declared.change.Change.{Change}
@@ -13,13 +14,17 @@ use Rattle.sb_rule.specs.declared.rule.Rule.{Rule}
 use Rattle.sb_rule.specs.declared.rule.Rule.TheVariants.{TreeIndex, HashIndex, JoinIndex, Stats, Check, Refers, Trigger, Foreign}
 use Rattle.sb_rule.specs.Spelling.{rule_code}
 use Rattle.sb_relation.specs.Build.{with_instance, with_attached, with_rule}
-use Rattle.sb_relation.specs.Changes.{changed_rows, changed}
+use Rattle.sb_relation.specs.Buckets.{standing_buckets}
+use Rattle.sb_relation.specs.Changes.{changed_rows, changed, with_change}
 use Rattle.sb_relation.specs.Db.{Name, Rows, Attached, Relation, Db, relation_at, with_relation, rows_at, schema_at, with_rows}
-use Rattle.sb_plain.specs.Refusing.{attachments_at}
+use Rattle.sb_relation.specs.Lawful.{AreRows}
+use Rattle.sb_first.specs.Refusing.{attachments_at}
+use Rattle.sb_ctx.specs.Attachment.{AreLawful, JoinsAnother}
 use Rattle.sb_kernel.specs.declared.kept.Placed.{Placed}
 use Rattle.sb_kernel.specs.declared.kept.Kept.{Kept}
 use Rattle.sb_kernel.specs.Boxes.{IsAttachable}
-use Rattle.sb_kernel.specs.Kept.{attached_of, relation_of, db_of}
+use Rattle.sb_kernel.specs.Kept.{AreAttachable, attached_of, relation_of, db_of}
+use Rattle.sb_kernel.proofs.BucketLemmas.{map-grown, standing_buckets-none}
 
 -- ---- names
 ties : (o : Ordering) → is_eq o ≡ true → o ≡ Equal
@@ -84,10 +89,34 @@ with_rows-own kept rows after =
     ap (λ o. elim o as (λ _. Db) [ None ↦ db | Some r ↦ with_relation db own (record r { rows = after }) ]) (relation_at-own kept rows)
     ∙ own_put own (relation_of kept rows) (relation_of kept after)
 
-pub changed-own : (kept : Kept) (rows : Rows) (change : Change) → changed (db_of kept rows) kept.method.relation change ≡ db_of kept (changed_rows rows change)
-changed-own kept rows change =
-    ap (λ now. with_rows (db_of kept rows) kept.method.relation (changed_rows now change)) (rows_at-own kept rows)
-    ∙ with_rows-own kept rows (changed_rows rows change)
+-- after a change it has other rows and the same attachments
+pub changed-own : (kept : Kept) (rows : Rows) (change : Change) → AreAttachable kept → changed (db_of kept rows) kept.method.relation change ≡ db_of kept (changed_rows rows change)
+changed-own kept rows change may =
+    let own = kept.method.relation in
+    let db = db_of kept rows in
+    let after = changed_rows rows change in
+    ap (λ o. elim o as (λ _. Db) [ None ↦ db | Some r ↦ with_relation db own (with_change r change (changed_rows r.rows change)) ]) (relation_at-own kept rows)
+    ∙ own_put own (relation_of kept rows) (with_change (relation_of kept rows) change after)
+    ∙ ap (λ (l : List Attached). with_relation [] own (record (relation_of kept after) { attachments = l })) (map-grown change after kept.attachments.items may)
+
+-- ---- its rows
+pub AreLawful-own : (kept : Kept) (rows : Rows) → AreRows kept.method.schema rows → AreLawful (db_of kept rows)
+AreLawful-own kept rows are name r is = by (bytes_eq kept.method.relation name) (sym (relation_at-db_of kept rows name) ∙ is)
+  where
+    by : (b : Bool) → cond b (Some (relation_of kept rows)) None ≡ Some r → AreRows r.schema r.rows
+    by true same = subst (λ (x : Relation). AreRows x.schema x.rows) (same_Some (relation_of kept rows) r same) are
+    by false same = absurd (let e = same in cc)
+
+-- an attachable rule joins no other relation
+pub joins_none : (name : Name) (rule : Rule) → IsAttachable rule → JoinsAnother name rule
+joins_none name (Check pred deferred) may = tt
+joins_none name (Foreign code desc) may = tt
+joins_none name (TreeIndex columns unique) may = absurd may
+joins_none name (HashIndex columns) may = absurd may
+joins_none name (JoinIndex side columns other others) may = absurd may
+joins_none name (Stats column low width) may = absurd may
+joins_none name (Refers side columns other others mode deferred) may = absurd may
+joins_none name (Trigger event pred action deferred) may = absurd may
 
 -- ---- a new attachment
 -- the first place of a greater code
@@ -127,16 +156,19 @@ no_mirror db relation name (Foreign code desc) h = refl
 -- the relation with an attachment more
 abbrev pub relation_with : Kept → Rows → Name → Rule → Relation
 relation_with kept rows name rule =
-    record (relation_of kept rows) { attachments = with_instance (record { name = name; rule = rule }) (map attached_of kept.attachments.items) }
+    record (relation_of kept rows) { attachments = with_instance (record { name = name; rule = rule; buckets = 0 }) (map attached_of kept.attachments.items) }
 
 pub with_rule-own : (kept : Kept) (rows : Rows) (name : Name) (rule : Rule) → IsAttachable rule
     → with_rule (db_of kept rows) kept.method.relation name rule ≡ with_relation [] kept.method.relation (relation_with kept rows name rule)
 with_rule-own kept rows name rule h =
     let own = kept.method.relation in
     let db = db_of kept rows in
+    let counted : ℕ → Relation =
+    λ n. record (relation_of kept rows) { attachments = with_instance (record { name = name; rule = rule; buckets = n }) (map attached_of kept.attachments.items) } in
     no_mirror db own name rule h
-    ∙ ap (λ o. elim o as (λ _. Db) [ None ↦ db | Some r ↦ with_relation db own (record r { attachments = with_instance (record { name = name; rule = rule }) r.attachments }) ]) (relation_at-own kept rows)
-    ∙ own_put own (relation_of kept rows) (relation_with kept rows name rule)
+    ∙ ap (λ o. elim o as (λ _. Db) [ None ↦ db | Some r ↦ with_relation db own (record r { attachments = with_instance (record { name = name; rule = rule; buckets = standing_buckets rule r.rows }) r.attachments }) ]) (relation_at-own kept rows)
+    ∙ own_put own (relation_of kept rows) (counted (standing_buckets rule rows))
+    ∙ ap (λ (n : ℕ). with_relation [] own (counted n)) (standing_buckets-none rule rows h)
 
 -- the kernel that has the attachment in its place has the database with the rule
 pub with_rule-db_of : (kept after : Kept) (rows : Rows) (new : Placed) → IsAttachable new.rule → after.method ≡ kept.method

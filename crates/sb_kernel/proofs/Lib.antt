@@ -1,3 +1,4 @@
+pub mod BucketLemmas
 pub mod KeptLemmas
 pub mod NamesLemmas
 pub mod LimitsLemmas
@@ -19,5 +20,3 @@ pub mod OwnersLemmas
 pub mod AttachedLemmas
 pub mod StartingLemmas
 pub mod Examples
-pub mod OnceLemmas
-pub mod DrivenLemmas

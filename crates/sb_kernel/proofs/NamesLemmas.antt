@@ -1,5 +1,5 @@
 -- The first column of a predicate that isn't there.
-use Rattle.std.proofs.Common.{◌≡◌, ℕ, nat_lt, not, ◌||◌, Bool, true, false, cond, List, [], ◌∷◌, ◌++◌, length, position, Option, Some, None, option_map, option_and_then, is_none, slice_get, ◌⊎◌, inl, inr, refl, sym, ap, ◌∙◌, ltb-false, bytes_eq}
+use Rattle.std.proofs.Common.{◌≡◌, nat_lt, not, ◌||◌, Bool, true, false, cond, List, [], ◌∷◌, ◌++◌, length, position, Option, Some, None, option_map, option_and_then, is_none, slice_get, ◌⊎◌, inl, inr, refl, sym, ap, ◌∙◌, ltb-false, bytes_eq}
 use Rattle.std.specs.List.{list_any, find, position_or_len}
 use Rattle.std.specs.Option.{option_or}
 use Rattle.std.proofs.lemmas.List.Folds.{find-append, find_at}

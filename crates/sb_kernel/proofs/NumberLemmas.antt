@@ -1,5 +1,5 @@
 -- Rows of one number: they are rows of the relation, and never too long.
-use Rattle.std.proofs.Common.{◌≡◌, ℕ, zero, suc, ◌≤◌, ◌==◌, Bool, true, false, true≢false, cond, ◌&&◌, List, [], ◌∷◌, length, Option, Some, None, refl, sym, subst, ◌∙◌, arith, eqb-true, nat_lt, ℤ, map}
+use Rattle.std.proofs.Common.{◌≡◌, ℕ, zero, suc, ◌≤◌, ◌==◌, Bool, true, false, true≢false, cond, not, ◌&&◌, List, [], ◌∷◌, length, Option, Some, None, refl, sym, subst, ◌∙◌, arith, eqb-true, nat_lt, ℤ, map}
 use Rattle.std.specs.List.{slice_get, cons_option, list_all}
 use Rattle.std.specs.FinMap.Entries.{is_sorted}
 use Rattle.std.specs.Option.{option_and_then}
@@ -13,11 +13,12 @@ use Rattle.sb_value.specs.Order.{bytes_cmp}
 use Rattle.sb_value.specs.Spelling.{IsStorable}
 use Rattle.sb_pred.specs.Columns.{place_of}
 use Rattle.sb_relation.specs.Db.{Name, Row, Rows, values_in}
+use Rattle.sb_relation.specs.Fits.{is_empty}
 use Rattle.sb_relation.specs.Keys.{Picked, Coded, Counted, keying_of}
 use Rattle.sb_relation.specs.Lawful.{IsRow, is_long_code}
-use Rattle.sb_forms.specs.Pages.{Pages}
-use Rattle.sb_forms.specs.ListPages.{page_numbers, is_list_page, list_keys, row_of, is_one_number, list_rows}
-use Rattle.sb_plain.specs.First.{relation_r}
+use Rattle.sb_forms.specs.Pages.{Pages, page_numbers}
+use Rattle.sb_forms.specs.ListPages.{is_list_page, list_keys, row_of, is_one_number, list_rows}
+use Rattle.sb_first.specs.First.{relation_r}
 use Rattle.sb_ctx.specs.declared.instance.Instance.{Instance}
 use Rattle.sb_ctx.specs.Laws.{IsMethod}
 use Rattle.sb_ctx.specs.Method.{Method, MayHold}
@@ -52,13 +53,16 @@ one_name (c ∷ []) (name ∷ []) is = (name, refl)
 one_name (c ∷ []) (name ∷ next ∷ names) is = absurd (true≢false (sym is))
 one_name (c ∷ d ∷ cs) key is = absurd (true≢false (sym is))
 
-of_one : (schema : List Column) (key : List Name) (P : Pages) (rows : Rows) → list_rows schema key P ≡ Some rows → is_one_number schema key ≡ true
-of_one schema key P rows is =
-    let found : Rows = map (λ k. (k, row_of k)) (list_keys P) in
-    elim (is_one_number schema key) as (λ one. cond (one && list_all (λ n. is_list_page (P n)) (page_numbers P) && is_sorted bytes_cmp found) (Some found) None ≡ Some rows → one ≡ true) [
-      | true ↦ λ there. refl
-      | false ↦ λ there. cc
-    ] is
+of_one : (root : ℕ) (schema : List Column) (key : List Name) (P : Pages) (rows : Rows) → list_rows root schema key P ≡ Some rows → is_one_number schema key ≡ true
+of_one root schema key P rows is = by (not (is_empty (P root))) (is_one_number schema key) is
+  where
+    found : Rows
+    found = map (λ k. (k, row_of k)) (list_keys P)
+
+    by : (here one : Bool) → cond (here && one && list_all (λ n. is_list_page (P n)) (page_numbers P) && is_sorted bytes_cmp found) (Some found) None ≡ Some rows → one ≡ true
+    by true true there = refl
+    by true false there = cc
+    by false one there = cc
 
 coded : (code : ℕ) → keying_of code ≡ Coded → code ≡ 2
 coded code is = by (code == 2) (code == 3) refl is
@@ -76,6 +80,6 @@ MayHold-number box inst P rows row law relation holds number = record {
   is_row = subst (λ (s : List Column). IsRow s row) (sym relation.schema) (IsRow-number row number);
   code = λ keying.
       let reads = (law.tree (coded box.rules.code keying)).rows inst P in
-      let key = one_name inst.schema inst.key (of_one inst.schema inst.key P rows (sym reads ∙ holds)) in
+      let key = one_name inst.schema inst.key (of_one inst.root inst.schema inst.key P rows (sym reads ∙ holds)) in
       subst (λ (k : List Name). is_long_code inst.schema k row ≡ false) (sym key.1) (not_less (length (ordered_code (values_in inst.schema row (key.0 ∷ [])))) (short_code inst.schema row key.0 number));
 }

@@ -1,7 +1,6 @@
 -- Owners that are apart, and a new one.
-use Rattle.std.proofs.Common.{◌≡◌, ◌≢◌, ℕ, zero, suc, ◌==◌, List, [], ◌∷◌, map, take, drop, All, Result, Ok, Err, IfOk, sym, ap, subst, ◌∙◌, arith, ne_eqb}
+use Rattle.std.proofs.Common.{◌≡◌, ◌≢◌, ℕ, zero, suc, List, [], ◌∷◌, map, take, drop, All, Result, Ok, Err, IfOk, true, false, refl, sym, ap, subst, ◌∙◌, arith}
 use Rattle.std.specs.List.{insert}
-use Rattle.std.proofs.lemmas.Bool.{cond-false}
 use Rattle.std.proofs.lemmas.List.Elements.{All-nil, All-cons, All-head, All-tail, All-append, All-map, All-take, All-drop, All-weaker}
 use Rattle.sb_forms.specs.Pages.{Pages, new_pages}
 use Rattle.sb_drive.specs.Instances.{IsLeastOwner}
@@ -13,13 +12,27 @@ use Rattle.sb_kernel.specs.Standing.{AreApart}
 
 -- ---- a new owner
 pub IsNewOwner-made : {E : Type 0} (old new : Contents) (owners taken : List ℕ) (result : Result (ℕ × ℕ) E) → taken ≡ owners → IfOk result (λ made. IsLeastOwner (slots old.now) taken made.0)
-    → IfOk result (λ made. pages_of new.now made.0 ≡ new_pages made.1) → IfOk result (λ made. Keeps made.0 old new) → IfOk result (λ made. IsNewOwner owners old new made.0 made.1)
+    → IfOk result (λ made. pages_of new.now made.0 ≡ new_pages made.1) → IfOk result (λ made. Keeps made.0 old new) → IfOk result (λ made. IsNewOwner owners true old new made.0 made.1)
 IsNewOwner-made old new owners taken (Ok made) same least pages keeps = record {
-  pages = λ n. ap (λ (P : Pages). P n) pages ∙ sym (cond-false (made.0 == 0) [] (new_pages made.1 n) (ne_eqb made.0 0 (omega (arith, least.from))));
+  has = omega (arith, least.from);
+  pages = λ n. ap (λ (P : Pages). P n) pages;
   apart = subst (λ (l : List ℕ). IsApartFrom l made.0) same (All-weaker (λ (o : ℕ). o ≢ made.0) (λ (o : ℕ). (o ≡ made.0) → (o ≡ 0)) (λ o other is. absurd (other is)) taken least.untaken);
   keeps = keeps;
 }
 IsNewOwner-made old new owners taken (Err error) same least pages keeps = tt
+
+-- one without pages has no owner
+pub IsNewOwner-none : (contents : Contents) (owners : List ℕ) → IsNewOwner owners false contents contents 0 0
+IsNewOwner-none contents owners = record {
+  has = refl;
+  pages = λ n. refl;
+  apart = All-weaker (λ (o : ℕ). Unit {0}) (λ (o : ℕ). (o ≡ 0) → (o ≡ 0)) (λ o _ is. is) owners (All-any owners);
+  keeps = record { others = λ o other. refl; was = refl };
+}
+  where
+    All-any : (owners : List ℕ) → All (λ (o : ℕ). Unit {0}) owners
+    All-any [] = All-nil (λ (o : ℕ). Unit {0})
+    All-any (o ∷ owners) = All-cons (λ (o : ℕ). Unit {0}) o owners tt (All-any owners)
 
 -- ---- one more in its place
 pub All-inserted : {X : Type 0} (P : X → Type 0) (xs : List X) (n : ℕ) (x : X) → P x → All P xs → All P (insert xs n x)

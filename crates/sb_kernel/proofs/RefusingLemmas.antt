@@ -1,5 +1,5 @@
 -- What is refused of commands on the kernel's one relation.
-use Rattle.std.proofs.Common.{◌≡◌, ℕ, suc, ◌+◌, ◌≤◌, ◌==◌, nat_lt, nat_le, not, ◌||◌, Bool, true, false, cond, List, [], ◌∷◌, ◌++◌, length, map, sum_by, Option, Some, None, option_map, is_none, is_some, MatchOption, IsOk, Result, Ok, Err, is_err, refl, sym, ap, ap₂, ◌∙◌, subst, arith, true≢false, bytes_eq, add_assoc, add_comm, IfOk}
+use Rattle.std.proofs.Common.{◌≡◌, ℕ, ◌+◌, ◌==◌, nat_lt, nat_le, not, ◌||◌, Bool, true, false, cond, List, [], ◌∷◌, ◌++◌, length, map, sum_by, Option, Some, None, option_map, is_none, is_some, MatchOption, IsOk, Result, Ok, Err, is_err, refl, sym, ap, ap₂, ◌∙◌, subst, true≢false, bytes_eq, add_assoc, add_comm, IfOk}
 use Rattle.std.specs.List.{list_any, find}
 use Rattle.std.proofs.lemmas.List.Sums.{sum_by-cons}
 use Rattle.std.proofs.Math.Bool.{or_assoc}
@@ -19,12 +19,11 @@ use Rattle.sb_relation.specs.Db.{Name, Row, Rows, Attached, Relation, Db, relati
 use Rattle.sb_relation.specs.Fits.{first_missing, first_unnamed, foreign_rule_fits, other_relations, pred_places, rule_fits, rule_places}
 use Rattle.sb_relation.specs.Foreign.{AttachRules, Boxes, attach_rules}
 use Rattle.sb_relation.specs.Limits.{is_large_rule, descriptor_len}
-use Rattle.sb_plain.specs.Refusing.{Codes, box_of, first_of, is_attached, passes_limits, refuse_if, refused_attach, refused_insert}
-use Rattle.sb_plain.specs.declared.reply.Refusal.{Refusal}
-use Rattle.sb_plain.specs.declared.reply.Refusal.TheVariants.{NoRelation, Exists, NoName, NoExtension, Mistyped, Limit}
+use Rattle.sb_first.specs.Refusing.{Codes, box_of, first_of, is_attached, passes_limits, refuse_if, refused_attach, refused_insert}
+use Rattle.sb_first.specs.declared.reply.Refusal.{Refusal}
+use Rattle.sb_first.specs.declared.reply.Refusal.TheVariants.{NoRelation, Exists, NoName, NoExtension, Mistyped, Limit}
 use Rattle.sb_ctx.specs.Attachment.{Attachment}
 use Rattle.sb_registry.specs.Boxes.{Meanings, attachment_of}
-use Rattle.sb_kernel.specs.declared.kept.Placed.{Placed}
 use Rattle.sb_kernel.specs.declared.kept.Kept.{Kept}
 use Rattle.sb_kernel.specs.Boxes.{IsAttachable, boxes_of, codes_of}
 use Rattle.sb_kernel.specs.Kept.{attached_of, relation_of, db_of, has_no_room}
@@ -243,8 +242,8 @@ descriptor_with : (kept : Kept) (rows : Rows) (name : Name) (rule : Rule)
 descriptor_with kept rows name rule =
     let len : Attached → ℕ = λ a. 10 + length (name_spelling a.name) + length (rule_spelling a.rule) in
     let front : ℕ = 10 + sum_by (λ c. length (name_spelling c.name) + 2) kept.method.schema + length (names_spelling kept.method.key) in
-    ap (λ n. front + n) (sum_by-with_instance len (record { name = name; rule = rule }) (map attached_of kept.attachments.items))
-    ∙ sym (add_assoc front (sum_by len (map attached_of kept.attachments.items)) (len (record { name = name; rule = rule })))
+    ap (λ n. front + n) (sum_by-with_instance len (record { name = name; rule = rule; buckets = 0 }) (map attached_of kept.attachments.items))
+    ∙ sym (add_assoc front (sum_by len (map attached_of kept.attachments.items)) (len (record { name = name; rule = rule; buckets = 0 })))
 
 pub attach_own : (boxes : Boxes) (live : Codes) (kept : Kept) (rows : Rows) (name : Name) (rule : Rule) → IsAttachable rule
     → refused_attach boxes live (db_of kept rows) kept.method.relation name rule

@@ -1,11 +1,17 @@
 -- Rows that are read one after the other, each by the key of the one before it.
-use Rattle.std.proofs.Common.{◌≡◌, Bool, true, false, cond, ◌&&◌, [], ◌∷◌, ◌++◌, Option, Some, None, T, refl, sym, ap, subst, ◌∙◌, append_assoc, is_lt, Ordering, Less, Equal, Greater}
+use Rattle.std.proofs.Common.{◌≡◌, Bool, true, false, cond, ◌&&◌, [], ◌∷◌, ◌++◌, Option, Some, None, T, ℕ, ◌<◌, ◌≤◌, length, arith, length-append, refl, sym, ap, subst, ◌∙◌, append_assoc, is_lt, Ordering, Less, Equal, Greater}
 use Rattle.std.specs.Ordering.{ordering_reverse}
 use Rattle.std.specs.FinMap.Entries.{is_sorted, below_all}
 use Rattle.std.proofs.lemmas.Cmp.{nat_list_cmp_total, tied_itself}
 use Rattle.sb_value.specs.Order.{bytes_cmp}
 use Rattle.sb_relation.specs.Db.{Key, Row, Rows}
-use Rattle.sb_ctx.specs.MethodAnswers.{row_above}
+use Rattle.sb_ctx.specs.declared.instance.Instance.{Instance}
+use Rattle.sb_ctx.specs.declared.calls.MethodCall.TheVariants as call
+use Rattle.sb_ctx.specs.declared.moves.Move.{Move}
+use Rattle.sb_ctx.specs.declared.moves.Move.TheVariants.{Done, Acts, Need, Fresh, After, Find, Veto, NoRecord, Duplicate, Range, Key as Keyed, Row as Rowed, Entry, Sums, End, Broken, NoMemory}
+use Rattle.sb_ctx.specs.MethodAnswers.{MayEnd, row_above}
+use Rattle.sb_drive.specs.Turns.{IsEnd}
+use Rattle.sb_kernel.specs.Finding.{IsRowOrEnd}
 
 -- the key of the last row
 abbrev pub last_key : Rows → Option Key
@@ -115,3 +121,27 @@ AreFirst-all rows found last rises are is = by are.rest are.split (sym (row_abov
         append_nil [] = refl
         append_nil (x ∷ xs) = ap (λ (ys : Rows). x ∷ ys) (append_nil xs)
     by (x ∷ rest) split is = cc
+
+-- what a read of the next row ends with
+pub IsRowOrEnd-ended : (inst : Instance) (low : Option Key) (move : Move) → MayEnd inst (call.Next low) move → IsEnd move → IsRowOrEnd move
+IsRowOrEnd-ended inst low (Rowed key row) may end = tt
+IsRowOrEnd-ended inst low End may end = tt
+IsRowOrEnd-ended inst low Done may end = absurd may
+IsRowOrEnd-ended inst low (Acts now late checks) may end = absurd may
+IsRowOrEnd-ended inst low (Need n) may end = absurd end
+IsRowOrEnd-ended inst low Fresh may end = absurd end
+IsRowOrEnd-ended inst low (After n) may end = absurd end
+IsRowOrEnd-ended inst low (Find relation columns values) may end = absurd may
+IsRowOrEnd-ended inst low Veto may end = absurd may
+IsRowOrEnd-ended inst low NoRecord may end = absurd may
+IsRowOrEnd-ended inst low Duplicate may end = absurd may
+IsRowOrEnd-ended inst low Range may end = absurd may
+IsRowOrEnd-ended inst low (Keyed key) may end = absurd may
+IsRowOrEnd-ended inst low (Entry first second) may end = absurd may
+IsRowOrEnd-ended inst low (Sums sums) may end = absurd may
+IsRowOrEnd-ended inst low (Broken page) may end = absurd end
+IsRowOrEnd-ended inst low NoMemory may end = absurd end
+
+-- there are fewer of the first ones than of all
+pub AreFirst-few : (rows found : Rows) (last : Option Key) (most : ℕ) → length rows < most → AreFirst rows found last → most ≤ length found → ⊥
+AreFirst-few rows found last most few first many = omega (arith, ap length first.split, length-append found first.rest)

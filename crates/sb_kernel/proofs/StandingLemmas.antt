@@ -8,9 +8,9 @@ use Rattle.sb_rule.specs.declared.change.Change.TheVariants as change
 use Rattle.sb_relation.specs.Db.{Name, Key, Row, Rows, with_row}
 use Rattle.sb_relation.specs.Keys.{keying_of, new_keys}
 use Rattle.sb_relation.specs.Lawful.{IsRow}
-use Rattle.sb_plain.specs.declared.reply.Refusal.TheVariants as refusal
-use Rattle.sb_plain.specs.declared.reply.Reply.{Reply}
-use Rattle.sb_plain.specs.declared.reply.Reply.TheVariants as reply
+use Rattle.sb_first.specs.declared.reply.Refusal.TheVariants as refusal
+use Rattle.sb_first.specs.declared.reply.Reply.{Reply}
+use Rattle.sb_first.specs.declared.reply.Reply.TheVariants as reply
 use Rattle.sb_forms.specs.Pages.{Pages}
 use Rattle.sb_ctx.specs.declared.instance.Instance.{Instance}
 use Rattle.sb_ctx.specs.Laws.{IsMethod}
@@ -19,11 +19,11 @@ use Rattle.sb_ctx.specs.MethodAnswers.{Holds}
 use Rattle.sb_registry.specs.Boxes.{Meanings, method_of}
 use Rattle.sb_kernel.specs.declared.kept.Kept.{Kept}
 use Rattle.sb_kernel.specs.declared.kept.Placed.{Placed}
-use Rattle.sb_kernel.specs.Boxes.{boxes_of}
-use Rattle.sb_kernel.specs.Changing.{IsNumber, IsOneOf, IsPut, IsMade, KeepsOver, AreKept, AreAsked, IsReplied, IsApartFrom, Inserted, insert_reply, owners_in}
-use Rattle.sb_kernel.specs.Kept.{db_of}
+use Rattle.sb_kernel.specs.Boxes.{IsAttachable, boxes_of}
+use Rattle.sb_kernel.specs.Changing.{IsNumber, IsOneOf, IsPut, IsMade, AreKept, AreAsked, IsReplied, IsApartFrom, Inserted, insert_reply, owners_in}
+use Rattle.sb_kernel.specs.Kept.{AreAttachable, db_of}
 use Rattle.sb_drive.specs.Slots.{Slot, Contents, Keeps, pages_of}
-use Rattle.sb_kernel.specs.Standing.{KeepsRule, Stands}
+use Rattle.sb_kernel.specs.Standing.{KeepsOver, Stands}
 use Rattle.sb_kernel.proofs.AskedLemmas.{AllKeepOver-pages}
 use Rattle.sb_kernel.proofs.BoxesLemmas.{method_of-code}
 use Rattle.sb_kernel.proofs.InsertLemmas.{Takes, Takes-put, Stops-duplicate, Stops-vetoed, Carries-put}
@@ -43,6 +43,11 @@ HasBox-live m s kept rows box stands live =
 pub MayHold-standing : (m : Meanings) (s : List Slot) (kept : Kept) (rows : Rows) (row : Row) (box : Method) → Stands m s kept rows → HasBox m s kept rows box → IsMethod box → IsNumber row → MayHold box kept.method row
 MayHold-standing m s kept rows row box stands has law number = MayHold-number box kept.method (pages_of s kept.method.owner) rows row law stands.relation has.holds number
 
+-- each attachment has a rule that can be attached
+pub AreAttachable-standing : (m : Meanings) (s : List Slot) (kept : Kept) (rows : Rows) → Stands m s kept rows → AreAttachable kept
+AreAttachable-standing m s kept rows stands =
+    All-weaker (KeepsOver m s kept rows) (λ (p : Placed). IsAttachable p.rule) (λ p over. over.rule.attachable) kept.attachments.items stands.rules
+
 -- ---- the row is put
 abbrev pub TakesFor : Kept → Rows → Row → Key → Type 0
 TakesFor kept rows row key = Takes kept.method.relation (new_keys (keying_of kept.method.code) rows None (code_of kept.method row)) (db_of kept rows) rows key
@@ -59,15 +64,13 @@ pub IsMade-put : (m : Meanings) (s t : List Slot) (kept : Kept) (rows : Rows) (r
 IsMade-put m s t kept rows row box key stands law number takes holds = record {
   of = takes.new;
   meets = record { keys = takes.short; old = tt; new = subst (λ (c : List Column). IsRow c row) (sym stands.relation.schema) (IsRow-number row number) };
-  lawful = law.rows kept.method (pages_of t kept.method.owner) (with_row rows key row) holds;
+  lawful = (law.formed kept.method (pages_of t kept.method.owner) (with_row rows key row) holds).lawful;
   holds = holds;
 }
 
 pub AreKept-put : (m : Meanings) (old new : Contents) (kept : Kept) (rows : Rows) → Stands m old.now kept rows → Keeps kept.method.owner old new → AreKept m new.now kept rows kept.attachments.items
 AreKept-put m old new kept rows stands keeps = record {
-  rules = AllKeepOver-pages m old new kept.method.owner kept rows kept.attachments.items keeps stands.apart.0
-      (All-weaker (λ (p : Placed). (p.inst.relation ≡ kept.method.relation) × KeepsRule m old.now (db_of kept rows) p) (KeepsOver m old.now kept rows) (λ p over. record { relation = over.0; rule = over.1 })
-      kept.attachments.items stands.rules);
+  rules = AllKeepOver-pages m old new kept.method.owner kept rows kept.attachments.items keeps stands.apart.0 stands.rules;
   apart = stands.apart;
 }
 
@@ -82,10 +85,8 @@ Stands-put : (m : Meanings) (s t : List Slot) (kept : Kept) (rows : Rows) (row :
 Stands-put m s t kept rows row key box stands live may holds keep = record {
   relation = stands.relation;
   keeps = record { box = box; live = sym live; may = may; holds = holds };
-  rules = All-weaker (KeepsOver m t kept (with_row rows key row)) (λ (p : Placed). (p.inst.relation ≡ kept.method.relation) × KeepsRule m t (db_of kept (with_row rows key row)) p)
-      (λ p over. (over.relation, over.rule)) kept.attachments.items keep;
+  rules = keep;
   apart = stands.apart;
-  owned = stands.owned;
 }
 
 pub Inserted-asked : (m : Meanings) (s t : List Slot) (kept : Kept) (rows : Rows) (row : Row) (key : Key) (box : Method) (vetoes : Option Name) → Stands m s kept rows → Some box ≡ method_of kept.method.code m.methods →
@@ -93,10 +94,10 @@ pub Inserted-asked : (m : Meanings) (s t : List Slot) (kept : Kept) (rows : Rows
     AreAsked m t kept rows (change.Insert key row) kept.attachments.items vetoes → Inserted m t kept rows row (insert_reply kept.method.relation key vetoes)
 Inserted-asked m s t kept rows row key box None stands live may takes holds asked = (
   db_of kept (with_row rows key row),
-  Carries-put (boxes_of m) kept rows row key takes asked.first,
+  Carries-put (boxes_of m) kept rows row key takes (AreAttachable-standing m s kept rows stands) asked.first,
   (with_row rows key row, refl, Stands-put m s t kept rows row key box stands live may holds (asked.keep refl)),
 )
-Inserted-asked m s t kept rows row key box (Some name) stands live may takes holds asked = Stops-vetoed (boxes_of m) kept rows row key name takes asked.first
+Inserted-asked m s t kept rows row key box (Some name) stands live may takes holds asked = Stops-vetoed (boxes_of m) kept rows row key name takes (AreAttachable-standing m s kept rows stands) asked.first
 
 -- ---- the parts of an insert
 -- a change that is copied

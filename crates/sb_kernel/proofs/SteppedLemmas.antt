@@ -1,24 +1,24 @@
 -- What a kernel stands for once a command was carried out, or undone.
-use Rattle.std.proofs.Common.{◌≡◌, ℕ, Bool, true, false, cond, List, [], ◌∷◌, ◌++◌, Option, Some, None, refl, sym, ap, subst, ◌∙◌}
+use Rattle.std.proofs.Common.{◌≡◌, cond, List, [], ◌∷◌, ◌++◌, Option, Some, None, refl, sym, ap, subst, ◌∙◌}
 use Rattle.std.specs.List.{last_or}
 use Rattle.sb_relation.specs.Db.{Key, Rows, Db}
 use Rattle.sb_relation.specs.Foreign.{Boxes}
-use Rattle.sb_plain.specs.declared.command.Command.{Command}
-use Rattle.sb_plain.specs.declared.reply.Refusal.{Refusal}
-use Rattle.sb_plain.specs.declared.reply.Refusal.TheVariants as refusal
-use Rattle.sb_plain.specs.declared.reply.Reply.{Reply}
-use Rattle.sb_plain.specs.declared.reply.Reply.TheVariants as reply
-use Rattle.sb_plain.specs.Lines.{Says}
-use Rattle.sb_plain.specs.Plays.{Steps, Moves}
-use Rattle.sb_plain.specs.Refusing.{refused}
-use Rattle.sb_plain.specs.Step.{State, Turn, Going, Outcome, work, committed, with_commit, db_or_empty, refusing, turn_of, is_changing}
+use Rattle.sb_first.specs.declared.command.Command.{Command}
+use Rattle.sb_first.specs.declared.reply.Refusal.{Refusal}
+use Rattle.sb_first.specs.declared.reply.Refusal.TheVariants as refusal
+use Rattle.sb_first.specs.declared.reply.Reply.{Reply}
+use Rattle.sb_first.specs.declared.reply.Reply.TheVariants as reply
+use Rattle.sb_first.specs.Lines.{Says}
+use Rattle.sb_first.specs.Plays.{Steps, Moves}
+use Rattle.sb_first.specs.Refusing.{refused}
+use Rattle.sb_first.specs.Step.{State, Turn, Going, Outcome, work, committed, with_commit, db_or_empty, refusing, turn_of, is_changing}
 use Rattle.sb_registry.specs.Boxes.{Meanings}
 use Rattle.sb_kernel.specs.declared.kept.Kept.{Kept}
 use Rattle.sb_kernel.specs.Boxes.{boxes_of, codes_of}
 use Rattle.sb_kernel.specs.Kept.{db_of}
 use Rattle.sb_drive.specs.Slots.{Slot, Contents}
 use Rattle.sb_kernel.specs.Standing.{Stands, StandsFor}
-use Rattle.sb_kernel.specs.Stepping.{Steps as Stepped}
+use Rattle.sb_kernel.specs.Stepping.{Holding, IsFor, Execs, Steps as Stepped}
 use Rattle.sb_kernel.specs.Carrying.{Carries, Stops, CarriedOut}
 
 -- ---- a refusal is a move
@@ -92,6 +92,12 @@ Stepped-rows m old mid new kept after c found answer is carried now was s stood 
       moves = leads.steps;
       stands = StandsFor-kept m mid new after s leads.next does.after stood.live leads.live leads.db does.stands now was;
     }
+
+-- where it stood for a state, it stands for one after each command
+pub still_stands : (c : Command) (reply : Reply) (old new : Holding) → ((s : State) × IsFor old s) → Execs old new c reply → (s : State) × IsFor new s
+still_stands c reply old new at execs =
+    let steps = execs.steps at.0 at.1 in
+    (steps.next, subst (λ (x : Meanings). StandsFor x new.memory new.relation steps.next) (sym execs.boxes) steps.stands)
 
 -- ---- the step of a command
 abbrev turn_by : Boxes → State → Command → List Key → Option Refusal → Turn

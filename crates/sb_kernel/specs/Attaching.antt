@@ -1,21 +1,21 @@
 -- Attaching a rule over the rows that stand.
-use Rattle.std.specs.Prelude.{◌≡◌, ℕ, ◌==◌, nat_lt, Bool, true, false, cond, List, [], ◌∷◌, ◌++◌}
+use Rattle.std.specs.Prelude.{◌≡◌, ◌≢◌, ℕ, nat_lt, Bool, true, false, cond, List, [], ◌∷◌, ◌++◌}
 use Rattle.std.specs.List.{insert, list_all, position_or_len}
 use Rattle.sb_rule.specs.declared.change.Change.TheVariants as change
 use Rattle.sb_rule.specs.declared.rule.Rule.{Rule}
 use Rattle.sb_rule.specs.Spelling.{IsStorableRule, rule_code, rule_spelling}
 use Rattle.sb_relation.specs.Db.{Name, Key, Row, Rows, Db}
 use Rattle.sb_relation.specs.Lawful.{AreRows}
-use Rattle.sb_plain.specs.declared.command.Command.TheVariants.{Attach}
-use Rattle.sb_plain.specs.declared.reply.Reply.{Reply}
-use Rattle.sb_plain.specs.declared.reply.Reply.TheVariants.{Refused}
+use Rattle.sb_first.specs.declared.command.Command.TheVariants.{Attach}
+use Rattle.sb_first.specs.declared.reply.Reply.{Reply}
+use Rattle.sb_first.specs.declared.reply.Reply.TheVariants.{Refused}
 use Rattle.sb_forms.specs.Pages.{new_pages}
 use Rattle.sb_ctx.specs.declared.instance.Instance.{Instance}
 use Rattle.sb_ctx.specs.declared.moves.Move.{Move}
 use Rattle.sb_ctx.specs.declared.moves.Move.TheVariants.{Done}
 use Rattle.sb_ctx.specs.Method.{Method, IsInstance}
 use Rattle.sb_ctx.specs.MethodAnswers.{Holds}
-use Rattle.sb_ctx.specs.Attachment.{Attachment, StandsOn}
+use Rattle.sb_ctx.specs.Attachment.{Attachment, StandsOn, keeps_pages}
 use Rattle.sb_ctx.specs.AttachAnswers.{Holds as HasContent, admits_built, content_over}
 use Rattle.sb_registry.specs.Boxes.{Meanings}
 use Rattle.sb_kernel.specs.declared.kept.Placed.{Placed}
@@ -23,25 +23,33 @@ use Rattle.sb_kernel.specs.declared.kept.Kept.{Kept}
 use Rattle.sb_kernel.specs.Boxes.{IsAttachable, boxes_of}
 use Rattle.sb_kernel.specs.Kept.{db_of}
 use Rattle.sb_drive.specs.Slots.{Slot, Contents, Keeps, pages_of}
-use Rattle.sb_kernel.specs.Standing.{Stands, owners_of}
+use Rattle.sb_kernel.specs.Standing.{IsInstanceOf, Stands, owners_of}
 use Rattle.sb_kernel.specs.Changing.{IsApartFrom}
 use Rattle.sb_kernel.specs.Carrying.{Carries, Stops}
 
 -- ---- a new instance
--- an owner apart from others that has a page of zeros; 0 has none
-pub record IsNewOwner (owners : List ℕ) (old new : Contents) (owner root : ℕ) : Type 0 where
-  pub pages : (n : ℕ) → pages_of new.now owner n ≡ cond (owner == 0) [] (new_pages root n)
+-- an owner where there are to be pages, and none where not
+abbrev pub HasOwner : Bool → ℕ → Type 0
+HasOwner true owner = owner ≢ 0
+HasOwner false owner = owner ≡ 0
+
+-- an owner apart from others that has a page of zeros, where there are to be pages; else none
+pub record IsNewOwner (owners : List ℕ) (keeps_pages : Bool) (old new : Contents) (owner root : ℕ) : Type 0 where
+  pub has : HasOwner keeps_pages owner
+  pub pages : (n : ℕ) → pages_of new.now owner n ≡ cond keeps_pages (new_pages root n) []
   pub apart : IsApartFrom owners owner
   pub keeps : Keeps owner old new
 
--- an instance for the rule on the relation, with pages of its own or none
+-- an instance for the rule on the relation, durable where the relation is, with pages of its own where its code keeps pages
 pub record IsNewFor (kept : Kept) (rule : Rule) (old new : Contents) (inst : Instance) : Type 0 where
   pub relation : inst.relation ≡ kept.method.relation
   pub schema : inst.schema ≡ kept.method.schema
+  pub durable : inst.durable ≡ kept.method.durable
   pub code : inst.code ≡ rule_code rule
+  pub key : inst.key ≡ []
   pub spelled : inst.desc ≡ rule_spelling rule
   pub storable : IsStorableRule rule
-  pub owned : IsNewOwner (owners_of kept) old new inst.owner inst.root
+  pub owned : IsNewOwner (owners_of kept) (keeps_pages inst.code) old new inst.owner inst.root
 
 -- ---- the rows that stand
 -- the row is admitted where it is built
@@ -56,6 +64,7 @@ is_done move = false
 pub record MayBuild (box : Method) (a : Attachment) (s : List Slot) (kept : Kept) (rows : Rows) (inst : Instance) (rule : Rule) : Type 0 where
   pub may : IsInstance box kept.method
   pub holds : Holds box kept.method (pages_of s kept.method.owner) rows
+  pub instance : IsInstanceOf a inst
   pub attachable : IsAttachable rule
   pub relation : inst.relation ≡ kept.method.relation
   pub stands : StandsOn a inst rule (db_of kept rows)
@@ -64,7 +73,7 @@ pub record MayBuild (box : Method) (a : Attachment) (s : List Slot) (kept : Kept
 
 -- the pages hold the content that the rule has over these rows
 abbrev pub HoldsOver : Attachment → List Slot → Kept → Instance → Rule → Rows → Type 0
-HoldsOver a s kept inst rule rows = HasContent a inst (pages_of s inst.owner) (content_over a inst rule (db_of kept rows))
+HoldsOver a s kept inst rule rows = HasContent a inst (pages_of s inst.owner) (content_over a inst rule (db_of kept rows) 0)
 
 -- these are the first ones of the rows, and this one comes next
 pub record IsNextOf (rows built : Rows) (row : Key × Row) : Type 0 where

@@ -1,9 +1,9 @@
 -- What a kernel's boxes are, apart from pages.
-use Rattle.std.specs.Prelude.{◌≡◌, ◌⊎◌, ◌≤◌, false, map, ◌++◌}
+use Rattle.std.specs.Prelude.{◌≡◌, ◌≤◌, false, map, ◌++◌}
 use Rattle.sb_rule.specs.declared.rule.Rule.{Rule}
 use Rattle.sb_rule.specs.declared.rule.Rule.TheVariants.{Check, Foreign}
 use Rattle.sb_relation.specs.Foreign.{Boxes}
-use Rattle.sb_plain.specs.Refusing.{Codes}
+use Rattle.sb_first.specs.Refusing.{Codes}
 use Rattle.sb_registry.specs.Boxes.{Meanings}
 
 -- the rules of all boxes, the live ones first

@@ -2,13 +2,13 @@
 use Rattle.std.specs.Prelude.{◌≡◌, List, []}
 use Rattle.sb_relation.specs.Db.{Key, Rows, Db}
 use Rattle.sb_relation.specs.Foreign.{Boxes}
-use Rattle.sb_plain.specs.declared.command.Command.{Command}
-use Rattle.sb_plain.specs.declared.command.Command.TheVariants.{Attach, Insert, Scan}
-use Rattle.sb_plain.specs.declared.reply.Refusal.{Refusal}
-use Rattle.sb_plain.specs.declared.reply.Reply.{Reply}
-use Rattle.sb_plain.specs.declared.reply.Reply.TheVariants.{Refused}
-use Rattle.sb_plain.specs.Plays.{Steps}
-use Rattle.sb_plain.specs.Step.{Made, Stopped, State, work, committed}
+use Rattle.sb_first.specs.declared.command.Command.{Command}
+use Rattle.sb_first.specs.declared.command.Command.TheVariants.{Attach, Insert, Scan}
+use Rattle.sb_first.specs.declared.reply.Refusal.{Refusal}
+use Rattle.sb_first.specs.declared.reply.Reply.{Reply}
+use Rattle.sb_first.specs.declared.reply.Reply.TheVariants.{Refused}
+use Rattle.sb_first.specs.Plays.{Steps}
+use Rattle.sb_first.specs.Step.{Made, Stopped, State, work, committed}
 use Rattle.sb_registry.specs.Boxes.{Meanings}
 use Rattle.sb_kernel.specs.declared.kept.Kept.{Kept}
 use Rattle.sb_kernel.specs.Boxes.{IsAttachable, boxes_of, codes_of}

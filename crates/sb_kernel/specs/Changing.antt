@@ -12,12 +12,12 @@ use Rattle.sb_relation.specs.Db.{Name, Key, Row, Rows, with_row}
 use Rattle.sb_relation.specs.Keys.{NewKeys, AnyOf, Just, Taken, NoGreater, keying_of, new_keys}
 use Rattle.sb_relation.specs.Lawful.{IsRow, AreRows}
 use Rattle.sb_relation.specs.Rules.{admits}
-use Rattle.sb_plain.specs.Refusing.{box_of}
-use Rattle.sb_plain.specs.Step.{vetoing}
-use Rattle.sb_plain.specs.declared.command.Command.TheVariants.{Insert}
-use Rattle.sb_plain.specs.declared.reply.Refusal.TheVariants as refusal
-use Rattle.sb_plain.specs.declared.reply.Reply.{Reply}
-use Rattle.sb_plain.specs.declared.reply.Reply.TheVariants as reply
+use Rattle.sb_first.specs.Refusing.{box_of}
+use Rattle.sb_first.specs.Step.{vetoing}
+use Rattle.sb_first.specs.declared.command.Command.TheVariants.{Insert}
+use Rattle.sb_first.specs.declared.reply.Refusal.TheVariants as refusal
+use Rattle.sb_first.specs.declared.reply.Reply.{Reply}
+use Rattle.sb_first.specs.declared.reply.Reply.TheVariants as reply
 use Rattle.sb_forms.specs.Pages.{Pages}
 use Rattle.sb_ctx.specs.declared.instance.Instance.{Instance}
 use Rattle.sb_ctx.specs.declared.moves.Move.{Move}
@@ -32,7 +32,7 @@ use Rattle.sb_kernel.specs.Boxes.{boxes_of}
 use Rattle.sb_kernel.specs.Carrying.{Comes}
 use Rattle.sb_kernel.specs.Kept.{attached_of, db_of}
 use Rattle.sb_drive.specs.Slots.{Slot, pages_of}
-use Rattle.sb_kernel.specs.Standing.{KeepsRule, AreApart, Stands}
+use Rattle.sb_kernel.specs.Standing.{KeepsOver, AreApart, Stands}
 
 -- ---- a row that is put
 -- one number of 64 bits
@@ -54,6 +54,12 @@ IsPut m inst rows row after None = new_keys (keying_of m.rules.code) rows None (
 IsPut m inst rows row after (Some key) =
     IsOneOf (new_keys (keying_of m.rules.code) rows None (code_of inst row)) key × Holds m inst after (with_row rows key row)
 
+-- an insert ends with a key, or with none, where it is another row's
+abbrev pub IsKeyOrTaken : Move → Type 0
+IsKeyOrTaken (Keyed key) = Unit {0}
+IsKeyOrTaken Duplicate = Unit {0}
+IsKeyOrTaken _ = ⊥
+
 -- the key with which an insert ended; none where it is another row's
 abbrev pub IsKeyIn : Move → Option Key → Type 0
 IsKeyIn (Keyed key) (Some k) = k ≡ key
@@ -74,10 +80,12 @@ pub record IsMade (box : Method) (s : List Slot) (inst : Instance) (rows : Rows)
   pub lawful : AreRows inst.schema (changed_rows rows change)
   pub holds : Holds box inst (pages_of s inst.owner) (changed_rows rows change)
 
--- a live box keeps the rule of an attachment of the relation over these rows
-pub record KeepsOver (m : Meanings) (s : List Slot) (kept : Kept) (rows : Rows) (placed : Placed) : Type 0 where
-  pub relation : placed.inst.relation ≡ kept.method.relation
-  pub rule : KeepsRule m s (db_of kept rows) placed
+-- the call of an attachment ends with the change admitted or not
+abbrev pub IsVerdict : Move → Type 0
+IsVerdict Done = Unit {0}
+IsVerdict (Acts now late checks) = Unit {0}
+IsVerdict Veto = Unit {0}
+IsVerdict _ = ⊥
 
 -- whether the call of an attachment ended with the change admitted
 abbrev pub IsAnswer : Move → Bool → Type 0

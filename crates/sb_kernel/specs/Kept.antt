@@ -1,5 +1,5 @@
 -- The database of a kernel's one relation.
-use Rattle.std.specs.Prelude.{◌≡◌, ℕ, ◌+◌, nat_le, nat_lt, ◌||◌, Bool, List, [], length, map, All}
+use Rattle.std.specs.Prelude.{◌≡◌, ℕ, ◌+◌, nat_le, nat_lt, ◌||◌, Bool, [], length, map, All}
 use Rattle.sb_value.specs.declared.schema.Column.{Column}
 use Rattle.sb_pred.specs.Spelling.{name_spelling}
 use Rattle.sb_rule.specs.Spelling.{rule_spelling}
@@ -7,9 +7,11 @@ use Rattle.sb_relation.specs.Db.{Name, Rows, Attached, Relation, Db, with_relati
 use Rattle.sb_relation.specs.Limits.{descriptor_len}
 use Rattle.sb_kernel.specs.declared.kept.Placed.{Placed}
 use Rattle.sb_kernel.specs.declared.kept.Kept.{Kept}
+use Rattle.sb_kernel.specs.Boxes.{IsAttachable}
 
+-- under its name; a rule that can be attached has no buckets
 abbrev pub attached_of : Placed → Attached
-attached_of placed = record { name = placed.name; rule = placed.rule }
+attached_of placed = record { name = placed.name; rule = placed.rule; buckets = 0 }
 
 abbrev pub relation_of : Kept → Rows → Relation
 relation_of kept rows = record {
@@ -27,6 +29,10 @@ db_of kept rows = with_relation [] kept.method.relation (relation_of kept rows)
 -- the instance of each attachment has the bytes of its rule
 abbrev pub IsSpelled : Kept → Type 0
 IsSpelled kept = All (λ placed. placed.inst.desc ≡ rule_spelling placed.rule) kept.attachments.items
+
+-- each of its rules is one that can be attached
+abbrev pub AreAttachable : Kept → Type 0
+AreAttachable kept = All (λ placed. IsAttachable placed.rule) kept.attachments.items
 
 -- the bytes of a column and of an attachment in a descriptor
 abbrev pub column_len : Column → ℕ

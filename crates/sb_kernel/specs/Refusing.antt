@@ -7,9 +7,9 @@ use Rattle.sb_relation.specs.Db.{Name, Relation}
 use Rattle.sb_relation.specs.Fits.{first_unnamed, rule_fits, rule_places}
 use Rattle.sb_relation.specs.Foreign.{Boxes}
 use Rattle.sb_relation.specs.Limits.{is_large_rule}
-use Rattle.sb_plain.specs.Refusing.{Codes, box_of, first_of, refuse_if}
-use Rattle.sb_plain.specs.declared.reply.Refusal.{Refusal}
-use Rattle.sb_plain.specs.declared.reply.Refusal.TheVariants.{NoName, NoExtension, Mistyped, Limit}
+use Rattle.sb_first.specs.Refusing.{Codes, box_of, first_of, refuse_if}
+use Rattle.sb_first.specs.declared.reply.Refusal.{Refusal}
+use Rattle.sb_first.specs.declared.reply.Refusal.TheVariants.{NoName, NoExtension, Mistyped, Limit}
 use Rattle.sb_kernel.specs.Kept.{has_no_room}
 
 -- the first refusal of a rule that names no other relation, where its own is there and has no attachment of this name

@@ -5,23 +5,23 @@ ghost use Rattle.std.specs.List.{insert};
 ghost use Rattle.sb_rule.specs.declared.rule.Rule.{Rule as Policy};
 ghost use Rattle.sb_rule.specs.Spelling.{IsShortRule};
 ghost use Rattle.sb_relation.specs.Db.{Rows};
-ghost use Rattle.sb_plain.specs.Refusing.{refused_attach};
-ghost use Rattle.sb_ctx.specs.Attachment.{IsInstance as IsPlaced};
+ghost use Rattle.sb_first.specs.Refusing.{refused_attach};
+ghost use Rattle.sb_ctx.specs.Attachment.{keeps_pages};
 ghost use Rattle.sb_ctx.specs.AttachAnswers.{pages_of_new};
-ghost use Rattle.sb_registry.specs.Boxes.{meanings};
 ghost use Rattle.sb_kernel.specs.Attaching.{Attaches, HoldsOver, IsBuiltOver, IsBuiltRow, IsGrown, IsNewFor, IsNewOwner, IsNextOf, MayBuild, is_done};
 ghost use Rattle.sb_kernel.specs.Boxes.{IsAttachable, boxes_of, codes_of};
 ghost use Rattle.sb_kernel.specs.Kept.{db_of};
 ghost use Rattle.sb_drive.specs.Slots.{Keeps, pages_of};
 ghost use Rattle.sb_kernel.specs.Standing.{Stands, owners_of};
 
-use crate::asking::ask;
-use crate::finding::{all_rows, learn_law};
+use crate::asking::{ask, ask_formed};
+use crate::calling::learn_law;
+use crate::finding::all_rows;
 use crate::kept::{Kept, Placed, code_of, place_for};
 use sb_ctx::{AttachCall, Attachment, Instance, Move, StorageMethod};
-use sb_drive::Memory;
-use sb_plain::{Picks, Refusal, Reply};
-use sb_registry::Registry;
+use sb_drive::{DriveFault, Memory};
+use sb_first::{Picks, Refusal, Reply};
+use sb_registry::{Meant, Registry};
 use sb_rule::{Rule, write_rule};
 use sb_value::{Bytes, Names, RecKey, Str, Tuple};
 use std::alloc::{AllocError, Global};
@@ -37,29 +37,24 @@ pub fn attach(
     rule: &Rule,
 ) -> Result<Reply, AllocError>
     requires attachable { IsAttachable rule.now }
-    requires stands { (rows : Rows) × Stands (meanings (λ i. (⟦<dyn StorageMethod as StorageMethod>⟧ i).method)
-        (λ j. (⟦<dyn Attachment as Attachment>⟧ j).attachment) registry.now.exts) memory.old.now kept.old rows
-        × (refused_attach (boxes_of (meanings (λ i. (⟦<dyn StorageMethod as StorageMethod>⟧ i).method)
-        (λ j. (⟦<dyn Attachment as Attachment>⟧ j).attachment) registry.now.exts))
-        (codes_of (meanings (λ i. (⟦<dyn StorageMethod as StorageMethod>⟧ i).method)
-        (λ j. (⟦<dyn Attachment as Attachment>⟧ j).attachment) registry.now.exts))
+    requires stands { (rows : Rows) × Stands (⟦<Registry as Meant>⟧.meant registry.now) memory.old.now kept.old rows
+        × (refused_attach (boxes_of (⟦<Registry as Meant>⟧.meant registry.now))
+        (codes_of (⟦<Registry as Meant>⟧.meant registry.now))
         (db_of kept.old rows) kept.old.method.relation name.now rule.now ≡ None) }
-    ensures attached { (rows : Rows) → Stands (meanings (λ i. (⟦<dyn StorageMethod as StorageMethod>⟧ i).method)
-        (λ j. (⟦<dyn Attachment as Attachment>⟧ j).attachment) registry.now.exts) memory.old.now kept.old rows
-        → IfOk result (Attaches (meanings (λ i. (⟦<dyn StorageMethod as StorageMethod>⟧ i).method)
-        (λ j. (⟦<dyn Attachment as Attachment>⟧ j).attachment) registry.now.exts) memory.new.now kept.old kept.new rows name.now rule.now) }
+    ensures attached { (rows : Rows) → Stands (⟦<Registry as Meant>⟧.meant registry.now) memory.old.now kept.old rows
+        → IfOk result (Attaches (⟦<Registry as Meant>⟧.meant registry.now) memory.new.now kept.old kept.new rows name.now rule.now) }
     ensures err { OnErr result (kept.new ≡ kept.old) }
     ensures was { memory.new.was ≡ memory.old.was }
 {
     let Some(boxed) = registry.method(kept.method.code) else {
         unreachable!()
     };
-    let Some(attachment) = registry.attachment(code_of(rule)) else {
+    let Some(watcher) = registry.attachment(code_of(rule)) else {
         unreachable!()
     };
     learn_law(boxed);
     let inst = new_instance(memory, alloc, kept, rule)?;
-    let admitted = build(memory, alloc, boxed, kept, attachment, &inst)?;
+    let admitted = build(memory, alloc, boxed, kept, watcher, &inst)?;
     if !admitted {
         return Ok(Reply::Refused(Refusal::Veto {
             relation: kept.method.relation.copy()?,
@@ -89,7 +84,7 @@ fn new_instance(
     write_rule(rule, &mut desc)?;
     let relation = kept.method.relation.copy()?;
     let schema = kept.method.schema.copy()?;
-    let (owner, root) = new_owner(memory, alloc, kept, rule)?;
+    let (owner, root) = new_owner(memory, alloc, kept, code_of(rule))?;
     Ok(Instance {
         relation,
         owner,
@@ -102,23 +97,28 @@ fn new_instance(
     })
 }
 
-/// The owner of an instance for the rule, and its root. A check has no pages.
+/// The owner of an instance of this code, and its root. Without pages of its own it has none.
 fn new_owner(
     memory: &mut Memory,
     alloc: Global,
     kept: &Kept,
-    rule: &Rule,
+    code: u16,
 ) -> Result<(u16, u32), AllocError>
-    ensures owned { IfOk result (λ made. IsNewOwner (owners_of kept.now) memory.old memory.new made.0 made.1) }
-    ensures err { OnErr result (memory.new ≡ memory.old) }
+    ensures owned { IfOk result (λ made. IsNewOwner (owners_of kept.now) (keeps_pages code) memory.old memory.new made.0 made.1) }
+    ensures was { memory.new.was ≡ memory.old.was }
 {
-    match rule {
-        Rule::Check { .. } => Ok((0, 0)),
-        _ => {
-            let taken = owners(alloc, kept)?;
-            memory.new_instance(&taken)
-        }
+    if !keeps_pages(code) {
+        return Ok((0, 0));
     }
+    let taken = owners(alloc, kept)?;
+    memory.new_instance(&taken)
+}
+
+/// Whether instances of this code have pages of their own: all but those of check, refers and trigger.
+fn keeps_pages(code: u16) -> bool
+    ensures { result ≡ keeps_pages code }
+{
+    !(code == 5 || code == 6 || code == 7)
 }
 
 /// The owners of all instances.
@@ -139,20 +139,20 @@ fn build(
     alloc: Global,
     boxed: &dyn StorageMethod,
     kept: &Kept,
-    attachment: &dyn Attachment,
+    watcher: &dyn Attachment,
     inst: &Instance,
 ) -> Result<bool, AllocError>
-    requires may { (rows : Rows) × (rule : Policy) × MayBuild (method boxed.now) ((⟦<dyn Attachment as Attachment>⟧ attachment.now.0).attachment attachment.now.1)
+    requires may { (rows : Rows) × (rule : Policy) × MayBuild (method boxed.now) (attachment watcher.now)
         memory.old.now kept.now rows inst.now rule }
-    requires new { (n : ℕ) → pages_of memory.old.now inst.now.owner n ≡ pages_of_new inst.now n }
-    ensures built { (rows : Rows) (rule : Policy) → MayBuild (method boxed.now) ((⟦<dyn Attachment as Attachment>⟧ attachment.now.0).attachment attachment.now.1)
+    requires new { (n : ℕ) → pages_of memory.old.now inst.now.owner n ≡ pages_of_new (attachment watcher.now) inst.now n }
+    ensures built { (rows : Rows) (rule : Policy) → MayBuild (method boxed.now) (attachment watcher.now)
         memory.old.now kept.now rows inst.now rule
-        → IfOk result (IsBuiltOver ((⟦<dyn Attachment as Attachment>⟧ attachment.now.0).attachment attachment.now.1) memory.new.now kept.now inst.now rule rows) }
+        → IfOk result (IsBuiltOver (attachment watcher.now) memory.new.now kept.now inst.now rule rows) }
     ensures others { Keeps inst.now.owner memory.old memory.new }
 {
-    prepare(memory, alloc, boxed, kept, attachment, inst)?;
+    prepare(memory, alloc, boxed, kept, watcher, inst)?;
     let rows = all_rows(memory, alloc, boxed, &kept.method)?;
-    build_rows(memory, alloc, boxed, kept, attachment, inst, &rows)
+    build_rows(memory, alloc, boxed, kept, watcher, inst, &rows)
 }
 
 /// Makes the content of a new instance over no rows.
@@ -161,20 +161,23 @@ fn prepare(
     alloc: Global,
     boxed: &dyn StorageMethod,
     kept: &Kept,
-    attachment: &dyn Attachment,
+    watcher: &dyn Attachment,
     inst: &Instance,
 ) -> Result<(), AllocError>
-    requires may { (rows : Rows) × (rule : Policy) × MayBuild (method boxed.now) ((⟦<dyn Attachment as Attachment>⟧ attachment.now.0).attachment attachment.now.1)
+    requires may { (rows : Rows) × (rule : Policy) × MayBuild (method boxed.now) (attachment watcher.now)
         memory.old.now kept.now rows inst.now rule }
-    requires new { (n : ℕ) → pages_of memory.old.now inst.now.owner n ≡ pages_of_new inst.now n }
-    ensures prepared { (rows : Rows) (rule : Policy) → MayBuild (method boxed.now) ((⟦<dyn Attachment as Attachment>⟧ attachment.now.0).attachment attachment.now.1)
+    requires new { (n : ℕ) → pages_of memory.old.now inst.now.owner n ≡ pages_of_new (attachment watcher.now) inst.now n }
+    ensures prepared { (rows : Rows) (rule : Policy) → MayBuild (method boxed.now) (attachment watcher.now)
         memory.old.now kept.now rows inst.now rule
-        → OnOk result (HoldsOver ((⟦<dyn Attachment as Attachment>⟧ attachment.now.0).attachment attachment.now.1) memory.new.now kept.now inst.now rule []) }
+        → OnOk result (HoldsOver (attachment watcher.now) memory.new.now kept.now inst.now rule []) }
     ensures others { Keeps inst.now.owner memory.old memory.new }
 {
     let call = AttachCall::Prepare;
-    let _done = ask(memory, alloc, boxed, kept, attachment, inst, &call)?;
-    Ok(())
+    match ask(memory, alloc, boxed, kept, watcher, inst, &call) {
+        Ok(_done) => Ok(()),
+        Err(DriveFault::NoMemory) => Err(AllocError),
+        Err(DriveFault::Damaged { .. }) => unreachable!(),
+    }
 }
 
 /// Adds these rows to the content, which are all of the relation's. False where one of them isn't admitted.
@@ -183,21 +186,21 @@ fn build_rows(
     alloc: Global,
     boxed: &dyn StorageMethod,
     kept: &Kept,
-    attachment: &dyn Attachment,
+    watcher: &dyn Attachment,
     inst: &Instance,
     rows: &[(RecKey, Tuple)],
 ) -> Result<bool, AllocError>
-    requires may { (rule : Policy) × MayBuild (method boxed.now) ((⟦<dyn Attachment as Attachment>⟧ attachment.now.0).attachment attachment.now.1)
+    requires may { (rule : Policy) × MayBuild (method boxed.now) (attachment watcher.now)
         memory.old.now kept.now rows.now inst.now rule
-        × HoldsOver ((⟦<dyn Attachment as Attachment>⟧ attachment.now.0).attachment attachment.now.1) memory.old.now kept.now inst.now rule [] }
-    ensures built { (rule : Policy) → MayBuild (method boxed.now) ((⟦<dyn Attachment as Attachment>⟧ attachment.now.0).attachment attachment.now.1)
+        × HoldsOver (attachment watcher.now) memory.old.now kept.now inst.now rule [] }
+    ensures built { (rule : Policy) → MayBuild (method boxed.now) (attachment watcher.now)
         memory.old.now kept.now rows.now inst.now rule
-        → HoldsOver ((⟦<dyn Attachment as Attachment>⟧ attachment.now.0).attachment attachment.now.1) memory.old.now kept.now inst.now rule []
-        → IfOk result (IsBuiltOver ((⟦<dyn Attachment as Attachment>⟧ attachment.now.0).attachment attachment.now.1) memory.new.now kept.now inst.now rule rows.now) }
+        → HoldsOver (attachment watcher.now) memory.old.now kept.now inst.now rule []
+        → IfOk result (IsBuiltOver (attachment watcher.now) memory.new.now kept.now inst.now rule rows.now) }
     ensures others { Keeps inst.now.owner memory.old memory.new }
 {
     for row in rows {
-        let admitted = build_row(memory, alloc, boxed, kept, attachment, inst, row)?;
+        let admitted = build_row(memory, alloc, boxed, kept, watcher, inst, row)?;
         if !admitted {
             return Ok(false);
         }
@@ -211,21 +214,22 @@ fn build_row(
     alloc: Global,
     boxed: &dyn StorageMethod,
     kept: &Kept,
-    attachment: &dyn Attachment,
+    watcher: &dyn Attachment,
     inst: &Instance,
     row: &(RecKey, Tuple),
 ) -> Result<bool, AllocError>
-    requires may { (rows : Rows) × (built : Rows) × (rule : Policy) × MayBuild (method boxed.now) ((⟦<dyn Attachment as Attachment>⟧ attachment.now.0).attachment attachment.now.1)
-        memory.old.now kept.now rows inst.now rule × IsNextOf rows built row.now }
-    ensures built { (rows built : Rows) (rule : Policy) → MayBuild (method boxed.now) ((⟦<dyn Attachment as Attachment>⟧ attachment.now.0).attachment attachment.now.1)
+    requires may { (rows : Rows) × (built : Rows) × (rule : Policy) × MayBuild (method boxed.now) (attachment watcher.now)
+        memory.old.now kept.now rows inst.now rule × IsNextOf rows built row.now
+        × HoldsOver (attachment watcher.now) memory.old.now kept.now inst.now rule built }
+    ensures built { (rows built : Rows) (rule : Policy) → MayBuild (method boxed.now) (attachment watcher.now)
         memory.old.now kept.now rows inst.now rule → IsNextOf rows built row.now
-        → HoldsOver ((⟦<dyn Attachment as Attachment>⟧ attachment.now.0).attachment attachment.now.1) memory.old.now kept.now inst.now rule built
-        → IfOk result (IsBuiltRow ((⟦<dyn Attachment as Attachment>⟧ attachment.now.0).attachment attachment.now.1) memory.new.now kept.now inst.now rule rows built row.now) }
+        → HoldsOver (attachment watcher.now) memory.old.now kept.now inst.now rule built
+        → IfOk result (IsBuiltRow (attachment watcher.now) memory.new.now kept.now inst.now rule rows built row.now) }
     ensures others { Keeps inst.now.owner memory.old memory.new }
 {
     let (key, tuple) = row;
     let call = AttachCall::Build(key.copy()?, tuple.copy()?);
-    let made = ask(memory, alloc, boxed, kept, attachment, inst, &call)?;
+    let made = ask_formed(memory, alloc, boxed, kept, watcher, inst, &call)?;
     Ok(is_done(&made))
 }
 

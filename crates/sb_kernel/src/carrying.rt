@@ -2,8 +2,7 @@
 
 ghost use Rattle.std.specs.Prelude.{◌≡◌, IfOk, OnErr};
 ghost use Rattle.sb_relation.specs.Db.{Rows};
-ghost use Rattle.sb_plain.specs.declared.command.Command.TheVariants.{Attach, Insert, Scan};
-ghost use Rattle.sb_registry.specs.Boxes.{meanings};
+ghost use Rattle.sb_first.specs.declared.command.Command.TheVariants.{Attach, Insert, Scan};
 ghost use Rattle.sb_kernel.specs.Boxes.{IsAttachable};
 ghost use Rattle.sb_kernel.specs.Carrying.{IsPosed, CarriedOut};
 ghost use Rattle.sb_kernel.specs.Standing.{Stands};
@@ -13,10 +12,9 @@ use crate::changing::insert;
 use crate::finding::all_rows;
 use crate::kept::Kept;
 use crate::refusing::{refuse_attach, refuse_insert, refuse_scan};
-use sb_ctx::{Attachment, StorageMethod};
 use sb_drive::Memory;
-use sb_plain::{Command, Reply};
-use sb_registry::Registry;
+use sb_first::{Command, Reply};
+use sb_registry::{Meant, Registry};
 use sb_rule::Rule;
 use sb_value::{Str, Tuple};
 use std::alloc::AllocError;
@@ -29,9 +27,9 @@ pub fn carry_out(
     command: &Command,
 ) -> Result<Reply, AllocError>
     requires posed { IsPosed command.now }
-    requires stands { (rows : Rows) × Stands (meanings (λ i. (⟦<dyn StorageMethod as StorageMethod>⟧ i).method) (λ j. (⟦<dyn Attachment as Attachment>⟧ j).attachment) registry.now.exts) memory.old.now kept.old rows }
-    ensures carried { (rows : Rows) → Stands (meanings (λ i. (⟦<dyn StorageMethod as StorageMethod>⟧ i).method) (λ j. (⟦<dyn Attachment as Attachment>⟧ j).attachment) registry.now.exts) memory.old.now kept.old rows
-        → IfOk result (CarriedOut (meanings (λ i. (⟦<dyn StorageMethod as StorageMethod>⟧ i).method) (λ j. (⟦<dyn Attachment as Attachment>⟧ j).attachment) registry.now.exts) kept.old kept.new memory.new.now rows command.now) }
+    requires stands { (rows : Rows) × Stands (⟦<Registry as Meant>⟧.meant registry.now) memory.old.now kept.old rows }
+    ensures carried { (rows : Rows) → Stands (⟦<Registry as Meant>⟧.meant registry.now) memory.old.now kept.old rows
+        → IfOk result (CarriedOut (⟦<Registry as Meant>⟧.meant registry.now) kept.old kept.new memory.new.now rows command.now) }
     ensures err { OnErr result (kept.new ≡ kept.old) }
     ensures was { memory.new.was ≡ memory.old.was }
 {
@@ -54,21 +52,21 @@ fn scan(
     kept: &Kept,
     relation: &Str,
 ) -> Result<Reply, AllocError>
-    requires stands { (rows : Rows) × Stands (meanings (λ i. (⟦<dyn StorageMethod as StorageMethod>⟧ i).method) (λ j. (⟦<dyn Attachment as Attachment>⟧ j).attachment) registry.now.exts) memory.old.now kept.now rows }
-    ensures carried { (rows : Rows) → Stands (meanings (λ i. (⟦<dyn StorageMethod as StorageMethod>⟧ i).method) (λ j. (⟦<dyn Attachment as Attachment>⟧ j).attachment) registry.now.exts) memory.old.now kept.now rows
-        → IfOk result (CarriedOut (meanings (λ i. (⟦<dyn StorageMethod as StorageMethod>⟧ i).method) (λ j. (⟦<dyn Attachment as Attachment>⟧ j).attachment) registry.now.exts) kept.now kept.now memory.new.now rows (Scan relation.now)) }
+    requires stands { (rows : Rows) × Stands (⟦<Registry as Meant>⟧.meant registry.now) memory.old.now kept.now rows }
+    ensures carried { (rows : Rows) → Stands (⟦<Registry as Meant>⟧.meant registry.now) memory.old.now kept.now rows
+        → IfOk result (CarriedOut (⟦<Registry as Meant>⟧.meant registry.now) kept.now kept.now memory.new.now rows (Scan relation.now)) }
     ensures was { memory.new.was ≡ memory.old.was }
 {
     if let Some(refusal) = refuse_scan(kept, relation)? {
         return Ok(Reply::Refused(refusal));
     }
     let Some(boxed) = registry.method(kept.method.code) else {
-        return Err(AllocError);
+        unreachable!()
     };
     let alloc = *kept.attachments.allocator();
     let rows = all_rows(memory, alloc, boxed, &kept.method)?;
     Ok(Reply::Rows {
-        rows: sb_plain::Rows::from_vec(rows),
+        rows: sb_first::Rows::from_vec(rows),
     })
 }
 
@@ -81,9 +79,10 @@ fn attach_to(
     rule: &Rule,
 ) -> Result<Reply, AllocError>
     requires attachable { IsAttachable rule.now }
-    requires stands { (rows : Rows) × Stands (meanings (λ i. (⟦<dyn StorageMethod as StorageMethod>⟧ i).method) (λ j. (⟦<dyn Attachment as Attachment>⟧ j).attachment) registry.now.exts) memory.old.now kept.old rows }
-    ensures carried { (rows : Rows) → Stands (meanings (λ i. (⟦<dyn StorageMethod as StorageMethod>⟧ i).method) (λ j. (⟦<dyn Attachment as Attachment>⟧ j).attachment) registry.now.exts) memory.old.now kept.old rows
-        → IfOk result (CarriedOut (meanings (λ i. (⟦<dyn StorageMethod as StorageMethod>⟧ i).method) (λ j. (⟦<dyn Attachment as Attachment>⟧ j).attachment) registry.now.exts) kept.old kept.new memory.new.now rows (Attach relation.now name.now rule.now)) }
+    requires stands { (rows : Rows) × Stands (⟦<Registry as Meant>⟧.meant registry.now) memory.old.now kept.old rows }
+    ensures carried { (rows : Rows) → Stands (⟦<Registry as Meant>⟧.meant registry.now) memory.old.now kept.old rows
+        → IfOk result (CarriedOut (⟦<Registry as Meant>⟧.meant registry.now) kept.old kept.new memory.new.now rows
+        (Attach relation.now name.now rule.now)) }
     ensures err { OnErr result (kept.new ≡ kept.old) }
     ensures was { memory.new.was ≡ memory.old.was }
 {
@@ -101,9 +100,10 @@ fn insert_into(
     relation: &Str,
     values: &Tuple,
 ) -> Result<Reply, AllocError>
-    requires stands { (rows : Rows) × Stands (meanings (λ i. (⟦<dyn StorageMethod as StorageMethod>⟧ i).method) (λ j. (⟦<dyn Attachment as Attachment>⟧ j).attachment) registry.now.exts) memory.old.now kept.now rows }
-    ensures carried { (rows : Rows) → Stands (meanings (λ i. (⟦<dyn StorageMethod as StorageMethod>⟧ i).method) (λ j. (⟦<dyn Attachment as Attachment>⟧ j).attachment) registry.now.exts) memory.old.now kept.now rows
-        → IfOk result (CarriedOut (meanings (λ i. (⟦<dyn StorageMethod as StorageMethod>⟧ i).method) (λ j. (⟦<dyn Attachment as Attachment>⟧ j).attachment) registry.now.exts) kept.now kept.now memory.new.now rows (Insert relation.now values.now)) }
+    requires stands { (rows : Rows) × Stands (⟦<Registry as Meant>⟧.meant registry.now) memory.old.now kept.now rows }
+    ensures carried { (rows : Rows) → Stands (⟦<Registry as Meant>⟧.meant registry.now) memory.old.now kept.now rows
+        → IfOk result (CarriedOut (⟦<Registry as Meant>⟧.meant registry.now) kept.now kept.now memory.new.now rows
+        (Insert relation.now values.now)) }
     ensures was { memory.new.was ≡ memory.old.was }
 {
     if let Some(refusal) = refuse_insert(kept, relation, values)? {

@@ -4,22 +4,23 @@ ghost use Rattle.std.specs.Prelude.{◌≡◌, ℕ, Some, IfOk};
 ghost use Rattle.sb_value.specs.Fits.{Fits};
 ghost use Rattle.sb_rule.specs.declared.change.Change.TheVariants.{Insert as Put};
 ghost use Rattle.sb_relation.specs.Db.{Rows};
-ghost use Rattle.sb_plain.specs.First.{relation_r};
+ghost use Rattle.sb_first.specs.First.{relation_r};
 ghost use Rattle.sb_ctx.specs.Method.{IsInstance, MayHold};
 ghost use Rattle.sb_ctx.specs.MethodAnswers.{Holds};
-ghost use Rattle.sb_registry.specs.Boxes.{meanings, method_of};
-ghost use Rattle.sb_kernel.specs.Changing.{IsNumber, IsPut, IsKeyIn, IsMade, KeepsOver, IsAnswer, Judges, AreKept, AreAsked};
+ghost use Rattle.sb_registry.specs.Boxes.{method_of};
+ghost use Rattle.sb_kernel.specs.Changing.{IsNumber, IsPut, IsKeyOrTaken, IsKeyIn, IsMade, IsVerdict, IsAnswer, Judges, AreKept, AreAsked};
 ghost use Rattle.sb_kernel.specs.Changing.{IsApartFrom, IsReplied, Inserted, insert_reply, owners_in};
+ghost use Rattle.sb_kernel.specs.Kept.{AreAttachable};
 ghost use Rattle.sb_drive.specs.Slots.{Keeps, pages_of};
-ghost use Rattle.sb_kernel.specs.Standing.{Stands};
+ghost use Rattle.sb_kernel.specs.Standing.{IsRelation, KeepsOver, Stands};
 
-use crate::asking::ask;
-use crate::finding::learn_law;
+use crate::asking::ask_formed;
+use crate::calling::{call_formed, learn_law};
 use crate::kept::{Kept, Placed};
-use sb_ctx::{AttachCall, Attachment, MethodCall, Move, StorageMethod};
-use sb_drive::{Memory, drive_method};
-use sb_plain::{Change, Picks, Refusal, Reply};
-use sb_registry::Registry;
+use sb_ctx::{AttachCall, MethodCall, Move, StorageMethod};
+use sb_drive::Memory;
+use sb_first::{Change, Picks, Refusal, Reply};
+use sb_registry::{Meant, Registry};
 use sb_value::{RecKey, Str, Tuple, Value};
 use std::alloc::{AllocError, Global};
 
@@ -35,14 +36,12 @@ pub fn admit(
     change: &Change,
 ) -> Result<Option<Str>, AllocError>
     requires inst { IsInstance (method boxed.now) kept.now.method }
+    requires attachable { AreAttachable kept.now }
     requires made { (rows : Rows) × IsMade (method boxed.now) memory.old.now kept.now.method rows change.now
-        × AreKept (meanings (λ i. (⟦<dyn StorageMethod as StorageMethod>⟧ i).method)
-        (λ j. (⟦<dyn Attachment as Attachment>⟧ j).attachment) registry.now.exts) memory.old.now kept.now rows attachments.now }
+        × AreKept (⟦<Registry as Meant>⟧.meant registry.now) memory.old.now kept.now rows attachments.now }
     ensures asked { (rows : Rows) → IsMade (method boxed.now) memory.old.now kept.now.method rows change.now
-        → AreKept (meanings (λ i. (⟦<dyn StorageMethod as StorageMethod>⟧ i).method)
-        (λ j. (⟦<dyn Attachment as Attachment>⟧ j).attachment) registry.now.exts) memory.old.now kept.now rows attachments.now
-        → IfOk result (AreAsked (meanings (λ i. (⟦<dyn StorageMethod as StorageMethod>⟧ i).method)
-        (λ j. (⟦<dyn Attachment as Attachment>⟧ j).attachment) registry.now.exts) memory.new.now kept.now rows change.now attachments.now) }
+        → AreKept (⟦<Registry as Meant>⟧.meant registry.now) memory.old.now kept.now rows attachments.now
+        → IfOk result (AreAsked (⟦<Registry as Meant>⟧.meant registry.now) memory.new.now kept.now rows change.now attachments.now) }
     ensures others { (owner : ℕ) → IsApartFrom (owners_in attachments.now) owner
         → pages_of memory.new.now owner ≡ pages_of memory.old.now owner }
     ensures was { memory.new.was ≡ memory.old.was }
@@ -69,33 +68,32 @@ fn judge(
     change: &Change,
 ) -> Result<bool, AllocError>
     requires inst { IsInstance (method boxed.now) kept.now.method }
+    requires attachable { AreAttachable kept.now }
     requires made { (rows : Rows) × IsMade (method boxed.now) memory.old.now kept.now.method rows change.now
-        × KeepsOver (meanings (λ i. (⟦<dyn StorageMethod as StorageMethod>⟧ i).method)
-        (λ j. (⟦<dyn Attachment as Attachment>⟧ j).attachment) registry.now.exts) memory.old.now kept.now rows placed.now }
+        × KeepsOver (⟦<Registry as Meant>⟧.meant registry.now) memory.old.now kept.now rows placed.now }
     ensures judges { (rows : Rows) → IsMade (method boxed.now) memory.old.now kept.now.method rows change.now
-        → KeepsOver (meanings (λ i. (⟦<dyn StorageMethod as StorageMethod>⟧ i).method)
-        (λ j. (⟦<dyn Attachment as Attachment>⟧ j).attachment) registry.now.exts) memory.old.now kept.now rows placed.now
-        → IfOk result (Judges (meanings (λ i. (⟦<dyn StorageMethod as StorageMethod>⟧ i).method)
-        (λ j. (⟦<dyn Attachment as Attachment>⟧ j).attachment) registry.now.exts) memory.new.now kept.now rows change.now placed.now) }
+        → KeepsOver (⟦<Registry as Meant>⟧.meant registry.now) memory.old.now kept.now rows placed.now
+        → IfOk result (Judges (⟦<Registry as Meant>⟧.meant registry.now) memory.new.now kept.now rows change.now placed.now) }
     ensures others { Keeps placed.now.inst.owner memory.old memory.new }
 {
-    let Some(attachment) = registry.attachment(placed.inst.code) else {
-        return Err(AllocError);
+    let Some(watcher) = registry.attachment(placed.inst.code) else {
+        unreachable!()
     };
     let copy = copy_change(change)?;
     let call = AttachCall::Changed(copy);
-    let made = ask(memory, alloc, boxed, kept, attachment, &placed.inst, &call)?;
-    answer_in(&made)
+    let made = ask_formed(memory, alloc, boxed, kept, watcher, &placed.inst, &call)?;
+    Ok(answer_in(&made))
 }
 
-/// Whether the change is admitted. Other moves don't come.
-fn answer_in(made: &Move) -> Result<bool, AllocError>
-    ensures { IfOk result (IsAnswer made.now) }
+/// Whether the change is admitted.
+fn answer_in(made: &Move) -> bool
+    requires { IsVerdict made.now }
+    ensures { IsAnswer made.now result }
 {
     match made {
-        Move::Done | Move::Acts { .. } => Ok(true),
-        Move::Veto => Ok(false),
-        _ => Err(AllocError),
+        Move::Done | Move::Acts { .. } => true,
+        Move::Veto => false,
+        _ => unreachable!(),
     }
 }
 
@@ -128,18 +126,15 @@ pub fn insert(
     kept: &Kept,
     values: &Tuple,
 ) -> Result<Reply, AllocError>
-    requires stands { (rows : Rows) × Stands (meanings (λ i. (⟦<dyn StorageMethod as StorageMethod>⟧ i).method)
-        (λ j. (⟦<dyn Attachment as Attachment>⟧ j).attachment) registry.now.exts) memory.old.now kept.now rows }
+    requires stands { (rows : Rows) × Stands (⟦<Registry as Meant>⟧.meant registry.now) memory.old.now kept.now rows }
     requires fits { Fits kept.now.method.schema values.now }
-    ensures came { (rows : Rows) → Stands (meanings (λ i. (⟦<dyn StorageMethod as StorageMethod>⟧ i).method)
-        (λ j. (⟦<dyn Attachment as Attachment>⟧ j).attachment) registry.now.exts) memory.old.now kept.now rows
-        → IfOk result (Inserted (meanings (λ i. (⟦<dyn StorageMethod as StorageMethod>⟧ i).method)
-        (λ j. (⟦<dyn Attachment as Attachment>⟧ j).attachment) registry.now.exts) memory.new.now kept.now rows values.now) }
+    ensures came { (rows : Rows) → Stands (⟦<Registry as Meant>⟧.meant registry.now) memory.old.now kept.now rows
+        → IfOk result (Inserted (⟦<Registry as Meant>⟧.meant registry.now) memory.new.now kept.now rows values.now) }
     ensures was { memory.new.was ≡ memory.old.was }
 {
     match registry.method(kept.method.code) {
         Some(boxed) => insert_with(memory, alloc, boxed, registry, kept, values),
-        None => Err(AllocError),
+        None => unreachable!(),
     }
 }
 
@@ -153,15 +148,11 @@ fn insert_with(
     values: &Tuple,
 ) -> Result<Reply, AllocError>
     requires live { Some (method boxed.now) ≡ method_of kept.now.method.code
-        (meanings (λ i. (⟦<dyn StorageMethod as StorageMethod>⟧ i).method)
-        (λ j. (⟦<dyn Attachment as Attachment>⟧ j).attachment) registry.now.exts).methods }
-    requires stands { (rows : Rows) × Stands (meanings (λ i. (⟦<dyn StorageMethod as StorageMethod>⟧ i).method)
-        (λ j. (⟦<dyn Attachment as Attachment>⟧ j).attachment) registry.now.exts) memory.old.now kept.now rows }
+        (⟦<Registry as Meant>⟧.meant registry.now).methods }
+    requires stands { (rows : Rows) × Stands (⟦<Registry as Meant>⟧.meant registry.now) memory.old.now kept.now rows }
     requires fits { Fits kept.now.method.schema values.now }
-    ensures came { (rows : Rows) → Stands (meanings (λ i. (⟦<dyn StorageMethod as StorageMethod>⟧ i).method)
-        (λ j. (⟦<dyn Attachment as Attachment>⟧ j).attachment) registry.now.exts) memory.old.now kept.now rows
-        → IfOk result (Inserted (meanings (λ i. (⟦<dyn StorageMethod as StorageMethod>⟧ i).method)
-        (λ j. (⟦<dyn Attachment as Attachment>⟧ j).attachment) registry.now.exts) memory.new.now kept.now rows values.now) }
+    ensures came { (rows : Rows) → Stands (⟦<Registry as Meant>⟧.meant registry.now) memory.old.now kept.now rows
+        → IfOk result (Inserted (⟦<Registry as Meant>⟧.meant registry.now) memory.new.now kept.now rows values.now) }
     ensures was { memory.new.was ≡ memory.old.was }
 {
     learn_law(boxed);
@@ -187,14 +178,12 @@ fn admit_row(
     values: &Tuple,
 ) -> Result<Reply, AllocError>
     requires inst { IsInstance (method boxed.now) kept.now.method }
+    requires attachable { AreAttachable kept.now }
     requires put { (rows : Rows) × IsMade (method boxed.now) memory.old.now kept.now.method rows (Put key values.now)
-        × AreKept (meanings (λ i. (⟦<dyn StorageMethod as StorageMethod>⟧ i).method)
-        (λ j. (⟦<dyn Attachment as Attachment>⟧ j).attachment) registry.now.exts) memory.old.now kept.now rows kept.now.attachments.items }
+        × AreKept (⟦<Registry as Meant>⟧.meant registry.now) memory.old.now kept.now rows kept.now.attachments.items }
     ensures asked { (rows : Rows) → IsMade (method boxed.now) memory.old.now kept.now.method rows (Put key values.now)
-        → AreKept (meanings (λ i. (⟦<dyn StorageMethod as StorageMethod>⟧ i).method)
-        (λ j. (⟦<dyn Attachment as Attachment>⟧ j).attachment) registry.now.exts) memory.old.now kept.now rows kept.now.attachments.items
-        → IfOk result (IsReplied (meanings (λ i. (⟦<dyn StorageMethod as StorageMethod>⟧ i).method)
-        (λ j. (⟦<dyn Attachment as Attachment>⟧ j).attachment) registry.now.exts) memory.new.now kept.now rows key values.now) }
+        → AreKept (⟦<Registry as Meant>⟧.meant registry.now) memory.old.now kept.now rows kept.now.attachments.items
+        → IfOk result (IsReplied (⟦<Registry as Meant>⟧.meant registry.now) memory.new.now kept.now rows key values.now) }
     ensures others { (owner : ℕ) → IsApartFrom (owners_in kept.now.attachments.items) owner
         → pages_of memory.new.now owner ≡ pages_of memory.old.now owner }
     ensures was { memory.new.was ≡ memory.old.was }
@@ -251,26 +240,27 @@ fn put_row(
     values: &Tuple,
 ) -> Result<Option<RecKey>, AllocError>
     requires inst { IsInstance (method boxed.now) kept.now.method }
+    requires relation { IsRelation kept.now.method }
     requires row { MayHold (method boxed.now) kept.now.method values.now }
+    requires formed { (rows : Rows) × Holds (method boxed.now) kept.now.method (pages_of memory.old.now kept.now.method.owner) rows }
     ensures put { (rows : Rows) → Holds (method boxed.now) kept.now.method (pages_of memory.old.now kept.now.method.owner) rows
         → IfOk result (IsPut (method boxed.now) kept.now.method rows values.now (pages_of memory.new.now kept.now.method.owner)) }
     ensures others { Keeps kept.now.method.owner memory.old memory.new }
 {
     let row = values.copy()?;
     let call = MethodCall::Insert(row);
-    match drive_method(memory, alloc, boxed, &kept.method, &call) {
-        Ok(made) => key_in(made),
-        Err(_) => Err(AllocError),
-    }
+    let made = call_formed(memory, alloc, boxed, &kept.method, &call)?;
+    Ok(key_in(made))
 }
 
-/// The key with which an insert ended. Other moves don't come.
-fn key_in(made: Move) -> Result<Option<RecKey>, AllocError>
-    ensures { IfOk result (IsKeyIn made) }
+/// The key with which an insert ended.
+fn key_in(made: Move) -> Option<RecKey>
+    requires { IsKeyOrTaken made }
+    ensures { IsKeyIn made result }
 {
     match made {
-        Move::Key(key) => Ok(Some(key)),
-        Move::Duplicate => Ok(None),
-        _ => Err(AllocError),
+        Move::Key(key) => Some(key),
+        Move::Duplicate => None,
+        _ => unreachable!(),
     }
 }

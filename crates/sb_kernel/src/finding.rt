@@ -4,23 +4,23 @@ ghost use Rattle.std.specs.Prelude.{◌≡◌, true, All, IfOk, map, filter};
 ghost use Rattle.sb_relation.specs.Db.{Rows};
 ghost use Rattle.sb_relation.specs.Keys.{is_record_key};
 ghost use Rattle.sb_relation.specs.Rules.{has_values};
-ghost use Rattle.sb_ctx.specs.Laws.{IsMethod};
 ghost use Rattle.sb_ctx.specs.Method.{IsInstance};
 ghost use Rattle.sb_ctx.specs.MethodAnswers.{Holds, row_above};
 ghost use Rattle.sb_ctx.specs.View.{keys_with};
-ghost use Rattle.sb_kernel.specs.Finding.{row_in};
+ghost use Rattle.sb_kernel.specs.Finding.{IsRowOrEnd, row_in};
 ghost use Rattle.sb_kernel.specs.Kept.{db_of};
 ghost use Rattle.sb_drive.specs.Slots.{pages_of};
 
+use crate::calling::{call_formed, learn_law};
 use crate::columns::{has_columns, has_values};
 use crate::kept::Kept;
 use sb_ctx::{Instance, Keys, MethodCall, Move, StorageMethod};
-use sb_drive::{Memory, drive_method};
+use sb_drive::Memory;
 use sb_value::{Names, RecKey, Schema, Str, Tuple};
 use std::alloc::{AllocError, Global};
 
 /// More rows than a relation has.
-const MOST_ROWS: u64 = 1 << 48;
+const MOST_ROWS: usize = 1 << 48;
 
 /// All rows in the order of their keys.
 pub fn all_rows(
@@ -30,6 +30,7 @@ pub fn all_rows(
     inst: &Instance,
 ) -> Result<Vec<(RecKey, Tuple)>, AllocError>
     requires inst { IsInstance (method boxed.now) inst.now }
+    requires formed { (rows : Rows) × Holds (method boxed.now) inst.now (pages_of memory.old.now inst.now.owner) rows }
     ensures rows { (rows : Rows) → Holds (method boxed.now) inst.now (pages_of memory.old.now inst.now.owner) rows
         → IfOk result (λ found. found.items ≡ rows) }
     ensures same { memory.new ≡ memory.old }
@@ -37,21 +38,14 @@ pub fn all_rows(
     learn_law(boxed);
     let mut rows = Vec::new(alloc);
     let mut last = None;
-    for _ in 0..MOST_ROWS {
+    'rows: while rows.len() < MOST_ROWS {
         let Some((key, row)) = next_row(memory, alloc, boxed, inst, last)? else {
             return Ok(rows);
         };
         last = Some(key.copy()?);
         rows.push((key, row))?;
     }
-    Err(AllocError)
-}
-
-/// Nothing is done: what is so of every box is learnt from the call of its code.
-pub fn learn_law(boxed: &dyn StorageMethod)
-    ensures { IsMethod (method boxed.now) }
-{
-    let _code = boxed.code();
+    unreachable!()
 }
 
 /// The first row behind this key, or of all.
@@ -63,23 +57,24 @@ fn next_row(
     low: Option<RecKey>,
 ) -> Result<Option<(RecKey, Tuple)>, AllocError>
     requires inst { IsInstance (method boxed.now) inst.now }
+    requires formed { (rows : Rows) × Holds (method boxed.now) inst.now (pages_of memory.old.now inst.now.owner) rows }
     ensures row { (rows : Rows) → Holds (method boxed.now) inst.now (pages_of memory.old.now inst.now.owner) rows
         → IfOk result (λ row. row ≡ row_above low rows) }
     ensures same { memory.new ≡ memory.old }
 {
     let call = MethodCall::Next(low);
-    match drive_method(memory, alloc, boxed, inst, &call) {
-        Ok(made) => Ok(row_in(made)),
-        Err(_) => Err(AllocError),
-    }
+    let made = call_formed(memory, alloc, boxed, inst, &call)?;
+    Ok(row_in(made))
 }
 
 fn row_in(made: Move) -> Option<(RecKey, Tuple)>
+    requires { IsRowOrEnd made }
     ensures { result ≡ row_in made }
 {
     match made {
         Move::Row(key, row) => Some((key, row)),
-        _ => None,
+        Move::End => None,
+        _ => unreachable!(),
     }
 }
 

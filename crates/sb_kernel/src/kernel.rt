@@ -1,15 +1,14 @@
 //! Commands, carried out behind the boxes of extensions.
 
-ghost use Rattle.sb_plain.specs.Step.{State};
+ghost use Rattle.sb_first.specs.Step.{State};
 ghost use Rattle.sb_kernel.specs.Carrying.{IsPosed};
-ghost use Rattle.sb_kernel.specs.Stepping.{IsFor, Execs};
+ghost use Rattle.sb_kernel.specs.Stepping.{IsFor, Execs, holding};
 
 use crate::carrying::carry_out;
 use crate::kept::Kept;
-use sb_ctx::{Attachment, StorageMethod};
 use sb_drive::Memory;
-use sb_plain::{Command, Refusal, Reply};
-use sb_registry::Registry;
+use sb_first::{Command, Refusal, Reply};
+use sb_registry::{Meant, Registry};
 
 /// One relation in memory, kept by a boxed storage method and watched by boxed attachments.
 #[derive(Drop)]
@@ -23,8 +22,9 @@ impl Kernel {
     /// Carries out one command. A refused command changes nothing.
     pub fn exec(&mut self, command: &Command) -> Reply
         requires posed { IsPosed command.now }
-        requires stands { (s : State) × IsFor (λ i. (⟦<dyn StorageMethod as StorageMethod>⟧ i).method) (λ j. (⟦<dyn Attachment as Attachment>⟧ j).attachment) self.old s }
-        ensures { Execs (λ i. (⟦<dyn StorageMethod as StorageMethod>⟧ i).method) (λ j. (⟦<dyn Attachment as Attachment>⟧ j).attachment) self.old self.new command.now result }
+        requires stands { (s : State) × IsFor (holding (⟦<Registry as Meant>⟧.meant self.old.registry) self.old.memory self.old.relation) s }
+        ensures { Execs (holding (⟦<Registry as Meant>⟧.meant self.old.registry) self.old.memory self.old.relation)
+            (holding (⟦<Registry as Meant>⟧.meant self.new.registry) self.new.memory self.new.relation) command.now result }
     {
         match carry_out(
             &mut self.memory,

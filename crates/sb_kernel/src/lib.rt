@@ -3,6 +3,7 @@
 
 mod asking;
 mod attaching;
+mod calling;
 mod carrying;
 mod changing;
 mod columns;
@@ -16,7 +17,5 @@ mod starting;
 pub use kernel::Kernel;
 pub use starting::StartFault;
 
-#[cfg(test)]
-mod foreign;
 #[cfg(test)]
 mod tests;

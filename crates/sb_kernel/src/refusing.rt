@@ -7,19 +7,18 @@ ghost use Rattle.sb_pred.specs.Columns.{column_kind};
 ghost use Rattle.sb_relation.specs.Db.{Rows};
 ghost use Rattle.sb_relation.specs.Foreign.{Boxes};
 ghost use Rattle.sb_relation.specs.Fits.{first_unnamed, term_places, pred_places};
-ghost use Rattle.sb_plain.specs.Refusing.{Codes, refused, refused_insert, refused_attach};
-ghost use Rattle.sb_plain.specs.declared.command.Command.TheVariants.{Scan};
-ghost use Rattle.sb_registry.specs.Boxes.{meanings, attachment_of};
+ghost use Rattle.sb_first.specs.Refusing.{Codes, refused, refused_insert, refused_attach};
+ghost use Rattle.sb_first.specs.declared.command.Command.TheVariants.{Scan};
+ghost use Rattle.sb_registry.specs.Boxes.{attachment_of};
 ghost use Rattle.sb_kernel.specs.Boxes.{IsAttachable, boxes_of, codes_of};
 ghost use Rattle.sb_kernel.specs.Kept.{IsSpelled, attached_of, db_of, relation_of};
 ghost use Rattle.sb_kernel.specs.Refusing.{refused_rule};
 
 use crate::kept::Kept;
 use crate::limits::{is_full, is_large, pred_len};
-use sb_ctx::{Attachment, StorageMethod};
-use sb_plain::{Refusal, Rule};
+use sb_first::{Refusal, Rule};
 use sb_pred::{Node, Pred, Term, well_typed};
-use sb_registry::Registry;
+use sb_registry::{Meant, Registry};
 use sb_value::{Bytes, Schema, Str, Tuple};
 use std::alloc::AllocError;
 
@@ -28,7 +27,8 @@ const CHECK: u16 = 5;
 
 /// The refusal of a scan, where the relation isn't there.
 pub fn refuse_scan(kept: &Kept, relation: &Str) -> Result<Option<Refusal>, AllocError>
-    ensures { (boxes : Boxes) (live : Codes) (rows : Rows) → IfOk result (λ r. r ≡ refused boxes live (db_of kept.now rows) (Scan relation.now)) }
+    ensures { (boxes : Boxes) (live : Codes) (rows : Rows)
+        → IfOk result (λ r. r ≡ refused boxes live (db_of kept.now rows) (Scan relation.now)) }
 {
     if kept.method.relation != *relation {
         return Ok(Some(Refusal::NoRelation {
@@ -68,10 +68,8 @@ pub fn refuse_attach(
     requires attachable { IsAttachable rule.now }
     requires spelled { IsSpelled kept.now }
     ensures { (rows : Rows) → IfOk result (λ r. r ≡ refused_attach
-        (boxes_of (meanings (λ i. (⟦<dyn StorageMethod as StorageMethod>⟧ i).method)
-        (λ j. (⟦<dyn Attachment as Attachment>⟧ j).attachment) registry.now.exts))
-        (codes_of (meanings (λ i. (⟦<dyn StorageMethod as StorageMethod>⟧ i).method)
-        (λ j. (⟦<dyn Attachment as Attachment>⟧ j).attachment) registry.now.exts))
+        (boxes_of (⟦<Registry as Meant>⟧.meant registry.now))
+        (codes_of (⟦<Registry as Meant>⟧.meant registry.now))
         (db_of kept.now rows) relation.now name.now rule.now) }
 {
     if *relation != kept.method.relation {
@@ -105,10 +103,8 @@ fn refuse_check(
 ) -> Result<Option<Refusal>, AllocError>
     requires { IsSpelled kept.now }
     ensures { (rows : Rows) → IfOk result (λ r. r ≡ refused_rule
-        (boxes_of (meanings (λ i. (⟦<dyn StorageMethod as StorageMethod>⟧ i).method)
-        (λ j. (⟦<dyn Attachment as Attachment>⟧ j).attachment) registry.now.exts))
-        (codes_of (meanings (λ i. (⟦<dyn StorageMethod as StorageMethod>⟧ i).method)
-        (λ j. (⟦<dyn Attachment as Attachment>⟧ j).attachment) registry.now.exts))
+        (boxes_of (⟦<Registry as Meant>⟧.meant registry.now))
+        (codes_of (⟦<Registry as Meant>⟧.meant registry.now))
         (relation_of kept.now rows) name.now (Rule.Check pred.now false)) }
 {
     let schema = &kept.method.schema;
@@ -140,10 +136,8 @@ fn refuse_foreign(
 ) -> Option<Refusal>
     requires { IsSpelled kept.now }
     ensures { (rows : Rows) → result ≡ refused_rule
-        (boxes_of (meanings (λ i. (⟦<dyn StorageMethod as StorageMethod>⟧ i).method)
-        (λ j. (⟦<dyn Attachment as Attachment>⟧ j).attachment) registry.now.exts))
-        (codes_of (meanings (λ i. (⟦<dyn StorageMethod as StorageMethod>⟧ i).method)
-        (λ j. (⟦<dyn Attachment as Attachment>⟧ j).attachment) registry.now.exts))
+        (boxes_of (⟦<Registry as Meant>⟧.meant registry.now))
+        (codes_of (⟦<Registry as Meant>⟧.meant registry.now))
         (relation_of kept.now rows) name.now (Rule.Foreign code desc.now) }
 {
     match foreign_fits(registry, code, &kept.method.schema, desc) {
@@ -161,8 +155,7 @@ fn refuse_foreign(
 
 /// Whether an attachment of this code is live.
 fn is_live(registry: &Registry, code: u16) -> bool
-    ensures { result ≡ list_any (λ live. live == code) (codes_of (meanings (λ i. (⟦<dyn StorageMethod as StorageMethod>⟧ i).method)
-        (λ j. (⟦<dyn Attachment as Attachment>⟧ j).attachment) registry.now.exts)).attachments }
+    ensures { result ≡ list_any (λ live. live == code) (codes_of (⟦<Registry as Meant>⟧.meant registry.now)).attachments }
 {
     registry.attachment(code).is_some()
 }
@@ -170,8 +163,7 @@ fn is_live(registry: &Registry, code: u16) -> bool
 /// Whether the live attachment of this code may stand on these columns with this desc.
 fn foreign_fits(registry: &Registry, code: u16, schema: &Schema, desc: &Bytes) -> Option<bool>
     ensures { result ≡ option_map (λ a. a.rules.fits schema.now desc.now)
-        (attachment_of code (meanings (λ i. (⟦<dyn StorageMethod as StorageMethod>⟧ i).method)
-        (λ j. (⟦<dyn Attachment as Attachment>⟧ j).attachment) registry.now.exts).attachments) }
+        (attachment_of code (⟦<Registry as Meant>⟧.meant registry.now).attachments) }
 {
     Some(registry.attachment(code)?.fits(schema, desc))
 }

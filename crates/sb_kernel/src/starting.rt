@@ -2,17 +2,18 @@
 
 ghost use Rattle.std.specs.Prelude.{◌≡◌, ◌<◌, ◌^◌, Some, None, length, IfOk, IfErr};
 ghost use Rattle.sb_forms.specs.Pages.{new_pages};
-ghost use Rattle.sb_registry.specs.Boxes.{AreSame, meanings, repeated_in};
+ghost use Rattle.sb_registry.specs.Boxes.{repeated_in};
 ghost use Rattle.sb_drive.specs.Slots.{pages_of};
 ghost use Rattle.sb_kernel.specs.First.{IsFirst, IsPrepared};
+ghost use Rattle.sb_kernel.specs.Stepping.{holding};
 ghost use Rattle.sb_kernel.specs.Starting.{Starts, HasCause, IsMissing};
 ghost use Rattle.sb_kernel.specs.declared.starting.StartFault.TheVariants.{NoMemory};
 
 use crate::kept::Kept;
 use crate::kernel::Kernel;
-use sb_ctx::{Attachment, Instance, MethodCall, StorageMethod};
-use sb_drive::{Memory, drive_method};
-use sb_registry::{Extensions, Registry};
+use sb_ctx::{Instance, MethodCall};
+use sb_drive::{DriveFault, Memory, drive_method};
+use sb_registry::{Extensions, Meant, Registry};
 use sb_value::{Bytes, Column, Kind, Names, Schema, Str};
 use std::alloc::{AllocError, Global};
 
@@ -40,8 +41,9 @@ impl From<AllocError> for StartFault {
 impl Kernel {
     /// The relation `r`, which is `create r using tree (k int) key (k)`, without rows. A refusal drops the boxes.
     pub fn start(alloc: Global, exts: Extensions) -> Result<Kernel, StartFault>
-        ensures ok { IfOk result (Starts (λ i. (⟦<dyn StorageMethod as StorageMethod>⟧ i).method) (λ j. (⟦<dyn Attachment as Attachment>⟧ j).attachment) exts) }
-        ensures err { IfErr result (HasCause (meanings (λ i. (⟦<dyn StorageMethod as StorageMethod>⟧ i).method) (λ j. (⟦<dyn Attachment as Attachment>⟧ j).attachment) exts)) }
+        ensures ok { IfOk result (λ kernel. Starts (⟦<Extensions as Meant>⟧.meant exts)
+            (holding (⟦<Registry as Meant>⟧.meant kernel.registry) kernel.memory kernel.relation)) }
+        ensures err { IfErr result (HasCause (⟦<Extensions as Meant>⟧.meant exts)) }
     {
         let registry = match take_boxes(exts) {
             Ok(registry) => registry,
@@ -63,11 +65,11 @@ impl Kernel {
 
 /// The registry of the boxes, or the first code that repeats. The condition always holds: with it, what is proved here
 /// is proved for whatever boxes the caller has.
-fn take_boxes(exts: Extensions) -> Result<Registry, u16>
+pub(crate) fn take_boxes(exts: Extensions) -> Result<Registry, u16>
     requires { length exts.methods.items < 2 ^ 63 }
-    ensures ok { IfOk result (λ registry. AreSame exts registry.exts
-        × (repeated_in (meanings (λ i. (⟦<dyn StorageMethod as StorageMethod>⟧ i).method) (λ j. (⟦<dyn Attachment as Attachment>⟧ j).attachment) exts) ≡ None)) }
-    ensures err { IfErr result (λ code. repeated_in (meanings (λ i. (⟦<dyn StorageMethod as StorageMethod>⟧ i).method) (λ j. (⟦<dyn Attachment as Attachment>⟧ j).attachment) exts) ≡ Some code) }
+    ensures meant { IfOk result (λ registry. ⟦<Registry as Meant>⟧.meant registry ≡ ⟦<Extensions as Meant>⟧.meant exts) }
+    ensures ok { IfOk result (λ registry. repeated_in (⟦<Registry as Meant>⟧.meant registry) ≡ None) }
+    ensures err { IfErr result (λ code. repeated_in (⟦<Extensions as Meant>⟧.meant exts) ≡ Some code) }
 {
     match Registry::take(exts) {
         Ok(registry) => Ok(registry),
@@ -81,8 +83,8 @@ fn prepare_first(
     alloc: Global,
     registry: &Registry,
 ) -> Result<Instance, StartFault>
-    ensures ok { IfOk result (IsPrepared (meanings (λ i. (⟦<dyn StorageMethod as StorageMethod>⟧ i).method) (λ j. (⟦<dyn Attachment as Attachment>⟧ j).attachment) registry.now.exts) memory.new.now) }
-    ensures err { IfErr result (IsMissing (meanings (λ i. (⟦<dyn StorageMethod as StorageMethod>⟧ i).method) (λ j. (⟦<dyn Attachment as Attachment>⟧ j).attachment) registry.now.exts)) }
+    ensures ok { IfOk result (IsPrepared (⟦<Registry as Meant>⟧.meant registry.now) memory.new.now) }
+    ensures err { IfErr result (IsMissing (⟦<Registry as Meant>⟧.meant registry.now)) }
 {
     let Some(boxed) = registry.method(TREE) else {
         return Err(StartFault::MissingExtension { code: TREE });
@@ -90,13 +92,18 @@ fn prepare_first(
     let inst = first_instance(memory, alloc, boxed.durable())?;
     match drive_method(memory, alloc, boxed, &inst, &MethodCall::Prepare) {
         Ok(_) => Ok(inst),
-        Err(_) => Err(StartFault::NoMemory),
+        Err(DriveFault::NoMemory) => Err(StartFault::NoMemory),
+        Err(DriveFault::Damaged { .. }) => unreachable!(),
     }
 }
 
 /// The instance, in new pages.
-fn first_instance(memory: &mut Memory, alloc: Global, durable: bool) -> Result<Instance, AllocError>
-    ensures first { IfOk result IsFirst }
+pub fn first_instance(
+    memory: &mut Memory,
+    alloc: Global,
+    durable: bool,
+) -> Result<Instance, AllocError>
+    ensures first { IfOk result (IsFirst durable) }
     ensures pages { IfOk result (λ inst. pages_of memory.new.now inst.owner ≡ new_pages inst.root) }
 {
     let name = Str::from_string(String::from_str(alloc, "k")?);

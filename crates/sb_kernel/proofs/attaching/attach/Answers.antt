@@ -1,4 +1,4 @@
-use Rattle.sb_kernel.proofs.AttachedLemmas.{IsMet-begun, live-met, IsMet-rows, IsShortRule-met, MayBuild-met, Attaches-vetoed, Attaches-built}
+use Rattle.sb_kernel.proofs.AttachedLemmas.{IsMet-begun, live-met, IsMet-rows, IsShortRule-met, MayBuild-met, pages_of_new-met, Attaches-vetoed, Attaches-built}
 use Rattle.sb_kernel.proofs.attaching.attach.Goals as goal
 
 pub unreachable-requires-in_default-attachment : goal.unreachable-requires-in_default-attachment
@@ -19,6 +19,13 @@ build-requires-clause-may g c =
     let (rows, stands, may) = c.requires.stands in
     let met = IsMet-begun _ c.args.memory.now.now kept rows c.args.name.now c.args.rule.now _ _ c.code_of.result stands may c.requires.attachable c.in-Some.ensures c.learn_law.ensures c.code_of.ensures c.in-Some-attachment.ensures in
     (rows, c.args.rule.now, MayBuild-met _ c.args.memory.now c.new_instance.new.memory kept rows c.args.name.now c.args.rule.now _ _ c.in_ok-inst.inst met c.in_ok-inst.ensures.new)
+
+pub build-requires-clause-new : goal.build-requires-clause-new
+build-requires-clause-new g c =
+    let kept = c.args.kept.now in
+    let (rows, stands, may) = c.requires.stands in
+    let met = IsMet-begun _ c.args.memory.now.now kept rows c.args.name.now c.args.rule.now _ _ c.code_of.result stands may c.requires.attachable c.in-Some.ensures c.learn_law.ensures c.code_of.ensures c.in-Some-attachment.ensures in
+    pages_of_new-met _ c.args.memory.now c.new_instance.new.memory kept rows c.args.name.now c.args.rule.now _ _ c.in_ok-inst.inst met c.in_ok-inst.ensures.new
 
 pub returns-then-not-admitted-clause-attached : goal.returns-then-not-admitted-clause-attached
 returns-then-not-admitted-clause-attached g c = λ rows stands.

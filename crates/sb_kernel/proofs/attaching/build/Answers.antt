@@ -23,3 +23,8 @@ returns-clause-built g c = λ rows rule may.
 
 pub returns-clause-others : goal.returns-clause-others
 returns-clause-others g c = Keeps-built c.args.inst.now.owner c.args.memory.now c.prepare.new.memory c.all_rows.new.memory c.build_rows.new.memory c.prepare.ensures.others c.all_rows.ensures.same c.build_rows.ensures.others
+
+pub all_rows-requires-clause-formed : goal.all_rows-requires-clause-formed
+all_rows-requires-clause-formed g c =
+    let may = c.requires.may in
+    (may.0, (MayBuild-kept _ _ c.args.memory.now c.prepare.new.memory c.args.kept.now may.0 c.args.inst.now may.1 c.prepare.ensures.others may.2).holds)

@@ -14,6 +14,7 @@ build_row-requires g c =
         may.0,
         MayBuild-kept _ _ c.args.memory.now c.loop-row.memory c.args.kept.now c.args.rows.now c.args.inst.now may.0 c.loop-row.invariant.keeps may.1,
         IsNextOf-at c.args.rows.now c.loop-row.row-index row row c.loop-row-test.true c.row-item.is,
+        (c.loop-row.invariant.built may.0 may.1 may.2).over,
       );
     }
 

@@ -1,5 +1,5 @@
 use Rattle.std.proofs.Common.{sym, ◌∙◌}
-use Rattle.sb_plain.specs.declared.command.Command.TheVariants.{Attach}
+use Rattle.sb_first.specs.declared.command.Command.TheVariants.{Attach}
 use Rattle.sb_kernel.proofs.CarriedLemmas.{IsSpelled-standing, unrefused-own, CarriedOut-refused, IfOk-attached}
 use Rattle.sb_kernel.proofs.carrying.attach_to.Goals as goal
 

@@ -1,4 +1,4 @@
-use Rattle.std.proofs.Common.{◌≡◌, subst}
+use Rattle.std.proofs.Common.{subst}
 use Rattle.sb_kernel.specs.Carrying.{IsPosed}
 use Rattle.sb_kernel.proofs.CarriedLemmas.{IfOk-as}
 use Rattle.sb_kernel.proofs.carrying.carry_out.Goals as goal

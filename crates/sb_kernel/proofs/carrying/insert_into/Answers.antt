@@ -1,5 +1,5 @@
-use Rattle.std.proofs.Common.{◌≡◌, refl, sym, ap, ◌∙◌}
-use Rattle.sb_plain.specs.declared.command.Command.TheVariants.{Insert}
+use Rattle.std.proofs.Common.{refl, sym, ap, ◌∙◌}
+use Rattle.sb_first.specs.declared.command.Command.TheVariants.{Insert}
 use Rattle.sb_kernel.proofs.CarriedLemmas.{admitted-insert, IfOk-come}
 use Rattle.sb_kernel.proofs.carrying.insert_into.Goals as goal
 

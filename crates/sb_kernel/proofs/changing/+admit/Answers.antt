@@ -39,9 +39,12 @@ admit-requires g t c =
       (
         c.requires.inst,
         (
-          made.0,
-          IsMade-begin _ _ c.args.memory.now c.judge.new.memory c.args.kept.now made.0 c.args.change.now c.args.attachments.now c.in-Some.placed.now c.in-Some.others.now begins c.judge.ensures.others made.2 made.1,
-          AreKept-begin _ c.args.memory.now c.judge.new.memory c.args.kept.now made.0 c.args.attachments.now c.in-Some.placed.now c.in-Some.others.now begins c.judge.ensures.others made.2,
+          c.requires.attachable,
+          (
+            made.0,
+            IsMade-begin _ _ c.args.memory.now c.judge.new.memory c.args.kept.now made.0 c.args.change.now c.args.attachments.now c.in-Some.placed.now c.in-Some.others.now begins c.judge.ensures.others made.2 made.1,
+            AreKept-begin _ c.args.memory.now c.judge.new.memory c.args.kept.now made.0 c.args.attachments.now c.in-Some.placed.now c.in-Some.others.now begins c.judge.ensures.others made.2,
+          ),
         ),
       ),
     )

@@ -3,7 +3,7 @@ use Rattle.std.proofs.lemmas.Result.{IfOk-weaker}
 use Rattle.sb_value.specs.declared.schema.Column.{Column}
 use Rattle.sb_value.specs.Fits.{Fits}
 use Rattle.sb_drive.specs.Slots.{pages_of}
-use Rattle.sb_kernel.proofs.StandingLemmas.{HasBox-live, MayHold-standing, HasPut-put, Inserted-duplicate, Inserted-replied}
+use Rattle.sb_kernel.proofs.StandingLemmas.{AreAttachable-standing, HasBox-live, MayHold-standing, HasPut-put, Inserted-duplicate, Inserted-replied}
 use Rattle.sb_kernel.proofs.changing.insert_with.Goals as goal
 
 pub learn_number-requires : goal.learn_number-requires
@@ -29,6 +29,11 @@ pub admit_row-requires-clause-inst : goal.admit_row-requires-clause-inst
 admit_row-requires-clause-inst g c =
     let stands = c.requires.stands in
     (HasBox-live _ c.args.memory.now.now c.args.kept.now stands.0 _ stands.1 c.requires.live).may
+
+pub admit_row-requires-clause-attachable : goal.admit_row-requires-clause-attachable
+admit_row-requires-clause-attachable g c =
+    let stands = c.requires.stands in
+    AreAttachable-standing _ c.args.memory.now.now c.args.kept.now stands.0 stands.1
 
 pub admit_row-requires-clause-put : goal.admit_row-requires-clause-put
 admit_row-requires-clause-put g c =

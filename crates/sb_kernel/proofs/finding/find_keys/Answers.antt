@@ -1,7 +1,7 @@
-use Rattle.std.proofs.Common.{◌≡◌, List, true, false, map, filter, is_none, sym, ap, subst, ◌∙◌, All}
+use Rattle.std.proofs.Common.{◌≡◌, List, true, is_none, sym, ap, subst, ◌∙◌, All}
 use Rattle.std.proofs.lemmas.Bool.{not-false, not-true}
 use Rattle.std.proofs.lemmas.Result.{IfOk-weaker}
-use Rattle.sb_relation.specs.Db.{Name, Key, Rows}
+use Rattle.sb_relation.specs.Db.{Name, Key}
 use Rattle.sb_relation.specs.Fits.{first_unnamed, places_in}
 use Rattle.sb_relation.specs.Keys.{is_record_key}
 use Rattle.sb_ctx.specs.View.{keys_with}
@@ -37,7 +37,7 @@ returns-clause-keys g c =
     let schema = c.args.kept.now.method.schema in
     let formed = c.requires.formed in
     let found = c.in_ok-rows.ensures.rows formed.0 formed.1 in
-    let law = c.learn_law.ensures.rows kept.method (pages_of c.args.memory.now.now c.args.kept.now.method.owner) formed.0 formed.1 in
+    let law = (c.learn_law.ensures.formed kept.method (pages_of c.args.memory.now.now c.args.kept.now.method.owner) formed.0 formed.1).lawful in
     IfOk-weaker c.keys_of.result _ (λ keys. All {X = Key} (λ key. is_record_key key ≡ true) keys)
     (λ keys is. subst (λ (ks : List Key). All (λ key. is_record_key key ≡ true) ks) (sym (is ∙ ap (keys_of schema c.args.columns.now c.args.values.now) (c.deref.ensures.value ∙ found)))
     (All-keys_of schema c.args.columns.now c.args.values.now formed.0 law.keys)) c.keys_of.ensures

@@ -1,5 +1,4 @@
 use Rattle.std.proofs.Common.{ap, ◌∙◌, length, nat_lt, not, subst, sym, ◌≤◌, unwrap_or}
-use Rattle.std.specs.List.{position_or_len}
 use Rattle.std.proofs.lemmas.List.Sums.{prefix_len-le-length}
 use Rattle.sb_rule.specs.Spelling.{rule_code}
 use Rattle.sb_kernel.proofs.KeptLemmas.{first_place, place_of}

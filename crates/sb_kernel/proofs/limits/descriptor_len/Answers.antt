@@ -1,4 +1,4 @@
-use Rattle.std.proofs.Common.{ap, ◌∙◌, min, length, sum_by, arith, subst}
+use Rattle.std.proofs.Common.{ap, ◌∙◌, min, length, sum_by, arith}
 use Rattle.sb_rule.specs.Spelling.{names_spelling}
 use Rattle.sb_kernel.specs.Kept.{attachment_len, column_len}
 use Rattle.sb_kernel.proofs.LimitsLemmas.{descriptor_sum}

@@ -1,6 +1,4 @@
-use Rattle.std.proofs.Common.{length, arith}
-use Rattle.sb_kernel.specs.Kept.{relation_of}
-use Rattle.sb_relation.specs.Limits.{descriptor_len}
+use Rattle.std.proofs.Common.{arith}
 use Rattle.sb_kernel.proofs.LimitsLemmas.{no_room}
 use Rattle.sb_kernel.proofs.limits.is_full.Goals as goal
 

@@ -1,6 +1,5 @@
-use Rattle.std.proofs.Common.{refl, sym, ◌∙◌, true, false, arith}
+use Rattle.std.proofs.Common.{refl, true, false, arith}
 use Rattle.sb_registry.specs.Boxes.{meanings}
-use Rattle.sb_kernel.specs.Boxes.{boxes_of, codes_of}
 use Rattle.sb_kernel.specs.Kept.{relation_of}
 use Rattle.sb_kernel.proofs.RefusingLemmas.{check_refused}
 use Rattle.sb_kernel.proofs.refusing.refuse_check.Goals as goal
@@ -8,23 +7,23 @@ use Rattle.sb_kernel.proofs.refusing.refuse_check.Goals.{then-is_large-via-then-
 
 pub returns-then-not-is_live : goal.returns-then-not-is_live
 returns-then-not-is_live g c rows =
-    check_refused (meanings (λ i x. (goal.StorageMethod-dyn g (i, x)).method x) (λ j x. (goal.Attachment-dyn g (j, x)).attachment x) c.args.registry.now.exts)
+    check_refused (meanings (λ b. (goal.StorageMethod-dyn g (b.vtable, b.value)).method b.value) (λ b. (goal.Attachment-dyn g (b.vtable, b.value)).attachment b.value) c.args.registry.now.exts)
     (relation_of c.args.kept.now rows) c.args.name.now c.args.pred.now false _ _ _ c.in_default.ensures c.if-not-is_live.ensures refl refl refl
 
 pub returns-then-not-well_typed : goal.returns-then-not-well_typed
 returns-then-not-well_typed g c rows =
-    check_refused (meanings (λ i x. (goal.StorageMethod-dyn g (i, x)).method x) (λ j x. (goal.Attachment-dyn g (j, x)).attachment x) c.args.registry.now.exts)
+    check_refused (meanings (λ b. (goal.StorageMethod-dyn g (b.vtable, b.value)).method b.value) (λ b. (goal.Attachment-dyn g (b.vtable, b.value)).attachment b.value) c.args.registry.now.exts)
     (relation_of c.args.kept.now rows) c.args.name.now c.args.pred.now true false _ _ c.in_default.ensures c.if-not-is_live.ensures c.if-not-well_typed.ensures refl refl
 
 pub returns-then-is_large : goal.returns-then-is_large
 returns-then-is_large g c rows =
     elim c.then-is_large.branch [
       | then-is_large-via-then-is_large w ↦
-          check_refused (meanings (λ i x. (goal.StorageMethod-dyn g (i, x)).method x) (λ j x. (goal.Attachment-dyn g (j, x)).attachment x) c.args.registry.now.exts)
+          check_refused (meanings (λ b. (goal.StorageMethod-dyn g (b.vtable, b.value)).method b.value) (λ b. (goal.Attachment-dyn g (b.vtable, b.value)).attachment b.value) c.args.registry.now.exts)
           (relation_of c.args.kept.now rows) c.args.name.now c.args.pred.now true true true _
           c.in_default.ensures c.if-not-is_live.ensures c.if-not-well_typed.ensures w.if-is_large.ensures refl
       | then-is_large-via-else-is_large+then-is_full w ↦
-          check_refused (meanings (λ i x. (goal.StorageMethod-dyn g (i, x)).method x) (λ j x. (goal.Attachment-dyn g (j, x)).attachment x) c.args.registry.now.exts)
+          check_refused (meanings (λ b. (goal.StorageMethod-dyn g (b.vtable, b.value)).method b.value) (λ b. (goal.Attachment-dyn g (b.vtable, b.value)).attachment b.value) c.args.registry.now.exts)
           (relation_of c.args.kept.now rows) c.args.name.now c.args.pred.now true true false true
           c.in_default.ensures c.if-not-is_live.ensures c.if-not-well_typed.ensures w.if-is_large.ensures
           (w.if-is_full.ensures rows _ (omega (arith, c.pred_len.ensures, c.saturating_add-len.ensures)))
@@ -32,7 +31,7 @@ returns-then-is_large g c rows =
 
 pub returns : goal.returns
 returns g c rows =
-    check_refused (meanings (λ i x. (goal.StorageMethod-dyn g (i, x)).method x) (λ j x. (goal.Attachment-dyn g (j, x)).attachment x) c.args.registry.now.exts)
+    check_refused (meanings (λ b. (goal.StorageMethod-dyn g (b.vtable, b.value)).method b.value) (λ b. (goal.Attachment-dyn g (b.vtable, b.value)).attachment b.value) c.args.registry.now.exts)
     (relation_of c.args.kept.now rows) c.args.name.now c.args.pred.now true true false false
     c.in_default.ensures c.if-not-is_live.ensures c.if-not-well_typed.ensures c.if-is_large.ensures
     (c.if-is_full.ensures rows _ (omega (arith, c.pred_len.ensures, c.saturating_add-len.ensures)))

@@ -1,4 +1,4 @@
-use Rattle.std.proofs.Common.{sym, true, false}
+use Rattle.std.proofs.Common.{true, false}
 use Rattle.sb_kernel.proofs.RefusingLemmas.{insert_another, insert_own}
 use Rattle.sb_kernel.proofs.refusing.refuse_insert.Goals as goal
 

@@ -1,4 +1,4 @@
-use Rattle.std.proofs.Common.{◌≡◌, refl}
+use Rattle.std.proofs.Common.{refl}
 use Rattle.sb_kernel.proofs.SteppedLemmas.{Stepped-refused, Stepped-wanting, Stepped-done, Stepped-rows}
 use Rattle.sb_kernel.proofs.kernel.Kernel.exec.Goals as goal
 

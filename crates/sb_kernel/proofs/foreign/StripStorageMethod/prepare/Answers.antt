@@ -1,5 +1,0 @@
-use Rattle.sb_kernel.proofs.Examples.{Changes-prepared}
-use Rattle.sb_kernel.proofs.foreign.StripStorageMethod.prepare.Goals as goal
-
-pub returns : goal.returns
-returns c = Changes-prepared c.args._inst.now c.args._ctx.now c.requires.clean.unchanged c.requires.inst.fits
