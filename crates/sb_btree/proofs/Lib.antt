@@ -1,0 +1,10 @@
+pub mod Order
+pub mod Children
+pub mod Reading
+pub mod Members
+pub mod Placing
+pub mod Passing
+pub mod Descending
+pub mod Whole
+pub mod Roots
+pub mod Following

@@ -1,0 +1,20 @@
+//! What is so of all pages.
+
+ghost use Rattle.sb_btree.specs.Broken.{TreesAreWhole};
+ghost use Rattle.sb_btree.specs.Read.{ReadsTrees};
+ghost use Rattle.sb_btree.specs.Ways.{WaysAreShort};
+
+/// The items are read of just the pages that are a tree.
+pub fn reads_trees()
+    ensures { ReadsTrees }
+{}
+
+/// No page of a tree may be called broken.
+pub fn trees_are_whole()
+    ensures { TreesAreWhole }
+{}
+
+/// A walk down a tree needs at most 17 pages, all of them the tree's.
+pub fn ways_are_short()
+    ensures { WaysAreShort }
+{}

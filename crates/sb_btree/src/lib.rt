@@ -1,0 +1,19 @@
+//! Trees of entry pages: a map from keys to values over the pages of one instance.
+//!
+//! The root stays where it is. Leaves hold the entries, and only a root may be a leaf without any. An inner page has two or
+//! more children: its number `a` is the leftmost, and each entry has the least key allowed in a child with the child's page
+//! in four bytes. Children are one level below their parent, and a tree is at most 17 pages high. A key has at most 602
+//! bytes, and key and value have at most 2,032 together.
+#![tactic(auto)]
+
+mod laws;
+mod lookup;
+mod page;
+mod walk;
+
+pub use laws::{reads_trees, trees_are_whole, ways_are_short};
+pub use lookup::{find, next};
+pub use walk::Walk;
+
+#[cfg(test)]
+mod tests;
