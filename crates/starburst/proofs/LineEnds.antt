@@ -1,6 +1,6 @@
 -- The end of a line.
 use Rattle.std.proofs.Common.{◌≡◌, ◌≢◌, ℕ, ◌==◌, Bool, true, false, cond, List, [], ◌∷◌, ◌++◌, refl, sym, ◌∙◌, ap, arith}
-use Rattle.sb_plain.specs.Lines.{without_return}
+use Rattle.sb_first.specs.Lines.{without_return}
 
 cons-cond : (a : ℕ) (p : Bool) (xs ys : List ℕ) → a ∷ cond p xs ys ≡ cond p (a ∷ xs) (a ∷ ys)
 cons-cond a true xs ys = refl

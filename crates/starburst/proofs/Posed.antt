@@ -3,10 +3,10 @@ use Rattle.std.proofs.Common.{refl, List, true, false}
 use Rattle.sb_rule.specs.declared.rule.Rule.{Rule}
 use Rattle.sb_rule.specs.declared.rule.Rule.TheVariants.{TreeIndex, HashIndex, JoinIndex, Stats, Check, Refers, Trigger, Foreign}
 use Rattle.sb_relation.specs.Db.{Name}
-use Rattle.sb_plain.specs.declared.token.Token.{Token}
-use Rattle.sb_plain.specs.declared.command.Command.{Command}
-use Rattle.sb_plain.specs.declared.command.Command.TheVariants.{Attach, Insert, Scan}
-use Rattle.sb_plain.specs.Grammar.{attachment, Spells}
+use Rattle.sb_first.specs.declared.token.Token.{Token}
+use Rattle.sb_first.specs.declared.command.Command.{Command}
+use Rattle.sb_first.specs.declared.command.Command.TheVariants.{Attach, Insert, Scan}
+use Rattle.sb_first.specs.Grammar.{attachment, Spells}
 use Rattle.sb_kernel.specs.Boxes.{IsAttachable}
 use Rattle.sb_kernel.specs.Carrying.{IsPosed}
 

@@ -2,14 +2,14 @@
 use Rattle.std.proofs.Common.{◌≡◌, ℕ, suc, ◌≤◌, Option, List, [], ◌∷◌, ◌++◌, length, take, drop, refl, sym, ◌∙◌, ap, arith, append_assoc, length-append}
 use Rattle.std.proofs.lemmas.List.{append-nil, take-append-drop, length-take-le}
 use Rattle.std.proofs.lemmas.Grind.{flat_map-append}
-use Rattle.sb_plain.specs.declared.reply.Reply.{Reply}
+use Rattle.sb_first.specs.declared.reply.Reply.{Reply}
 use Rattle.sb_relation.specs.Foreign.{Boxes}
-use Rattle.sb_plain.specs.First.{first_state}
-use Rattle.sb_plain.specs.Step.{State}
-use Rattle.sb_plain.specs.Lines.{Item, asking, AreItems}
-use Rattle.sb_plain.specs.Plays.{Plays}
-use Rattle.sb_plain.specs.Text.{reply_text, text_of}
-use Rattle.sb_plain.proofs.LinesLemmas.{asking-append}
+use Rattle.sb_first.specs.First.{first_state}
+use Rattle.sb_first.specs.Step.{State}
+use Rattle.sb_first.specs.Lines.{Item, asking, AreItems}
+use Rattle.sb_first.specs.Plays.{Plays}
+use Rattle.sb_first.specs.Text.{reply_text, text_of}
+use Rattle.sb_first.proofs.LinesLemmas.{asking-append}
 use Rattle.sb_registry.specs.Boxes.{Meanings}
 use Rattle.sb_kernel.specs.Boxes.{boxes_of, codes_of}
 use Rattle.starburst.specs.Ending.{AreReplied}

@@ -3,15 +3,13 @@ use Rattle.std.proofs.Common.{◌≡◌, ℕ, ◌+◌, ◌<◌, ◌≤◌, Optio
 use Rattle.std.proofs.lemmas.List.{append-nil, length-take-le, drop_all}
 use Rattle.sb_disk.specs.Streams.{Taken, Took}
 use Rattle.sb_disk.proofs.StreamLemmas.{Taken-more, Taken-took}
-use Rattle.sb_plain.specs.Lines.{cut, whole_lines, last_line, lines_of}
-use Rattle.sb_plain.proofs.LinesLemmas.{AreFirstItems-asking}
-use Rattle.sb_plain.specs.Step.{State}
-use Rattle.sb_ctx.specs.Method.{Method}
-use Rattle.sb_ctx.specs.Attachment.{Attachment}
+use Rattle.sb_first.specs.Lines.{cut, whole_lines, last_line, lines_of}
+use Rattle.sb_first.proofs.LinesLemmas.{AreFirstItems-asking}
+use Rattle.sb_first.specs.Step.{State}
 use Rattle.sb_registry.specs.Boxes.{Meanings}
 use Rattle.starburst.specs.declared.ending.Stop.{Stop}
 use Rattle.starburst.specs.declared.ending.Ending.TheVariants.{InputEnded, MostTaken, Stopped}
-use Rattle.starburst.specs.declared.session.Session.{Session}
+use Rattle.starburst.specs.Progress.{Progress}
 use Rattle.starburst.specs.Session.{HasAnswered, HasStopped, Stands}
 use Rattle.starburst.specs.Run.{Told, told, Leaves, HasPlayed}
 use Rattle.starburst.specs.Serving.{Serves, ServesMore}
@@ -35,10 +33,10 @@ none_more : (first left left' : Option (List ℕ)) (bytes buffer : List ℕ) (co
 none_more first left left' bytes buffer count taken took none =
     subst (λ (l : List ℕ). Taken first left' l) (ap (λ (n : ℕ). bytes ++ take n buffer) none ∙ append-nil bytes) (Taken-more first left left' bytes (take count buffer) taken (Taken-took left left' count buffer took))
 
-pub plays_to_end : {I J : Type 0} {F : I → Type 0} {G : J → Type 0} (of_method : (i : I) → F i → Method) (of_attachment : (j : J) → G j → Attachment) (m : Meanings) (IsNow : State → Type 0) (bytes : List ℕ) (first : Told) (left left' held held' : Option (List ℕ)) (s : Session I J F G) (starts : List ℕ) (room count : ℕ) (buffer : List ℕ) → 0 < room →
-    Serves of_method of_attachment m bytes first (told left held) s → Took left left' count buffer → count ≡ 0 → 0 < length buffer → HasAnswered m IsNow (lines_of bytes) first.held held' starts →
+pub plays_to_end : (m : Meanings) (IsNow : State → Type 0) (bytes : List ℕ) (first : Told) (left left' held held' : Option (List ℕ)) (s : Progress) (starts : List ℕ) (room count : ℕ) (buffer : List ℕ) → 0 < room →
+    Serves m bytes first (told left held) s → Took left left' count buffer → count ≡ 0 → 0 < length buffer → HasAnswered m IsNow (lines_of bytes) first.held held' starts →
     HasPlayed m (length bytes + room) first (told left' held') InputEnded starts
-plays_to_end of_method of_attachment m IsNow bytes first left left' held held' s starts room count buffer asked serves took none some a = record {
+plays_to_end m IsNow bytes first left left' held held' s starts room count buffer asked serves took none some a = record {
   taken = bytes;
   written = a.written;
   items = a.items;
@@ -55,10 +53,10 @@ plays_to_end of_method of_attachment m IsNow bytes first left left' held held' s
   in_time = tt;
 }
 
-pub plays_to_stop_at_end : {I J : Type 0} {F : I → Type 0} {G : J → Type 0} (of_method : (i : I) → F i → Method) (of_attachment : (j : J) → G j → Attachment) (m : Meanings) (bytes : List ℕ) (first : Told) (left left' held held' : Option (List ℕ)) (s : Session I J F G) (starts : List ℕ) (stop : Stop) (room count : ℕ) (buffer : List ℕ) →
-    Serves of_method of_attachment m bytes first (told left held) s → Took left left' count buffer → count ≡ 0 → HasStopped m stop (whole_lines bytes) (lines_of bytes) first.held held' starts →
+pub plays_to_stop_at_end : (m : Meanings) (bytes : List ℕ) (first : Told) (left left' held held' : Option (List ℕ)) (s : Progress) (starts : List ℕ) (stop : Stop) (room count : ℕ) (buffer : List ℕ) →
+    Serves m bytes first (told left held) s → Took left left' count buffer → count ≡ 0 → HasStopped m stop (whole_lines bytes) (lines_of bytes) first.held held' starts →
     HasPlayed m (length bytes + room) first (told left' held') (Stopped stop) starts
-plays_to_stop_at_end of_method of_attachment m bytes first left left' held held' s starts stop room count buffer serves took none h = record {
+plays_to_stop_at_end m bytes first left left' held held' s starts stop room count buffer serves took none h = record {
   taken = bytes;
   written = h.written;
   items = h.items;
@@ -76,10 +74,10 @@ plays_to_stop_at_end of_method of_attachment m bytes first left left' held held'
 }
 
 -- ---- a piece
-pub serves_more : {I J : Type 0} {F : I → Type 0} {G : J → Type 0} (of_method : (i : I) → F i → Method) (of_attachment : (j : J) → G j → Attachment) (m : Meanings) (bytes : List ℕ) (first : Told) (left left' held held' : Option (List ℕ)) (s s' : Session I J F G) (room count : ℕ) (buffer : List ℕ) →
-    Serves of_method of_attachment m bytes first (told left held) s → Took left left' count buffer → 0 < count → count ≤ length buffer → length buffer ≤ room → Stands of_method of_attachment m (bytes ++ take count buffer) first.held held' s' →
-    ServesMore of_method of_attachment m count room bytes first (told left' held') s'
-serves_more of_method of_attachment m bytes first left left' held held' s s' room count buffer serves took some few fits stands = record {
+pub serves_more : (m : Meanings) (bytes : List ℕ) (first : Told) (left left' held held' : Option (List ℕ)) (s s' : Progress) (room count : ℕ) (buffer : List ℕ) →
+    Serves m bytes first (told left held) s → Took left left' count buffer → 0 < count → count ≤ length buffer → length buffer ≤ room → Stands m (bytes ++ take count buffer) first.held held' s' →
+    ServesMore m count room bytes first (told left' held') s'
+serves_more m bytes first left left' held held' s s' room count buffer serves took some few fits stands = record {
   more = take count buffer;
   count_is = length-take-le count buffer few;
   some = some;
@@ -93,10 +91,10 @@ piece_fits bytes buffer count room few fits = omega (arith, length-append bytes 
 piece_short : (buffer : List ℕ) (count : ℕ) → count ≤ length buffer → length buffer ≤ 4096 → length (take count buffer) ≤ 4096
 piece_short buffer count few short = omega (arith, length-take-le count buffer few)
 
-pub plays_to_stop : {I J : Type 0} {F : I → Type 0} {G : J → Type 0} (of_method : (i : I) → F i → Method) (of_attachment : (j : J) → G j → Attachment) (m : Meanings) (bytes : List ℕ) (first : Told) (left left' held held' : Option (List ℕ)) (s : Session I J F G) (starts : List ℕ) (stop : Stop) (room count : ℕ) (buffer : List ℕ) →
-    Serves of_method of_attachment m bytes first (told left held) s → Took left left' count buffer → count ≤ length buffer → length buffer ≤ room → length buffer ≤ 4096 → HasStopped m stop (whole_lines bytes) (whole_lines (bytes ++ take count buffer)) first.held held' starts →
+pub plays_to_stop : (m : Meanings) (bytes : List ℕ) (first : Told) (left left' held held' : Option (List ℕ)) (s : Progress) (starts : List ℕ) (stop : Stop) (room count : ℕ) (buffer : List ℕ) →
+    Serves m bytes first (told left held) s → Took left left' count buffer → count ≤ length buffer → length buffer ≤ room → length buffer ≤ 4096 → HasStopped m stop (whole_lines bytes) (whole_lines (bytes ++ take count buffer)) first.held held' starts →
     HasPlayed m (length bytes + room) first (told left' held') (Stopped stop) starts
-plays_to_stop of_method of_attachment m bytes first left left' held held' s starts stop room count buffer serves took few fits short h = record {
+plays_to_stop m bytes first left left' held held' s starts stop room count buffer serves took few fits short h = record {
   taken = bytes ++ take count buffer;
   written = h.written;
   items = h.items;
@@ -115,19 +113,19 @@ plays_to_stop of_method of_attachment m bytes first left left' held held' s star
 
 -- ---- all pieces
 -- so many bytes were taken, and all of their whole lines were answered
-pub record ServesSome {I J : Type 0} {F : I → Type 0} {G : J → Type 0} (of_method : (i : I) → F i → Method) (of_attachment : (j : J) → G j → Attachment) (m : Meanings) (taken : ℕ) (first now : Told) (s : Session I J F G) : Type 0 where
+pub record ServesSome (m : Meanings) (taken : ℕ) (first now : Told) (s : Progress) : Type 0 where
   pub bytes : List ℕ
   pub count_is : length bytes ≡ taken
-  pub serves : Serves of_method of_attachment m bytes first now s
+  pub serves : Serves m bytes first now s
 
-pub ServesSome-none : {I J : Type 0} {F : I → Type 0} {G : J → Type 0} (of_method : (i : I) → F i → Method) (of_attachment : (j : J) → G j → Attachment) (m : Meanings) (first now : Told) (s : Session I J F G) → Serves of_method of_attachment m [] first now s → ServesSome of_method of_attachment m 0 first now s
-ServesSome-none of_method of_attachment m first now s serves = record { bytes = []; count_is = refl; serves = serves }
+pub ServesSome-none : (m : Meanings) (first now : Told) (s : Progress) → Serves m [] first now s → ServesSome m 0 first now s
+ServesSome-none m first now s serves = record { bytes = []; count_is = refl; serves = serves }
 
-pub ServesSome-more : {I J : Type 0} {F : I → Type 0} {G : J → Type 0} (of_method : (i : I) → F i → Method) (of_attachment : (j : J) → G j → Attachment) (m : Meanings) (taken count : ℕ) (first now : Told) (s : Session I J F G) (bytes : List ℕ) (room : ℕ) → length bytes ≡ taken → ServesMore of_method of_attachment m count room bytes first now s → ServesSome of_method of_attachment m (taken + count) first now s
-ServesSome-more of_method of_attachment m taken count first now s bytes room is more = record { bytes = bytes ++ more.more; count_is = length-append bytes more.more ∙ (λ i. is i + more.count_is i); serves = more.serves }
+pub ServesSome-more : (m : Meanings) (taken count : ℕ) (first now : Told) (s : Progress) (bytes : List ℕ) (room : ℕ) → length bytes ≡ taken → ServesMore m count room bytes first now s → ServesSome m (taken + count) first now s
+ServesSome-more m taken count first now s bytes room is more = record { bytes = bytes ++ more.more; count_is = length-append bytes more.more ∙ (λ i. is i + more.count_is i); serves = more.serves }
 
-pub plays_to_most : {I J : Type 0} {F : I → Type 0} {G : J → Type 0} (of_method : (i : I) → F i → Method) (of_attachment : (j : J) → G j → Attachment) (m : Meanings) (taken most : ℕ) (first now : Told) (s : Session I J F G) → ServesSome of_method of_attachment m taken first now s → taken ≡ most → HasPlayed m most first now MostTaken s.starts
-plays_to_most of_method of_attachment m taken most first now s some is =
+pub plays_to_most : (m : Meanings) (taken most : ℕ) (first now : Told) (s : Progress) → ServesSome m taken first now s → taken ≡ most → HasPlayed m most first now MostTaken s.starts
+plays_to_most m taken most first now s some is =
     let a = some.serves.stands.answered in
     record {
       taken = some.bytes;

@@ -2,19 +2,16 @@
 use Rattle.std.proofs.Common.{◌≡◌, ◌⊎◌, ℕ, Bool, true, List, [], ◌∷◌, length, Option, Some, None, refl, sym, ◌∙◌, ap, subst, inl, inr, arith}
 use Rattle.sb_disk.proofs.StreamLemmas.{Taken-none, Given-none}
 use Rattle.sb_relation.specs.Db.{Rows, Db}
-use Rattle.sb_plain.specs.First.{first_state, first_db}
+use Rattle.sb_first.specs.First.{first_state, first_db}
 use Rattle.sb_ctx.specs.Method.{Method}
-use Rattle.sb_ctx.specs.Attachment.{Attachment}
-use Rattle.sb_registry.specs.declared.extensions.Extensions.{Extensions}
-use Rattle.sb_registry.specs.Boxes.{Meanings, meanings, repeated_in, method_of}
+use Rattle.sb_registry.specs.Boxes.{Meanings, repeated_in, method_of}
 use Rattle.sb_kernel.specs.declared.kept.Kept.{Kept}
-use Rattle.sb_kernel.specs.declared.kernel.Kernel.{Kernel}
+use Rattle.sb_kernel.specs.Stepping.{Holding}
 use Rattle.sb_kernel.specs.declared.starting.StartFault.{StartFault}
 use Rattle.sb_kernel.specs.declared.starting.StartFault.TheVariants.{BadExtensions, MissingExtension, NoMemory}
 use Rattle.sb_kernel.specs.Boxes.{codes_of}
 use Rattle.sb_kernel.specs.Kept.{db_of}
 use Rattle.sb_kernel.specs.Starting.{Starts, HasCause}
-use Rattle.sb_kernel.specs.Stepping.{meanings_in}
 use Rattle.starburst.specs.declared.report.Report.{Report}
 use Rattle.starburst.specs.declared.ending.Stop.TheVariants as stop
 use Rattle.starburst.specs.declared.ending.Ending.{Ending}
@@ -35,20 +32,18 @@ code_in (named ∷ db) = named.1.method
 code_of-first : (kept : Kept) (rows : Rows) → first_db ≡ db_of kept rows → kept.method.code ≡ 2
 code_of-first kept rows is = sym (ap code_in is)
 
-pub is_at_first : {I J : Type 0} {F : I → Type 0} {G : J → Type 0} (of_method : (i : I) → F i → Method) (of_attachment : (j : J) → G j → Attachment) (exts : Extensions I J F G) (kernel : Kernel I J F G) →
-    Starts of_method of_attachment exts kernel → IsAt of_method of_attachment (meanings of_method of_attachment exts) kernel (first_state (codes_of (meanings of_method of_attachment exts)))
-is_at_first of_method of_attachment exts kernel starts = record { boxes = starts.boxes; is_for = starts.stands }
+pub is_at_first : (m : Meanings) (kernel : Holding) → Starts m kernel → IsAt m kernel (first_state (codes_of m))
+is_at_first m kernel starts = record { boxes = starts.boxes; is_for = starts.stands }
 
-pub can_start : {I J : Type 0} {F : I → Type 0} {G : J → Type 0} (of_method : (i : I) → F i → Method) (of_attachment : (j : J) → G j → Attachment) (exts : Extensions I J F G) (kernel : Kernel I J F G) →
-    Starts of_method of_attachment exts kernel → CanStart (meanings of_method of_attachment exts)
-can_start of_method of_attachment exts kernel starts =
+pub can_start : (m : Meanings) (kernel : Holding) → Starts m kernel → CanStart m
+can_start m kernel starts =
     let at = starts.stands in
     let keeps = at.stands.keeps in
     record {
       distinct = starts.distinct;
       method = keeps.box;
-      live = subst (λ (m : Meanings). method_of 2 m.methods ≡ Some keeps.box) starts.boxes
-          (subst (λ (code : ℕ). method_of code (meanings_in of_method of_attachment kernel).methods ≡ Some keeps.box) (code_of-first kernel.relation at.rows at.db) keeps.live);
+      live = subst (λ (x : Meanings). method_of 2 x.methods ≡ Some keeps.box) starts.boxes
+          (subst (λ (code : ℕ). method_of code kernel.boxes.methods ≡ Some keeps.box) (code_of-first kernel.relation at.rows at.db) keeps.live);
     }
 
 pub begun : (m : Meanings) (most : ℕ) (old new : Told) (ending : Ending) (starts : List ℕ) (report : Report) → CanStart m → report.status ≡ status_of ending → report.starts ≡ starts →

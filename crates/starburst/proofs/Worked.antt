@@ -2,9 +2,9 @@
 use Rattle.std.proofs.Common.{◌≡◌, ◌⊎◌, ℕ, codes, List, [], ◌∷◌, ◌++◌, Option, Some, None, inl, inr, sym, ap, ◌∙◌, append_assoc}
 use Rattle.std.specs.List.{flat_map}
 use Rattle.std.specs.Fmt.{decimal}
-use Rattle.sb_plain.specs.declared.reply.Reply.{Reply}
-use Rattle.sb_plain.specs.declared.reply.Reply.TheVariants.{Done, Rows, Refused}
-use Rattle.sb_plain.specs.Text.{own_key_text, pick_text, row_text, refusal_text, reply_text, text_of}
+use Rattle.sb_first.specs.declared.reply.Reply.{Reply}
+use Rattle.sb_first.specs.declared.reply.Reply.TheVariants.{Done, Rows, Refused}
+use Rattle.sb_first.specs.Text.{own_key_text, pick_text, row_text, refusal_text, reply_text, text_of}
 use Rattle.sb_ctx.specs.Method.{Method}
 use Rattle.sb_registry.specs.Boxes.{Meanings, method_of}
 use Rattle.starburst.specs.declared.report.Report.{Report}

@@ -1,8 +1,8 @@
 -- How a run ends, and what has been written by then.
 use Rattle.std.specs.Prelude.{◌≡◌, ◌⊎◌, ℕ, List, [], ◌∷◌, ◌++◌, length}
-use Rattle.sb_plain.specs.declared.reply.Reply.{Reply}
-use Rattle.sb_plain.specs.Lines.{asking}
-use Rattle.sb_plain.specs.Text.{reply_text, text_of}
+use Rattle.sb_first.specs.declared.reply.Reply.{Reply}
+use Rattle.sb_first.specs.Lines.{asking}
+use Rattle.sb_first.specs.Text.{reply_text, text_of}
 use Rattle.starburst.specs.declared.ending.Stop.{Stop}
 use Rattle.starburst.specs.declared.ending.Stop.TheVariants.{SinkFailed, NoMemory}
 use Rattle.starburst.specs.declared.ending.Ending.{Ending}

@@ -3,6 +3,7 @@ pub mod Ending
 pub mod Writing
 pub mod Replying
 pub mod Causes
+pub mod Progress
 pub mod Session
 pub mod Starting
 pub mod Refusing

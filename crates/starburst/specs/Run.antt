@@ -1,11 +1,11 @@
 -- A whole run: what was taken, what was answered and what was written.
 use Rattle.std.specs.Prelude.{◌≡◌, ◌⊎◌, ℕ, ◌<◌, ◌≤◌, Bool, true, false, List, [], ◌++◌, length, Option, Some}
 use Rattle.sb_disk.specs.Streams.{Taken, Given}
-use Rattle.sb_plain.specs.declared.reply.Reply.{Reply}
-use Rattle.sb_plain.specs.Lines.{Item, whole_lines, lines_of, asking, AreItems, AreFirstItems, Commands}
-use Rattle.sb_plain.specs.First.{first_state}
-use Rattle.sb_plain.specs.Step.{State}
-use Rattle.sb_plain.specs.Plays.{Plays}
+use Rattle.sb_first.specs.declared.reply.Reply.{Reply}
+use Rattle.sb_first.specs.Lines.{Item, whole_lines, lines_of, asking, AreItems, AreFirstItems, Commands}
+use Rattle.sb_first.specs.First.{first_state}
+use Rattle.sb_first.specs.Step.{State}
+use Rattle.sb_first.specs.Plays.{Plays}
 use Rattle.sb_registry.specs.Boxes.{Meanings}
 use Rattle.sb_kernel.specs.Boxes.{boxes_of, codes_of}
 use Rattle.starburst.specs.declared.report.Report.{Report}

@@ -4,38 +4,32 @@ use Rattle.std.specs.declared.ops.ControlFlow.{ControlFlow}
 use Rattle.std.specs.declared.ops.ControlFlow.TheVariants.{Break, Continue}
 use Rattle.sb_disk.specs.Causes.{Rose}
 use Rattle.sb_disk.specs.Streams.{Taken}
-use Rattle.sb_ctx.specs.Method.{Method}
-use Rattle.sb_ctx.specs.Attachment.{Attachment}
 use Rattle.sb_registry.specs.Boxes.{Meanings}
 use Rattle.starburst.specs.declared.ending.Stop.TheVariants.{SinkFailed}
 use Rattle.starburst.specs.declared.ending.Ending.{Ending}
 use Rattle.starburst.specs.declared.ending.Ending.TheVariants.{SourceFailed, Stopped}
-use Rattle.starburst.specs.declared.session.Session.{Session}
+use Rattle.starburst.specs.Progress.{Progress}
 use Rattle.starburst.specs.Session.{Stands}
 use Rattle.starburst.specs.Run.{Told, HasPlayed}
 
 -- These bytes were taken, and all of their whole lines were answered.
-pub record Serves {I J : Type 0} {F : I → Type 0} {G : J → Type 0} (of_method : (i : I) → F i → Method) (of_attachment : (j : J) → G j → Attachment)
-    (m : Meanings) (bytes : List ℕ) (first now : Told) (session : Session I J F G) : Type 0 where
+pub record Serves (m : Meanings) (bytes : List ℕ) (first now : Told) (session : Progress) : Type 0 where
   pub taken : Taken first.left now.left bytes
-  pub stands : Stands of_method of_attachment m bytes first.held now.held session
+  pub stands : Stands m bytes first.held now.held session
 
 -- So many bytes more were taken.
-pub record ServesMore {I J : Type 0} {F : I → Type 0} {G : J → Type 0}
-    (of_method : (i : I) → F i → Method) (of_attachment : (j : J) → G j → Attachment)
-    (m : Meanings) (count room : ℕ) (bytes : List ℕ) (first now : Told) (session : Session I J F G) : Type 0 where
+pub record ServesMore (m : Meanings) (count room : ℕ) (bytes : List ℕ) (first now : Told) (session : Progress) : Type 0 where
   pub more : List ℕ
   pub count_is : length more ≡ count
   pub some : 0 < count
   pub few : count ≤ room
-  pub serves : Serves of_method of_attachment m (bytes ++ more) first now session
+  pub serves : Serves m (bytes ++ more) first now session
 
 -- what comes of one call on the source, which may take so many bytes
-abbrev pub PieceLeads : {I J : Type 0} {F : I → Type 0} {G : J → Type 0} → ((i : I) → F i → Method) → ((j : J) → G j → Attachment)
-    → Meanings → ControlFlow Ending ℕ → ℕ → List ℕ → Told → Told → Session I J F G → Type 0
-PieceLeads of_method of_attachment m (Continue count) room bytes first now session =
-    ServesMore of_method of_attachment m count room bytes first now session
-PieceLeads of_method of_attachment m (Break ending) room bytes first now session = HasPlayed m (length bytes + room) first now ending session.starts
+abbrev pub PieceLeads : Meanings → ControlFlow Ending ℕ → ℕ → List ℕ → Told → Told → Progress → Type 0
+PieceLeads m (Continue count) room bytes first now session =
+    ServesMore m count room bytes first now session
+PieceLeads m (Break ending) room bytes first now session = HasPlayed m (length bytes + room) first now ending session.starts
 
 -- how often the source and the sink have failed
 pub record Counts : Type 0 where

@@ -1,18 +1,16 @@
 -- What a run has done with the lines so far.
-use Rattle.std.specs.Prelude.{◌≡◌, ℕ, Option, List, length, Result, Ok, Err}
+use Rattle.std.specs.Prelude.{◌≡◌, ℕ, Option, List, length, take, Result, Ok, Err}
 use Rattle.sb_disk.specs.Streams.{Given}
-use Rattle.sb_plain.specs.declared.reply.Reply.{Reply}
-use Rattle.sb_plain.specs.First.{first_state}
-use Rattle.sb_plain.specs.Step.{State}
-use Rattle.sb_plain.specs.Lines.{Item, cut, asking, AreItems, AreFirstItems, whole_lines}
-use Rattle.sb_plain.specs.Plays.{Plays, last_state}
-use Rattle.sb_plain.specs.Text.{text_of}
-use Rattle.sb_ctx.specs.Method.{Method}
-use Rattle.sb_ctx.specs.Attachment.{Attachment}
+use Rattle.sb_first.specs.declared.reply.Reply.{Reply}
+use Rattle.sb_first.specs.First.{first_state}
+use Rattle.sb_first.specs.Step.{State}
+use Rattle.sb_first.specs.Lines.{Item, cut, asking, AreItems, AreFirstItems, whole_lines, most_held}
+use Rattle.sb_first.specs.Plays.{Plays, last_state}
+use Rattle.sb_first.specs.Text.{text_of}
 use Rattle.sb_registry.specs.Boxes.{Meanings}
 use Rattle.sb_kernel.specs.Boxes.{boxes_of, codes_of}
 use Rattle.starburst.specs.declared.ending.Stop.{Stop}
-use Rattle.starburst.specs.declared.session.Session.{Session}
+use Rattle.starburst.specs.Progress.{Progress}
 use Rattle.starburst.specs.Ending.{AreReplied, WritesAtStop}
 use Rattle.starburst.specs.Replying.{IsAt}
 
@@ -42,11 +40,10 @@ pub record HasStopped (m : Meanings) (stop : Stop) (early lines : List (List ℕ
   pub replied : AreReplied early replies written
   pub writes : WritesAtStop stop replies written
 
--- All whole lines of the bytes were answered, the kernel is where they lead, and the session holds the line that has begun.
-pub record Stands {I J : Type 0} {F : I → Type 0} {G : J → Type 0} (of_method : (i : I) → F i → Method) (of_attachment : (j : J) → G j → Attachment)
-    (m : Meanings) (bytes : List ℕ) (first held : Option (List ℕ)) (session : Session I J F G) : Type 0 where
-  pub answered : HasAnswered m (IsAt of_method of_attachment m session.kernel) (whole_lines bytes) first held session.starts
-  pub line : session.line ≡ (cut bytes).begun
+-- All whole lines of the bytes were answered, the kernel is where they lead, and the session holds the front of the line that has begun.
+pub record Stands (m : Meanings) (bytes : List ℕ) (first held : Option (List ℕ)) (session : Progress) : Type 0 where
+  pub answered : HasAnswered m (IsAt m session.kernel) (whole_lines bytes) first held session.starts
+  pub line : session.line ≡ take most_held (cut bytes).begun
 
 -- What comes of answering some lines, of which the early ones were answered before.
 abbrev pub LinesLead : Meanings → (State → Type 0) → Result (Unit {0}) Stop → List (List ℕ) → List (List ℕ) → Option (List ℕ) → Option (List ℕ)
@@ -55,8 +52,7 @@ LinesLead m IsNow (Ok x) early lines first held starts = HasAnswered m IsNow lin
 LinesLead m IsNow (Err stop) early lines first held starts = HasStopped m stop early lines first held starts
 
 -- What comes of taking some bytes, of which the early ones were taken before.
-abbrev pub BytesLead : {I J : Type 0} {F : I → Type 0} {G : J → Type 0} → ((i : I) → F i → Method) → ((j : J) → G j → Attachment)
-    → Meanings → Result (Unit {0}) Stop → List ℕ → List ℕ → Option (List ℕ) → Option (List ℕ) → Session I J F G → Type 0
-BytesLead of_method of_attachment m (Ok x) early bytes first held session = Stands of_method of_attachment m bytes first held session
-BytesLead of_method of_attachment m (Err stop) early bytes first held session =
+abbrev pub BytesLead : Meanings → Result (Unit {0}) Stop → List ℕ → List ℕ → Option (List ℕ) → Option (List ℕ) → Progress → Type 0
+BytesLead m (Ok x) early bytes first held session = Stands m bytes first held session
+BytesLead m (Err stop) early bytes first held session =
     HasStopped m stop (whole_lines early) (whole_lines bytes) first held session.starts

@@ -1,8 +1,15 @@
 //! Lines of the input.
 
 ghost use Rattle.std.specs.Prelude.{◌≡◌};
-ghost use Rattle.sb_plain.specs.Tokens.{is_blank};
-ghost use Rattle.sb_plain.specs.Lines.{without_return, is_passed_over};
+ghost use Rattle.sb_first.specs.Tokens.{is_blank};
+ghost use Rattle.sb_first.specs.Lines.{asks, is_long, without_return, is_passed_over};
+
+/// So many bytes a line has at most, without its carriage return.
+const MOST_BYTES: usize = 4096;
+
+/// So many bytes of a line are kept: those of the longest one, a carriage return, and one more, by which a longer line is
+/// known.
+pub const MOST_HELD: usize = 4098;
 
 /// The line without one carriage return at its end.
 pub fn content(line: &[u8]) -> &[u8]
@@ -14,8 +21,22 @@ pub fn content(line: &[u8]) -> &[u8]
     if *last == b'\r' { front } else { line }
 }
 
+/// Whether the line is too long.
+pub fn is_long(line: &[u8]) -> bool
+    ensures { result ≡ is_long line.now }
+{
+    line.len() > MOST_BYTES
+}
+
+/// Whether the line asks for a reply: it is too long, or neither blank nor a comment.
+pub fn asks(line: &[u8]) -> bool
+    ensures { result ≡ asks line.now }
+{
+    is_long(line) || !is_quiet(line)
+}
+
 /// Whether the line is blank or a comment.
-pub fn is_quiet(line: &[u8]) -> bool
+fn is_quiet(line: &[u8]) -> bool
     ensures { result ≡ is_passed_over line.now }
 {
     for byte in line {

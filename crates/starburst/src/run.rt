@@ -2,9 +2,10 @@
 
 ghost use Rattle.std.specs.Prelude.{◌≡◌, ◌<◌, ◌≤◌, ◌^◌, [], List, ℕ, length};
 ghost use Rattle.sb_disk.specs.Causes.{Rose};
-ghost use Rattle.sb_plain.specs.Step.{State};
-ghost use Rattle.sb_registry.specs.Boxes.{Meanings, meanings};
-ghost use Rattle.sb_kernel.specs.Stepping.{IsFor};
+ghost use Rattle.sb_first.specs.Step.{State};
+ghost use Rattle.sb_registry.specs.Boxes.{Meanings};
+ghost use Rattle.sb_kernel.specs.Stepping.{IsFor, holding};
+ghost use Rattle.starburst.specs.Progress.{progress};
 ghost use Rattle.starburst.specs.Run.{Told, told, HasPlayed, IsRun};
 ghost use Rattle.starburst.specs.Serving.{counted, Serves, PieceLeads, ContinuesWithin, NeverFall, HasCause, BreaksWithCause};
 
@@ -13,10 +14,9 @@ use crate::refusing::{refuse_boxes, refuse_words};
 use crate::report::Report;
 use crate::session::Session;
 use crate::words::is_creating;
-use sb_ctx::{Attachment, StorageMethod};
 use sb_disk::{Sink, Source};
 use sb_kernel::Kernel;
-use sb_registry::Extensions;
+use sb_registry::{Extensions, Meant, Registry};
 use sb_value::Str;
 use std::alloc::Global;
 use std::ops::ControlFlow;
@@ -31,20 +31,22 @@ fn serve_piece<S: Source, K: Sink>(
 ) -> ControlFlow<Ending, u64>
     requires some { 0 < length buffer.old }
     requires short { length buffer.old ≤ 4096 }
-    requires stands { (s : State) × IsFor (λ i. (⟦<dyn StorageMethod as StorageMethod>⟧ i).method)
-        (λ j. (⟦<dyn Attachment as Attachment>⟧ j).attachment) session.old.kernel s }
+    requires stands { (s : State) × IsFor
+        (holding (⟦<Registry as Meant>⟧.meant session.old.kernel.registry) session.old.kernel.memory session.old.kernel.relation) s }
     ensures leads { (m : Meanings) (bytes : List ℕ) (first : Told) (room : ℕ) → length buffer.old ≤ room
-        → Serves (λ i. (⟦<dyn StorageMethod as StorageMethod>⟧ i).method)
-        (λ j. (⟦<dyn Attachment as Attachment>⟧ j).attachment) m bytes first (told (S.left source.old) (K.held sink.old)) session.old
-        → PieceLeads (λ i. (⟦<dyn StorageMethod as StorageMethod>⟧ i).method)
-        (λ j. (⟦<dyn Attachment as Attachment>⟧ j).attachment) m result room bytes first (told (S.left source.new) (K.held sink.new)) session.new }
+        → Serves m bytes first (told (S.left source.old) (K.held sink.old))
+        (progress (holding (⟦<Registry as Meant>⟧.meant session.old.kernel.registry) session.old.kernel.memory session.old.kernel.relation)
+        session.old.line session.old.starts)
+        → PieceLeads m result room bytes first (told (S.left source.new) (K.held sink.new))
+        (progress (holding (⟦<Registry as Meant>⟧.meant session.new.kernel.registry) session.new.kernel.memory session.new.kernel.relation)
+        session.new.line session.new.starts) }
     ensures progress { ContinuesWithin result (length buffer.old) }
     ensures counts { NeverFall (counted (S.faults source.old) (K.faults sink.old))
         (counted (S.faults source.new) (K.faults sink.new)) }
     ensures cause { BreaksWithCause result (counted (S.faults source.old) (K.faults sink.old))
         (counted (S.faults source.new) (K.faults sink.new)) }
-    ensures stands { (s : State) × IsFor (λ i. (⟦<dyn StorageMethod as StorageMethod>⟧ i).method)
-        (λ j. (⟦<dyn Attachment as Attachment>⟧ j).attachment) session.new.kernel s }
+    ensures stands { (s : State) × IsFor
+        (holding (⟦<Registry as Meant>⟧.meant session.new.kernel.registry) session.new.kernel.memory session.new.kernel.relation) s }
 {
     let Ok(count) = source.read(buffer) else {
         return ControlFlow::Break(Ending::SourceFailed);
@@ -69,11 +71,12 @@ fn serve<S: Source, K: Sink>(
     most: u64,
     session: &mut Session,
 ) -> Ending
-    requires stands { (s : State) × IsFor (λ i. (⟦<dyn StorageMethod as StorageMethod>⟧ i).method)
-        (λ j. (⟦<dyn Attachment as Attachment>⟧ j).attachment) session.old.kernel s }
+    requires stands { (s : State) × IsFor
+        (holding (⟦<Registry as Meant>⟧.meant session.old.kernel.registry) session.old.kernel.memory session.old.kernel.relation) s }
     ensures played { (m : Meanings) (first : Told)
-        → Serves (λ i. (⟦<dyn StorageMethod as StorageMethod>⟧ i).method)
-        (λ j. (⟦<dyn Attachment as Attachment>⟧ j).attachment) m [] first (told (S.left source.old) (K.held sink.old)) session.old
+        → Serves m [] first (told (S.left source.old) (K.held sink.old))
+        (progress (holding (⟦<Registry as Meant>⟧.meant session.old.kernel.registry) session.old.kernel.memory session.old.kernel.relation)
+        session.old.line session.old.starts)
         → HasPlayed m most first (told (S.left source.new) (K.held sink.new)) result session.new.starts }
     ensures counts { NeverFall (counted (S.faults source.old) (K.faults sink.old))
         (counted (S.faults source.new) (K.faults sink.new)) }
@@ -108,8 +111,7 @@ pub fn run_to<S: Source, K: Sink>(
     sink: &mut K,
     most: u64,
 ) -> Report
-    ensures run { IsRun words.now (meanings (λ i. (⟦<dyn StorageMethod as StorageMethod>⟧ i).method)
-        (λ j. (⟦<dyn Attachment as Attachment>⟧ j).attachment) exts) most (told (S.left source.old) (K.held sink.old))
+    ensures run { IsRun words.now (⟦<Extensions as Meant>⟧.meant exts) most (told (S.left source.old) (K.held sink.old))
         (told (S.left source.new) (K.held sink.new)) result }
 
     // A failure is told only where the object has failed in this run.
@@ -139,8 +141,7 @@ pub fn run<S: Source, K: Sink>(
     source: &mut S,
     sink: &mut K,
 ) -> Report
-    ensures run { IsRun words.now (meanings (λ i. (⟦<dyn StorageMethod as StorageMethod>⟧ i).method)
-        (λ j. (⟦<dyn Attachment as Attachment>⟧ j).attachment) exts) (2 ^ 32) (told (S.left source.old) (K.held sink.old))
+    ensures run { IsRun words.now (⟦<Extensions as Meant>⟧.meant exts) (2 ^ 32) (told (S.left source.old) (K.held sink.old))
         (told (S.left source.new) (K.held sink.new)) result }
     ensures source_failed { result.status ≡ 4 → Rose (S.faults source.old) (S.faults source.new) }
     ensures sink_failed { result.status ≡ 5 → Rose (K.faults sink.old) (K.faults sink.new) }

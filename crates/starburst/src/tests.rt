@@ -503,6 +503,66 @@ fn other_boxes_are_refused(rt: HostRuntime) -> Result<(), Fail> {
     Ok(())
 }
 
+/// The front of a line, what follows it so many times, its end, and the replies to it and to the scan behind it.
+const LONG: [(&str, &str, usize, &str, &str); 6] = [
+    ("", "x", 4096, "\n", "! syntax 1\nok 0\n"),
+    ("", "x", 4097, "\n", "! syntax 4097\nok 0\n"),
+    ("#", "x", 4095, "\r\n", "ok 0\n"),
+    ("#", "x", 4096, "\r\n", "! syntax 4097\nok 0\n"),
+    ("", " ", 4097, "\n", "! syntax 4097\nok 0\n"),
+    (
+        "attach check c on r ",
+        "k = 1 or ",
+        60_000,
+        "k = 1\n",
+        "! syntax 4097\nok 0\n",
+    ),
+];
+
+/// The line, and a scan behind it.
+fn with_line(
+    alloc: Global,
+    front: &str,
+    part: &str,
+    times: usize,
+    end: &str,
+) -> Result<String, AllocError> {
+    let mut input = String::from_str(alloc, front)?;
+    for _ in 0..times {
+        input.push_str(part)?;
+    }
+    input.push_str(end)?;
+    input.push_str("scan r\n")?;
+    Ok(input)
+}
+
+#[test]
+fn long_lines_are_refused(rt: HostRuntime) -> Result<(), Fail> {
+    let alloc = rt.alloc();
+    let words = creating(alloc)?;
+    for (front, part, times, end, replies) in LONG {
+        let input = with_line(alloc, front, part, times, end)?;
+        let mut source = MemorySource {
+            left: input.as_bytes(),
+            piece: 4096,
+            calls: 0,
+            fails_at: NEVER,
+            faults: 0,
+        };
+        let mut sink = MemorySink {
+            held: Vec::new(alloc),
+            piece: 4096,
+            calls: 0,
+            fails_at: NEVER,
+            faults: 0,
+        };
+        let report = run_boxed(alloc, &words, &BOTH, &mut source, &mut sink, MOST)?;
+        assert_eq!(rt; report.status, 0);
+        assert_eq!(rt; sink.held.as_slice(), replies.as_bytes());
+    }
+    Ok(())
+}
+
 /// How many rows are put into pages that hold about five hundred each.
 const MANY: u64 = 1000;
 
@@ -696,24 +756,39 @@ fn peak_memory(rt: &HostRuntime) -> Option<u64> {
     peak.trim().strip_suffix(" kB")?.parse().ok()
 }
 
+/// Pieces of 64 bytes, and how many bytes are written in all where they are repeated.
+const PASSED: [(&[u8], usize); 2] = [
+    (
+        b"# a comment that asks for no reply and has no need to be kept..\n",
+        0,
+    ),
+    (
+        b"a line that goes on and on, and of which no more is kept than 4K",
+        14,
+    ),
+];
+
 #[test]
 fn passed_input_is_not_kept(rt: HostRuntime) -> Result<(), Fail> {
     let alloc = rt.alloc();
     let words = creating(alloc)?;
-    let written = Cell::new(0);
-    let mut source = RepeatingSource {
-        piece: b"# a comment that asks for no reply and has no need to be kept..\n",
-        left: 1 << 18,
-        faults: 0,
-    };
-    let mut sink = CountingSink {
-        written: &written,
-        faults: 0,
-    };
     let before = peak_memory(&rt);
-    let report = run_boxed(alloc, &words, &BOTH, &mut source, &mut sink, MOST)?;
-    assert_eq!(rt; report.status, 0);
-    assert_eq!(rt; source.left, 0);
+    for (piece, replied) in PASSED {
+        let written = Cell::new(0);
+        let mut source = RepeatingSource {
+            piece,
+            left: 1 << 18,
+            faults: 0,
+        };
+        let mut sink = CountingSink {
+            written: &written,
+            faults: 0,
+        };
+        let report = run_boxed(alloc, &words, &BOTH, &mut source, &mut sink, MOST)?;
+        assert_eq!(rt; report.status, 0);
+        assert_eq!(rt; source.left, 0);
+        assert_eq!(rt; written.get(), replied);
+    }
     if let (Some(before), Some(after)) = (before, peak_memory(&rt)) {
         assert!(rt;
             after.saturating_sub(before) < 8192,

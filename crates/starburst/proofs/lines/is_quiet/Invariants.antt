@@ -1,5 +1,5 @@
 use Rattle.std.proofs.Common.{◌≡◌, drop}
-use Rattle.sb_plain.specs.Lines.{is_passed_over}
+use Rattle.sb_first.specs.Lines.{is_passed_over}
 use Rattle.starburst.proofs.lines.is_quiet.Given as goal
 
 abbrev pub invariant-loop-byte : goal.invariant-loop-byte

@@ -18,8 +18,8 @@ returns-clause-run g c =
     let now : Told = told (g.S.Source.left c.serve-ending.new.source) (g.K.Sink.held c.serve-ending.new.sink) in
     let are : are_words c.args.words.now ≡ true = cc in
     let starts = c.in-Ok.ensures.ok in
-    let stands = c.new-session.ensures.stands _ (g.K.Sink.held c.args.sink.now) (is_at_first _ _ c.args.exts c.in-Ok.kernel starts) in
+    let stands = c.new-session.ensures.stands _ (g.K.Sink.held c.args.sink.now) (is_at_first _ _ starts) in
     let played = c.serve-ending.ensures.played _ first (record { taken = Taken-none (g.S.Source.left c.args.source.now); stands = stands }) in
     let report : Report = record { status = c.status.result; starts = c.into_starts.result } in
     runs c.args.words.now _ c.args.most first now report are
-    (inl (begun _ c.args.most first now c.serve-ending.result _ report (can_start _ _ c.args.exts c.in-Ok.kernel starts) c.status.ensures c.into_starts.ensures played))
+    (inl (begun _ c.args.most first now c.serve-ending.result _ report (can_start _ _ starts) c.status.ensures c.into_starts.ensures played))

@@ -8,7 +8,7 @@ pub loop-taken-preserved : goal.loop-taken-preserved
 loop-taken-preserved g c = record {
   serves = λ m first fresh.
       let some = c.loop-taken.invariant.serves m first fresh in
-      ServesSome-more _ _ m c.loop-taken.taken c.in-Continue.count first (told (g.S.Source.left c.serve_piece.new.source) (g.K.Sink.held c.serve_piece.new.sink)) c.serve_piece.new.session some.bytes (c.args.most - c.loop-taken.taken) some.count_is
+      ServesSome-more m c.loop-taken.taken c.in-Continue.count first (told (g.S.Source.left c.serve_piece.new.source) (g.K.Sink.held c.serve_piece.new.sink)) _ some.bytes (c.args.most - c.loop-taken.taken) some.count_is
       (c.in-Continue.ensures.leads m some.bytes first (c.args.most - c.loop-taken.taken) (omega (arith, length-take {A = ℕ})) some.serves);
   stands = c.serve_piece.ensures.stands;
   within = omega (arith, c.in-Continue.ensures.progress.1, length-take {A = ℕ});
@@ -25,4 +25,4 @@ returns-in-Break-clause-played g c = λ m first fresh.
 pub returns-clause-played : goal.returns-clause-played
 returns-clause-played g c = λ m first fresh.
     let all : c.loop-taken.taken ≡ c.args.most = omega (arith, c.loop-taken.invariant.within, c.loop-taken-test.false) in
-    plays_to_most _ _ m c.loop-taken.taken c.args.most first _ c.loop-taken.session (c.loop-taken.invariant.serves m first fresh) all
+    plays_to_most m c.loop-taken.taken c.args.most first _ _ (c.loop-taken.invariant.serves m first fresh) all

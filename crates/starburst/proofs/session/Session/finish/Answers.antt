@@ -1,5 +1,5 @@
 use Rattle.std.proofs.Common.{◌≢◌, length, arith}
-use Rattle.sb_plain.specs.Lines.{whole_lines}
+use Rattle.sb_first.specs.Lines.{whole_lines}
 use Rattle.starburst.proofs.Taking.{leads_to_last}
 use Rattle.starburst.proofs.session.Session.finish.Goals as goal
 
