@@ -72,7 +72,7 @@ AreChildren IsSo f high [] = Unit {0}
 AreChildren IsSo f high (k ∷ ks) = IsSo k.1 × IsWithin k.0 (next_low high ks) (f k.1) × GoesTo k.0 (next_low high ks) × AreChildren IsSo f high ks
 
 -- ---- pages by their forms
--- a key has at most 602 bytes, and key and value have at most 2,032 together
+-- keys are limited to 602 bytes, and a key with its value to 2,032
 abbrev pub IsSmall : Entry → Type 0
 IsSmall e = (length e.0 ≤ 602) × (length e.0 + length e.1 ≤ 2032)
 

@@ -2,8 +2,8 @@
 //!
 //! The root stays where it is. Leaves hold the entries, and only a root may be a leaf without any. An inner page has two or
 //! more children: its number `a` is the leftmost, and each entry has the least key allowed in a child with the child's page
-//! in four bytes. Children are one level below their parent, and a tree is at most 17 pages high. A key has at most 602
-//! bytes, and key and value have at most 2,032 together.
+//! in four bytes. Children are one level below their parent, and a tree is at most 17 pages high. Keys are limited to
+//! 602 bytes, and a key with its value to 2,032.
 #![tactic(auto)]
 
 mod laws;

@@ -71,8 +71,8 @@ abbrev pub if_used : List Key → Reply → Option Reply
 if_used [] reply = Some reply
 if_used (pick ∷ picks) reply = None
 
--- The picks of a command that isn't refused are all used, those of a refused one are free. After a refusal the state is the given one, but for what
--- was spent.
+-- Where a command goes through, each of its picks is used; where it is refused, they may be any. After a refusal the state is the given one, but for
+-- what was spent.
 abbrev pub turn_of : (Going → State) → State → Outcome Answer → Turn
 turn_of leave otherwise (Gives answer going) =
     record { reply = if_used going.picks (answered answer going.used); state = leave going; points = going.trail.points }
