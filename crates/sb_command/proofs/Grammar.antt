@@ -10,13 +10,13 @@ use Rattle.sb_first.specs.declared.token.Token.{Token}
 use Rattle.sb_first.specs.declared.token.Token.TheVariants as token
 use Rattle.sb_first.specs.declared.command.Command.{Command}
 use Rattle.sb_first.specs.declared.command.Command.TheVariants.{Attach, Insert, Scan}
-use Rattle.sb_first.specs.Lang.{◌⨾◌, ◌∣◌, items_up_to}
+use Rattle.sb_language.specs.Lang.{◌⨾◌, ◌∣◌, items_up_to}
 use Rattle.sb_first.specs.Grammar.{word, mark, name, constant, values_list, predicate, Spells}
-use Rattle.sb_command.specs.Reading.{Read, and_then, or_else}
+use Rattle.sb_language.specs.Reading.{Read, and_then, or_else}
 use Rattle.sb_command.specs.Commands.{is_word, is_mark, word_at, mark_at, name_at, constant_at, constants_at, values_list_at, disjunction_at, unit_at, attach_at, insert_at, scan_at, command_at}
-use Rattle.sb_command.proofs.Front.{Front, left, Reads, reads_then, reads_as, reads_whole}
-use Rattle.sb_command.proofs.Choice.{Marked, Avoids, Image, reads_or, reads_same, reads_image, marked_image, marked_sign, avoids_image, avoids_or, avoids_sign}
-use Rattle.sb_command.proofs.Lists.{reads_items, parted_items}
+use Rattle.sb_language.proofs.Front.{Front, left, Reads, reads_then, reads_as, reads_whole}
+use Rattle.sb_language.proofs.Choice.{Marked, Avoids, Image, reads_or, reads_same, reads_image, marked_image, marked_sign, avoids_image, avoids_or, avoids_sign}
+use Rattle.sb_language.proofs.Lists.{reads_items, parted_items}
 use Rattle.sb_command.proofs.PiecesRead.{tests_word, tests_mark, Word, Mark, part_word, part_mark, part_name, part_constant, reads_behind}
 use Rattle.sb_command.proofs.PredicatesRead.{reads_predicate}
 

@@ -6,7 +6,7 @@ use Rattle.sb_first.specs.Tokens.{IsTokens}
 use Rattle.sb_first.specs.Grammar.{Spells, IsCommand}
 use Rattle.sb_first.specs.Lines.{Item, Says, Bad, IsItem}
 use Rattle.sb_command.specs.declared.line.LineFault.TheVariants.{NoMemory}
-use Rattle.sb_command.specs.Reading.{Read}
+use Rattle.sb_language.specs.Reading.{Read}
 use Rattle.sb_command.specs.Commands.{command_at}
 use Rattle.sb_command.specs.Line.{IsRead}
 use Rattle.sb_command.proofs.Scan.{HasTokens, one_row, tokens_or_none}

@@ -1,8 +1,3 @@
-pub mod Front
-pub mod Choice
-pub mod Parts
-pub mod Lists
-pub mod Stops
 pub mod PiecesRead
 pub mod PredicatesRead
 pub mod Grammar

@@ -5,9 +5,9 @@ use Rattle.std.proofs.lemmas.List.{append-nil}
 use Rattle.sb_first.specs.declared.token.Token.{Token}
 use Rattle.sb_command.specs.declared.pieces.Fault.{Fault}
 use Rattle.sb_command.specs.declared.pieces.Fault.TheVariants.{NoMemory, Misfit}
-use Rattle.sb_command.specs.Reading.{Read, paired, and_then, mapped, token_of, sign_at, starts, more_at, grouped_at}
+use Rattle.sb_language.specs.Reading.{Read, paired, and_then, mapped, token_of, sign_at, starts, more_at, grouped_at}
 use Rattle.sb_command.specs.Gives.{Fails}
-use Rattle.sb_command.proofs.Front.{Front, Reads, left}
+use Rattle.sb_language.proofs.Front.{Front, Reads, left}
 
 -- ---- a sign that was read
 token_read : {T : Type 0} (t : T) (ts us : List T) (b : Bool) → token_of {T = T} {A = Unit {0}} (cond b (Some tt) None) t ts ≡ Ok (tt, us) → (b ≡ true) × (ts ≡ us)

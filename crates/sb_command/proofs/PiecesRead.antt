@@ -12,14 +12,14 @@ use Rattle.sb_first.specs.declared.token.Sign.{Sign}
 use Rattle.sb_first.specs.declared.token.Sign.TheVariants.{Open, Close, Comma, Equal, Unequal, Less, LessOrEqual, Greater, GreaterOrEqual}
 use Rattle.sb_first.specs.declared.token.Token.{Token}
 use Rattle.sb_first.specs.declared.token.Token.TheVariants as token
-use Rattle.sb_first.specs.Lang.{◌⨾◌}
-use Rattle.sb_first.specs.Words.{is_keyword}
+use Rattle.sb_language.specs.Lang.{◌⨾◌}
+use Rattle.sb_language.specs.Words.{is_keyword}
 use Rattle.sb_first.specs.Grammar.{word, mark, name, constant, term, sign_of}
-use Rattle.sb_command.specs.Reading.{Read, and_then}
+use Rattle.sb_language.specs.Reading.{Read, and_then}
 use Rattle.sb_command.specs.Commands.{is_word, sign_number, is_mark, name_in, constant_in, term_in, op_of, op_in, word_at, mark_at, name_at, constant_at, term_at, op_at}
-use Rattle.sb_command.proofs.Front.{Reads, Tests, reads_then}
-use Rattle.sb_command.proofs.Choice.{Avoids}
-use Rattle.sb_command.proofs.Parts.{Part, parted_closed, part_token, part_sign}
+use Rattle.sb_language.proofs.Front.{Reads, Tests, reads_then}
+use Rattle.sb_language.proofs.Choice.{Avoids}
+use Rattle.sb_language.proofs.Parts.{Part, parted_closed, part_token, part_sign}
 
 -- ---- words
 word_alone : (text : List ℕ) (t : Token) → is_word text t ≡ true → t ≡ token.Word text

@@ -6,16 +6,16 @@ use Rattle.sb_pred.specs.Tree.{Tree, Always, Compare, Both, Either, Fails}
 use Rattle.sb_first.specs.declared.token.Sign.TheVariants.{Open, Close}
 use Rattle.sb_first.specs.declared.token.Token.{Token}
 use Rattle.sb_first.specs.declared.token.Token.TheVariants as token
-use Rattle.sb_first.specs.Lang.{◌⨾◌, ◌∣◌}
-use Rattle.sb_first.specs.Words.{is_keyword}
+use Rattle.sb_language.specs.Lang.{◌⨾◌, ◌∣◌}
+use Rattle.sb_language.specs.Words.{is_keyword}
 use Rattle.sb_first.specs.Grammar.{word, mark, term, plain_unit, conjunction, disjunction, negation, unit_within}
-use Rattle.sb_command.specs.Reading.{Read, paired, and_then, mapped, sign_at, starts, or_else}
+use Rattle.sb_language.specs.Reading.{Read, paired, and_then, mapped, sign_at, starts, or_else}
 use Rattle.sb_command.specs.Commands.{is_word, is_mark, word_at, mark_at, term_at, op_at, comparison_at, always_at, plain_unit_at, conjunction_at, disjunction_at, negation_at, group_at, unit_at}
-use Rattle.sb_command.proofs.Front.{Reads, Parted, heads}
-use Rattle.sb_command.proofs.Choice.{Marked, Avoids, Image, Alike, marked_image, marked_same, marked_sign, marked_alone, avoids_image, avoids_or, avoids_same, avoids_sign, avoids_then}
-use Rattle.sb_command.proofs.Parts.{Part, Solid, part_then, part_ended, part_or, part_image, part_same, parted_closed}
-use Rattle.sb_command.proofs.Lists.{reads_grouped}
-use Rattle.sb_command.proofs.Stops.{Stops, stops_grouped, parted_stop, solid_grouped}
+use Rattle.sb_language.proofs.Front.{Reads, Parted, heads}
+use Rattle.sb_language.proofs.Choice.{Marked, Avoids, Image, Alike, marked_image, marked_same, marked_sign, marked_alone, avoids_image, avoids_or, avoids_same, avoids_sign, avoids_then}
+use Rattle.sb_language.proofs.Parts.{Part, Solid, part_then, part_ended, part_or, part_image, part_same, parted_closed}
+use Rattle.sb_language.proofs.Lists.{reads_grouped}
+use Rattle.sb_language.proofs.Stops.{Stops, stops_grouped, parted_stop, solid_grouped}
 use Rattle.sb_command.proofs.Loops.{passes}
 use Rattle.sb_command.proofs.PiecesRead.{tests_word, tests_mark, Word, Mark, Compared, part_word, part_mark, part_term, part_op, Clear, clear_word, clear_mark, avoids_term}
 

@@ -15,8 +15,8 @@ use Rattle.sb_first.specs.declared.token.Token.{Token}
 use Rattle.sb_first.specs.declared.token.Token.TheVariants as token
 use Rattle.sb_first.specs.declared.command.Command.{Command}
 use Rattle.sb_first.specs.declared.command.Command.TheVariants.{Attach, Insert, Scan}
-use Rattle.sb_first.specs.Words.{is_keyword}
-use Rattle.sb_command.specs.Reading.{Read, and_then, mapped, token_at, sign_at, or_else, items_at, grouped_at}
+use Rattle.sb_language.specs.Words.{is_keyword}
+use Rattle.sb_language.specs.Reading.{Read, and_then, mapped, token_at, sign_at, or_else, items_at, grouped_at}
 
 -- ---- what one token stands for
 -- whether it is this word

@@ -6,7 +6,7 @@ use Rattle.sb_first.specs.declared.command.Command.{Command}
 use Rattle.sb_first.specs.Grammar.{Spells}
 use Rattle.sb_command.specs.declared.pieces.Fault.{Fault}
 use Rattle.sb_command.specs.declared.pieces.Fault.TheVariants.{NoMemory, Misfit}
-use Rattle.sb_command.specs.Reading.{Read, starts, sign_at}
+use Rattle.sb_language.specs.Reading.{Read, starts, sign_at}
 
 -- what a reader hands back, as reading gives it: the tokens behind, or a value beside them
 abbrev pub behind : Bor (List Token) → Unit {0} × List Token

@@ -1,4 +1,3 @@
-pub mod Reading
 pub mod Commands
 pub mod Gives
 pub mod Scanned

@@ -1,7 +1,7 @@
 //! Readers of one token.
 
 ghost use Rattle.std.specs.Prelude.{◌≡◌};
-ghost use Rattle.sb_command.specs.Reading.{starts};
+ghost use Rattle.sb_language.specs.Reading.{starts};
 ghost use Rattle.sb_command.specs.Gives.{Gives, IsBehind, behind, beside};
 ghost use Rattle.sb_command.specs.Commands as spec;
 

@@ -1,7 +1,7 @@
 //! Reading commands from the left.
 
 ghost use Rattle.std.specs.Prelude.{◌∷◌};
-ghost use Rattle.sb_command.specs.Reading.{mapped, more_at};
+ghost use Rattle.sb_language.specs.Reading.{mapped, more_at};
 ghost use Rattle.sb_command.specs.Gives.{Gives, IsReadFrom, beside, items_beside};
 ghost use Rattle.sb_command.specs.Commands as spec;
 ghost use Rattle.sb_first.specs.declared.token.Sign.TheVariants.{Comma};

@@ -1,7 +1,7 @@
 //! Keywords.
 
 ghost use Rattle.std.specs.Prelude.{◌≡◌};
-ghost use Rattle.sb_first.specs.Words as spec;
+ghost use Rattle.sb_language.specs.Words as spec;
 
 /// The words of all commands, and those that are kept for more of them.
 const KEYWORDS: [&str; 71] = [

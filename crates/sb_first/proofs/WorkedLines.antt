@@ -5,7 +5,7 @@ use Rattle.sb_rule.specs.declared.rule.Rule.TheVariants.{Check}
 use Rattle.sb_first.specs.declared.token.Sign.TheVariants.{LessOrEqual, Unequal, Less}
 use Rattle.sb_first.specs.declared.token.Token.TheVariants as token
 use Rattle.sb_first.specs.declared.command.Command.TheVariants.{Attach}
-use Rattle.sb_first.specs.Words.{is_keyword}
+use Rattle.sb_language.specs.Words.{is_keyword}
 use Rattle.sb_first.specs.Tokens.{up_to_quote, front_token}
 use Rattle.sb_first.specs.Grammar.{Spells, unit_within}
 

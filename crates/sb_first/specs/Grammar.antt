@@ -15,8 +15,8 @@ use Rattle.sb_first.specs.declared.token.Token.{Token}
 use Rattle.sb_first.specs.declared.token.Token.TheVariants as token
 use Rattle.sb_first.specs.declared.command.Command.{Command}
 use Rattle.sb_first.specs.declared.command.Command.TheVariants.{Attach, Insert, Scan}
-use Rattle.sb_first.specs.Lang.{◌⨾◌, ◌∣◌, nothing, just, items_up_to, grouped}
-use Rattle.sb_first.specs.Words.{is_keyword}
+use Rattle.sb_language.specs.Lang.{◌⨾◌, ◌∣◌, nothing, just, items_up_to, grouped}
+use Rattle.sb_language.specs.Words.{is_keyword}
 use Rattle.sb_first.specs.Tokens.{IsTokens}
 
 -- ---- words, signs, names and values

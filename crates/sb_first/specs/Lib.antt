@@ -1,8 +1,6 @@
 pub mod Refusing
 pub mod Step
 pub mod First
-pub mod Words
-pub mod Lang
 pub mod Tokens
 pub mod Grammar
 pub mod Lines

@@ -3,7 +3,7 @@ use Rattle.std.proofs.lemmas.Result.{err_from_is_err_and}
 use Rattle.sb_pred.specs.Tree.{Both, Either, Fails}
 use Rattle.sb_first.specs.declared.token.Sign.TheVariants.{Close}
 use Rattle.sb_first.specs.Grammar.{unit_within, conjunction}
-use Rattle.sb_command.specs.Reading.{paired, and_then, mapped}
+use Rattle.sb_language.specs.Reading.{paired, and_then, mapped}
 use Rattle.sb_command.specs.Commands.{is_word, mark_at, conjunction_at, disjunction_at, unit_at}
 use Rattle.sb_command.proofs.Loops.{fails_mapped, fails_first, fails_second, falls, group_begins, group_goes_on, group_ends, group_fails, group_fails_first}
 use Rattle.sb_command.proofs.PredicatesRead.{part_unit, reads_conjunction, unit_zero, unit_not, unit_group, unit_plain}

@@ -1,6 +1,6 @@
 use Rattle.std.proofs.Common.{◌≡◌, ◌∷◌, ◌-◌}
 use Rattle.sb_first.specs.declared.token.Sign.TheVariants.{Comma}
-use Rattle.sb_command.specs.Reading.{mapped, more_at}
+use Rattle.sb_language.specs.Reading.{mapped, more_at}
 use Rattle.sb_command.specs.Commands.{is_mark, constant_at}
 use Rattle.sb_command.proofs.Loops.{with_front}
 use Rattle.sb_command.proofs.reading.read_more_constants.Given as goal

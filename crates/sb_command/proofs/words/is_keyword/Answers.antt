@@ -1,4 +1,4 @@
-use Rattle.sb_first.specs.Words.{is_keyword}
+use Rattle.sb_language.specs.Words.{is_keyword}
 use Rattle.sb_command.proofs.words.is_keyword.Goals as goal
 
 pub returns : goal.returns

@@ -1,7 +1,7 @@
 -- A reader takes the longest front of the tokens that begins a sentence.
 use Rattle.std.proofs.Common.{◌≡◌, List, [], ◌∷◌, ◌++◌, refl, sym, ◌∙◌, ap, subst, append_assoc, ◌⊎◌, inl, inr, Bool, true, false, cond, Option, Some, None, Ok, Err, IfSome}
-use Rattle.sb_first.specs.Lang.{◌⨾◌, just}
-use Rattle.sb_command.specs.Reading.{Read, paired, and_then, mapped, token_of, token_at, passing, sign_at}
+use Rattle.sb_language.specs.Lang.{◌⨾◌, just}
+use Rattle.sb_language.specs.Reading.{Read, paired, and_then, mapped, token_of, token_at, passing, sign_at}
 
 -- some value's sentence begins with these tokens
 pub record Begins {T A : Type 0} (P : A → List T → Type 0) (ts : List T) : Type 0 where

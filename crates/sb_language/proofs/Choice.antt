@@ -1,8 +1,8 @@
 -- A choice by the first token.
 use Rattle.std.proofs.Common.{◌≡◌, List, [], ◌∷◌, ◌++◌, refl, sym, ◌∙◌, ap, subst, inl, inr, Bool, true, false, cond, Ok, Err}
-use Rattle.sb_first.specs.Lang.{◌⨾◌, ◌∣◌, none, just}
-use Rattle.sb_command.specs.Reading.{Read, mapped, starts, or_else}
-use Rattle.sb_command.proofs.Front.{Begins, left, Next, Same, Front, Reads, Tests, heads, as_read, reads_as}
+use Rattle.sb_language.specs.Lang.{◌⨾◌, ◌∣◌, none, just}
+use Rattle.sb_language.specs.Reading.{Read, mapped, starts, or_else}
+use Rattle.sb_language.proofs.Front.{Begins, left, Next, Same, Front, Reads, Tests, heads, as_read, reads_as}
 
 -- each sentence begins with a token that passes a test, and each such token begins one
 pub record Marked {T A : Type 0} (P : A → List T → Type 0) (p : T → Bool) : Type 0 where

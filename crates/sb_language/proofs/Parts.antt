@@ -1,10 +1,10 @@
 -- Parts of a language: none of their sentences is empty, and none goes on.
 use Rattle.std.proofs.Common.{◌≡◌, List, [], ◌∷◌, ◌++◌, sym, ◌∙◌, ap, subst, append_assoc, inl, inr, Bool, true, Option, IfSome}
 use Rattle.std.proofs.lemmas.List.{append-nil}
-use Rattle.sb_first.specs.Lang.{◌⨾◌, ◌∣◌, just}
-use Rattle.sb_command.specs.Reading.{Read, and_then, mapped, token_at, sign_at, or_else}
-use Rattle.sb_command.proofs.Front.{Begins, Reads, Parted, heads, cut, reads_then, reads_token, reads_sign, Picks, Tests, Single, longer_single}
-use Rattle.sb_command.proofs.Choice.{Marked, Avoids, reads_or, Image, reads_image, Alike, reads_same}
+use Rattle.sb_language.specs.Lang.{◌⨾◌, ◌∣◌, just}
+use Rattle.sb_language.specs.Reading.{Read, and_then, mapped, token_at, sign_at, or_else}
+use Rattle.sb_language.proofs.Front.{Begins, Reads, Parted, heads, cut, reads_then, reads_token, reads_sign, Picks, Tests, Single, longer_single}
+use Rattle.sb_language.proofs.Choice.{Marked, Avoids, reads_or, Image, reads_image, Alike, reads_same}
 
 abbrev pub Closed : {T A : Type 0} → (A → List T → Type 0) → Type 0
 Closed {T} {A} P = (a b : A) (us : List T) (h : T) (m : List T) → P a us → P b (us ++ h ∷ m) → ⊥

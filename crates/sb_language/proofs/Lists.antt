@@ -1,11 +1,11 @@
 -- Lists of items, each behind a sign.
 use Rattle.std.proofs.Common.{◌≡◌, ℕ, zero, suc, ◌+◌, ◌<◌, ◌≤◌, List, [], ◌∷◌, ◌++◌, refl, sym, ◌∙◌, ap, subst, inl, inr, Bool, Ok, length, arith, length-append}
 use Rattle.std.specs.List.{fold}
-use Rattle.sb_first.specs.Lang.{◌⨾◌, ◌∣◌, none, just, more_items, items_up_to, many, grouped}
-use Rattle.sb_command.specs.Reading.{Read, and_then, mapped, sign_at, or_else, more_at, items_at, grouped_at}
-use Rattle.sb_command.proofs.Front.{Begins, Front, Reads, Parted, Next, Tests, heads, tails, then_at, reads_then, reads_as, reads_sign, some_then}
-use Rattle.sb_command.proofs.Choice.{Avoids, Image, Alike, or_front, image_front, same_front, marked_sign, marked_image, reads_none}
-use Rattle.sb_command.proofs.Parts.{Closed, Part, parted_closed, part_sign, same_cut, regrouped}
+use Rattle.sb_language.specs.Lang.{◌⨾◌, ◌∣◌, none, just, more_items, items_up_to, many, grouped}
+use Rattle.sb_language.specs.Reading.{Read, and_then, mapped, sign_at, or_else, more_at, items_at, grouped_at}
+use Rattle.sb_language.proofs.Front.{Begins, Front, Reads, Parted, Next, Tests, heads, tails, then_at, reads_then, reads_as, reads_sign, some_then}
+use Rattle.sb_language.proofs.Choice.{Avoids, Image, Alike, or_front, image_front, same_front, marked_sign, marked_image, reads_none}
+use Rattle.sb_language.proofs.Parts.{Closed, Part, parted_closed, part_sign, same_cut, regrouped}
 
 -- ---- one item more
 abbrev Tail : {T A : Type 0} → (A → List T → Type 0) → (List A → List T → Type 0) → A × List A → List T → Type 0
@@ -97,11 +97,13 @@ cases_items : {T A : Type 0} (n : ℕ) (t : T) (P : A → List T → Type 0) (it
 cases_items n t P [] us x = absurd x
 cases_items n t P (a ∷ items) us x = ((a, items), refl, x)
 
-pub reads_items : {T A : Type 0} (n : ℕ) (p : T → Bool) (t : T) (P : A → List T → Type 0) (R : List T → Read T A) → Tests p t → Part P R → Reads (items_up_to n t P) (items_at n p R)
-reads_items n p t P R h f =
-    let parted : Parted P (λ (_ : Unit {0}). just t) = parted_closed P (λ (_ : Unit {0}). just t) f.closed in
+pub reads_list : {T A : Type 0} (n : ℕ) (p : T → Bool) (t : T) (P : A → List T → Type 0) (R : List T → Read T A) → Tests p t → Parted P (λ (_ : Unit {0}). just t) → Reads P R → Reads (items_up_to n t P) (items_at n p R)
+reads_list n p t P R h parted f =
     reads_as (λ (x : _ × List _). P x.0 ⨾ more_items n t P x.1) (items_up_to n t P) (λ ts. and_then (R ts) (more_at n p R)) (λ x. x.0 ∷ x.1) (λ x us s. s) (cases_items n t P)
-    (reads_then P (more_items n t P) R (more_at n p R) (parted_follows t P (more_items n t P) (follows_more n t P) parted) f.reads (reads_more n p t P R h parted f.reads))
+    (reads_then P (more_items n t P) R (more_at n p R) (parted_follows t P (more_items n t P) (follows_more n t P) parted) f (reads_more n p t P R h parted f))
+
+pub reads_items : {T A : Type 0} (n : ℕ) (p : T → Bool) (t : T) (P : A → List T → Type 0) (R : List T → Read T A) → Tests p t → Part P R → Reads (items_up_to n t P) (items_at n p R)
+reads_items n p t P R h f = reads_list n p t P R h (parted_closed P (λ (_ : Unit {0}). just t) f.closed) f.reads
 
 -- another sign ends the list
 pub not_nil : {T : Type 0} (us : List T) (h : T) (m : List T) → us ++ h ∷ m ≡ [] → ⊥

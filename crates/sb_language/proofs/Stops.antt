@@ -1,10 +1,10 @@
--- Which tokens no sentence of a grouped list goes on with.
-use Rattle.std.proofs.Common.{◌≡◌, List, [], ◌∷◌, ◌++◌, sym, ◌∙◌, ap, subst, inl, inr}
+-- Which tokens no sentence of a list goes on with.
+use Rattle.std.proofs.Common.{◌≡◌, ℕ, zero, suc, List, [], ◌∷◌, ◌++◌, sym, ◌∙◌, ap, subst, inl, inr}
 use Rattle.std.proofs.lemmas.List.{append-nil}
-use Rattle.sb_first.specs.Lang.{just, many, grouped}
-use Rattle.sb_command.proofs.Front.{Parted, heads, cut}
-use Rattle.sb_command.proofs.Parts.{Solid, solid_pair, regrouped}
-use Rattle.sb_command.proofs.Lists.{not_nil, behind_first, sign_front}
+use Rattle.sb_language.specs.Lang.{just, more_items, items_up_to, many, grouped}
+use Rattle.sb_language.proofs.Front.{Parted, heads, cut}
+use Rattle.sb_language.proofs.Parts.{Solid, solid_pair, regrouped}
+use Rattle.sb_language.proofs.Lists.{not_nil, behind_first, sign_front}
 
 -- no sentence goes on with a token of which K holds
 abbrev pub Stops : {T A : Type 0} → (A → List T → Type 0) → (T → Type 0) → Type 0
@@ -64,3 +64,38 @@ parted_stop P K u c k a a2 b us h m n x y z = c a a2 us h m (subst K (sym (heads
 
 pub solid_grouped : {T A : Type 0} (group : A → A → A) (t : T) (P : A → List T → Type 0) → Solid P → Solid (grouped group t P)
 solid_grouped group t P s a x = solid_pair P (many t P) s (x.first, x.others) x.spelled
+
+-- ---- lists of a bounded length
+ends_more : {T A : Type 0} (P : A → List T → Type 0) (K : T → Type 0) (t : T) → K t → (n : ℕ) (items : List A) (y : List T) → more_items n t P items y → Ends K y
+ends_more P K t e n [] y x = subst (Ends K) (sym x) tt
+ends_more P K t e zero (a ∷ items) y x = absurd x
+ends_more P K t e (suc n) (a ∷ items) y x = subst (Ends K) (sym (sign_front t y x.front x.back x.whole x.is_front)) e
+
+more_then : {T A : Type 0} (P : A → List T → Type 0) (K : T → Type 0) (t u : T) (m : List T) → K t → K u → (n : ℕ) (items : List A) (y : List T) → more_items n t P items y → Ends K (y ++ u ∷ m)
+more_then P K t u m e f n [] y x = subst (λ s. Ends K (s ++ u ∷ m)) (sym x) f
+more_then P K t u m e f zero (a ∷ items) y x = absurd x
+more_then P K t u m e f (suc n) (a ∷ items) y x = subst (λ s. Ends K (s ++ u ∷ m)) (sym (sign_front t y x.front x.back x.whole x.is_front)) e
+
+more_stop : {T A : Type 0} (P : A → List T → Type 0) (K : T → Type 0) (t u : T) → Stops P K → K t → K u → (u ≡ t → ⊥) → (n : ℕ) (items : List A) (us : List T) (k : ℕ) (others : List A) (m : List T) → more_items n t P items us → more_items k t P others (us ++ u ∷ m) → ⊥
+more_stop P K t u c kt ku d n [] us k [] m x y = not_nil us u m y
+more_stop P K t u c kt ku d n [] us zero (b ∷ others) m x y = y
+more_stop P K t u c kt ku d n [] us (suc k) (b ∷ others) m x y = d (heads u t m y.back (sym (ap (λ s. s ++ u ∷ m) x) ∙ sign_front t (us ++ u ∷ m) y.front y.back y.whole y.is_front))
+more_stop P K t u c kt ku d zero (a ∷ items) us k others m x y = x
+more_stop P K t u c kt ku d (suc n) (a ∷ items) us k [] m x y = not_nil us u m y
+more_stop P K t u c kt ku d (suc n) (a ∷ items) us zero (b ∷ others) m x y = y
+more_stop P K t u c kt ku d (suc n) (a ∷ items) us (suc k) (b ∷ others) m x y =
+    let tail : x.back ++ u ∷ m ≡ y.back = behind_first t u us x.front x.back y.back m x.whole x.is_front (sign_front t (us ++ u ∷ m) y.front y.back y.whole y.is_front) in
+    let v = x.is_back in
+    let z = y.is_back in
+    let w = cut_stop P K a b v.front (v.back ++ u ∷ m) z.front z.back c v.is_front z.is_front (more_then P K t u m kt ku n items v.back v.is_back) (ends_more P K t kt k others z.back z.is_back)
+    (regrouped x.back v.front v.back z.front z.back (u ∷ m) v.whole (tail ∙ z.whole)) in
+    more_stop P K t u c kt ku d n items v.back k others m v.is_back (subst (more_items k t P others) (sym w.1) z.is_back)
+
+-- a list goes on with its sign, or where its items do
+pub stops_items : {T A : Type 0} (n : ℕ) (P : A → List T → Type 0) (K : T → Type 0) (t u : T) → Stops P K → K t → K u → (u ≡ t → ⊥) → (items others : List A) (us m : List T) → items_up_to n t P items us → items_up_to n t P others (us ++ u ∷ m) → ⊥
+stops_items n P K t u c kt ku d [] others us m x y = x
+stops_items n P K t u c kt ku d (a ∷ items) [] us m x y = y
+stops_items n P K t u c kt ku d (a ∷ items) (b ∷ others) us m x y =
+    let w = cut_stop P K a b x.front (x.back ++ u ∷ m) y.front y.back c x.is_front y.is_front (more_then P K t u m kt ku n items x.back x.is_back) (ends_more P K t kt n others y.back y.is_back)
+    (regrouped us x.front x.back y.front y.back (u ∷ m) x.whole y.whole) in
+    more_stop P K t u c kt ku d n items x.back n others m x.is_back (subst (more_items n t P others) (sym w.1) y.is_back)
