@@ -1,0 +1,4 @@
+pub mod Commands
+pub mod Gives
+pub mod Outcome
+pub mod Line

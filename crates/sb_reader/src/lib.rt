@@ -1,0 +1,26 @@
+//! From a line, or from its tokens, to the command that it spells, for the whole command language.
+#![tactic(auto)]
+
+mod actions;
+mod attachments;
+mod control;
+mod definitions;
+mod fault;
+mod form;
+mod indexes;
+mod line;
+mod lists;
+mod phrases;
+mod pieces;
+mod predicates;
+mod reading;
+mod relations;
+mod rows;
+mod terms;
+#[cfg(test)]
+mod tests;
+mod words;
+
+pub use fault::Fault;
+pub use line::{LineFault, one_item, parse_line};
+pub use reading::{one_command, read_command};
