@@ -4,7 +4,7 @@ use Rattle.std.specs.declared.cmp.Ordering.TheVariants.{Less, Greater}
 use Rattle.std.specs.List.{AllByRecursion}
 use Rattle.sb_node.specs.Entries.{Entry, key_cmp, is_below}
 use Rattle.sb_node.specs.Page.{Node}
-use Rattle.sb_btree.specs.Tree.{Nodes, Child, child_of, children_of, over, items, IsUnder, IsWithin, next_low, GoesTo, AreChildren, IsInner, IsFull, IsTree, child_for, child_in}
+use Rattle.sb_forms.specs.Tree.{Nodes, Child, child_of, children_of, over, items, IsUnder, IsWithin, next_low, GoesTo, AreChildren, IsInner, IsFull, IsTree, child_for, child_in}
 use Rattle.sb_btree.proofs.Order.{AllLess, AllMore, below-less, above-trans, above-first, below-upto, below-greater, find_middle}
 use Rattle.std.specs.FinMap.Entries.{find}
 
@@ -33,7 +33,7 @@ pub AreChildren-right : (P : ℕ → Type 0) (f : ℕ → List Entry) (high : Op
 AreChildren-right P f high [] ys a = a
 AreChildren-right P f high (x ∷ xs) ys a = AreChildren-right P f high xs ys a.3
 
-all_map : {A : Type 0} (P Q : A → Type 0) → ((x : A) → P x → Q x) → (xs : List A) → AllByRecursion P xs → AllByRecursion Q xs
+pub all_map : {A : Type 0} (P Q : A → Type 0) → ((x : A) → P x → Q x) → (xs : List A) → AllByRecursion P xs → AllByRecursion Q xs
 all_map P Q f [] h = tt
 all_map P Q f (x ∷ xs) h = (f x h.0, all_map P Q f xs h.1)
 

@@ -1,5 +1,5 @@
 -- One step of a walk down, from a held page of a level.
-use Rattle.std.proofs.Common.{◌≡◌, ℕ, zero, suc, Bool, true, false, cond, not, ◌&&◌, List, [], ◌∷◌, map, Option, Some, None, refl, ap, sym, ◌∙◌, subst, arith, true≢false}
+use Rattle.std.proofs.Common.{◌≡◌, ℕ, zero, suc, Bool, true, false, cond, not, ◌&&◌, List, [], ◌∷◌, map, Option, Some, None, refl, ap, sym, ◌∙◌, subst, arith, true≢false, ◌<◌, length}
 use Rattle.std.specs.Prelude.{nat_eq, ◌||◌, Err}
 use Rattle.std.specs.FinMap.Entries.{find}
 use Rattle.std.proofs.lemmas.Bool.Decides.{nat_tests}
@@ -9,9 +9,9 @@ use Rattle.sb_node.specs.declared.head.Head.{Head}
 use Rattle.sb_node.specs.Entries.{Entry, key_cmp}
 use Rattle.sb_node.specs.Page.{Node, node_in, node_of}
 use Rattle.sb_node.proofs.Edited.{node_of-form}
-use Rattle.sb_btree.specs.Tree.{Nodes, Child, child_of, children_of, entries_of, items, IsSmall, IsBound, IsLeaf, IsInner, IsTree, child_in}
-use Rattle.sb_btree.specs.Read.{all_by, is_small, is_bound, has}
-use Rattle.sb_btree.specs.Broken.{held_node, is_of_level, are_of_level, is_page, is_amiss, children_at, any_by, breaks_below}
+use Rattle.sb_forms.specs.Tree.{Nodes, Child, child_of, children_of, entries_of, items, IsSmall, IsBound, IsLeaf, IsInner, IsTree, child_in}
+use Rattle.sb_forms.specs.Read.{all_by, is_small, is_bound, has}
+use Rattle.sb_btree.specs.Broken.{held_node, is_of_level, are_of_level, is_page, is_narrow, is_amiss, children_at, any_by, breaks_below}
 use Rattle.sb_btree.specs.Held.{IsTreePage, Lacks, passed, nth_child}
 use Rattle.sb_btree.specs.Ways.{child_on, way}
 use Rattle.sb_btree.specs.Walks.{as_walk, Breaks, Leads, Shows}
@@ -35,7 +35,10 @@ both_are : (a b : Bool) → a ≡ true → b ≡ true → (a && b) ≡ true
 both_are true b e f = f
 both_are false b e f = absurd (cc)
 
-not_zero : (l : ℕ) → nat_eq (suc l) 0 ≡ false
+pub positive : (n : ℕ) → 0 < n → nat_eq n 0 ≡ false
+positive n h = grind (arith, nat_tests)
+
+pub not_zero : (l : ℕ) → nat_eq (suc l) 0 ≡ false
 not_zero l = grind (arith, nat_tests)
 
 same : (n : ℕ) → nat_eq n n ≡ true
@@ -46,7 +49,7 @@ leaf_page : (o : Option Node) → IsLeaf o → is_page 0 o ≡ true
 leaf_page None h = absurd h
 leaf_page (Some n) h = both_are _ _ (both_are _ _ ((eq_says n.head.kind 2).1 h.0) ((eq_says n.head.level 0).1 h.1)) ((all_says is_small IsSmall small_says n.entries).1 h.2)
 
-inner_page : (l : ℕ) (o : Option Node) → IsInner (suc l) o → is_page (suc l) o ≡ true
+pub inner_page : (l : ℕ) (o : Option Node) → IsInner (suc l) o → is_page (suc l) o ≡ true
 inner_page l None h = absurd h
 inner_page l (Some n) h =
     both_are _ _
@@ -57,13 +60,32 @@ pub tree_page : (l : ℕ) (N : Nodes) (p : ℕ) → IsTree l N p → is_page l (
 tree_page zero N p t = leaf_page (N p) t
 tree_page (suc l) N p t = inner_page l (N p) t.0
 
+-- and have two children or more where they are inner ones
+leaf_wide : (o : Option Node) → is_narrow 0 o ≡ false
+leaf_wide None = refl
+leaf_wide (Some n) = refl
+
+inner_wide : (l : ℕ) (o : Option Node) → 0 < length (entries_of o) → is_narrow (suc l) o ≡ false
+inner_wide l None full = refl
+inner_wide l (Some n) full = both_not (not (nat_eq (suc l) 0)) (nat_eq (length n.entries) 0) (positive (length n.entries) full)
+  where
+    both_not : (a b : Bool) → b ≡ false → (a && b) ≡ false
+    both_not true b e = e
+    both_not false b e = refl
+
+pub tree_wide : (l : ℕ) (N : Nodes) (p : ℕ) → IsTree l N p → is_narrow l (N p) ≡ false
+tree_wide zero N p t = leaf_wide (N p)
+tree_wide (suc l) N p t = inner_wide l (N p) t.1
+
 -- so none of them is amiss
-pub tree_amiss : (l : ℕ) (held : Option (List ℕ)) (o : Option Node) → ((bytes : List ℕ) → held ≡ Some bytes → o ≡ node_of bytes) → is_page l o ≡ true → is_amiss l held ≡ false
-tree_amiss l None o shows is = refl
-tree_amiss l (Some bytes) o shows is = ap not (ap (is_page l) (sym (shows bytes refl)) ∙ is)
+pub tree_amiss : (l : ℕ) (held : Option (List ℕ)) (N : Nodes) (p : ℕ) → ((bytes : List ℕ) → held ≡ Some bytes → N p ≡ node_of bytes) → IsTree l N p → is_amiss l held ≡ false
+tree_amiss l None N p shows t = refl
+tree_amiss l (Some bytes) N p shows t =
+    let here = sym (shows bytes refl) in
+    (λ i. not ((ap (is_page l) here ∙ tree_page l N p t) i) || (ap (is_narrow l) here ∙ tree_wide l N p t) i)
 
 -- ---- a page that is amiss ends the walk
-breaks_here : (l : ℕ) (held : HeldPages) (p : ℕ) → is_amiss l (held p) ≡ true → breaks_below l held p p ≡ true
+pub breaks_here : (l : ℕ) (held : HeldPages) (p : ℕ) → is_amiss l (held p) ≡ true → breaks_below l held p p ≡ true
 breaks_here zero held p amiss = both_are _ _ (same p) amiss
 breaks_here (suc l) held p amiss = or_left _ _ (both_are _ _ (same p) amiss)
 
@@ -77,23 +99,23 @@ pub stop_leads : {T : Type 0} (IsSo : T → Type 0) (may : ℕ → Bool) (l : �
     → may p ≡ true → (N : Nodes) → Shows c N → IsTree l N p → Leads IsSo may (as_walk (Err s))
 stop_leads IsSo may l c p (stop.Need n) lacks first N shows t = (tt, ap may lacks.0 ∙ first)
 stop_leads IsSo may l c p stop.Fresh lacks first N shows t = absurd lacks
-stop_leads IsSo may l c p (stop.Broken n) lacks first N shows t = absurd (true≢false (sym lacks.1 ∙ tree_amiss l (page_of c p) (N p) (shows p) (tree_page l N p t)))
+stop_leads IsSo may l c p (stop.Broken n) lacks first N shows t = absurd (true≢false (sym lacks.1 ∙ tree_amiss l (page_of c p) N p (shows p) t))
 stop_leads IsSo may l c p stop.NoMemory lacks first N shows t = absurd lacks
 
 -- ---- an inner page of which an entry has no child
-spelled_not : (l : ℕ) (a : Bool) (es : List Entry) → all_by is_bound es ≡ false → (a && are_of_level (suc l) es) ≡ false
+pub spelled_not : (l : ℕ) (a : Bool) (es : List Entry) → all_by is_bound es ≡ false → (a && are_of_level (suc l) es) ≡ false
 spelled_not l true es e = ap (λ b. all_by (cond b is_small is_bound) es) (not_zero l) ∙ e
 spelled_not l false es e = refl
 
 pub entries_amiss : (l m : ℕ) (held : Option (List ℕ)) (bytes : List ℕ) (head : Head) → l ≡ suc m → IsTreePage held l bytes head → all_by is_bound (node_in bytes).entries ≡ false → is_amiss l held ≡ true
 entries_amiss l m held bytes head is page none =
     subst (λ k. is_amiss k held ≡ true) (sym is)
-    (ap (is_amiss (suc m)) page.held_is ∙ ap (λ o. not (is_page (suc m) o)) (node_of-form bytes page.form)
-    ∙ ap not (spelled_not m (is_of_level (suc m) (node_in bytes).head) (node_in bytes).entries none))
+    (ap (is_amiss (suc m)) page.held_is ∙ ap (λ o. not (is_page (suc m) o) || is_narrow (suc m) o) (node_of-form bytes page.form)
+    ∙ ap (λ b. not b || is_narrow (suc m) (Some (node_in bytes))) (spelled_not m (is_of_level (suc m) (node_in bytes).head) (node_in bytes).entries none))
 
 pub entries_lead : (l m : ℕ) (c : View) (p : ℕ) (bytes : List ℕ) (head : Head) → l ≡ suc m → IsTreePage (page_of c p) l bytes head → all_by is_bound (node_in bytes).entries ≡ false → (N : Nodes) → Shows c N → IsTree l N p → ⊥
 entries_lead l m c p bytes head is page none N shows t =
-    true≢false (sym (entries_amiss l m (page_of c p) bytes head is page none) ∙ tree_amiss l (page_of c p) (N p) (shows p) (tree_page l N p t))
+    true≢false (sym (entries_amiss l m (page_of c p) bytes head is page none) ∙ tree_amiss l (page_of c p) N p (shows p) t)
 
 -- ---- a child that breaks
 any_nth : (t : ℕ → Bool) (low : List ℕ) (a : ℕ) (es : List Entry) (i : ℕ) → t (nth_child a es i) ≡ true → any_by (λ (child : Child). t child.1) ((low, a) ∷ map child_of es) ≡ true
@@ -146,7 +168,7 @@ pub record FindStep (m : ℕ) (N : Nodes) (p child : ℕ) (key : List ℕ) : Typ
   pub items_are : find key_cmp key (items (suc m) N p) ≡ find key_cmp key (items m N child)
   pub way_is : way (suc m) N (Some key) p ≡ p ∷ way m N (Some key) child
 
-find_step : (m : ℕ) (N : Nodes) (p : ℕ) (key bytes : List ℕ) (head : Head) → N p ≡ Some (node_in bytes) → head ≡ (node_in bytes).head → IsTree (suc m) N p
+pub find_step : (m : ℕ) (N : Nodes) (p : ℕ) (key bytes : List ℕ) (head : Head) → N p ≡ Some (node_in bytes) → head ≡ (node_in bytes).head → IsTree (suc m) N p
     → FindStep m N p (nth_child head.a (node_in bytes).entries (passed (Some key) (node_in bytes).entries)) key
 find_step m N p key bytes head here is t =
     let on = child_on-page (Some key) (N p) bytes head here is in

@@ -7,8 +7,8 @@ use Rattle.sb_ctx.specs.View.{View, page_of}
 use Rattle.sb_node.specs.declared.head.Head.{Head}
 use Rattle.sb_node.specs.Entries.{Entry}
 use Rattle.sb_node.specs.Page.{Node, node_in}
-use Rattle.sb_btree.specs.Tree.{Nodes, child_of, children_of, entries_of, over, items, AreChildren, IsInner, IsFull, IsTree, Has}
-use Rattle.sb_btree.specs.Read.{has}
+use Rattle.sb_forms.specs.Tree.{Nodes, child_of, children_of, entries_of, over, items, AreChildren, IsInner, IsFull, IsChild, IsTree, Has}
+use Rattle.sb_forms.specs.Read.{has}
 use Rattle.sb_btree.specs.Held.{IsTreePage, passed, nth_child}
 use Rattle.sb_btree.specs.Ways.{child_on, way, is_behind, way_to, next_ways}
 use Rattle.sb_btree.specs.Walks.{as_walk, Leads, Shows}
@@ -20,7 +20,6 @@ use Rattle.sb_btree.proofs.Descending.{child_on-passed, shown, way_first}
 use Rattle.sb_btree.proofs.Members.{has_left, has_right, has_either, has_is, is_has}
 use Rattle.sb_btree.proofs.Passing.{or_else, next_over, nth_is, child_for-entry}
 use Rattle.sb_btree.proofs.Placing.{nth_first, page_count}
-use Rattle.sb_btree.proofs.Reading.{IsChild}
 
 -- ---- a full tree has entries
 pub tree_some : (l : ℕ) (N : Nodes) (p : ℕ) → IsTree l N p → IsFull N p → 0 < length (items l N p)

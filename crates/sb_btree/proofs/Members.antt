@@ -1,7 +1,7 @@
 -- Pages in lists.
 use Rattle.std.proofs.Common.{◌≡◌, ℕ, true, List, [], ◌∷◌, ◌++◌, inl, inr, ◌⊎◌}
-use Rattle.sb_btree.specs.Tree.{Has}
-use Rattle.sb_btree.specs.Read.{has}
+use Rattle.sb_forms.specs.Tree.{Has}
+use Rattle.sb_forms.specs.Read.{has}
 use Rattle.sb_btree.proofs.Reading.{has_says}
 
 pub has_left : (x : ℕ) (xs ys : List ℕ) → Has x xs → Has x (xs ++ ys)

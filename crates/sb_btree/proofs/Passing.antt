@@ -4,7 +4,7 @@ use Rattle.std.specs.Prelude.{nat_lt, slice_get}
 use Rattle.std.specs.List.{find as first, AllByRecursion}
 use Rattle.sb_bytes.specs.Field.{number_at}
 use Rattle.sb_node.specs.Entries.{Entry, is_below}
-use Rattle.sb_btree.specs.Tree.{child_of, over, IsWithin, AreChildren, child_for}
+use Rattle.sb_forms.specs.Tree.{child_of, over, IsWithin, AreChildren, child_for}
 use Rattle.sb_btree.specs.Held.{passed, nth_child}
 use Rattle.sb_btree.specs.Ways.{is_behind}
 use Rattle.std.proofs.lemmas.Bool.Decides.{nat_tests}

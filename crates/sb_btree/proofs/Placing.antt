@@ -12,7 +12,7 @@ use Rattle.sb_node.proofs.Placed.{by_order, place_from, scanned, err_within}
 use Rattle.sb_node.proofs.Runs.{head_count}
 use Rattle.sb_node.proofs.Sizes.{count_is, head_counts, T_from, first, second, T_to, is_less}
 use Rattle.sb_btree.specs.Held.{passed, nth_child}
-use Rattle.sb_btree.specs.Read.{all_by, is_bound, is_upto}
+use Rattle.sb_forms.specs.Read.{all_by, is_bound, is_upto}
 use Rattle.sb_btree.proofs.Order.{same_key, less-below, tested}
 
 not_below_greater : (key x : List ℕ) → key_cmp key x ≡ Greater → is_below key x ≡ false
@@ -121,7 +121,7 @@ nth_suc a (x ∷ es) (suc j) e at = nth_suc (number_at 4 x.1 0) es j e at
 pub nth_child-entry : (a : ℕ) (es : List Entry) (i j : ℕ) (e : Entry) → i ≡ suc j → slice_get es j ≡ Some e → number_at 4 e.1 0 ≡ nth_child a es i
 nth_child-entry a es i j e is at = sym (ap (nth_child a es) is ∙ nth_suc a es j e at)
 
-all_by_fails : (t : Entry → Bool) (es : List Entry) (j : ℕ) (e : Entry) → slice_get es j ≡ Some e → t e ≡ false → all_by t es ≡ false
+pub all_by_fails : (t : Entry → Bool) (es : List Entry) (j : ℕ) (e : Entry) → slice_get es j ≡ Some e → t e ≡ false → all_by t es ≡ false
 all_by_fails t [] j e at fails = absurd (cc)
 all_by_fails t (x ∷ es) zero e at fails =
     let s : x ≡ e = cc in

@@ -9,14 +9,10 @@ use Rattle.sb_forms.specs.Pages.{Pages}
 use Rattle.sb_node.specs.Entries.{Entry, key_cmp, is_below}
 use Rattle.sb_node.specs.Page.{Node, has_form, node_in, node_of}
 use Rattle.sb_node.proofs.Sizes.{head_counts}
-use Rattle.sb_btree.specs.Tree.{Nodes, nodes, Child, children_of, entries_of, over, items, met, IsUnder, IsWithin, next_low, GoesTo, AreChildren, IsSmall, IsLeaf, IsBound, IsInner, IsFull, IsTree, Has, Apart, IsRoot, level_of, tree_items}
-use Rattle.sb_btree.specs.Read.{all_by, is_upto, is_small, is_leaf, is_bound, is_inner, is_full, is_under, goes_to, is_within, are_children, is_tree, has, is_apart, is_root, read_tree, ReadsTrees}
+use Rattle.sb_forms.specs.Tree.{Nodes, nodes, Child, children_of, entries_of, over, items, met, IsUnder, IsWithin, next_low, GoesTo, AreChildren, IsSmall, IsLeaf, IsBound, IsInner, IsChild, IsTree, Has, Apart, IsRoot, level_of, tree_items}
+use Rattle.sb_forms.specs.Read.{all_by, is_upto, is_small, is_leaf, is_bound, is_inner, is_full, is_under, goes_to, is_within, are_children, is_tree, has, is_apart, is_root, read_tree, ReadsTrees}
 use Rattle.sb_btree.proofs.Order.{below-upto}
 use Rattle.sb_btree.proofs.Children.{children_above}
-
--- a child of an inner page
-abbrev pub IsChild : ℕ → Nodes → ℕ → Type 0
-IsChild l N c = IsTree l N c × IsFull N c
 
 -- a test says whether a fact holds
 abbrev pub Says : Bool → Type 0 → Type 0

@@ -6,8 +6,8 @@ use Rattle.sb_ctx.specs.View.{View, HeldPages, page_of, stored}
 use Rattle.sb_ctx.proofs.ViewLaws.{stored-page}
 use Rattle.sb_node.specs.Entries.{Entry}
 use Rattle.sb_node.specs.Page.{node_of}
-use Rattle.sb_btree.specs.Tree.{Nodes, nodes, items, IsTree, level_of}
-use Rattle.sb_btree.specs.Read.{read_tree}
+use Rattle.sb_forms.specs.Tree.{Nodes, nodes, items, IsTree, level_of}
+use Rattle.sb_forms.specs.Read.{read_tree}
 use Rattle.sb_btree.specs.Broken.{held_node, is_no_root, breaks_below, breaks}
 use Rattle.sb_btree.specs.Held.{IsRootPage, Lacks}
 use Rattle.sb_btree.specs.Walks.{as_walk, Breaks, Gives, Needs, Leads, OverTree, OnTree, OverNodes, Shows}
@@ -35,7 +35,7 @@ pub record AtRoot (c : View) (P : Pages) (root l : ℕ) (es : List Entry) : Type
   pub items_are : items l (nodes (stored c P)) root ≡ es
   pub level_is : l ≡ level_of (nodes (stored c P) root)
 
-at_root : (c : View) (P : Pages) (root l : ℕ) (es : List Entry) → IsRootPage (page_of c root) l → read_tree root (stored c P) ≡ Some es → AtRoot c P root l es
+pub at_root : (c : View) (P : Pages) (root l : ℕ) (es : List Entry) → IsRootPage (page_of c root) l → read_tree root (stored c P) ≡ Some es → AtRoot c P root l es
 at_root c P root l es page read =
     let r = read_root (stored c P) root es read in
     let level = held_level c (nodes (stored c P)) root l (stored_shows c P) page in

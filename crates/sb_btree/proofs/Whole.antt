@@ -5,15 +5,15 @@ use Rattle.std.proofs.lemmas.Bool.Decides.{nat_tests}
 use Rattle.sb_ctx.specs.View.{HeldPages}
 use Rattle.sb_node.specs.Entries.{Entry, is_below}
 use Rattle.sb_node.specs.Page.{Node, node_of}
-use Rattle.sb_btree.specs.Tree.{Nodes, nodes, Child, child_of, children_of, over, items, met, AreChildren, IsLeaf, IsInner, IsTree, IsRoot, Has, level_of, child_for}
+use Rattle.sb_forms.specs.Tree.{Nodes, nodes, Child, child_of, children_of, over, items, met, AreChildren, IsLeaf, IsInner, IsChild, IsTree, IsRoot, Has, level_of, child_for}
 use Rattle.sb_btree.specs.Broken.{held_node, is_of_level, is_amiss, children_at, any_by, breaks_below, is_no_root, TreesAreWhole}
 use Rattle.sb_btree.specs.Ways.{child_on, way, tree_way, WaysAreShort}
 use Rattle.sb_btree.proofs.Children.{children_child}
-use Rattle.sb_btree.proofs.Descending.{tree_page, tree_amiss}
+use Rattle.sb_btree.proofs.Descending.{tree_amiss}
 use Rattle.sb_btree.proofs.Members.{has_left, has_right, has_is, is_has}
-use Rattle.sb_btree.proofs.Reading.{IsChild, read_root}
+use Rattle.sb_btree.proofs.Reading.{read_root}
 
-and_no : (a b : Bool) → b ≡ false → (a && b) ≡ false
+pub and_no : (a b : Bool) → b ≡ false → (a && b) ≡ false
 and_no true b e = e
 and_no false b e = refl
 
@@ -43,10 +43,10 @@ any_held l N p t never tree None shows = refl
 any_held l N p t never tree (Some bytes) shows = any_at l N t never (node_of bytes) (subst (λ o. AreChildren (IsChild l N) (items l N) None (children_of o)) (shows bytes refl) tree.2)
 
 pub whole_below : (l : ℕ) (held : HeldPages) (N : Nodes) (p n : ℕ) → AreShown held N → IsTree l N p → breaks_below l held p n ≡ false
-whole_below zero held N p n shows tree = and_no (nat_eq p n) (is_amiss 0 (held p)) (tree_amiss 0 (held p) (N p) (shows p) (tree_page 0 N p tree))
+whole_below zero held N p n shows tree = and_no (nat_eq p n) (is_amiss 0 (held p)) (tree_amiss 0 (held p) N p (shows p) tree)
 whole_below (suc l) held N p n shows tree =
     neither (nat_eq p n && is_amiss (suc l) (held p)) _
-    (and_no (nat_eq p n) (is_amiss (suc l) (held p)) (tree_amiss (suc l) (held p) (N p) (shows p) (tree_page (suc l) N p tree)))
+    (and_no (nat_eq p n) (is_amiss (suc l) (held p)) (tree_amiss (suc l) (held p) N p (shows p) tree))
     (any_held l N p (λ c. breaks_below l held c n) (λ c h. whole_below l held N c n shows h.0) tree (held p) (shows p))
 
 -- a page that isn't held breaks nothing

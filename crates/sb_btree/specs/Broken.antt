@@ -1,12 +1,12 @@
 -- Held pages that keep a walk from being one over a tree.
-use Rattle.std.specs.Prelude.{ℕ, zero, suc, ◌≡◌, ◌&&◌, ◌||◌, not, Bool, true, false, cond, nat_eq, nat_lt, List, [], ◌∷◌, Option, Some, None}
+use Rattle.std.specs.Prelude.{ℕ, zero, suc, ◌≡◌, ◌&&◌, ◌||◌, not, Bool, true, false, cond, nat_eq, nat_lt, List, [], ◌∷◌, length, Option, Some, None}
 use Rattle.sb_forms.specs.Pages.{Pages}
 use Rattle.sb_ctx.specs.View.{HeldPages, AreSomeOf}
 use Rattle.sb_node.specs.declared.head.Head.{Head}
 use Rattle.sb_node.specs.Entries.{Entry}
 use Rattle.sb_node.specs.Page.{Node, node_of}
-use Rattle.sb_btree.specs.Tree.{Child, children_of, level_of}
-use Rattle.sb_btree.specs.Read.{all_by, is_small, is_bound, read_tree}
+use Rattle.sb_forms.specs.Tree.{Child, children_of, level_of}
+use Rattle.sb_forms.specs.Read.{all_by, is_small, is_bound, read_tree}
 
 -- the node of a page, where it is held and is an entry page
 abbrev pub held_node : Option (List ℕ) → Option Node
@@ -25,10 +25,20 @@ abbrev pub is_page : ℕ → Option Node → Bool
 is_page l None = false
 is_page l (Some n) = is_of_level l n.head && are_of_level l n.entries
 
--- a page is held, and isn't one of this level
+-- a page is held, and isn't one of this level, whatever its entries are
+abbrev pub is_unlike : ℕ → Option (List ℕ) → Bool
+is_unlike l None = false
+is_unlike l (Some bytes) = elim (node_of bytes) [ None ↦ true | Some n ↦ not (is_of_level l n.head) ]
+
+-- an inner page without an entry has one child alone
+abbrev pub is_narrow : ℕ → Option Node → Bool
+is_narrow l None = false
+is_narrow l (Some n) = not (nat_eq l 0) && nat_eq (length n.entries) 0
+
+-- a page is held, and isn't one of this level, or has one child alone
 abbrev pub is_amiss : ℕ → Option (List ℕ) → Bool
 is_amiss l None = false
-is_amiss l (Some bytes) = not (is_page l (node_of bytes))
+is_amiss l (Some bytes) = not (is_page l (node_of bytes)) || is_narrow l (node_of bytes)
 
 -- the children of a page that is of this level
 abbrev pub children_at : ℕ → Option Node → List Child

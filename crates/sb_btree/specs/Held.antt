@@ -5,7 +5,7 @@ use Rattle.sb_node.specs.declared.head.Head.{Head}
 use Rattle.sb_node.specs.Entries.{Entry}
 use Rattle.sb_node.specs.Page.{has_form, node_in}
 use Rattle.sb_btree.specs.Broken.{held_node, is_no_root, is_of_level}
-use Rattle.sb_btree.specs.Tree.{level_of}
+use Rattle.sb_forms.specs.Tree.{level_of}
 use Rattle.sb_btree.specs.Ways.{is_behind}
 use Rattle.sb_btree.specs.declared.walk.Stop.{Stop}
 use Rattle.sb_btree.specs.declared.walk.Stop.TheVariants.{Need, Fresh, Broken, NoMemory}

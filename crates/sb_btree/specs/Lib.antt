@@ -1,6 +1,10 @@
-pub mod Tree
-pub mod Read
 pub mod Broken
 pub mod Ways
 pub mod Walks
 pub mod Held
+pub mod Became
+pub mod Halves
+pub mod Inserts
+pub mod Prepared
+pub mod Spending
+pub mod Removes

@@ -4,8 +4,8 @@ use Rattle.sb_forms.specs.Pages.{Pages}
 use Rattle.sb_ctx.specs.View.{View, page_of, stored}
 use Rattle.sb_node.specs.Entries.{Entry}
 use Rattle.sb_node.specs.Page.{node_of}
-use Rattle.sb_btree.specs.Tree.{Nodes, IsTree}
-use Rattle.sb_btree.specs.Read.{read_tree}
+use Rattle.sb_forms.specs.Tree.{Nodes, IsTree}
+use Rattle.sb_forms.specs.Read.{read_tree}
 use Rattle.sb_btree.specs.declared.walk.Stop.{Stop}
 use Rattle.sb_btree.specs.declared.walk.Stop.TheVariants as stop
 use Rattle.sb_btree.specs.declared.walk.Walk.{Walk}

@@ -4,8 +4,8 @@ use Rattle.std.specs.List.{find as first}
 use Rattle.sb_forms.specs.Pages.{Pages}
 use Rattle.sb_node.specs.Entries.{Entry, is_below}
 use Rattle.sb_node.specs.Page.{Node}
-use Rattle.sb_btree.specs.Tree.{Nodes, nodes, items, met, level_of, child_in}
-use Rattle.sb_btree.specs.Read.{has, read_tree}
+use Rattle.sb_forms.specs.Tree.{Nodes, nodes, items, met, level_of, child_in}
+use Rattle.sb_forms.specs.Read.{has, read_tree}
 
 -- the child in which a key stands, or the leftmost one
 abbrev pub child_on : Option (List ℕ) → Option Node → ℕ

@@ -1,7 +1,8 @@
 //! What is so of all pages.
 
 ghost use Rattle.sb_btree.specs.Broken.{TreesAreWhole};
-ghost use Rattle.sb_btree.specs.Read.{ReadsTrees};
+ghost use Rattle.sb_forms.specs.Read.{ReadsTrees};
+ghost use Rattle.sb_btree.specs.Spending.{TreesAreSmall};
 ghost use Rattle.sb_btree.specs.Ways.{WaysAreShort};
 
 /// The items are read of just the pages that are a tree.
@@ -17,4 +18,9 @@ pub fn trees_are_whole()
 /// A walk down a tree needs at most 17 pages, all of them the tree's.
 pub fn ways_are_short()
     ensures { WaysAreShort }
+{}
+
+/// A tree has at most two pages for each entry, and three more.
+pub fn trees_are_small()
+    ensures { TreesAreSmall }
 {}

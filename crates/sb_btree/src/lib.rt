@@ -6,13 +6,20 @@
 //! 602 bytes, and a key with its value to 2,032.
 #![tactic(auto)]
 
+mod halves;
+mod insertion;
 mod laws;
 mod lookup;
 mod page;
+mod preparing;
+mod removal;
 mod walk;
 
-pub use laws::{reads_trees, trees_are_whole, ways_are_short};
+pub use insertion::insert;
+pub use laws::{reads_trees, trees_are_small, trees_are_whole, ways_are_short};
 pub use lookup::{find, next};
+pub use preparing::prepare;
+pub use removal::remove;
 pub use walk::Walk;
 
 #[cfg(test)]

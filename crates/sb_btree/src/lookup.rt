@@ -7,8 +7,8 @@ ghost use Rattle.sb_node.specs.Entries.{key_cmp};
 ghost use Rattle.sb_node.specs.Page.{has_form, node_in};
 ghost use Rattle.sb_ctx.specs.View.{page_of};
 ghost use Rattle.sb_btree.specs.Broken.{breaks, breaks_below};
-ghost use Rattle.sb_btree.specs.Read.{has};
-ghost use Rattle.sb_btree.specs.Tree.{items};
+ghost use Rattle.sb_forms.specs.Read.{has};
+ghost use Rattle.sb_forms.specs.Tree.{items};
 ghost use Rattle.sb_btree.specs.Walks.{AsksFor, Breaks, Gives, Leads, Needs, OnTree, OverNodes, OverTree, as_walk};
 ghost use Rattle.sb_btree.specs.Ways.{is_behind, is_on_next_ways, is_on_way, next_ways, way};
 
@@ -135,7 +135,8 @@ fn leaf_next(
     Ok(Some((key, value)))
 }
 
-fn copied(alloc: Global, bytes: &[u8]) -> Result<Vec<u8>, AllocError>
+/// A copy of bytes.
+pub fn copied(alloc: Global, bytes: &[u8]) -> Result<Vec<u8>, AllocError>
     ensures { IfOk result (λ copy. copy.items ≡ bytes.now) }
 {
     bytes.to_vec(alloc)

@@ -3,9 +3,9 @@
 ghost use Rattle.std.specs.Prelude.{◌≡◌, ◌≤◌, MatchOption, IfOk, IfErr, option_map, false, true};
 ghost use Rattle.sb_node.specs.Page.{has_form, node_in};
 ghost use Rattle.sb_ctx.specs.View.{page_of};
-ghost use Rattle.sb_btree.specs.Broken.{is_amiss, is_no_root, is_of_level};
+ghost use Rattle.sb_btree.specs.Broken.{is_amiss, is_no_root, is_of_level, is_unlike};
 ghost use Rattle.sb_btree.specs.Held.{IsRootPage, IsTreePage, Lacks, nth_child, passed};
-ghost use Rattle.sb_btree.specs.Read.{all_by, is_bound};
+ghost use Rattle.sb_forms.specs.Read.{all_by, is_bound};
 
 use crate::walk::Stop;
 use sb_bytes::get_u32;
@@ -13,7 +13,7 @@ use sb_ctx::Ctx;
 use sb_node::{Head, entry, form, kind, place};
 
 /// The level of a root at most.
-const MOST_LEVEL: u8 = 16;
+pub const MOST_LEVEL: u8 = 16;
 
 /// The level of the page at the root.
 pub fn root_level(ctx: &Ctx, root: u32) -> Result<u8, Stop>
@@ -33,6 +33,7 @@ pub fn root_level(ctx: &Ctx, root: u32) -> Result<u8, Stop>
 pub fn tree_page(ctx: &Ctx, page: u32, level: u8) -> Result<(&[u8], Head), Stop>
     ensures ok { IfOk result (λ found. IsTreePage (page_of ctx.now page) level found.0.now found.1) }
     ensures stops { IfErr result (Lacks (page_of ctx.now page) (is_amiss level (page_of ctx.now page)) page) }
+    ensures unlike { IfErr result (Lacks (page_of ctx.now page) (is_unlike level (page_of ctx.now page)) page) }
 {
     let Some(bytes) = ctx.page(page) else {
         return Err(Stop::Need(page));

@@ -6,8 +6,8 @@ ghost use Rattle.sb_btree.specs.Walks.{as_walk};
 use std::alloc::AllocError;
 
 /// What a walk over the pages that a Ctx holds comes to: an end, or what it lacks. `Need` asks for a page, `Fresh` for a
-/// page that nobody has. The page of `Broken` is held, and is empty, no page of a tree, or not one level below the
-/// page above it.
+/// page that nobody has. The page of `Broken` is held, and is empty, no page of a tree, not one level below the page
+/// above it, an inner page with one child, or has an entry that no page of its level has.
 #[derive(Drop)]
 pub enum Walk<T> {
     Ready(T),

@@ -10,9 +10,11 @@ use Rattle.std.proofs.lemmas.Map.Text.{is_eq-slice_cmp}
 use Rattle.std.proofs.lemmas.Option.{same_Some}
 use Rattle.sb_value.specs.Equal.{bytes_same}
 use Rattle.sb_value.specs.Order.{bytes_cmp}
+use Rattle.sb_rule.specs.declared.change.Change.{Change}
 use Rattle.sb_rule.specs.declared.rule.Rule.{Rule}
 use Rattle.sb_rule.specs.declared.rule.Rule.TheVariants.{TreeIndex, HashIndex, JoinIndex, Stats, Check, Refers, Trigger, Foreign}
 use Rattle.sb_rule.specs.Spelling.{SpellsRule}
+use Rattle.sb_relation.specs.Changes.{changed, changed_rows, with_change}
 use Rattle.sb_relation.specs.Db.{Name, Key, Row, Rows, Relation, Db, relation_at, row_at, rows_at, with_relation, with_row, with_rows, without_row}
 use Rattle.sb_relation.specs.Fits.{is_empty}
 use Rattle.sb_forms.specs.Pages.{Pages, page_numbers, page_count}
@@ -45,6 +47,13 @@ relation_at-with_rows db name rows r there =
 -- its rows are those
 pub rows_at-with_rows : (db : Db) (name : Name) (rows : Rows) (r : Relation) → relation_at db name ≡ Some r → rows_at (with_rows db name rows) name ≡ rows
 rows_at-with_rows db name rows r there = ap (λ (o : Option Relation). elim o [ None ↦ [] | Some q ↦ q.rows ]) (relation_at-with_rows db name rows r there)
+
+-- a change of a relation that is there leaves its columns, with the changed rows
+pub relation_at-changed : (db : Db) (name : Name) (c : Change) (r : Relation) → relation_at db name ≡ Some r → relation_at (changed db name c) name ≡ Some (with_change r c (changed_rows r.rows c))
+relation_at-changed db name c r there =
+    ap (λ (o : Option Relation). relation_at (elim o [ None ↦ db | Some q ↦ with_relation db name (with_change q c (changed_rows q.rows c)) ]) name) there
+    ∙ find-put bytes_cmp nat_list_cmp_total name name (with_change r c (changed_rows r.rows c)) db
+    ∙ ap (λ o. cond (is_eq o) (Some (with_change r c (changed_rows r.rows c))) (relation_at db name)) (tied_itself nat_list_cmp_total name)
 
 -- ---- rows after a change
 -- one row more

@@ -4,16 +4,16 @@ use Rattle.sb_relation.specs.Content.{Content, no_content, are_rising}
 use Rattle.sb_relation.specs.Db.{Rows}
 use Rattle.sb_relation.specs.Lawful.{AreRows}
 use Rattle.sb_forms.specs.Pages.{Pages, ArePages, page_count}
-use Rattle.sb_forms.specs.ListPages.{list_rows}
+use Rattle.sb_forms.specs.TreePages.{tree_rows}
 use Rattle.sb_ctx.specs.declared.instance.Instance.{Instance}
 use Rattle.sb_ctx.specs.View.{HeldPages, AreSomeOf}
 use Rattle.sb_ctx.specs.Method.{Method}
 use Rattle.sb_ctx.specs.Attachment.{Attachment}
 
--- the storage method of code 2 is durable and keeps its rows in list pages
+-- the storage method of code 2 is durable and keeps its rows in the pages of a tree
 pub record IsTree (m : Method) : Type 0 where
   pub durable : m.rules.durable ≡ true
-  pub rows : (inst : Instance) (P : Pages) → m.read inst P ≡ list_rows inst.root inst.schema inst.key P
+  pub rows : (inst : Instance) (P : Pages) → m.read inst P ≡ tree_rows inst.root inst.schema inst.key P
 
 -- Formed pages hold rows of the relation, fewer than 2 to the 48th; the root is one of them, they are within the bound, and none of them may be called broken.
 pub record HoldRows (m : Method) (inst : Instance) (P : Pages) (rows : Rows) : Type 0 where

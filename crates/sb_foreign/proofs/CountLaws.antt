@@ -1,22 +1,17 @@
 -- What a count answers.
-use Rattle.std.proofs.Common.{◌≡◌, ◌≢◌, ℕ, suc, ◌+◌, ◌-◌, ◌<◌, ◌≤◌, ◌^◌, min, ◌==◌, nat_le, Bool, true, false, true≢false, cond, ◌&&◌, List, [], ◌∷◌, ◌++◌, length, take, drop, Option, Some, None, option_map, is_none, is_some, pos, refl, sym, ap, subst, ◌∙◌, arith, eq-eqb, eqb-true, All, length-append}
-use Rattle.std.specs.FinMap.Entries.{find-put}
-use Rattle.std.specs.Int.{to_be_bytes, from_be_bytes, w64}
-use Rattle.std.specs.Ordering.{is_eq}
-use Rattle.std.proofs.lemmas.Bool.{and_parts}
+use Rattle.std.proofs.Common.{◌≡◌, ◌≢◌, ℕ, ◌+◌, ◌<◌, ◌≤◌, ◌==◌, nat_le, Bool, true, false, cond, ◌&&◌, List, [], ◌∷◌, length, drop, Option, Some, None, option_map, is_none, is_some, pos, refl, sym, ap, subst, ◌∙◌, arith, eq-eqb, eqb-true, length-append}
+use Rattle.std.specs.Int.{to_be_bytes, w64}
 use Rattle.std.proofs.lemmas.Bool.Decides.{nat_tests}
-use Rattle.std.proofs.lemmas.Cmp.{tied_itself, nat_list_cmp_total}
 use Rattle.std.proofs.lemmas.Nat.{from_be_bytes-to_be_bytes_8}
 use Rattle.std.proofs.lemmas.Option.{same_Some}
 use Rattle.sb_value.specs.declared.schema.Column.{Column}
-use Rattle.sb_value.specs.Order.{bytes_cmp}
 use Rattle.sb_rule.specs.declared.change.Change.{Change}
 use Rattle.sb_rule.specs.declared.change.Change.TheVariants as change
 use Rattle.sb_rule.specs.declared.rule.Rule.{Rule}
 use Rattle.sb_rule.specs.declared.rule.Rule.TheVariants.{Foreign}
-use Rattle.sb_relation.specs.Changes.{changed, changed_rows, with_change}
+use Rattle.sb_relation.specs.Changes.{changed, changed_rows}
 use Rattle.sb_relation.specs.Content.{Content, are_rising}
-use Rattle.sb_relation.specs.Db.{Name, Key, Row, Rows, Relation, Db, relation_at, rows_at, with_relation, with_row, with_rows}
+use Rattle.sb_relation.specs.Db.{Name, Key, Row, Rows, Relation, Db, relation_at, rows_at, with_row, with_rows}
 use Rattle.sb_relation.specs.Lawful.{AreRows}
 use Rattle.sb_forms.specs.Pages.{Pages, page_count, zeros, new_pages}
 use Rattle.sb_ctx.specs.declared.instance.Instance.{Instance}
@@ -25,15 +20,15 @@ use Rattle.sb_ctx.specs.declared.calls.AttachCall.TheVariants as call
 use Rattle.sb_ctx.specs.declared.moves.Move.{Move}
 use Rattle.sb_ctx.specs.declared.moves.Move.TheVariants as move
 use Rattle.sb_ctx.specs.Attachment.{StandsOn, IsChangeOf}
-use Rattle.sb_ctx.specs.AttachAnswers.{Answers, Ends, MayEnd, Built, Changed, Changes, Looks, Costs, Holds, Prepared, Spends, content_over, content_over_rows, content_after, content_with, NotNew}
+use Rattle.sb_ctx.specs.AttachAnswers.{Ends, MayEnd, Built, Changed, Changes, Looks, Costs, Holds, Prepared, Spends, content_over, content_over_rows, NotNew}
 use Rattle.sb_ctx.specs.Laws.{IsAttachment, HoldContent}
 use Rattle.sb_ctx.specs.Sized.{IsCtx}
-use Rattle.sb_ctx.specs.View.{View, HeldPages, AreSomeOf, page_of, given_at, dropped, with_page, spliced, HoldsPart, edits_of, stored}
+use Rattle.sb_ctx.specs.View.{View, HeldPages, AreSomeOf, page_of, given_at, dropped, spliced, HoldsPart, edits_of, stored}
 use Rattle.sb_ctx.proofs.ViewLaws.{stored-clean, stored-same, given-page, dropped-with_page}
-use Rattle.sb_ctx.proofs.AuthorLaws.{foreign_rule, rows_at-with_rows, length-with_row, length-without_row, length-moved_row, edits_of-one, edits_of-none, page_count-one, page_count-written, given_at-page}
+use Rattle.sb_ctx.proofs.AuthorLaws.{foreign_rule, rows_at-with_rows, length-with_row, length-without_row, length-moved_row, edits_of-one, edits_of-none, page_count-one, page_count-written, given_at-page, relation_at-changed}
 use Rattle.sb_foreign.specs.declared.count.Step.{Step}
 use Rattle.sb_foreign.specs.declared.count.Step.TheVariants.{Up, Down}
-use Rattle.sb_foreign.specs.Counts.{number_in, count_in, counted, counted_in, has_no_count, count, count_rules, stepped, IsWritten, Steps}
+use Rattle.sb_foreign.specs.Counts.{number_in, count_in, counted, has_no_count, count, stepped, IsWritten, Steps}
 use Rattle.sb_foreign.proofs.WatchedLaws.{root_of_new}
 
 -- ---- formed pages
@@ -269,13 +264,6 @@ changed_before inst rule db buckets P stands holds =
 
 rising : (inst : Instance) (rule : Rule) (db : Db) (stands : StandsOn count inst rule db) → AreRows stands.relation.schema (rows_at db inst.relation)
 rising inst rule db stands = subst (λ (rows : Rows). AreRows stands.relation.schema rows) (sym (ap (λ (o : Option Relation). elim o [ None ↦ [] | Some r ↦ r.rows ]) stands.there)) (stands.lawful inst.relation stands.relation stands.there)
-
--- a change of a relation that is there leaves the changed rows
-relation_at-changed : (db : Db) (name : Name) (c : Change) (r : Relation) → relation_at db name ≡ Some r → relation_at (changed db name c) name ≡ Some (with_change r c (changed_rows r.rows c))
-relation_at-changed db name c r there =
-    ap (λ (o : Option Relation). relation_at (elim o [ None ↦ db | Some q ↦ with_relation db name (with_change q c (changed_rows q.rows c)) ]) name) there
-    ∙ find-put bytes_cmp nat_list_cmp_total name name (with_change r c (changed_rows r.rows c)) db
-    ∙ ap (λ o. cond (is_eq o) (Some (with_change r c (changed_rows r.rows c))) (relation_at db name)) (tied_itself nat_list_cmp_total name)
 
 rows_at-changed : (db : Db) (name : Name) (c : Change) (r : Relation) → relation_at db name ≡ Some r → rows_at (changed db name c) name ≡ changed_rows (rows_at db name) c
 rows_at-changed db name c r there =

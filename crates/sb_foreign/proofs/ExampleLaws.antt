@@ -1,27 +1,20 @@
 -- The instances of the tests may be called, with rows of one byte.
-use Rattle.std.proofs.Common.{◌≡◌, ℕ, ◌≤◌, ◌<◌, Bool, true, false, cond, List, [], ◌∷◌, Option, Some, None, pos, refl, sym, ap, subst, ◌∙◌, arith, ◌==◌, eqb-true}
+use Rattle.std.proofs.Common.{◌≡◌, ℕ, ◌≤◌, Bool, true, false, cond, List, [], ◌∷◌, Some, None, refl, ap, subst, arith}
 use Rattle.std.specs.Ordering.{eq_by_cmp}
-use Rattle.std.proofs.lemmas.Bool.Decides.{nat_tests}
 use Rattle.std.proofs.lemmas.Cmp.{nat_list_cmp_total, eq_by_cmp_equiv}
 use Rattle.std.proofs.lemmas.List.Elements.{All-nil}
 use Rattle.std.proofs.lemmas.Option.{same_Some}
 use Rattle.sb_value.specs.declared.schema.Column.{Column}
-use Rattle.sb_value.specs.declared.value.Value.TheVariants.{Int}
 use Rattle.sb_value.specs.Order.{bytes_cmp}
-use Rattle.sb_rule.specs.declared.change.Change.{Change}
 use Rattle.sb_rule.specs.declared.change.Change.TheVariants as change
-use Rattle.sb_rule.specs.declared.rule.Rule.{Rule}
 use Rattle.sb_rule.specs.declared.rule.Rule.TheVariants.{Foreign}
-use Rattle.sb_relation.specs.Db.{Name, Key, Row, Relation, relation_at}
-use Rattle.sb_relation.specs.Keys.{Coded, Counted, Picked, is_record_key, keying_of}
-use Rattle.sb_relation.specs.Lawful.{IsRow, AreRows, is_long_for}
+use Rattle.sb_relation.specs.Db.{Key, Row, Relation}
+use Rattle.sb_relation.specs.Keys.{is_record_key}
+use Rattle.sb_relation.specs.Lawful.{IsRow, AreRows}
 use Rattle.sb_ctx.specs.declared.instance.Instance.{Instance}
-use Rattle.sb_ctx.specs.Attachment.{Attachment, IsInstance, IsOwned, MayHold, MayMeet, keeps_pages}
-use Rattle.sb_ctx.specs.Method.{Method, MayHold as MayHoldIn}
-use Rattle.sb_ctx.proofs.AuthorLaws.{foreign_rule}
-use Rattle.sb_foreign.specs.Strips.{is_byte, is_numbers, strip}
+use Rattle.sb_ctx.specs.Attachment.{Attachment, IsOwned, keeps_pages}
+use Rattle.sb_foreign.specs.Strips.{strip}
 use Rattle.sb_foreign.specs.Examples.{IsExample, Keeps, Watches, MayBeHeld, MayBeMet}
-use Rattle.sb_foreign.proofs.StripLaws.{IsRow-byte}
 
 -- ---- instances
 pub Keeps-strip : (inst : Instance) → IsExample 1000 [] inst → Keeps strip inst

@@ -1,11 +1,10 @@
 -- What a limit answers.
-use Rattle.std.proofs.Common.{◌≡◌, ℕ, ◌≤◌, Bool, true, false, List, [], Option, Some, None, refl, sym, ap, subst, ◌∙◌, arith}
+use Rattle.std.proofs.Common.{◌≡◌, ℕ, Bool, true, false, Some, None, refl, sym, subst, arith}
 use Rattle.sb_rule.specs.declared.change.Change.{Change}
 use Rattle.sb_rule.specs.declared.rule.Rule.{Rule}
 use Rattle.sb_rule.specs.declared.rule.Rule.TheVariants.{Foreign}
 use Rattle.sb_rule.specs.Bound.{row_after}
-use Rattle.sb_relation.specs.Changes.{changed, of_new}
-use Rattle.sb_relation.specs.Content.{no_content}
+use Rattle.sb_relation.specs.Changes.{of_new}
 use Rattle.sb_relation.specs.Db.{Key, Row, Rows, Db}
 use Rattle.sb_forms.specs.Pages.{Pages}
 use Rattle.sb_ctx.specs.declared.instance.Instance.{Instance}
@@ -13,7 +12,7 @@ use Rattle.sb_ctx.specs.declared.calls.AttachCall.{AttachCall}
 use Rattle.sb_ctx.specs.declared.calls.AttachCall.TheVariants as call
 use Rattle.sb_ctx.specs.declared.moves.Move.{Move}
 use Rattle.sb_ctx.specs.declared.moves.Move.TheVariants as move
-use Rattle.sb_ctx.specs.AttachAnswers.{AsksFor, IsBroken, MayEnd, Answers, Built, Changed, Changes, Ends, Holds, Prepared, content_over, content_over_rows, first_content}
+use Rattle.sb_ctx.specs.AttachAnswers.{AsksFor, IsBroken, MayEnd, Answers, Built, Changed, Changes, Holds, Prepared, content_over, content_over_rows}
 use Rattle.sb_ctx.specs.Laws.{IsAttachment}
 use Rattle.sb_ctx.specs.View.{View, dropped, HoldsPart}
 use Rattle.sb_ctx.proofs.AuthorLaws.{foreign_rule}

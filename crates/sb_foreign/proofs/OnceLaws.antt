@@ -1,10 +1,10 @@
 -- What a box answers that asks which rows have a number.
-use Rattle.std.proofs.Common.{◌≡◌, ℕ, zero, suc, ◌+◌, ◌≤◌, ◌<◌, ◌==◌, nat_le, ◌&&◌, ◌||◌, Bool, true, false, true≢false, cond, codes, List, [], ◌∷◌, ◌++◌, length, map, take, get_or, All, Option, Some, None, option_map, refl, sym, ap, subst, ◌∙◌, arith, bytes_eq}
+use Rattle.std.proofs.Common.{◌≡◌, ℕ, zero, suc, ◌≤◌, ◌<◌, nat_le, ◌&&◌, ◌||◌, Bool, true, false, cond, codes, List, [], ◌∷◌, length, map, take, get_or, All, Option, Some, None, option_map, refl, sym, ap, subst, ◌∙◌, arith, bytes_eq}
 use Rattle.std.specs.List.{find as first, list_all, list_any}
 use Rattle.std.specs.Cmp.Lexicographic.{pointwise, pointwise_decides}
 use Rattle.std.proofs.lemmas.Bool.{and_parts}
-use Rattle.std.proofs.lemmas.List.Elements.{All-nil, All-cons, All-head, All-tail}
-use Rattle.std.proofs.lemmas.List.{take_more, take_all}
+use Rattle.std.proofs.lemmas.List.Elements.{All-head, All-tail}
+use Rattle.std.proofs.lemmas.List.{take_all}
 use Rattle.std.proofs.lemmas.Option.{same_Some}
 use Rattle.sb_value.specs.declared.value.Value.{Value}
 use Rattle.sb_value.specs.Equal.{bytes_same, tuple_eq, tuple_same}
@@ -88,30 +88,6 @@ or_later : (a b : Bool) → b ≡ true → (a || b) ≡ true
 or_later true b is = refl
 or_later false b is = is
 
-first_of : (a b : Bool) → (a || false) ≡ true → (a || b) ≡ true
-first_of true b is = refl
-first_of false b is = absurd (true≢false (sym is))
-
--- it stops at the first of these rows
-pub Judges-first : (c : View) (relation : Name) (row : Row) (rows : List Row) (made : Move) → Stops c relation (row ∷ []) made → Judges c relation (row ∷ rows) made
-Judges-first c relation row rows made stops = by made stops
-  where
-    by : (made : Move) → Stops c relation (row ∷ []) made → Judges c relation (row ∷ rows) made
-    by move.Veto stops = first_of (is_refused (known_once c relation row)) (list_any (λ row. is_refused (known_once c relation row)) rows) stops
-    by (move.Find other columns values) stops = tt
-    by move.NoMemory stops = tt
-    by _ stops = absurd stops
-
--- or later
-pub Judges-later : (c : View) (relation : Name) (row : Row) (rows : List Row) (made : Move) → Stops c relation rows made → Judges c relation (row ∷ rows) made
-Judges-later c relation row rows made stops = by made stops
-  where
-    by : (made : Move) → Stops c relation rows made → Judges c relation (row ∷ rows) made
-    by move.Veto stops = or_later (is_refused (known_once c relation row)) (list_any (λ row. is_refused (known_once c relation row)) rows) stops
-    by (move.Find other columns values) stops = tt
-    by move.NoMemory stops = tt
-    by _ stops = absurd stops
-
 -- it stops at the number of one place
 pub Stops-at : (c : View) (relation : Name) (numbers : List ℕ) (place : ℕ) (row : Row) (made : Move) → place < length numbers → row ≡ number_row (get_or numbers place 0)
     → Stops c relation (row ∷ []) made → Stops c relation (map number_row numbers) made
@@ -135,26 +111,9 @@ Stops-at c relation numbers place row made less is stops = by made stops
     by move.NoMemory stops = tt
     by _ stops = absurd stops
 
--- the numbers up to a place, and that one
-pub AreOnce-more : (c : View) (relation : Name) (numbers : List ℕ) (place : ℕ) (row : Row) → place < length numbers → row ≡ number_row (get_or numbers place 0) → known_once c relation row ≡ Some true
-    → AreOnce c relation (map number_row (take place numbers)) → AreOnce c relation (map number_row (take (place + 1) numbers))
-AreOnce-more c relation numbers place row less is here so_far =
-    subst (λ (l : List ℕ). AreOnce c relation (map number_row l)) (sym (take_more numbers place 0 less)) (added (take place numbers) so_far)
-  where
-    IsKnown : Row → Type 0
-    IsKnown row = known_once c relation row ≡ Some true
-
-    added : (l : List ℕ) → All IsKnown (map number_row l) → All IsKnown (map number_row (l ++ get_or numbers place 0 ∷ []))
-    added [] all = All-cons IsKnown (number_row (get_or numbers place 0)) [] (ap (known_once c relation) (sym is) ∙ here) (All-nil IsKnown)
-    added (n ∷ l) all = All-cons IsKnown (number_row n) (map number_row (l ++ get_or numbers place 0 ∷ [])) (All-head IsKnown (number_row n) (map number_row l) all) (added l (All-tail IsKnown (number_row n) (map number_row l) all))
-
 -- all numbers
 pub AreOnce-all : (c : View) (relation : Name) (numbers : List ℕ) (place : ℕ) → length numbers ≤ place → AreOnce c relation (map number_row (take place numbers)) → AreOnce c relation (map number_row numbers)
 AreOnce-all c relation numbers place all so_far = subst (λ (l : List ℕ). AreOnce c relation (map number_row l)) (take_all place numbers all) so_far
-
--- the new row, and all numbers
-pub Judges-done : (c : View) (relation : Name) (row : Row) (rows : List Row) → known_once c relation row ≡ Some true → AreOnce c relation rows → Judges c relation (row ∷ rows) move.Done
-Judges-done c relation row rows here rest = All-cons (λ r. known_once c relation r ≡ Some true) row rows here rest
 
 -- ---- calls
 -- a call that leaves all as it is, and ends as the database says

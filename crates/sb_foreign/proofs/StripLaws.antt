@@ -1,8 +1,8 @@
 -- The rows of a strip, and what its calls answer.
-use Rattle.std.proofs.Common.{◌≡◌, ℕ, zero, suc, ◌+◌, ◌<◌, ◌≤◌, ◌==◌, nat_lt, nat_le, Bool, true, false, true≢false, cond, not, ◌&&◌, ◌||◌, T, codes, List, [], ◌∷◌, ◌++◌, length, take, drop, get_or, replicate, All, Option, Some, None, IsSome, IfSome, is_none, is_some, refl, sym, ap, subst, ◌∙◌, arith, nat_cmp, Ordering, Less, Equal, Greater, pos, w64, length-take, one-add, add-one}
+use Rattle.std.proofs.Common.{◌≡◌, ℕ, zero, suc, ◌+◌, ◌<◌, ◌≤◌, ◌==◌, nat_lt, Bool, true, false, true≢false, cond, not, ◌&&◌, T, List, [], ◌∷◌, ◌++◌, length, take, drop, get_or, All, Option, Some, None, IfSome, is_none, is_some, refl, sym, ap, subst, ◌∙◌, arith, nat_cmp, Ordering, Less, Equal, Greater, pos, w64, length-take, one-add, add-one}
 use Rattle.std.specs.Prelude.{FitsSigned}
 use Rattle.std.specs.List.{list_all, take_while, prefix_len, find as first}
-use Rattle.std.specs.FinMap.Entries.{put, by_order, find, below_all, is_sorted}
+use Rattle.std.specs.FinMap.Entries.{by_order, below_all, is_sorted}
 use Rattle.std.specs.Ordering.{is_lt, is_eq, ordering_then}
 use Rattle.std.proofs.lemmas.Bool.{and_parts}
 use Rattle.std.proofs.lemmas.Bool.Decides.{nat_tests}
@@ -20,14 +20,13 @@ use Rattle.sb_value.specs.Spelling.{IsStorable}
 use Rattle.sb_relation.specs.Db.{Key, Row, Rows, row_at, with_row}
 use Rattle.sb_relation.specs.Keys.{is_record_key}
 use Rattle.sb_relation.specs.Lawful.{IsRow, AreRows}
-use Rattle.sb_forms.specs.Pages.{Pages, ArePages, page_count, zeros, new_pages}
+use Rattle.sb_forms.specs.Pages.{Pages, zeros, new_pages}
 use Rattle.sb_ctx.specs.declared.instance.Instance.{Instance}
 use Rattle.sb_ctx.specs.declared.calls.MethodCall.TheVariants as call
 use Rattle.sb_ctx.specs.declared.calls.MethodCall.{MethodCall}
 use Rattle.sb_ctx.specs.declared.moves.Move.{Move}
 use Rattle.sb_ctx.specs.declared.moves.Move.TheVariants as move
 use Rattle.sb_ctx.specs.Laws.{IsMethod, HoldRows}
-use Rattle.sb_ctx.specs.Method.{IsInstance}
 use Rattle.sb_ctx.specs.Sized.{IsCtx}
 use Rattle.sb_ctx.specs.MethodAnswers.{Changes, Looks, Holds, Before, NextIs, IsRowOf, Spends, is_above, row_above}
 use Rattle.sb_ctx.specs.View.{View, page_of, room_of, dropped, with_page, spliced, HoldsPart, stored}

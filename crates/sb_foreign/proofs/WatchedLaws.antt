@@ -1,5 +1,5 @@
 -- What holds of each attachment here: verdicts, and pages in which nothing is kept.
-use Rattle.std.proofs.Common.{◌≡◌, ◌≢◌, ℕ, ◌≤◌, ◌==◌, Bool, true, false, cond, List, [], Option, Some, None, refl, sym, ap, subst, ◌∙◌, arith, eq-eqb, ◌∷◌}
+use Rattle.std.proofs.Common.{◌≡◌, ◌≢◌, ℕ, Bool, true, false, cond, List, [], Some, None, refl, sym, ap, ◌∙◌, arith, eq-eqb, ◌∷◌}
 use Rattle.std.proofs.lemmas.Option.{same_Some}
 use Rattle.sb_rule.specs.declared.change.Change.{Change}
 use Rattle.sb_rule.specs.declared.change.Change.TheVariants as change
@@ -10,15 +10,10 @@ use Rattle.sb_relation.specs.Db.{Row}
 use Rattle.sb_relation.specs.Fits.{is_empty}
 use Rattle.sb_forms.specs.Pages.{Pages, zeros, new_pages}
 use Rattle.sb_ctx.specs.declared.instance.Instance.{Instance}
-use Rattle.sb_ctx.specs.declared.calls.AttachCall.{AttachCall}
-use Rattle.sb_ctx.specs.declared.moves.Move.{Move}
-use Rattle.sb_ctx.specs.Attachment.{Attachment, plain_attachment}
-use Rattle.sb_ctx.specs.AttachAnswers.{AsksFor, Answers, Ends}
+use Rattle.sb_ctx.specs.Attachment.{plain_attachment}
 use Rattle.sb_ctx.specs.Laws.{HoldContent}
-use Rattle.sb_ctx.specs.View.{View}
 use Rattle.sb_ctx.proofs.BoundLaws.{page_count-few}
 use Rattle.sb_relation.specs.Foreign.{AttachRules}
-use Rattle.sb_foreign.specs.Watched.{verdict_of}
 use Rattle.sb_foreign.specs.Limits.{nothing_kept}
 
 -- ---- verdicts

@@ -8,7 +8,7 @@ use Rattle.sb_ctx.specs.declared.instance.Instance.{Instance}
 use Rattle.sb_ctx.specs.declared.moves.Move.{Move}
 use Rattle.sb_ctx.specs.declared.moves.Move.TheVariants.{Done, Need, Broken, NoMemory}
 use Rattle.sb_ctx.specs.Attachment.{Attachment}
-use Rattle.sb_ctx.specs.View.{View, HeldPages, page_of, spliced, with_page}
+use Rattle.sb_ctx.specs.View.{View, page_of, spliced, with_page}
 use Rattle.sb_foreign.specs.declared.count.Step.{Step}
 use Rattle.sb_foreign.specs.declared.count.Step.TheVariants.{Up, Down}
 

@@ -1,5 +1,5 @@
 -- An attachment of another author: at most one row has the number of a new row, and each number that the desc lists.
-use Rattle.std.specs.Prelude.{◌≡◌, ℕ, nat_le, nat_lt, Bool, true, false, codes, pos, List, [], ◌∷◌, length, map, All, Option, Some, None, option_map}
+use Rattle.std.specs.Prelude.{◌≡◌, ℕ, nat_le, nat_lt, Bool, true, false, codes, pos, List, [], ◌∷◌, length, map, All, Option, Some, option_map}
 use Rattle.std.specs.List.{list_all, list_any}
 use Rattle.sb_value.specs.declared.value.Value.TheVariants.{Int}
 use Rattle.sb_relation.specs.Changes.{of_new}

@@ -54,6 +54,174 @@ fn row(alloc: Global, number: u8) -> Result<Tuple, AllocError>
     Ok(Tuple::from_vec(vec![in alloc; Value::Int(i64::from(number))]?))
 }
 
+/// A Ctx with page 3, which begins with these bytes.
+fn page(alloc: Global, front: &[u8]) -> Result<Ctx, AllocError>
+    ensures { IfOk result IsClean }
+{
+    let mut page = Vec::from_slice(alloc, front)?;
+    page.resize(4096, 0)?;
+    let mut ctx = Ctx::new(alloc);
+    ctx.give_page(3, &page)?;
+    Ok(ctx)
+}
+
+/// Whether page 3 begins with these bytes.
+fn begins(ctx: &Ctx, front: &[u8]) -> bool {
+    match ctx.page(3) {
+        Some(page) => page.starts_with(front),
+        None => false,
+    }
+}
+
+/// What a call answers, in short.
+#[derive(Clone, Copy, PartialEq, Eq)]
+enum Reply {
+    Done,
+    Veto,
+    End,
+    Needs(u32),
+    Broken(u32),
+    Place(Option<u8>),
+    Number(Option<i64>),
+    Asks(Option<i64>),
+    Sum(Option<i128>),
+    Other,
+}
+
+fn number_in(row: &Tuple) -> Option<i64> {
+    match row.as_slice() {
+        [Value::Int(number)] => Some(*number),
+        _ => None,
+    }
+}
+
+fn reply_of(answer: Move) -> Reply {
+    match answer {
+        Move::Done => Reply::Done,
+        Move::Veto => Reply::Veto,
+        Move::End => Reply::End,
+        Move::Need(n) => Reply::Needs(n),
+        Move::Broken(n) => Reply::Broken(n),
+        Move::Key(key) => Reply::Place(key.as_slice().first().copied()),
+        Move::Row(_, row) => Reply::Number(number_in(&row)),
+        Move::Find { values, .. } => Reply::Asks(number_in(&values)),
+        Move::Sums(sums) => Reply::Sum(sums.as_slice().first().copied()),
+        _ => Reply::Other,
+    }
+}
+
+// ---- the strip
+
+fn strip_instance(alloc: Global) -> Result<Instance, AllocError>
+    ensures { IfOk result (Keeps strip) }
+{
+    instance(alloc, 1000, &[])
+}
+
+/// What an insert of a row of this number answers.
+fn insert<M: StorageMethod>(
+    method: &M,
+    alloc: Global,
+    ctx: &mut Ctx,
+    inst: &Instance,
+    number: u8,
+) -> Result<Reply, AllocError>
+    requires clean { IsClean ctx.old }
+    requires inst { Keeps (M.method method.now) inst.now }
+{
+    let row = row(alloc, number)?;
+    Ok(reply_of(method.insert(alloc, ctx, inst, &row)))
+}
+
+/// What an insert of 9 into these bytes answers, and whether it leaves those.
+fn inserted<M: StorageMethod>(
+    method: &M,
+    alloc: Global,
+    inst: &Instance,
+    before: &[u8],
+    after: &[u8],
+) -> Result<(Reply, bool), AllocError>
+    requires { Keeps (M.method method.now) inst.now }
+{
+    let mut ctx = page(alloc, before)?;
+    let answer = insert(method, alloc, &mut ctx, inst, 9)?;
+    Ok((answer, begins(&ctx, after)))
+}
+
+/// Whether prepare is done, and an insert asks for the root.
+fn starts<M: StorageMethod>(method: &M, alloc: Global, inst: &Instance) -> Result<bool, AllocError>
+    requires { Keeps (M.method method.now) inst.now }
+{
+    let made = reply_of(method.prepare(alloc, &mut Ctx::new(alloc), inst));
+    let asked = insert(method, alloc, &mut Ctx::new(alloc), inst, 9)?;
+    Ok(made == Reply::Done && asked == Reply::Needs(3))
+}
+
+#[test]
+fn a_row_gets_the_first_free_place(rt: HostRuntime) -> Result<(), Fail> {
+    let alloc = rt.alloc();
+    let inst = strip_instance(alloc)?;
+    assert!(rt; starts(&Strip {}, alloc, &inst)?);
+    let answer = inserted(&Strip {}, alloc, &inst, &[5, 0, 7], &[5, 9, 7, 0])?;
+    assert!(rt; answer == (Reply::Place(Some(1)), true));
+    Ok(())
+}
+
+/// The place of the first record key that has another row behind it in a strip of 5 and 7.
+fn first_other_row<M: StorageMethod>(
+    method: &M,
+    alloc: Global,
+    inst: &Instance,
+    rows: &[(&[u8], Reply)],
+) -> Result<Option<usize>, AllocError>
+    requires { Keeps (M.method method.now) inst.now }
+{
+    for (i, (low, wanted)) in rows.iter().enumerate() {
+        let low = RecKey::from_vec(low.to_vec(alloc)?);
+        let mut ctx = page(alloc, &[5, 0, 7])?;
+        if reply_of(method.next(alloc, &mut ctx, inst, Some(&low))) != *wanted {
+            return Ok(Some(i));
+        }
+    }
+    Ok(None)
+}
+
+/// Record keys, and the row behind each.
+const ROWS: [(&[u8], Reply); 4] = [
+    (&[], Reply::Number(Some(5))),
+    (&[0], Reply::Number(Some(7))),
+    (&[1], Reply::Number(Some(7))),
+    (&[2], Reply::End),
+];
+
+#[test]
+fn rows_follow(rt: HostRuntime) -> Result<(), Fail> {
+    let alloc = rt.alloc();
+    let inst = strip_instance(alloc)?;
+    assert_eq!(rt; first_other_row(&Strip {}, alloc, &inst, &ROWS)?, None);
+    Ok(())
+}
+
+// ---- attachments
+
+fn limit_instance(alloc: Global) -> Result<Instance, AllocError>
+    ensures { IfOk result (Watches limit) }
+{
+    instance(alloc, 1000, &[7])
+}
+
+fn once_instance(alloc: Global) -> Result<Instance, AllocError>
+    ensures { IfOk result (Watches once) }
+{
+    instance(alloc, 1001, &[1, 2, 3, 4, 5, 6, 7])
+}
+
+fn count_instance(alloc: Global) -> Result<Instance, AllocError>
+    ensures { IfOk result (Watches count) }
+{
+    instance(alloc, 1002, &[])
+}
+
 /// What becomes of a row: it stands already, comes, gets another number, or goes.
 #[derive(Clone, Copy)]
 enum Event {
@@ -85,246 +253,26 @@ fn change(alloc: Global, event: Event, number: u8) -> Result<Change, AllocError>
     }
 }
 
-/// A Ctx with page 3, which begins with these bytes.
-fn page(alloc: Global, front: &[u8]) -> Result<Ctx, AllocError>
-    ensures { IfOk result IsClean }
-{
-    let mut page = Vec::from_slice(alloc, front)?;
-    page.resize(4096, 0)?;
-    let mut ctx = Ctx::new(alloc);
-    ctx.give_page(3, &page)?;
-    Ok(ctx)
-}
-
-/// Whether page 3 begins with these bytes.
-fn begins(ctx: &Ctx, front: &[u8]) -> bool {
-    match ctx.page(3) {
-        Some(page) => page.starts_with(front),
-        None => false,
-    }
-}
-
-// ---- the strip
-
-fn strip_instance(alloc: Global) -> Result<Instance, AllocError>
-    ensures { IfOk result (Keeps strip) }
-{
-    instance(alloc, 1000, &[])
-}
-
-/// The place that a row of this number gets.
-fn insert<M: StorageMethod>(
-    method: &M,
-    alloc: Global,
-    ctx: &mut Ctx,
-    inst: &Instance,
-    number: u8,
-) -> Result<Option<u8>, AllocError>
-    requires clean { IsClean ctx.old }
-    requires inst { Keeps (M.method method.now) inst.now }
-{
-    let row = row(alloc, number)?;
-    match method.insert(alloc, ctx, inst, &row) {
-        Move::Key(place) => Ok(place.as_slice().first().copied()),
-        _ => Ok(None),
-    }
-}
-
-#[test]
-fn a_row_gets_the_first_free_place(rt: HostRuntime) -> Result<(), Fail> {
-    let alloc = rt.alloc();
-    let inst = strip_instance(alloc)?;
-    let mut ctx = page(alloc, &[5, 0, 7])?;
-    let place = insert(&Strip {}, alloc, &mut ctx, &inst, 9)?;
-    assert_eq!(rt; place, Some(1));
-    assert!(rt; begins(&ctx, &[5, 9, 7, 0]));
-    Ok(())
-}
-
-/// The number of a row.
-fn number_of(answer: &Move) -> Option<i64> {
-    match answer {
-        Move::Row(_, row) => match row.as_slice() {
-            [Value::Int(number)] => Some(*number),
-            _ => None,
-        },
-        _ => None,
-    }
-}
-
-/// The number of the row behind this key.
-fn next<M: StorageMethod>(
-    method: &M,
-    alloc: Global,
-    ctx: &mut Ctx,
-    inst: &Instance,
-    low: &[u8],
-) -> Result<Option<i64>, AllocError>
-    requires clean { IsClean ctx.old }
-    requires inst { Keeps (M.method method.now) inst.now }
-{
-    let low = RecKey::from_vec(low.to_vec(alloc)?);
-    Ok(number_of(&method.next(alloc, ctx, inst, Some(&low))))
-}
-
-/// Record keys, and the number of the row behind each; None for the end.
-const NEXT: [(&[u8], Option<i64>); 4] = [
-    (&[], Some(5)),
-    (&[0], Some(7)),
-    (&[1], Some(7)),
-    (&[2], None),
-];
-
-#[test]
-fn rows_follow(rt: HostRuntime) -> Result<(), Fail> {
-    let alloc = rt.alloc();
-    let inst = strip_instance(alloc)?;
-    for (low, wanted) in NEXT {
-        let mut ctx = page(alloc, &[5, 0, 7])?;
-        let number = next(&Strip {}, alloc, &mut ctx, &inst, low)?;
-        assert!(rt; number == wanted);
-    }
-    Ok(())
-}
-
-/// Whether prepare is done, and an insert asks for the root.
-fn starts<M: StorageMethod>(method: &M, alloc: Global, inst: &Instance, row: &Tuple) -> bool
-    requires inst { Keeps (M.method method.now) inst.now }
-    requires row { MayBeHeld row.now }
-{
-    let made = method.prepare(alloc, &mut Ctx::new(alloc), inst);
-    let asked = method.insert(alloc, &mut Ctx::new(alloc), inst, row);
-    matches!((made, asked), (Move::Done, Move::Need(3)))
-}
-
-#[test]
-fn a_strip_starts(rt: HostRuntime) -> Result<(), Fail> {
-    let alloc = rt.alloc();
-    let row = row(alloc, 9)?;
-    assert!(rt; starts(&Strip {}, alloc, &strip_instance(alloc)?, &row));
-    Ok(())
-}
-
-// ---- attachments
-
-fn limit_instance(alloc: Global) -> Result<Instance, AllocError>
-    ensures { IfOk result (Watches limit) }
-{
-    instance(alloc, 1000, &[7])
-}
-
-fn once_instance(alloc: Global) -> Result<Instance, AllocError>
-    ensures { IfOk result (Watches once) }
-{
-    instance(alloc, 1001, &[1, 2, 3, 4, 5, 6, 7])
-}
-
-fn count_instance(alloc: Global) -> Result<Instance, AllocError>
-    ensures { IfOk result (Watches count) }
-{
-    instance(alloc, 1002, &[])
-}
-
-/// Whether a call admits its row; None where it asks or wants memory.
-fn admits(answer: &Move) -> Option<bool> {
-    match answer {
-        Move::Done => Some(true),
-        Move::Veto => Some(false),
-        _ => None,
-    }
-}
-
-/// Whether a row of this number is admitted.
-fn admitted<A: Attachment>(
+/// What an attachment answers when this becomes of a row of the number.
+fn answered<A: Attachment>(
     attachment: &A,
     alloc: Global,
     ctx: &mut Ctx,
     inst: &Instance,
     event: Event,
     number: u8,
-) -> Result<Option<bool>, AllocError>
+) -> Result<Reply, AllocError>
     requires clean { IsClean ctx.old }
     requires inst { Watches (A.attachment attachment.now) inst.now }
 {
     if let Event::Stands = event {
         let row = row(alloc, number)?;
-        return Ok(admits(&attachment.on_build(alloc, ctx, inst, &key(alloc), &row)));
+        let key = key(alloc);
+        return Ok(reply_of(attachment.on_build(alloc, ctx, inst, &key, &row)));
     }
     let change = change(alloc, event, number)?;
-    Ok(admits(&attachment.on_change(alloc, ctx, inst, &change)))
+    Ok(reply_of(attachment.on_change(alloc, ctx, inst, &change)))
 }
-
-fn sums<A: Attachment>(attachment: &A, alloc: Global, ctx: &mut Ctx, inst: &Instance) -> Move
-    requires clean { IsClean ctx.old }
-    requires inst { Watches (A.attachment attachment.now) inst.now }
-{
-    attachment.sums(alloc, ctx, inst)
-}
-
-fn sums_of(answer: &Move) -> Option<&[i128]> {
-    match answer {
-        Move::Sums(sums) => Some(sums.as_slice()),
-        _ => None,
-    }
-}
-
-/// Whether prepare and late_check are done with, and there is no entry.
-fn has_no_entry<A: Attachment>(attachment: &A, alloc: Global, inst: &Instance) -> bool
-    requires { Watches (A.attachment attachment.now) inst.now }
-{
-    let late = Bytes::new(alloc);
-    let low = key(alloc);
-    let made = attachment.prepare(alloc, &mut Ctx::new(alloc), inst);
-    let late_checked = attachment.late_check(alloc, &mut Ctx::new(alloc), inst, &late);
-    let entry = attachment.next_entry(alloc, &mut Ctx::new(alloc), inst, &low, None);
-    matches!(
-        (made, late_checked, entry),
-        (Move::Done, Move::Done, Move::End)
-    )
-}
-
-/// The same, and there is no sum.
-fn keeps_nothing<A: Attachment>(attachment: &A, alloc: Global, inst: &Instance) -> bool
-    requires { Watches (A.attachment attachment.now) inst.now }
-{
-    let none = attachment.sums(alloc, &mut Ctx::new(alloc), inst);
-    sums_of(&none) == Some([].as_slice()) && has_no_entry(attachment, alloc, inst)
-}
-
-#[test]
-fn nothing_is_kept(rt: HostRuntime) -> Result<(), Fail> {
-    let alloc = rt.alloc();
-    assert!(rt; keeps_nothing(&Limit {}, alloc, &limit_instance(alloc)?));
-    assert!(rt; keeps_nothing(&Once {}, alloc, &once_instance(alloc)?));
-    assert!(rt; has_no_entry(&Count {}, alloc, &count_instance(alloc)?));
-    Ok(())
-}
-
-// ---- the limit
-
-/// Numbers, and whether 7 admits them.
-const LIMITED: [(Event, u8, bool); 7] = [
-    (Event::Stands, 7, true),
-    (Event::Stands, 8, false),
-    (Event::Comes, 7, true),
-    (Event::Comes, 8, false),
-    (Event::Changes, 7, true),
-    (Event::Changes, 8, false),
-    (Event::Goes, 8, true),
-];
-
-#[test]
-fn rows_above_the_limit_are_vetoed(rt: HostRuntime) -> Result<(), Fail> {
-    let alloc = rt.alloc();
-    let inst = limit_instance(alloc)?;
-    for (event, number, within) in LIMITED {
-        let answer = admitted(&Limit {}, alloc, &mut Ctx::new(alloc), &inst, event, number)?;
-        assert_eq!(rt; answer, Some(within));
-    }
-    Ok(())
-}
-
-// ---- the row that stands once
 
 /// One record key, or two.
 fn keys(alloc: Global, two: bool) -> Result<Keys, AllocError>
@@ -360,68 +308,98 @@ fn known(alloc: Global, numbers: &[u8], two: bool) -> Result<Ctx, AllocError>
     Ok(ctx)
 }
 
-fn asked_for(answer: &Move) -> Option<i64> {
-    match answer {
-        Move::Find { values, .. } => match values.as_slice() {
-            [Value::Int(number)] => Some(*number),
-            _ => None,
-        },
-        _ => None,
-    }
-}
+/// What becomes of a row, its number, the numbers that are known, whether two rows have each of them, and the answer.
+type Case = (Event, u8, &'static [u8], bool, Reply);
 
-/// The number that is asked for, where a row of this one comes in.
-fn next_number<A: Attachment>(
+/// The place of the first case that is answered otherwise.
+fn first_other<A: Attachment>(
     attachment: &A,
     alloc: Global,
-    ctx: &mut Ctx,
     inst: &Instance,
-    number: u8,
-) -> Result<Option<i64>, AllocError>
+    cases: &[Case],
+) -> Result<Option<usize>, AllocError>
+    requires { Watches (A.attachment attachment.now) inst.now }
+{
+    for (i, (event, number, numbers, two, wanted)) in cases.iter().enumerate() {
+        let mut ctx = known(alloc, numbers, *two)?;
+        let answer = answered(attachment, alloc, &mut ctx, inst, *event, *number)?;
+        if answer != *wanted {
+            return Ok(Some(i));
+        }
+    }
+    Ok(None)
+}
+
+fn sums<A: Attachment>(attachment: &A, alloc: Global, ctx: &mut Ctx, inst: &Instance) -> Reply
     requires clean { IsClean ctx.old }
     requires inst { Watches (A.attachment attachment.now) inst.now }
 {
-    let change = change(alloc, Event::Comes, number)?;
-    Ok(asked_for(&attachment.on_change(alloc, ctx, inst, &change)))
+    reply_of(attachment.sums(alloc, ctx, inst))
 }
 
-/// The numbers of which it is known which rows have them, and the one that is asked for next.
-const ASKED: [(&[u8], Option<i64>); 3] = [
-    (&[], Some(9)),
-    (&[9], Some(1)),
-    (&[9, 1, 2, 4], Some(3)),
+/// Whether prepare and late_check are done with, and there is no entry.
+fn has_no_entry<A: Attachment>(attachment: &A, alloc: Global, inst: &Instance) -> bool
+    requires { Watches (A.attachment attachment.now) inst.now }
+{
+    let late = Bytes::new(alloc);
+    let low = key(alloc);
+    let made = reply_of(attachment.prepare(alloc, &mut Ctx::new(alloc), inst));
+    let checked = reply_of(attachment.late_check(alloc, &mut Ctx::new(alloc), inst, &late));
+    let entry = attachment.next_entry(alloc, &mut Ctx::new(alloc), inst, &low, None);
+    (made, checked, reply_of(entry)) == (Reply::Done, Reply::Done, Reply::End)
+}
+
+/// Whether there is no entry, and the sums of an empty Ctx are these.
+fn keeps<A: Attachment>(attachment: &A, alloc: Global, inst: &Instance, wanted: Reply) -> bool
+    requires { Watches (A.attachment attachment.now) inst.now }
+{
+    has_no_entry(attachment, alloc, inst)
+        && sums(attachment, alloc, &mut Ctx::new(alloc), inst) == wanted
+}
+
+// ---- the limit
+
+const LIMITED: [Case; 7] = [
+    (Event::Stands, 7, &[], false, Reply::Done),
+    (Event::Stands, 8, &[], false, Reply::Veto),
+    (Event::Comes, 7, &[], false, Reply::Done),
+    (Event::Comes, 8, &[], false, Reply::Veto),
+    (Event::Changes, 7, &[], false, Reply::Done),
+    (Event::Changes, 8, &[], false, Reply::Veto),
+    (Event::Goes, 8, &[], false, Reply::Done),
 ];
 
 #[test]
-fn numbers_are_asked_for(rt: HostRuntime) -> Result<(), Fail> {
+fn rows_above_the_limit_are_vetoed(rt: HostRuntime) -> Result<(), Fail> {
     let alloc = rt.alloc();
-    let inst = once_instance(alloc)?;
-    for (numbers, wanted) in ASKED {
-        let mut ctx = known(alloc, numbers, false)?;
-        let next = next_number(&Once {}, alloc, &mut ctx, &inst, 9)?;
-        assert_eq!(rt; next, wanted);
-    }
+    let inst = limit_instance(alloc)?;
+    assert!(rt; keeps(&Limit {}, alloc, &inst, Reply::Sum(None)));
+    assert_eq!(rt; first_other(&Limit {}, alloc, &inst, &LIMITED)?, None);
     Ok(())
 }
 
-/// Whether two rows have each number, and whether a row of 9 is admitted then.
-const DOUBLED: [(Event, bool, bool); 5] = [
-    (Event::Stands, false, true),
-    (Event::Stands, true, false),
-    (Event::Comes, true, false),
-    (Event::Changes, true, false),
-    (Event::Goes, true, true),
+// ---- the row that stands once
+
+/// Nine, and the numbers of the desc.
+const ALL: &[u8] = &[9, 1, 2, 3, 4, 5, 6, 7];
+
+const KNOWN: [Case; 8] = [
+    (Event::Stands, 9, &[], false, Reply::Asks(Some(9))),
+    (Event::Stands, 9, &[9], false, Reply::Asks(Some(1))),
+    (Event::Comes, 9, &[9, 1, 2, 4], false, Reply::Asks(Some(3))),
+    (Event::Stands, 9, ALL, false, Reply::Done),
+    (Event::Stands, 9, &[9], true, Reply::Veto),
+    (Event::Comes, 9, &[9], true, Reply::Veto),
+    (Event::Changes, 9, &[9], true, Reply::Veto),
+    (Event::Goes, 9, &[9], true, Reply::Done),
 ];
 
 #[test]
-fn a_row_stands_once(rt: HostRuntime) -> Result<(), Fail> {
+fn eight_numbers_stand_once(rt: HostRuntime) -> Result<(), Fail> {
     let alloc = rt.alloc();
     let inst = once_instance(alloc)?;
-    for (event, two, once) in DOUBLED {
-        let mut ctx = known(alloc, &[9, 1, 2, 3, 4, 5, 6, 7], two)?;
-        let answer = admitted(&Once {}, alloc, &mut ctx, &inst, event, 9)?;
-        assert_eq!(rt; answer, Some(once));
-    }
+    assert!(rt; keeps(&Once {}, alloc, &inst, Reply::Sum(None)));
+    assert_eq!(rt; first_other(&Once {}, alloc, &inst, &KNOWN)?, None);
     Ok(())
 }
 
@@ -430,7 +408,25 @@ fn a_row_stands_once(rt: HostRuntime) -> Result<(), Fail> {
 /// The count of 2.
 const TWO: &[u8] = &[0, 0, 0, 0, 0, 0, 0, 2];
 
-/// How many rows there are, where there were two.
+/// The place of the first event that leaves another number of rows, where there were two.
+fn first_miscounted<A: Attachment>(
+    attachment: &A,
+    alloc: Global,
+    inst: &Instance,
+    events: &[(Event, u8)],
+) -> Result<Option<usize>, AllocError>
+    requires { Watches (A.attachment attachment.now) inst.now }
+{
+    for (i, (event, rows)) in events.iter().enumerate() {
+        let mut ctx = page(alloc, TWO)?;
+        let answer = answered(attachment, alloc, &mut ctx, inst, *event, 9)?;
+        if answer != Reply::Done || !begins(&ctx, &[0, 0, 0, 0, 0, 0, 0, *rows, 0]) {
+            return Ok(Some(i));
+        }
+    }
+    Ok(None)
+}
+
 const COUNTED: [(Event, u8); 4] = [
     (Event::Stands, 3),
     (Event::Comes, 3),
@@ -442,33 +438,44 @@ const COUNTED: [(Event, u8); 4] = [
 fn rows_are_counted(rt: HostRuntime) -> Result<(), Fail> {
     let alloc = rt.alloc();
     let inst = count_instance(alloc)?;
-    for (event, rows) in COUNTED {
-        let mut ctx = page(alloc, TWO)?;
-        let answer = admitted(&Count {}, alloc, &mut ctx, &inst, event, 9)?;
-        assert_eq!(rt; answer, Some(true));
-        assert!(rt; begins(&ctx, &[0, 0, 0, 0, 0, 0, 0, rows, 0]));
-    }
+    assert!(rt; keeps(&Count {}, alloc, &inst, Reply::Needs(3)));
+    assert_eq!(rt; first_miscounted(&Count {}, alloc, &inst, &COUNTED)?, None);
     Ok(())
 }
 
-/// Pages, and their counts; None where a page has none.
-const COUNTS: [(&[u8], Option<&'static [i128]>); 4] = [
-    (&[], Some(&[0])),
-    (TWO, Some(&[2])),
-    (&[0, 1, 0, 0, 0, 0, 0, 0], Some(&[281_474_976_710_656])),
-    (&[0, 1, 0, 0, 0, 0, 0, 1], None),
+/// The place of the first page that has another sum.
+fn first_other_sum<A: Attachment>(
+    attachment: &A,
+    alloc: Global,
+    inst: &Instance,
+    pages: &[(&[u8], Reply)],
+) -> Result<Option<usize>, AllocError>
+    requires { Watches (A.attachment attachment.now) inst.now }
+{
+    for (i, (front, wanted)) in pages.iter().enumerate() {
+        let mut ctx = page(alloc, front)?;
+        if sums(attachment, alloc, &mut ctx, inst) != *wanted {
+            return Ok(Some(i));
+        }
+    }
+    Ok(None)
+}
+
+/// Pages, and their counts.
+const COUNTS: [(&[u8], Reply); 4] = [
+    (&[], Reply::Sum(Some(0))),
+    (TWO, Reply::Sum(Some(2))),
+    (
+        &[0, 1, 0, 0, 0, 0, 0, 0],
+        Reply::Sum(Some(281_474_976_710_656)),
+    ),
+    (&[0, 1, 0, 0, 0, 0, 0, 1], Reply::Broken(3)),
 ];
 
 #[test]
 fn a_count_is_summed(rt: HostRuntime) -> Result<(), Fail> {
     let alloc = rt.alloc();
     let inst = count_instance(alloc)?;
-    for (front, wanted) in COUNTS {
-        let answer = sums(&Count {}, alloc, &mut page(alloc, front)?, &inst);
-        assert!(rt; sums_of(&answer) == wanted);
-        assert_eq!(rt; matches!(answer, Move::Broken(3)), wanted.is_none());
-    }
-    let asked = sums(&Count {}, alloc, &mut Ctx::new(alloc), &inst);
-    assert!(rt; matches!(asked, Move::Need(3)));
+    assert_eq!(rt; first_other_sum(&Count {}, alloc, &inst, &COUNTS)?, None);
     Ok(())
 }

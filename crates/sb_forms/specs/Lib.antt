@@ -1,2 +1,4 @@
 pub mod Pages
-pub mod ListPages
+pub mod Tree
+pub mod Read
+pub mod TreePages

@@ -47,7 +47,7 @@ IsInstance-unprepared box s inst code is fits = record {
 pub IsForeign-ended : (m : Meanings) (box : Method) (inst : Instance) (lasting : Bool) (s t : List Slot) (move : Move) → method_of 1000 m.methods ≡ Some box → IsInstance box inst → IsUnprepared lasting s inst → IsEnd move
     → Answers box inst call.Prepare (pages_of s inst.owner) (pages_of t inst.owner) move → IsForeign m t inst
 IsForeign-ended m box inst lasting s t move live may is end answers = record {
-  relation = record { schema = is.schema; code = inr (omega (arith, is.code)) };
+  relation = record { schema = is.schema; key = is.key; code = inr (omega (arith, is.code)) };
   keeps = record {
     box = box;
     live = ap (λ (n : ℕ). method_of n m.methods) is.code ∙ live;

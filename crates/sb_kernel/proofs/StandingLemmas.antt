@@ -41,7 +41,7 @@ HasBox-live m s kept rows box stands live =
     (record { code = method_of-code kept.method.code m.methods stands.keeps.box stands.keeps.live; may = stands.keeps.may; holds = stands.keeps.holds })
 
 pub MayHold-standing : (m : Meanings) (s : List Slot) (kept : Kept) (rows : Rows) (row : Row) (box : Method) → Stands m s kept rows → HasBox m s kept rows box → IsMethod box → IsNumber row → MayHold box kept.method row
-MayHold-standing m s kept rows row box stands has law number = MayHold-number box kept.method (pages_of s kept.method.owner) rows row law stands.relation has.holds number
+MayHold-standing m s kept rows row box stands has law number = MayHold-number box kept.method row stands.relation number
 
 -- each attachment has a rule that can be attached
 pub AreAttachable-standing : (m : Meanings) (s : List Slot) (kept : Kept) (rows : Rows) → Stands m s kept rows → AreAttachable kept

@@ -89,7 +89,7 @@ StandsFor-first m contents kept prepared none settled = record {
   live = refl;
   rows = [];
   db = sym (db_of-first kept prepared.first none);
-  stands = Stands-new m contents.now kept (record { schema = prepared.first.schema; code = inl prepared.first.code }) prepared.keeps none;
+  stands = Stands-new m contents.now kept (record { schema = prepared.first.schema; key = prepared.first.key; code = inl prepared.first.code }) prepared.keeps none;
   settled = settled;
 }
 

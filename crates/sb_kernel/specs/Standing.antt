@@ -15,9 +15,10 @@ use Rattle.sb_kernel.specs.Kept.{db_of}
 use Rattle.sb_kernel.specs.Boxes.{IsAttachable, codes_of}
 use Rattle.sb_drive.specs.Slots.{Slot, Contents, pages_of}
 
--- the relation has one column of numbers, and its storage method codes or picks its record keys
+-- the relation has one column of numbers, which is its key, and its storage method codes or picks its record keys
 pub record IsRelation (inst : Instance) : Type 0 where
   pub schema : inst.schema ≡ relation_r.schema
+  pub key : inst.key ≡ relation_r.key
   pub code : (inst.code ≡ 2) ⊎ (1000 ≤ inst.code)
 
 -- a live box of the storage method's code keeps these rows in its pages

@@ -13,8 +13,8 @@ use sb_ctx::{Attachment, Instance, MethodCall, StorageMethod};
 use sb_drive::{Memory, drive_method};
 use sb_first::{Command, Refusal, Reply, Rule};
 use sb_foreign::{Count, Limit, Once, Strip};
-use sb_listmethod::ListMethod;
 use sb_registry::{Extensions, Meant, Registry};
+use sb_treemethod::TreeMethod;
 use sb_value::{Bytes, RecKey, Str, Tuple, Value};
 use std::alloc::{AllocError, Global};
 use std::test::*;
@@ -290,7 +290,7 @@ fn run(
     acts: &[(Act, &'static str)],
 ) -> Result<Outcome, AllocError> {
     let mut methods: Vec<Box<dyn StorageMethod>> = Vec::new(alloc);
-    methods.push(Box::new(alloc, ListMethod::new())?)?;
+    methods.push(Box::new(alloc, TreeMethod::new())?)?;
     methods.push(Box::new(alloc, Strip {})?)?;
     let mut attachments: Vec<Box<dyn Attachment>> = Vec::new(alloc);
     attachments.push(Box::new(alloc, Limit {})?)?;
@@ -372,7 +372,7 @@ fn a_thousand_rows_are_counted_in_a_page(rt: HostRuntime) -> Result<(), Fail> {
 fn fault_of(alloc: Global, trees: usize, strips: usize) -> Result<Option<StartFault>, AllocError> {
     let mut methods: Vec<Box<dyn StorageMethod>> = Vec::new(alloc);
     for _ in 0..trees {
-        methods.push(Box::new(alloc, ListMethod::new())?)?;
+        methods.push(Box::new(alloc, TreeMethod::new())?)?;
     }
     for _ in 0..strips {
         methods.push(Box::new(alloc, Strip {})?)?;

@@ -1,7 +1,6 @@
 -- What a check answers to each call is what its rule says.
 use Rattle.std.proofs.Common.{◌≡◌, ℕ, ◌==◌, Bool, true, false, not, ◌||◌, cond, List, [], length, Option, Some, None, inl, inr, refl, ap, sym, ◌∙◌, subst}
 use Rattle.std.specs.List.{list_any, list_all}
-use Rattle.std.proofs.lemmas.Option.{same_Some}
 use Rattle.sb_codec.specs.Tuples.{IsTuple, tuple_spelling}
 use Rattle.sb_value.specs.Fits.{Fits}
 use Rattle.sb_pred.specs.Tree.{Tree}
@@ -12,12 +11,12 @@ use Rattle.sb_rule.specs.declared.change.Change.TheVariants as change
 use Rattle.sb_rule.specs.declared.rule.Rule.{Rule}
 use Rattle.sb_rule.specs.declared.rule.Rule.TheVariants.{Check}
 use Rattle.sb_rule.specs.Spelling.{rule_code}
-use Rattle.sb_relation.specs.Changes.{changed, changed_rows, of_new}
-use Rattle.sb_relation.specs.Content.{Content, no_content}
-use Rattle.sb_relation.specs.Db.{Name, Key, Row, Rows, Db, rows_at, schema_at, values_in}
+use Rattle.sb_relation.specs.Changes.{changed, of_new}
+use Rattle.sb_relation.specs.Content.{no_content}
+use Rattle.sb_relation.specs.Db.{Name, Key, Row, Db, rows_at, schema_at, values_in}
 use Rattle.sb_relation.specs.Rules.{holds, entry_of, entry_fails, has_values}
 use Rattle.sb_relation.specs.Lawful.{IsRow}
-use Rattle.sb_forms.specs.Pages.{Pages, page_count}
+use Rattle.sb_forms.specs.Pages.{Pages}
 use Rattle.sb_ctx.specs.declared.instance.Instance.{Instance}
 use Rattle.sb_ctx.specs.declared.calls.AttachCall.TheVariants as call
 use Rattle.sb_ctx.specs.declared.moves.Move.{Move}

@@ -1,6 +1,6 @@
 -- The columns of a schema by their names, and that a predicate asks for no more of a row than what it has under them.
-use Rattle.std.proofs.Common.{zero, suc, ◌≡◌, ℕ, ◌+◌, ◌<◌, ◌≤◌, Bool, true, false, cond, not, ◌&&◌, ◌||◌, List, [], ◌∷◌, ◌++◌, map, length, take, get_or, All, Option, Some, None, is_some, is_none, option_map, option_and_then, refl, ap, sym, ◌∙◌, subst, add-one}
-use Rattle.std.specs.List.{position_from, filter_map, cons_option, slice_get, list_any, IsDistinct, AllByRecursion}
+use Rattle.std.proofs.Common.{zero, suc, ◌≡◌, ℕ, ◌+◌, ◌<◌, ◌≤◌, Bool, true, false, cond, not, ◌&&◌, ◌||◌, List, [], ◌∷◌, ◌++◌, length, take, get_or, All, Option, Some, None, is_some, is_none, option_map, option_and_then, refl, ap, sym, ◌∙◌, subst, add-one}
+use Rattle.std.specs.List.{position_from, filter_map, cons_option, slice_get, IsDistinct, AllByRecursion}
 use Rattle.std.specs.Str.{bytes_eq}
 use Rattle.std.proofs.lemmas.Iterator.Adapters.{position_from-zero}
 use Rattle.std.proofs.lemmas.List.Elements.{All-nil, All-head, All-tail, All-more, All-weaker, All-same, filter_map-append}

@@ -13,9 +13,9 @@ mod writing;
 pub use report::{Report, Starts};
 pub use run::{run, run_to};
 use sb_filedisk::{ReadSource, WriteSink};
-use sb_listmethod::ListMethod;
 use sb_registry::Extensions;
 use sb_rules::Check;
+use sb_treemethod::TreeMethod;
 use sb_value::Str;
 use std::alloc::AllocError;
 use std::process::ExitCode;
@@ -41,7 +41,7 @@ fn answer(rt: &HostRuntime) -> Result<u8, AllocError> {
         spare_methods: Vec::new(alloc),
         spare_attachments: Vec::new(alloc),
     };
-    exts.methods.push(Box::new(alloc, ListMethod::new())?)?;
+    exts.methods.push(Box::new(alloc, TreeMethod::new())?)?;
     exts.attachments.push(Box::new(alloc, Check::new())?)?;
     let mut source = ReadSource::new(rt.reader());
     let mut sink = WriteSink::new(io::writer(rt));

@@ -6,9 +6,9 @@ use crate::report::Report;
 use crate::run_to;
 use sb_ctx::{Attachment, StorageMethod};
 use sb_disk::{Failed, Sink, Source};
-use sb_listmethod::ListMethod;
 use sb_registry::Extensions;
 use sb_rules::Check;
+use sb_treemethod::TreeMethod;
 use sb_value::Str;
 use std::alloc::{AllocError, Global};
 use std::cell::Cell;
@@ -141,7 +141,7 @@ fn run_boxed<S: Source, K: Sink>(
 ) -> Result<Report, AllocError> {
     let mut methods: Vec<Box<dyn StorageMethod>> = Vec::new(alloc);
     for _ in 0..boxes.methods {
-        methods.push(Box::new(alloc, ListMethod::new())?)?;
+        methods.push(Box::new(alloc, TreeMethod::new())?)?;
     }
     let mut attachments: Vec<Box<dyn Attachment>> = Vec::new(alloc);
     for _ in 0..boxes.checks {
@@ -149,7 +149,7 @@ fn run_boxed<S: Source, K: Sink>(
     }
     let mut spare_methods: Vec<Box<dyn StorageMethod>> = Vec::new(alloc);
     for _ in 0..boxes.spare_methods {
-        spare_methods.push(Box::new(alloc, ListMethod::new())?)?;
+        spare_methods.push(Box::new(alloc, TreeMethod::new())?)?;
     }
     let mut spare_attachments: Vec<Box<dyn Attachment>> = Vec::new(alloc);
     for _ in 0..boxes.spare_checks {

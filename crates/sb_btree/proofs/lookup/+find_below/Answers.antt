@@ -5,8 +5,8 @@ use Rattle.sb_ctx.specs.View.{page_of}
 use Rattle.sb_node.specs.Entries.{key_cmp}
 use Rattle.sb_node.specs.Page.{node_in}
 use Rattle.sb_btree.specs.Held.{nth_child}
-use Rattle.sb_btree.specs.Read.{has}
-use Rattle.sb_btree.specs.Tree.{items}
+use Rattle.sb_forms.specs.Read.{has}
+use Rattle.sb_forms.specs.Tree.{items}
 use Rattle.sb_btree.specs.Ways.{way}
 use Rattle.sb_btree.proofs.Descending.{stop_breaks, stop_leads, way_first, entries_lead, breaks_step, find_leads, leaf_finds}
 use Rattle.sb_btree.proofs.lookup.+find_below.Goals as goal

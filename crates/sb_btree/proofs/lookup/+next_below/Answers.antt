@@ -5,8 +5,8 @@ use Rattle.sb_ctx.specs.View.{page_of}
 use Rattle.sb_node.specs.Entries.{Entry}
 use Rattle.sb_node.specs.Page.{node_in}
 use Rattle.sb_btree.specs.Held.{passed, nth_child}
-use Rattle.sb_btree.specs.Read.{has}
-use Rattle.sb_btree.specs.Tree.{items}
+use Rattle.sb_forms.specs.Read.{has}
+use Rattle.sb_forms.specs.Tree.{items}
 use Rattle.sb_btree.specs.Ways.{is_behind, next_ways}
 use Rattle.sb_btree.specs.declared.walk.Walk.TheVariants.{Ready}
 use Rattle.sb_btree.proofs.Descending.{stop_breaks, stop_leads, entries_lead, breaks_step}

@@ -1,8 +1,8 @@
 use Rattle.std.proofs.Common.{◌≡◌, Some, Option, List, ℕ}
 use Rattle.std.specs.FinMap.Entries.{find}
 use Rattle.sb_node.specs.Entries.{key_cmp}
-use Rattle.sb_btree.specs.Read.{has}
-use Rattle.sb_btree.specs.Tree.{nodes, level_of}
+use Rattle.sb_forms.specs.Read.{has}
+use Rattle.sb_forms.specs.Tree.{nodes, level_of}
 use Rattle.sb_btree.specs.Ways.{way, is_on_way}
 use Rattle.sb_btree.specs.Walks.{as_walk}
 use Rattle.sb_btree.proofs.Descending.{way_first}

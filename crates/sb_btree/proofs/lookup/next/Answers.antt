@@ -1,8 +1,8 @@
 use Rattle.std.proofs.Common.{◌≡◌, Option, option_map}
 use Rattle.std.specs.List.{find as first}
 use Rattle.sb_node.specs.Entries.{Entry}
-use Rattle.sb_btree.specs.Read.{has}
-use Rattle.sb_btree.specs.Tree.{nodes, level_of}
+use Rattle.sb_forms.specs.Read.{has}
+use Rattle.sb_forms.specs.Tree.{nodes, level_of}
 use Rattle.sb_btree.specs.Ways.{is_behind, next_ways, is_on_next_ways}
 use Rattle.sb_btree.specs.Walks.{as_walk}
 use Rattle.sb_btree.proofs.Following.{next_way_first}

@@ -1,4 +1,4 @@
-use Rattle.std.proofs.Common.{None, option_map, refl, get_or, sym, ◌∙◌}
+use Rattle.std.proofs.Common.{option_map, refl, get_or, sym, ◌∙◌}
 use Rattle.sb_foreign.proofs.StripLaws.{row_above-here, row_above-behind, row_above-none}
 use Rattle.sb_foreign.proofs.strip.next_row.Goals as goal
 

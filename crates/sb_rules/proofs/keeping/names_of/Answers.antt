@@ -1,6 +1,5 @@
 use Rattle.std.proofs.Common.{◌≡◌, sym, ◌∙◌, ap, subst, List, arith}
 use Rattle.sb_relation.specs.Db.{Name}
-use Rattle.sb_value.specs.declared.schema.Column.{Column}
 use Rattle.std.proofs.Common.{take, ◌+◌, ◌++◌, ◌∷◌, []}
 use Rattle.sb_rules.specs.Checks.{is_in, AreNames}
 use Rattle.sb_rules.proofs.Columns.{AreFirst, AreFirst-none, AreFirst-known, AreFirst-new, AreNames-all}

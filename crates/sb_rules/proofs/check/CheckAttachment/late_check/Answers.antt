@@ -1,4 +1,4 @@
-use Rattle.std.proofs.Common.{◌≡◌, None, Some, sym, ◌∙◌, ap, refl}
+use Rattle.std.proofs.Common.{◌≡◌, None, Some, sym, ◌∙◌, ap}
 use Rattle.sb_codec.specs.Tuples.{IsTuple, tuple_spelling}
 use Rattle.sb_value.specs.Fits.{first_misfit}
 use Rattle.sb_relation.specs.Db.{Row}

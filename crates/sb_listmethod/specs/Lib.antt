@@ -1,4 +1,0 @@
-pub mod Keys
-pub mod Listed
-pub mod Written
-pub mod Answered

@@ -1,0 +1,11 @@
+pub mod Spelled
+pub mod Entries
+pub mod RowsOf
+pub mod Few
+pub mod TreeRows
+pub mod Columns
+pub mod Changing
+pub mod MethodLaws
+pub mod PutLaws
+pub mod RemoveLaws
+pub mod ExampleLaws

@@ -1,0 +1,3 @@
+pub mod TreeMethod
+pub mod Answered
+pub mod Examples

@@ -1,0 +1,11 @@
+//! The storage method tree: the rows of a relation in a tree of pages, under the ordered code of their key columns.
+#![tactic(auto)]
+
+mod method;
+mod rows;
+mod walks;
+
+pub use method::TreeMethod;
+
+#[cfg(test)]
+mod tests;

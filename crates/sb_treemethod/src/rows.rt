@@ -1,0 +1,78 @@
+//! Rows as entries of a tree.
+
+ghost use Rattle.std.specs.Prelude.{◌≡◌, IfOk};
+ghost use Rattle.std.specs.Option.{option_copied};
+ghost use Rattle.sb_pred.specs.Columns.{column_value, place_of};
+ghost use Rattle.sb_relation.specs.Db.{values_in};
+ghost use Rattle.sb_relation.specs.Lawful.{IsRow};
+ghost use Rattle.sb_treemethod.specs.TreeMethod.{IsEntryOf, IsRowFrom};
+
+use sb_codec::{decode_tuple, encode_tuple, ordered_key};
+use sb_ctx::Instance;
+use sb_value::{Bytes, Names, RecKey, Schema, Str, Tuple, Value};
+use std::alloc::{AllocError, Global};
+
+/// The bytes that the spelling of a row has at most.
+const MOST_BYTES: usize = 1000;
+
+/// The record key of a row, and its spelling.
+pub fn entry_of(alloc: Global, inst: &Instance, row: &Tuple) -> Result<(RecKey, Bytes), AllocError>
+    requires { IsRow inst.now.schema row.now }
+    ensures { IfOk result (λ entry. IsEntryOf inst.now row.now entry.0 entry.1) }
+{
+    let values = values_of(alloc, &inst.schema, row, &inst.key)?;
+    let key = ordered_key(alloc, &values)?;
+    Ok((key, encode_tuple(alloc, row)?))
+}
+
+/// The row that the bytes spell, where it is one that the relation may have.
+pub fn row_from(alloc: Global, inst: &Instance, bytes: &[u8]) -> Result<Option<Tuple>, AllocError>
+    ensures { IfOk result (IsRowFrom inst.now.schema bytes.now) }
+{
+    if bytes.len() > MOST_BYTES {
+        return Ok(None);
+    }
+    let Some(row) = decode_tuple(alloc, bytes)? else {
+        return Ok(None);
+    };
+    if inst.schema.fits(&row).is_ok() && inst.schema.short_enough(&row) {
+        Ok(Some(row))
+    } else {
+        Ok(None)
+    }
+}
+
+/// The values of a row in the named columns; a column that isn't there has none.
+fn values_of(
+    alloc: Global,
+    schema: &Schema,
+    row: &Tuple,
+    names: &Names,
+) -> Result<Tuple, AllocError>
+    ensures { IfOk result (λ values. values ≡ values_in schema.now row.now names.now) }
+{
+    let mut values = Vec::new(alloc);
+    for name in names.as_slice() {
+        if let Some(value) = value_of(schema, row, name) {
+            values.push(value.copy()?)?;
+        }
+    }
+    Ok(Tuple::from_vec(values))
+}
+
+/// Where the first column of a name stands.
+fn place_under(schema: &Schema, name: &Str) -> Option<usize>
+    ensures { result ≡ place_of schema.now name.now }
+{
+    schema
+        .as_slice()
+        .iter()
+        .position(|column| column.name == *name)
+}
+
+/// The value of a row in the named column.
+fn value_of<'a>(schema: &Schema, row: &'a Tuple, name: &Str) -> Option<&'a Value>
+    ensures { option_copied result ≡ column_value schema.now (Some row.now) name.now }
+{
+    row.as_slice().get(place_under(schema, name)?)
+}
