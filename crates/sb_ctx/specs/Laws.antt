@@ -4,11 +4,17 @@ use Rattle.sb_relation.specs.Content.{Content, no_content, are_rising}
 use Rattle.sb_relation.specs.Db.{Rows}
 use Rattle.sb_relation.specs.Lawful.{AreRows}
 use Rattle.sb_forms.specs.Pages.{Pages, ArePages, page_count}
+use Rattle.sb_forms.specs.HeapPages.{heap_rows}
 use Rattle.sb_forms.specs.TreePages.{tree_rows}
 use Rattle.sb_ctx.specs.declared.instance.Instance.{Instance}
 use Rattle.sb_ctx.specs.View.{HeldPages, AreSomeOf}
 use Rattle.sb_ctx.specs.Method.{Method}
 use Rattle.sb_ctx.specs.Attachment.{Attachment}
+
+-- the storage method of code 1 is durable and keeps its rows in the pages of a heap
+pub record IsHeap (m : Method) : Type 0 where
+  pub durable : m.rules.durable ≡ true
+  pub rows : (inst : Instance) (P : Pages) → m.read inst P ≡ heap_rows inst.root inst.schema P
 
 -- the storage method of code 2 is durable and keeps its rows in the pages of a tree
 pub record IsTree (m : Method) : Type 0 where
@@ -24,6 +30,7 @@ pub record HoldRows (m : Method) (inst : Instance) (P : Pages) (rows : Rows) : T
 
 -- what is so of formed pages, and of the pages of a standard code
 pub record IsMethod (m : Method) : Type 0 where
+  pub heap : m.rules.code ≡ 1 → IsHeap m
   pub tree : m.rules.code ≡ 2 → IsTree m
   pub formed : (inst : Instance) (P : Pages) (rows : Rows) → m.read inst P ≡ Some rows → HoldRows m inst P rows
 

@@ -143,7 +143,7 @@ pub Holds-formed : (inst : Instance) (P : Pages) → is_numbers inst.schema ≡ 
 Holds-formed inst P numbers bytes = ap (λ t. cond (t && is_strip (strip_of (P inst.root))) (Some (rows_from 0 (strip_of (P inst.root)))) None) numbers ∙ ap (λ t. cond t (Some (rows_from 0 (strip_of (P inst.root)))) None) bytes
 
 pub IsMethod-strip : IsMethod strip
-IsMethod-strip = record { tree = λ is. cc; formed = λ inst P rows holds. kept inst P rows (IsFormed-held inst P rows holds) }
+IsMethod-strip = record { heap = λ is. cc; tree = λ is. cc; formed = λ inst P rows holds. kept inst P rows (IsFormed-held inst P rows holds) }
   where
     few : (a b : ℕ) → a ≤ b → b == 100 ≡ true → a < 281474976710656
     few a b least is = grind (arith, nat_tests)

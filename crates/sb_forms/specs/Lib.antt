@@ -1,4 +1,6 @@
 pub mod Pages
+pub mod Stored
 pub mod Tree
 pub mod Read
 pub mod TreePages
+pub mod HeapPages
