@@ -262,7 +262,7 @@ module _ (old mid : View) (l m page child : ℕ) (bytes : List ℕ) (head : Head
             ending h.put_is h.ends x (node_some (held_node (page_of h.next x)) (node_in b) (ap held_node (two ∙ one) ∙ node)) (not_page x b at more) ∙ two ∙ one ∙ kept x b at form up
           where
             ending : (p : Put) → EndsBeside h.next new (suc m) page (without_child i (node_in bytes)) p h.dropping taken → (x : ℕ) → HasNode h.next x → (x ≡ page → ⊥) → page_of new x ≡ page_of h.next x
-            ending put.Stands e x has ne = ap (λ (c : View). page_of c x) e.0
+            ending put.Kept e x has ne = ap (λ (c : View). page_of c x) e.0
             ending put.Done e x has ne = ap (λ (c : View). page_of c x) e.0
             ending (put.Split bound r) e x has ne = raised_others h.next new (suc m) page (without_child i (node_in bytes)) bound r taken e x has ne
         by (Err s) h = tt
@@ -283,7 +283,7 @@ module _ (old mid : View) (l m page child : ℕ) (bytes : List ℕ) (head : Head
             alone e f = subst (λ (c : View). LeavesPage c (suc m) page taken) (sym e) (subst (λ t. LeavesPage h.next (suc m) page t) (sym f) (dropped_leaves h.mid h.next (suc m) page (node_in bytes) i h.dropping (omega arith) up held low h.drops))
 
             ending : (p : Put) → EndsBeside h.next new (suc m) page (without_child i (node_in bytes)) p h.dropping taken → LeavesPage new (suc m) page taken
-            ending put.Stands e = alone e.0 e.1
+            ending put.Kept e = alone e.0 e.1
             ending put.Done e = alone e.0 e.1
             ending (put.Split bound r) e =
                 raised_leaves h.next new (suc m) page (without_child i (node_in bytes)) bound r taken up (wrote_node h.mid h.next page (without_child i (node_in bytes)) held (wrote_dropped h.mid h.next page (node_in bytes) i h.dropping h.drops)) e

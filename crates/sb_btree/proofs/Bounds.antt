@@ -16,7 +16,7 @@ use Rattle.sb_forms.specs.Read.{all_by, is_small, is_bound}
 use Rattle.sb_btree.specs.Broken.{is_of_level, are_of_level, is_page}
 use Rattle.sb_btree.specs.Inserts.{AreHalves, GivesBound, LacksBound, PutAt, StoresHalves}
 use Rattle.sb_btree.specs.declared.insertion.Put.{Put}
-use Rattle.sb_btree.specs.declared.insertion.Put.TheVariants.{Stands, Done, Split}
+use Rattle.sb_btree.specs.declared.insertion.Put.TheVariants.{Kept, Done, Split}
 use Rattle.sb_btree.specs.declared.walk.Stop.{Stop}
 use Rattle.sb_btree.specs.declared.walk.Stop.TheVariants as stop
 use Rattle.sb_btree.proofs.Children.{all_map}
@@ -97,8 +97,8 @@ second (suc l) n after bound all lesser parts g = record {
 -- both pages are stored
 pub halves_put : (old new : View) (l page : ℕ) (p₀ p₁ o₀ o₁ right key value bound : List ℕ) (outcome : Result Put Stop) → find key_cmp key (node_in p₀).entries ≡ None → Halves p₀ p₁ o₀ o₁ key value
     → node_in o₀ ≡ empty_node (node_in p₀).head.kind l → (node_in p₀).head.level ≡ l → GivesBound l (node_in o₁) (node_of right) bound
-    → IfOk outcome (StoresHalves old new page p₁ right bound) → IfErr outcome (λ s. (s ≡ stop.NoMemory) ⊎ ((s ≡ stop.Fresh) × (free_page new ≡ None))) → PutAt old new l page (Some (node_in p₀)) key value outcome
-halves_put old new l page p₀ p₁ o₀ o₁ right key value bound (Ok Stands) none h empty level gives stored stops = absurd stored
+    → IfOk outcome (StoresHalves old new page p₁ right bound) → IfErr outcome (λ s. (s ≡ stop.NoMemory) ⊎ ((s ≡ stop.Fresh) × (free_page new ≡ None))) → PutAt false old new l page (Some (node_in p₀)) key value outcome
+halves_put old new l page p₀ p₁ o₀ o₁ right key value bound (Ok Kept) none h empty level gives stored stops = absurd stored
 halves_put old new l page p₀ p₁ o₀ o₁ right key value bound (Ok Done) none h empty level gives stored stops = absurd stored
 halves_put old new l page p₀ p₁ o₀ o₁ right key value bound (Ok (Split b next)) none h empty level gives stored stops =
     let there : (node_in o₁).entries ≡ h.greater = ap (λ (m : Node). m.entries) h.moves.node_is in
@@ -125,7 +125,7 @@ halves_put old new l page p₀ p₁ o₀ o₁ right key value bound (Ok (Split b
     )
 halves_put old new l page p₀ p₁ o₀ o₁ right key value bound (Err s) none h empty level gives stored stops = by s stops
   where
-    by : (s : Stop) → (s ≡ stop.NoMemory) ⊎ ((s ≡ stop.Fresh) × (free_page new ≡ None)) → PutAt old new l page (Some (node_in p₀)) key value (Err s)
+    by : (s : Stop) → (s ≡ stop.NoMemory) ⊎ ((s ≡ stop.Fresh) × (free_page new ≡ None)) → PutAt false old new l page (Some (node_in p₀)) key value (Err s)
     by (stop.Need x) (inl e) = absurd (cc)
     by (stop.Need x) (inr e) = let f = e.0 in absurd (cc)
     by stop.Fresh (inl e) = absurd (cc)

@@ -127,7 +127,7 @@ merge_single old new m page n i child left g at up low h other = by h.put_is h.g
 
     by : (p : Put) → TookChild old h.gave.mid m (page_beside i n) h.gave.other h.gave.bound.0 left (nat_eq i 0) p → (dropping : Taken) → DropsChild h.mid h.next page (Some n) i (Ok dropping) → EndsBeside h.next new (suc m) page (without_child i n) p dropping (Single g)
         → is_unlike m (page_of new g) ≡ true → ⊥
-    by put.Stands t dropping d e unlike = absurd t.puts
+    by put.Kept t dropping d e unlike = absurd t.puts
     by put.Done t dropping d e unlike = whole t dropping d e unlike
     by (put.Split bound r) t dropping d e unlike = absurd e
 

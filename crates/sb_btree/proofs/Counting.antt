@@ -2,7 +2,7 @@
 use Rattle.std.proofs.Common.{◌≡◌, ℕ, zero, suc, ◌+◌, ◌*◌, ◌/◌, ◌%◌, ◌^◌, ◌<◌, ◌≤◌, nat_lt, Bool, true, false, true≢false, List, [], ◌∷◌, length, Option, Some, None, refl, sym, ◌∙◌, arith, length-append}
 use Rattle.std.proofs.Math.Nat.{div-add-mod, pow-suc}
 use Rattle.std.proofs.lemmas.List.{length-map}
-use Rattle.std.proofs.lemmas.Bool.{lt-ltb}
+use Rattle.std.proofs.lemmas.Bool.{lt-ltb, ltb-true, ltb-false}
 use Rattle.std.proofs.lemmas.Nat.{mod_below, mul-le}
 use Rattle.sb_fold.specs.Costs.{digits_within, digits}
 use Rattle.sb_node.specs.Page.{Node}
@@ -71,3 +71,26 @@ digits_many (suc l) (suc most) n fits big =
 -- a tree of one level and more has so many entries, or is an empty leaf
 pub digits_of_tree : (N : Nodes) (l p : ℕ) → IsPart l N p → l + 1 ≤ digits (length (items l N p) + 1)
 digits_of_tree N l p part = digits_many l (length (items l N p) + 1) (length (items l N p) + 1) (omega arith) (omega (arith, items_many N l p part))
+
+-- a number below a power of two has no more digits than that
+digits_few : (l most n : ℕ) → n < 2 ^ l → digits_within most n ≤ l
+digits_few l zero n small = omega arith
+digits_few l (suc most) n small = by (nat_lt 0 n) refl (λ k low. digits_few k most (n / 2) low)
+  where
+    half : (l : ℕ) → 0 < n → n < 2 ^ l → (k : ℕ) × (l ≡ suc k) × (n / 2 < 2 ^ k)
+    half zero some low = absurd (omega (arith, some, low))
+    half (suc k) some low = (k, refl, omega (arith, low, half_of n, pow-suc 2 k))
+
+    by : (b : Bool) → nat_lt 0 n ≡ b → ((k : ℕ) → n / 2 < 2 ^ k → digits_within most (n / 2) ≤ k) → elim b [ true ↦ digits_within most (n / 2) + 1 | false ↦ 0 ] ≤ l
+    by true is rest = let h = half l (ltb-true 0 n is) small in omega (arith, h.1, rest h.0 h.2)
+    by false is rest = omega arith
+
+-- the next number has at most one digit more
+pub digits_next : (n : ℕ) → digits (n + 1) ≤ digits n + 1
+digits_next n = let few = digits_few (suc (digits n)) (n + 1) (n + 1) (omega (arith, pow-suc 2 (digits n), below)) in omega (arith, few)
+  where
+    below : n < 2 ^ digits n
+    below = elim (nat_lt n (2 ^ digits n)) as (λ b. nat_lt n (2 ^ digits n) ≡ b → n < 2 ^ digits n) [
+      | true ↦ λ is. ltb-true n (2 ^ digits n) is
+      | false ↦ λ is. absurd (omega (arith, digits_many (digits n) n n (omega arith) (ltb-false n (2 ^ digits n) is)))
+    ] refl

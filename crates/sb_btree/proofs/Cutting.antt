@@ -1,12 +1,12 @@
 -- A copy of a page out of which an entry or a child is cut, and what is stored of it.
-use Rattle.std.proofs.Common.{◌≡◌, ℕ, ◌+◌, ◌-◌, ◌<◌, Bool, true, false, cond, List, [], length, Some, IsSome, is_some, refl, ap, sym, ◌∙◌, subst, inl, inr, ◌⊎◌, arith}
+use Rattle.std.proofs.Common.{◌≡◌, ℕ, ◌+◌, ◌-◌, ◌<◌, Bool, true, false, cond, List, [], length, Some, None, IsSome, is_some, refl, ap, sym, ◌∙◌, subst, inl, inr, ◌⊎◌, arith}
 use Rattle.std.specs.Prelude.{nat_eq, Result, Ok, Err, IfSome}
 use Rattle.std.specs.FinMap.Entries.{find}
 use Rattle.sb_ctx.specs.View.{View, page_of, with_page, spliced, dropped}
 use Rattle.sb_ctx.proofs.ViewLaws.{room_of-page, dropped-with_page}
 use Rattle.sb_node.specs.declared.head.Head.{Head}
 use Rattle.sb_node.specs.Entries.{Entry, key_cmp, lesser, place_of, without}
-use Rattle.sb_node.specs.Page.{Node, Becomes, has_form, node_in, with_entries, with_head}
+use Rattle.sb_node.specs.Page.{Node, Becomes, has_form, node_in, node_of, with_entries, with_head}
 use Rattle.sb_node.proofs.Edited.{node_of-form}
 use Rattle.sb_node.proofs.Placed.{scanned}
 use Rattle.sb_node.proofs.Runs.{form_size}
@@ -31,11 +31,22 @@ wrote old new page bytes left n at form form_left is changed = record {
   node_is = node_of-form left form_left ∙ ap Some is;
 }
 
+-- the bytes of an entry page
+node_size : (bytes : List ℕ) (n : Node) → node_of bytes ≡ Some n → length bytes ≡ 4096
+node_size bytes n is = by (has_form bytes) refl is
+  where
+    by : (b : Bool) → has_form bytes ≡ b → cond b (Some (node_in bytes)) None ≡ Some n → length bytes ≡ 4096
+    by true form e = form_size bytes form
+    by false form e = cc
+
 pub wrote_given : (old new : View) (page : ℕ) (n : Node) → Wrote old new page n → dropped new ≡ dropped old
 wrote_given old new page n w = ap dropped w.changed ∙ dropped-with_page old page w.bytes
 
+pub wrote_size : (old new : View) (page : ℕ) (n : Node) (w : Wrote old new page n) → length w.bytes ≡ 4096
+wrote_size old new page n w = node_size w.bytes n w.node_is
+
 -- ---- an entry
-found_there : (key : List ℕ) (es : List Entry) (i : ℕ) → place_of key es ≡ Ok i → IsSome (find key_cmp key es)
+pub found_there : (key : List ℕ) (es : List Entry) (i : ℕ) → place_of key es ≡ Ok i → IsSome (find key_cmp key es)
 found_there key es i is = by (is_some (find key_cmp key es)) is
   where
     by : (b : Bool) → cond b (Ok (lesser key es)) (Err (lesser key es)) ≡ Ok i → b ≡ true

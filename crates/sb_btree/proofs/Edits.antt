@@ -16,7 +16,7 @@ use Rattle.sb_btree.specs.Broken.{held_node, is_of_level, is_page, is_narrow, is
 use Rattle.sb_btree.specs.Inserts.{IsFree, MayAsk, PutAt, PutChildAt, KeepsHigher, IsSplit, is_tree_page}
 use Rattle.sb_btree.specs.Walks.{Breaks, as_walk}
 use Rattle.sb_btree.specs.declared.insertion.Put.{Put}
-use Rattle.sb_btree.specs.declared.insertion.Put.TheVariants.{Stands, Done, Split}
+use Rattle.sb_btree.specs.declared.insertion.Put.TheVariants.{Kept, Done, Split}
 use Rattle.sb_btree.specs.declared.walk.Stop.{Stop}
 use Rattle.sb_btree.specs.declared.walk.Stop.TheVariants as stop
 use Rattle.sb_btree.proofs.Descending.{breaks_here}
@@ -93,64 +93,64 @@ other_page old page n bytes b l held level at up same =
     same_bytes : Some bytes ≡ Some b → bytes ≡ b
     same_bytes e = cc
 
-pub put_keeps : (old new : View) (l page : ℕ) (bytes key value : List ℕ) (outcome : Result Put Stop) → page_of old page ≡ Some bytes → has_form bytes ≡ true → (node_in bytes).head.level ≡ l
-    → PutAt old new l page (Some (node_in bytes)) key value outcome → IfOk outcome (λ put. KeepsHigher old new l)
-put_keeps old new l page bytes key value (Ok Stands) held form level h = λ n b at formed up. ap (λ (c : View). page_of c n) h.1
-put_keeps old new l page bytes key value (Ok Done) held form level h = λ n b at formed up.
+pub put_keeps : (stands : Bool) (old new : View) (l page : ℕ) (bytes key value : List ℕ) (outcome : Result Put Stop) → page_of old page ≡ Some bytes → has_form bytes ≡ true → (node_in bytes).head.level ≡ l
+    → PutAt stands old new l page (Some (node_in bytes)) key value outcome → IfOk outcome (λ put. KeepsHigher old new l)
+put_keeps stands old new l page bytes key value (Ok Kept) held form level h = λ n b at formed up. ap (λ (c : View). page_of c n) h.1
+put_keeps stands old new l page bytes key value (Ok Done) held form level h = λ n b at formed up.
     ap (λ (c : View). page_of c n) h.1.changed ∙ page_of-other old page n h.1.bytes (other_page old page n bytes b l held level at up)
-put_keeps old new l page bytes key value (Ok (Split bound next)) held form level h = λ n b at formed up.
+put_keeps stands old new l page bytes key value (Ok (Split bound next)) held form level h = λ n b at formed up.
     let fresh : next ≡ n → ⊥ = (λ e. not_free old n next b at formed h.2.free (sym e)) in
     ap (λ (c : View). page_of c n) h.2.changed ∙ page_of-other (with_page page h.2.left (with_page next zeros old)) next n h.2.right fresh
     ∙ page_of-other (with_page next zeros old) page n h.2.left (other_page old page n bytes b l held level at up) ∙ page_of-other old next n zeros fresh
-put_keeps old new l page bytes key value (Err s) held form level h = tt
+put_keeps stands old new l page bytes key value (Err s) held form level h = tt
 
-pub put_splits : (old new : View) (l page : ℕ) (bytes key value : List ℕ) (outcome : Result Put Stop) → page_of old page ≡ Some bytes → has_form bytes ≡ true → is_of_level l (node_in bytes).head ≡ true
-    → PutAt old new l page (Some (node_in bytes)) key value outcome → IfOk outcome (IsSplit new l page)
-put_splits old new l page bytes key value (Ok Stands) held form level h = tt
-put_splits old new l page bytes key value (Ok Done) held form level h = tt
-put_splits old new l page bytes key value (Ok (Split bound next)) held form level h =
+pub put_splits : (stands : Bool) (old new : View) (l page : ℕ) (bytes key value : List ℕ) (outcome : Result Put Stop) → page_of old page ≡ Some bytes → has_form bytes ≡ true → is_of_level l (node_in bytes).head ≡ true
+    → PutAt stands old new l page (Some (node_in bytes)) key value outcome → IfOk outcome (IsSplit new l page)
+put_splits stands old new l page bytes key value (Ok Kept) held form level h = tt
+put_splits stands old new l page bytes key value (Ok Done) held form level h = tt
+put_splits stands old new l page bytes key value (Ok (Split bound next)) held form level h =
     let other : next ≡ page → ⊥ = (λ e. not_free old page next bytes held form h.2.free (sym e)) in
     let still = held_some (with_page next zeros old) page bytes (page_of-other old next page zeros other ∙ held) in
     let left : page_of new page ≡ Some h.2.left =
     ap (λ (c : View). page_of c page) h.2.changed ∙ page_of-other (with_page page h.2.left (with_page next zeros old)) next page h.2.right other ∙ page_of-same (with_page next zeros old) page h.2.left still in
     (ap (λ o. is_tree_page l (held_node o)) left ∙ ap (is_tree_page l) h.2.left_is ∙ level, h.1)
-put_splits old new l page bytes key value (Err s) held form level h = tt
+put_splits stands old new l page bytes key value (Err s) held form level h = tt
 
-pub put_asks : (old new : View) (l page : ℕ) (o : Option Node) (key value : List ℕ) (outcome : Result Put Stop) → dropped new ≡ dropped old → IsSome (page_of old page) → PutAt old new l page o key value outcome → MayAsk new (as_walk outcome)
-put_asks old new l page None key value outcome given held h = absurd h
-put_asks old new l page (Some n) key value (Ok put) given held h = tt
-put_asks old new l page (Some n) key value (Err (stop.Need x)) given held h = absurd h
-put_asks old new l page (Some n) key value (Err stop.Fresh) given held h = h
-put_asks old new l page (Some n) key value (Err (stop.Broken x)) given held h = subst (λ y. IsSome (page_of new y)) (sym h.0) (held_still old new page given held)
-put_asks old new l page (Some n) key value (Err stop.NoMemory) given held h = tt
+pub put_asks : (stands : Bool) (old new : View) (l page : ℕ) (o : Option Node) (key value : List ℕ) (outcome : Result Put Stop) → dropped new ≡ dropped old → IsSome (page_of old page) → PutAt stands old new l page o key value outcome → MayAsk new (as_walk outcome)
+put_asks stands old new l page None key value outcome given held h = absurd h
+put_asks stands old new l page (Some n) key value (Ok put) given held h = tt
+put_asks stands old new l page (Some n) key value (Err (stop.Need x)) given held h = absurd h
+put_asks stands old new l page (Some n) key value (Err stop.Fresh) given held h = h
+put_asks stands old new l page (Some n) key value (Err (stop.Broken x)) given held h = subst (λ y. IsSome (page_of new y)) (sym h.0) (held_still old new page given held)
+put_asks stands old new l page (Some n) key value (Err stop.NoMemory) given held h = tt
 
 -- a page that is called broken is amiss, also as it was held before an earlier change
-pub put_breaks : (held : HeldPages) (old new : View) (l page : ℕ) (bytes key value : List ℕ) (outcome : Result Put Stop) → held page ≡ Some bytes → has_form bytes ≡ true
-    → PutAt old new l page (Some (node_in bytes)) key value outcome → Breaks (breaks_below l held page) (as_walk outcome)
-put_breaks held old new l page bytes key value (Ok put) at form h = tt
-put_breaks held old new l page bytes key value (Err (stop.Need x)) at form h = tt
-put_breaks held old new l page bytes key value (Err stop.Fresh) at form h = tt
-put_breaks held old new l page bytes key value (Err (stop.Broken x)) at form h =
+pub put_breaks : (stands : Bool) (held : HeldPages) (old new : View) (l page : ℕ) (bytes key value : List ℕ) (outcome : Result Put Stop) → held page ≡ Some bytes → has_form bytes ≡ true
+    → PutAt stands old new l page (Some (node_in bytes)) key value outcome → Breaks (breaks_below l held page) (as_walk outcome)
+put_breaks stands held old new l page bytes key value (Ok put) at form h = tt
+put_breaks stands held old new l page bytes key value (Err (stop.Need x)) at form h = tt
+put_breaks stands held old new l page bytes key value (Err stop.Fresh) at form h = tt
+put_breaks stands held old new l page bytes key value (Err (stop.Broken x)) at form h =
     subst (λ y. breaks_below l held page y ≡ true) (sym h.0) (breaks_here l held page (amiss at h.1))
   where
     amiss : held page ≡ Some bytes → is_page l (Some (node_in bytes)) ≡ false → is_amiss l (held page) ≡ true
     amiss there wrong = ap (is_amiss l) there ∙ ap (λ o. not (is_page l o) || is_narrow l o) (node_of-form bytes form) ∙ ap (λ b. not b || is_narrow l (Some (node_in bytes))) wrong
-put_breaks held old new l page bytes key value (Err stop.NoMemory) at form h = tt
+put_breaks stands held old new l page bytes key value (Err stop.NoMemory) at form h = tt
 
 -- the put of a child is one of an entry that spells it
-pub child_put : (old new : View) (l page : ℕ) (o : Option Node) (bound : List ℕ) (child : ℕ) (outcome : Result Put Stop) → PutChildAt old new l page o bound child outcome → (v : List ℕ) × PutAt old new l page o bound v outcome
-child_put old new l page o bound child (Ok Stands) h = absurd h
+pub child_put : (old new : View) (l page : ℕ) (o : Option Node) (bound : List ℕ) (child : ℕ) (outcome : Result Put Stop) → PutChildAt old new l page o bound child outcome → (v : List ℕ) × PutAt false old new l page o bound v outcome
+child_put old new l page o bound child (Ok Kept) h = absurd h
 child_put old new l page o bound child (Ok Done) h = (h.0, h.3)
 child_put old new l page o bound child (Ok (Split b next)) h = (h.0, h.3)
 child_put old new l page o bound child (Err s) h = (h.0, h.3)
 
-pub put_child : (old new : View) (l page : ℕ) (o : Option Node) (bound : List ℕ) (child : ℕ) (v : List ℕ) (put : Put) → length v ≡ 4 → number_at 4 v 0 ≡ child → (put ≡ Stands → ⊥) → PutAt old new l page o bound v (Ok put) → PutChildAt old new l page o bound child (Ok put)
-put_child old new l page o bound child v Stands long spelled other h = other refl
+pub put_child : (old new : View) (l page : ℕ) (o : Option Node) (bound : List ℕ) (child : ℕ) (v : List ℕ) (put : Put) → length v ≡ 4 → number_at 4 v 0 ≡ child → (put ≡ Kept → ⊥) → PutAt false old new l page o bound v (Ok put) → PutChildAt old new l page o bound child (Ok put)
+put_child old new l page o bound child v Kept long spelled other h = other refl
 put_child old new l page o bound child v Done long spelled other h = (v, long, spelled, h)
 put_child old new l page o bound child v (Split b next) long spelled other h = (v, long, spelled, h)
 
 -- want of memory says nothing but that the page was held
-pub child_full : (old new : View) (l page : ℕ) (o : Option Node) (bound v : List ℕ) (outcome : Result Put Stop) → PutAt old new l page o bound v outcome → PutAt old new l page o bound v (Err stop.NoMemory)
+pub child_full : (old new : View) (l page : ℕ) (o : Option Node) (bound v : List ℕ) (outcome : Result Put Stop) → PutAt false old new l page o bound v outcome → PutAt false old new l page o bound v (Err stop.NoMemory)
 child_full old new l page None bound v outcome h = h
 child_full old new l page (Some n) bound v outcome h = tt
 

@@ -12,7 +12,7 @@ use Rattle.sb_forms.specs.Tree.{nodes, Child, child_of, children_of, IsWithin, I
 use Rattle.sb_btree.specs.Inserts.{IsFree, AreHalves, PutChildAt, children_after}
 use Rattle.sb_btree.specs.Removes.{Shrinks}
 use Rattle.sb_btree.specs.declared.insertion.Put.{Put}
-use Rattle.sb_btree.specs.declared.insertion.Put.TheVariants.{Stands, Done, Split}
+use Rattle.sb_btree.specs.declared.insertion.Put.TheVariants.{Kept, Done, Split}
 use Rattle.sb_btree.proofs.Putting.{put_some}
 use Rattle.sb_btree.proofs.Splitting.{tail_of, head_of}
 use Rattle.sb_btree.proofs.Halved.{one_stored, one_others, two_left, two_right, two_others, apart_free}
@@ -37,14 +37,14 @@ pub record TwoPages (mid new : View) (P : Pages) (l q r : ℕ) (n : Node) (top k
   pub others : (x : ℕ) → (x ≡ q → ⊥) → (x ≡ r → ⊥) → stored new P x ≡ stored mid P x
 
 abbrev pub PutPages : View → View → Pages → ℕ → ℕ → Node → List ℕ → List ℕ → Put → Type 0
-PutPages mid new P l q n key value Stands = ⊥
+PutPages mid new P l q n key value Kept = ⊥
 PutPages mid new P l q n key value Done = OnePage mid new P q n key value
 PutPages mid new P l q n key value (Split top r) = TwoPages mid new P l q r n top key value
 
 -- what a put of a child comes to
 pub put_pages : (mid new : View) (P : Pages) (l q : ℕ) (n : Node) (bound : List ℕ) (child : ℕ) (put_is : Put) → IsSome (page_of mid q) → nodes (stored mid P) q ≡ Some n → PutChildAt mid new l q (Some n) bound child (Ok put_is)
     → (v : List ℕ) × (length v ≡ 4) × (number_at 4 v 0 ≡ child) × PutPages mid new P l q n bound v put_is
-put_pages mid new P l q n bound child Stands held at h = absurd h
+put_pages mid new P l q n bound child Kept held at h = absurd h
 put_pages mid new P l q n bound child Done held at h = (h.0, h.1, h.2, record { is = one_stored mid new P q n bound h.0 held h.3.1; others = λ x other. one_others mid new P q x n bound h.0 h.3.1 other })
 put_pages mid new P l q n bound child (Split top r) held at h =
     let t = h.3.2 in
@@ -74,7 +74,7 @@ put_short mid new l q n bound child top r h = h.3.1
 pub put_between : (mid new mid' new' : View) (P : Pages) (l q : ℕ) (n : Node) (key value : List ℕ) (put_is : Put) → PutPages mid new P l q n key value put_is
     → stored new' P q ≡ stored new P q → ((r : ℕ) → IsFree mid r → IsFree mid' r × (stored new' P r ≡ stored new P r)) → ((x : ℕ) → (x ≡ q → ⊥) → stored new P x ≡ stored mid P x → stored new' P x ≡ stored mid' P x)
     → PutPages mid' new' P l q n key value put_is
-put_between mid new mid' new' P l q n key value Stands h here free others = h
+put_between mid new mid' new' P l q n key value Kept h here free others = h
 put_between mid new mid' new' P l q n key value Done h here free others = record { is = ap node_of here ∙ h.is; others = λ x ne. others x ne (h.others x ne) }
 put_between mid new mid' new' P l q n key value (Split top r) h here free others =
     let f = free r h.free in
@@ -100,7 +100,7 @@ module _ (m : ℕ) (old mid new : View) (P : Pages) (q : ℕ) (low : List ℕ) (
     (n : Node) (key value : List ℕ) (inner : IsInner (suc m) (Some n)) (bound : IsBound (key, value))
     (list : ([], n.head.a) ∷ map child_of (put key_cmp key value n.entries) ≡ ([], k.1) ∷ ks) where
   pub put_page : (put_is : Put) → PutPages mid new P (suc m) q n key value put_is → Shrinks old new (suc m) P olds' (Some low) high (children_after q low put_is) want
-  put_page Stands h = absurd h
+  put_page Kept h = absurd h
   put_page Done h =
       let some : 0 < length ks = omega (arith, ap length (tail_of _ _ _ _ list), length-map (put key_cmp key value n.entries) child_of, put_some key value n.entries) in
       page_one m old mid new P q low high top start k ks want olds olds' more split mine never was there s h.others

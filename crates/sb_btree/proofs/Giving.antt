@@ -17,7 +17,7 @@ use Rattle.sb_forms.specs.Read.{all_by, is_bound, is_upto}
 use Rattle.sb_btree.specs.Inserts.{IsFree, PutChildAt, is_tree_page}
 use Rattle.sb_btree.specs.Removes.{Wrote, TookChild, TakesChild, GaveChild, GivesChild, StopsBeside, taker, entered, page_beside, place_beside}
 use Rattle.sb_btree.specs.declared.insertion.Put.{Put}
-use Rattle.sb_btree.specs.declared.insertion.Put.TheVariants.{Stands, Done, Split}
+use Rattle.sb_btree.specs.declared.insertion.Put.TheVariants.{Kept, Done, Split}
 use Rattle.sb_btree.specs.declared.walk.Stop.{Stop}
 use Rattle.sb_btree.specs.declared.walk.Stop.TheVariants as stop
 use Rattle.sb_btree.proofs.Descending.{positive}
@@ -70,7 +70,7 @@ has_with c q bytes n is x h = elim (same_or_not q x) [
 ]
 
 pub put_nodes : (mid new : View) (l q : ℕ) (n : Node) (bound : List ℕ) (child : ℕ) (put_is : Put) → PutChildAt mid new l q (Some n) bound child (Ok put_is) → (x : ℕ) → HasNode mid x → HasNode new x
-put_nodes mid new l q n bound child Stands h x has = absurd h
+put_nodes mid new l q n bound child Kept h x has = absurd h
 put_nodes mid new l q n bound child Done h x has = subst (λ (c : View). HasNode c x) (sym h.3.1.changed) (has_with mid q h.3.1.bytes (with_entries (put key_cmp bound h.0 n.entries) n) h.3.1.node_is x has)
 put_nodes mid new l q n bound child (Split top r) h x has =
     let t = h.3.2 in
@@ -81,7 +81,7 @@ put_nodes mid new l q n bound child (Split top r) h x has =
 
 -- and the others are as they were
 pub put_others : (mid new : View) (l q : ℕ) (n : Node) (bound : List ℕ) (child : ℕ) (put_is : Put) → PutChildAt mid new l q (Some n) bound child (Ok put_is) → (x : ℕ) → HasNode mid x → (x ≡ q → ⊥) → page_of new x ≡ page_of mid x
-put_others mid new l q n bound child Stands h x has ne = absurd h
+put_others mid new l q n bound child Kept h x has ne = absurd h
 put_others mid new l q n bound child Done h x has ne = ap (λ (c : View). page_of c x) h.3.1.changed ∙ page_of-other mid q x h.3.1.bytes (λ e. ne (sym e))
 put_others mid new l q n bound child (Split top r) h x has ne =
     let t = h.3.2 in

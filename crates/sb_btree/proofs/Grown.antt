@@ -1,5 +1,5 @@
 -- An insert into a whole tree.
-use Rattle.std.proofs.Common.{◌≡◌, ℕ, zero, suc, ◌≤◌, false, List, [], ◌∷◌, length, map, Some, None, IsSome, refl, ap, sym, ◌∙◌, subst, inl, inr, true≢false}
+use Rattle.std.proofs.Common.{◌≡◌, ℕ, zero, suc, ◌≤◌, Bool, false, List, [], ◌∷◌, length, map, Some, None, IsSome, refl, ap, sym, ◌∙◌, subst, inl, inr, true≢false}
 use Rattle.std.specs.FinMap.Entries.{put}
 use Rattle.sb_forms.specs.Pages.{Pages, zeros}
 use Rattle.sb_ctx.specs.View.{View, page_of, with_page, dropped, stored}
@@ -53,18 +53,18 @@ grew old new P root want fresh free r = (
     no n h m = true≢false (sym (is_has n (tree_met root (stored new P)) m) ∙ h)
 
 -- the root's page stayed one
-pub insert_done : (old new : View) (P : Pages) (root l : ℕ) (key value : List ℕ) → IsRoot (nodes (stored old P)) root → l ≡ level_of (nodes (stored old P) root) → Changes old new l root key value P [] None Done
+pub insert_done : (stands : Bool) (old new : View) (P : Pages) (root l : ℕ) (key value : List ℕ) → IsRoot (nodes (stored old P)) root → l ≡ level_of (nodes (stored old P) root) → Changes stands old new l root key value P [] None Done
     → (read_tree root (stored new P) ≡ Some (put key_cmp key value (tree_items (nodes (stored old P)) root))) × Grew old root (stored old P) (stored new P)
-insert_done old new P root l key value r e c =
+insert_done stands old new P root l key value r e c =
     subst (λ es. (read_tree root (stored new P) ≡ Some (put key_cmp key value es)) × Grew old root (stored old P) (stored new P)) (ap (λ k. items k (nodes (stored old P)) root) e)
     (grew old new P root (put key_cmp key value (items l (nodes (stored old P)) root)) c.1 c.2
     (root_kept (stored old P) (stored new P) root l (put key_cmp key value (items l (nodes (stored old P)) root)) c.1 (sym e) (subst (λ k. k ≤ 16) (sym e) r.shallow) c.3))
 
 -- the root's content moved
-pub insert_split : (old mid new : View) (P : Pages) (root l : ℕ) (key value bound : List ℕ) (next : ℕ) → dropped mid ≡ dropped old → IsRoot (nodes (stored old P)) root → l ≡ level_of (nodes (stored old P) root) → length bound ≤ 602
-    → Changes old mid l root key value P [] None (Split bound next) → GrowsTo mid new root l bound next → suc l ≤ 16
+pub insert_split : (stands : Bool) (old mid new : View) (P : Pages) (root l : ℕ) (key value bound : List ℕ) (next : ℕ) → dropped mid ≡ dropped old → IsRoot (nodes (stored old P)) root → l ≡ level_of (nodes (stored old P) root) → length bound ≤ 602
+    → Changes stands old mid l root key value P [] None (Split bound next) → GrowsTo mid new root l bound next → suc l ≤ 16
     → (read_tree root (stored new P) ≡ Some (put key_cmp key value (tree_items (nodes (stored old P)) root))) × Grew old root (stored old P) (stored new P)
-insert_split old mid new P root l key value bound next given r e short c g low =
+insert_split stands old mid new P root l key value bound next given r e short c g low =
     let want = put key_cmp key value (items l (nodes (stored old P)) root) in
     let place = root_place (stored old P) root l key r e in
     let none = free_node mid P g.first g.free in

@@ -1,5 +1,5 @@
 -- What a put at one page makes of a tree: at a leaf, and at an inner page over the child that became two.
-use Rattle.std.proofs.Common.{◌≡◌, ℕ, ◌<◌, List, [], ◌∷◌, ◌++◌, length, Option, Some, None, IsSome, option_map, refl, ap, sym, ◌∙◌, subst, inl, inr, arith, T}
+use Rattle.std.proofs.Common.{◌≡◌, ℕ, ◌<◌, Bool, List, [], ◌∷◌, ◌++◌, length, Option, Some, None, IsSome, option_map, refl, ap, sym, ◌∙◌, subst, inl, inr, arith, T}
 use Rattle.std.specs.List.{AllByRecursion}
 use Rattle.std.specs.FinMap.Entries.{find, put, by_order, is_sorted, is_sorted-put}
 use Rattle.std.specs.declared.cmp.Ordering.TheVariants.{Less, Equal, Greater}
@@ -11,7 +11,7 @@ use Rattle.sb_node.specs.Entries.{Entry, key_cmp}
 use Rattle.sb_node.specs.Page.{Node, has_form, node_of, with_entries}
 use Rattle.sb_forms.specs.Tree.{nodes, entries_of, IsWithin, IsSmall, IsLeaf}
 use Rattle.sb_btree.specs.Became.{IsPlace}
-use Rattle.sb_btree.specs.Inserts.{IsFree, PutOne, PutTwo, Changes}
+use Rattle.sb_btree.specs.Inserts.{IsFree, IsThere, PutOne, PutTwo, Changes}
 use Rattle.sb_btree.specs.declared.insertion.Put.TheVariants.{Done, Split}
 use Rattle.sb_btree.proofs.Order.{same_key}
 use Rattle.sb_btree.proofs.Inserting.{one_leaf, two_leaves}
@@ -54,13 +54,13 @@ put_small key value (e ∷ es) small h =
 leaf_entries : (o : Option Node) (n : Node) → o ≡ Some n → IsLeaf o → IsLeaf (Some n)
 leaf_entries o n is leaf = subst IsLeaf is leaf
 
-pub leaf_done : (old new : View) (P : Pages) (page : ℕ) (key value low : List ℕ) (high : Option (List ℕ)) (n : Node) → nodes (stored old P) page ≡ Some n → IsSome (page_of old page) → IsPlace 0 (stored old P) page low high key
-    → IsSmall (key, value) → find key_cmp key n.entries ≡ None → PutOne old new page n key value → Changes old new 0 page key value P low high Done
-leaf_done old new P page key value low high n at held place small none o =
+pub leaf_done : (stands : Bool) (old new : View) (P : Pages) (page : ℕ) (key value low : List ℕ) (high : Option (List ℕ)) (n : Node) → nodes (stored old P) page ≡ Some n → IsSome (page_of old page) → IsPlace 0 (stored old P) page low high key
+    → IsSmall (key, value) → IsThere stands (find key_cmp key n.entries) → PutOne old new page n key value → Changes stands old new 0 page key value P low high Done
+leaf_done stands old new P page key value low high n at held place small none o =
     let leaf = leaf_entries (nodes (stored old P) page) n at place.tree in
     let there = one_stored old new P page n key value held o in
     let same : entries_of (nodes (stored old P) page) ≡ n.entries = ap entries_of at in (
-      ap (find key_cmp key) same ∙ none,
+      subst (λ es. IsThere stands (find key_cmp key es)) (sym same) none,
       [],
       (λ x f. absurd f),
       one_leaf (stored old P) (stored new P) page low high (put key_cmp key value (entries_of (nodes (stored old P) page)))
@@ -98,9 +98,9 @@ pub parts_small : (xs ys : List Entry) → AllByRecursion IsSmall (xs ++ ys) →
 parts_small [] ys h = (tt, h)
 parts_small (x ∷ xs) ys h = let rest = parts_small xs ys h.1 in ((h.0, rest.0), rest.1)
 
-pub leaf_split : (old new : View) (P : Pages) (page next : ℕ) (bound key value low : List ℕ) (high : Option (List ℕ)) (n : Node) → nodes (stored old P) page ≡ Some n → IsSome (page_of old page) → IsPlace 0 (stored old P) page low high key
-    → IsSmall (key, value) → find key_cmp key n.entries ≡ None → T (is_sorted key_cmp n.entries) → PutTwo old new 0 page next n bound key value → Changes old new 0 page key value P low high (Split bound next)
-leaf_split old new P page next bound key value low high n at held place small none sorted t =
+pub leaf_split : (stands : Bool) (old new : View) (P : Pages) (page next : ℕ) (bound key value low : List ℕ) (high : Option (List ℕ)) (n : Node) → nodes (stored old P) page ≡ Some n → IsSome (page_of old page) → IsPlace 0 (stored old P) page low high key
+    → IsSmall (key, value) → IsThere stands (find key_cmp key n.entries) → T (is_sorted key_cmp n.entries) → PutTwo old new 0 page next n bound key value → Changes stands old new 0 page key value P low high (Split bound next)
+leaf_split stands old new P page next bound key value low high n at held place small none sorted t =
     let leaf = leaf_entries (nodes (stored old P) page) n at place.tree in
     let other = apart_free old P page next n at t.free in
     let left = two_left old new P 0 page next n bound key value held other t in
@@ -118,7 +118,7 @@ leaf_split old new P page next bound key value low high n at held place small no
     let wq = zipped_up low bound high ((bound, t.halves.1) ∷ t.halves.2) greater (cut_above t.lesser (bound, t.halves.1) t.halves.2 rises) in
     let smalls = parts_small t.lesser t.other.entries (subst (AllByRecursion IsSmall) cut (put_small key value n.entries small leaf.2)) in
     let many : 0 < length t.other.entries = subst (λ es. 0 < length es) (sym first) (omega arith) in (
-      ap (find key_cmp key) same ∙ none,
+      subst (λ es. IsThere stands (find key_cmp key es)) (sym same) none,
       next ∷ [],
       (λ x f. elim f [ inl e ↦ subst (λ y. IsFree old y) (sym e) t.free | inr z ↦ absurd z ]),
       two_leaves (stored old P) (stored new P) page next low bound high t.lesser t.other.entries (put key_cmp key value (entries_of (nodes (stored old P) page)))

@@ -1,5 +1,5 @@
 -- An insert at a root, from the put below it and the growth of the root.
-use Rattle.std.proofs.Common.{◌≡◌, ℕ, suc, ◌≤◌, Bool, true, false, List, [], Some, None, IsSome, ap, sym, ◌∙◌, subst}
+use Rattle.std.proofs.Common.{◌≡◌, ℕ, suc, ◌≤◌, not, Bool, true, false, List, [], Some, None, ap, sym, ◌∙◌, subst}
 use Rattle.std.specs.Prelude.{Result, Ok, Err}
 use Rattle.std.specs.FinMap.Entries.{find, put}
 use Rattle.sb_forms.specs.Pages.{Pages}
@@ -9,11 +9,11 @@ use Rattle.sb_forms.specs.Tree.{nodes}
 use Rattle.sb_forms.specs.Read.{has, read_tree}
 use Rattle.sb_btree.specs.Broken.{is_no_root}
 use Rattle.sb_btree.specs.Held.{IsRootPage, Lacks}
-use Rattle.sb_btree.specs.Inserts.{GrowsTo, Inserts, OverPlaces, OverTrees, PutsAt}
+use Rattle.sb_btree.specs.Inserts.{GrowsTo, IsThere, Puts, OverPlaces, OverTrees, PutsAt}
 use Rattle.sb_btree.specs.Ways.{way, is_on_way}
 use Rattle.sb_btree.specs.Walks.{Gives, Needs, OnTree, OverNodes, as_walk}
 use Rattle.sb_btree.specs.declared.insertion.Put.{Put}
-use Rattle.sb_btree.specs.declared.insertion.Put.TheVariants.{Stands, Done, Split}
+use Rattle.sb_btree.specs.declared.insertion.Put.TheVariants.{Kept, Done, Split}
 use Rattle.sb_btree.specs.declared.walk.Stop.{Stop}
 use Rattle.sb_btree.specs.declared.walk.Stop.TheVariants as stop
 use Rattle.sb_btree.specs.declared.walk.Walk.TheVariants.{Ready}
@@ -34,48 +34,48 @@ root_way T U c root l key s page needs P es read =
     same_needs T U (is_on_way root (stored c P) (Some key)) s (subst (λ (k : ℕ). Needs {T = T} (λ n. has n (way k (nodes (stored c P)) (Some key) root)) (as_walk (Err s))) at.level_is (needs (nodes (stored c P)) (stored_shows c P) at.tree))
 
 -- ---- what the put below comes to
-module _ (old : View) (root l : ℕ) (key value : List ℕ) (page : IsRootPage (page_of old root) l) where
+module _ (stands : Bool) (old : View) (root l : ℕ) (key value : List ℕ) (page : IsRootPage (page_of old root) l) where
   -- the put over the pages of a tree
-  root_puts : (new : View) (outcome : Result Put Stop) (P : Pages) (es : List Entry) → OverPlaces old l root key (λ P low high. PutsAt old new l root key value P low high outcome) → read_tree root (stored old P) ≡ Some es
-      → PutsAt old new l root key value P [] None outcome
+  root_puts : (new : View) (outcome : Result Put Stop) (P : Pages) (es : List Entry) → OverPlaces old l root key (λ P low high. PutsAt stands old new l root key value P low high outcome) → read_tree root (stored old P) ≡ Some es
+      → PutsAt stands old new l root key value P [] None outcome
   root_puts new outcome P es puts read =
       puts P [] None (root_place (stored old P) root l key (read_root (stored old P) root es read).0 (at_root old P root l es page read).level_is)
 
-  pub stop_inserts : (new : View) (s : Stop) → OverPlaces old l root key (λ P low high. PutsAt old new l root key value P low high (Err s)) → OverTrees old root (λ P es. Inserts old new root key value P es (as_walk (Err s)))
+  pub stop_inserts : (new : View) (s : Stop) → OverPlaces old l root key (λ P low high. PutsAt stands old new l root key value P low high (Err s)) → OverTrees old root (λ P es. Puts stands old new root key value P es (as_walk (Err s)))
   stop_inserts new s puts P es read = by s (root_puts new (Err s) P es puts read)
     where
-      by : (s : Stop) → PutsAt old new l root key value P [] None (Err s) → Inserts old new root key value P es (as_walk (Err s))
+      by : (s : Stop) → PutsAt stands old new l root key value P [] None (Err s) → Puts stands old new root key value P es (as_walk (Err s))
       by (stop.Need n) h = tt
       by stop.Fresh h = tt
       by (stop.Broken n) h = h
       by stop.NoMemory h = tt
 
-  pub stands_inserts : (new : View) → OverPlaces old l root key (λ P low high. PutsAt old new l root key value P low high (Ok Stands)) → OverTrees old root (λ P es. Inserts old new root key value P es (Ready false))
+  pub stands_inserts : (new : View) → OverPlaces old l root key (λ P low high. PutsAt stands old new l root key value P low high (Ok Kept)) → OverTrees old root (λ P es. Puts stands old new root key value P es (Ready false))
   stands_inserts new puts P es read =
-      let h = root_puts new (Ok Stands) P es puts read in
-      (subst (λ xs. IsSome (find key_cmp key xs)) (at_root old P root l es page read).items_are h.0, h.1)
+      let h = root_puts new (Ok Kept) P es puts read in
+      (subst (λ xs. IsThere (not stands) (find key_cmp key xs)) (at_root old P root l es page read).items_are h.0, h.1)
 
-  pub done_inserts : (new : View) → OverPlaces old l root key (λ P low high. PutsAt old new l root key value P low high (Ok Done)) → OverTrees old root (λ P es. Inserts old new root key value P es (Ready true))
+  pub done_inserts : (new : View) → OverPlaces old l root key (λ P low high. PutsAt stands old new l root key value P low high (Ok Done)) → OverTrees old root (λ P es. Puts stands old new root key value P es (Ready true))
   done_inserts new puts P es read =
       let h = root_puts new (Ok Done) P es puts read in
       let r = read_root (stored old P) root es read in
       let at = at_root old P root l es page read in
-      let d = insert_done old new P root l key value r.0 at.level_is h in
-      (ap (find key_cmp key) (sym at.items_are) ∙ h.0, d.0 ∙ ap (λ xs. Some (put key_cmp key value xs)) (sym r.1), d.1)
+      let d = insert_done stands old new P root l key value r.0 at.level_is h in
+      (subst (λ xs. IsThere stands (find key_cmp key xs)) at.items_are h.0, d.0 ∙ ap (λ xs. Some (put key_cmp key value xs)) (sym r.1), d.1)
 
-  pub split_inserts : (mid new : View) (bound : List ℕ) (next : ℕ) → dropped mid ≡ dropped old → OverPlaces old l root key (λ P low high. PutsAt old mid l root key value P low high (Ok (Split bound next)))
-      → GrowsTo mid new root l bound next → suc l ≤ 16 → OverTrees old root (λ P es. Inserts old new root key value P es (Ready true))
+  pub split_inserts : (mid new : View) (bound : List ℕ) (next : ℕ) → dropped mid ≡ dropped old → OverPlaces old l root key (λ P low high. PutsAt stands old mid l root key value P low high (Ok (Split bound next)))
+      → GrowsTo mid new root l bound next → suc l ≤ 16 → OverTrees old root (λ P es. Puts stands old new root key value P es (Ready true))
   split_inserts mid new bound next given puts grows low P es read =
       let h = root_puts mid (Ok (Split bound next)) P es puts read in
       let r = read_root (stored old P) root es read in
       let at = at_root old P root l es page read in
-      let d = insert_split old mid new P root l key value bound next given r.0 at.level_is h.1 h.0 grows low in
-      (ap (find key_cmp key) (sym at.items_are) ∙ h.0.0, d.0 ∙ ap (λ xs. Some (put key_cmp key value xs)) (sym r.1), d.1)
+      let d = insert_split stands old mid new P root l key value bound next given r.0 at.level_is h.1 h.0 grows low in
+      (subst (λ xs. IsThere stands (find key_cmp key xs)) at.items_are h.0.0, d.0 ∙ ap (λ xs. Some (put key_cmp key value xs)) (sym r.1), d.1)
 
-pub no_root_inserts : (c : View) (root : ℕ) (key value : List ℕ) (s : Stop) → Lacks (page_of c root) (is_no_root (page_of c root)) root s → OverTrees c root (λ P es. Inserts c c root key value P es (as_walk (Err s)))
-no_root_inserts c root key value s lacks P es read = by s (no_root_gives (List ℕ) c root (λ es b. Unit {0}) s lacks P es read)
+pub no_root_inserts : (stands : Bool) (c : View) (root : ℕ) (key value : List ℕ) (s : Stop) → Lacks (page_of c root) (is_no_root (page_of c root)) root s → OverTrees c root (λ P es. Puts stands c c root key value P es (as_walk (Err s)))
+no_root_inserts stands c root key value s lacks P es read = by s (no_root_gives (List ℕ) c root (λ es b. Unit {0}) s lacks P es read)
   where
-    by : (s : Stop) → Gives (λ (b : List ℕ). Unit {0}) (as_walk (Err s)) → Inserts c c root key value P es (as_walk (Err s))
+    by : (s : Stop) → Gives (λ (b : List ℕ). Unit {0}) (as_walk (Err s)) → Puts stands c c root key value P es (as_walk (Err s))
     by (stop.Need n) h = tt
     by stop.Fresh h = tt
     by (stop.Broken n) h = h

@@ -83,7 +83,7 @@ module _ (old : View) (l m page : ℕ) (n : Node) (i child left : ℕ) (down : l
   as_merges new outcome h = subst (λ k. MergesChild old new k page (held_node (page_of old page)) i child left outcome) (sym down) (subst (λ o. MergesChild old new (suc m) page o i child left outcome) (sym at) h)
 
   module _ (mid next : View) (put_is : Put) (g : GivesChild old mid l page (held_node (page_of old page)) i child left (Ok put_is)) (given : dropped mid ≡ dropped old) where
-    there_still : held_node (page_of mid page) ≡ Some n
+    pub there_still : held_node (page_of mid page) ≡ Some n
     there_still = ap held_node (stays mid put_is g) ∙ at
 
     pub drop_stops : (s : Stop) → DropsChild mid next page (held_node (page_of mid page)) i (Err s) → MergesChild old next l page (held_node (page_of old page)) i child left (Err s)
@@ -96,10 +96,10 @@ module _ (old : View) (l m page : ℕ) (n : Node) (i child left : ℕ) (down : l
         by stop.NoMemory d = tt
 
     module _ (dropping : Taken) (d : DropsChild mid next page (held_node (page_of mid page)) i (Ok dropping)) (next_given : dropped next ≡ dropped mid) where
-      drop_is : DropsChild mid next page (Some n) i (Ok dropping)
+      pub drop_is : DropsChild mid next page (Some n) i (Ok dropping)
       drop_is = subst (λ o. DropsChild mid next page o i (Ok dropping)) there_still d
 
-      next_is : held_node (page_of next page) ≡ Some (without_child i n)
+      pub next_is : held_node (page_of next page) ≡ Some (without_child i n)
       next_is = wrote_node mid next page (without_child i n) (node_held (page_of mid page) n there_still) (wrote_dropped mid next page n i dropping drop_is)
 
       pub next_like : is_tree_page l (held_node (page_of next page)) ≡ true
@@ -121,7 +121,7 @@ module _ (old : View) (l m page : ℕ) (n : Node) (i child left : ℕ) (down : l
       })
         where
           by : (p : Put) → ((bound : List ℕ) (r : ℕ) → p ≡ put.Split bound r → ⊥) → EndsBeside next next (suc m) page (without_child i n) p dropping dropping
-          by put.Stands w = (refl, refl)
+          by put.Kept w = (refl, refl)
           by put.Done w = (refl, refl)
           by (put.Split bound r) w = absurd (w bound r refl)
 

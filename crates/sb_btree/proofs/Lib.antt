@@ -41,7 +41,10 @@ pub mod Merged
 pub mod Lowering
 pub mod Cutting
 pub mod Giving
+pub mod Replacing
 pub mod Joining
+pub mod Sparing
+pub mod Merges
 pub mod Below
 pub mod Stepped
 pub mod Lowered

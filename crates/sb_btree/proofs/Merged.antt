@@ -112,7 +112,7 @@ module _ (m : ℕ) (old : View) (P : Pages) (page : ℕ) (key low : List ℕ) (h
 
       by : (put_is : Put) → IsSo mid (xs ++ (children_after c.1 c.0 put_is ++ ys)) → ((bound : List ℕ) (r : ℕ) → put_is ≡ put.Split bound r → length bound ≤ 602)
           → EndsBeside next new (suc (suc m)) page (without_child i n) put_is dropping taken → TakesAt old new (suc (suc m)) page key P low high (Ok taken)
-      by put.Stands s short e = subst (λ (v : View). TakesAt old v (suc (suc m)) page key P low high (Ok taken)) (sym e.0) (subst (λ t. TakesAt old next (suc (suc m)) page key P low high (Ok t)) (sym e.1) (alone s))
+      by put.Kept s short e = subst (λ (v : View). TakesAt old v (suc (suc m)) page key P low high (Ok taken)) (sym e.0) (subst (λ t. TakesAt old next (suc (suc m)) page key P low high (Ok t)) (sym e.1) (alone s))
       by put.Done s short e = subst (λ (v : View). TakesAt old v (suc (suc m)) page key P low high (Ok taken)) (sym e.0) (subst (λ t. TakesAt old next (suc (suc m)) page key P low high (Ok t)) (sym e.1) (alone s))
       by (put.Split bound r) s short e =
           let w = wrote dropping drops in

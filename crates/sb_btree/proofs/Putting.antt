@@ -12,7 +12,7 @@ put_less key value (x ∷ xs) ys h =
     ap (λ o. by_order o ((key, value) ∷ x ∷ (xs ++ ys)) ((x.0, value) ∷ (xs ++ ys)) (x ∷ put key_cmp key value (xs ++ ys))) h.0
     ∙ ap (λ r. x ∷ r) (put_less key value xs ys h.1)
 
-put_front : (key value : List ℕ) (ys : List Entry) → AllMore key ys → put key_cmp key value ys ≡ (key, value) ∷ ys
+pub put_front : (key value : List ℕ) (ys : List Entry) → AllMore key ys → put key_cmp key value ys ≡ (key, value) ∷ ys
 put_front key value [] h = refl
 put_front key value (y ∷ ys) h = ap (λ o. by_order o ((key, value) ∷ y ∷ ys) ((y.0, value) ∷ ys) (y ∷ put key_cmp key value ys)) h.0
 

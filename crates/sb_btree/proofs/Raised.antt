@@ -1,5 +1,5 @@
 -- What a change of a child and a put at the page above it make of the tree of the next level.
-use Rattle.std.proofs.Common.{◌≡◌, ℕ, suc, List, [], ◌∷◌, ◌++◌, map, Option, Some, None, IsSome, option_map, refl, ap, sym, ◌∙◌, subst, inl, inr, ◌⊎◌}
+use Rattle.std.proofs.Common.{◌≡◌, ℕ, suc, Bool, List, [], ◌∷◌, ◌++◌, map, Option, Some, None, IsSome, option_map, refl, ap, sym, ◌∙◌, subst, inl, inr, ◌⊎◌}
 use Rattle.std.specs.FinMap.Entries.{find, put, by_order}
 use Rattle.std.specs.declared.cmp.Ordering.TheVariants.{Less, Equal, Greater}
 use Rattle.std.proofs.lemmas.Option.{same_Some}
@@ -12,7 +12,7 @@ use Rattle.sb_node.specs.Entries.{Entry, key_cmp}
 use Rattle.sb_node.specs.Page.{Node, with_entries}
 use Rattle.sb_forms.specs.Tree.{nodes, Child, child_of, items, met, next_low, IsBound, AreBounds, IsInner, Has, child_for, child_in}
 use Rattle.sb_btree.specs.Became.{Became, IsPlace}
-use Rattle.sb_btree.specs.Inserts.{IsFree, PutOne, PutTwo, Changes}
+use Rattle.sb_btree.specs.Inserts.{IsFree, IsThere, PutOne, PutTwo, Changes}
 use Rattle.sb_btree.specs.declared.insertion.Put.TheVariants.{Done, Split}
 use Rattle.sb_btree.proofs.Order.{same_key}
 use Rattle.sb_btree.proofs.Children.{tree_step}
@@ -53,7 +53,7 @@ free_before old new P x given same free = by (held_at old x) refl (sym (page_in-
         there ∙ (λ i. Some (record { given = (alike i).given; now = now i; fresh = (alike i).fresh }))
 
 -- ---- a page of the next level
-module _ (l : ℕ) (old : View) (P : Pages) (page : ℕ) (key value low : List ℕ) (high : Option (List ℕ)) (n : Node) (at : nodes (stored old P) page ≡ Some n) (place : IsPlace (suc l) (stored old P) page low high key) where
+module _ (stands : Bool) (l : ℕ) (old : View) (P : Pages) (page : ℕ) (key value low : List ℕ) (high : Option (List ℕ)) (n : Node) (at : nodes (stored old P) page ≡ Some n) (place : IsPlace (suc l) (stored old P) page low high key) where
   abbrev pub kid : ℕ
   kid = child_for key n.head.a (map child_of n.entries)
 
@@ -69,16 +69,16 @@ module _ (l : ℕ) (old : View) (P : Pages) (page : ℕ) (key value low : List �
   pub kid_place : IsPlace l (stored old P) kid kid_low kid_high key
   kid_place = subst (λ c. IsPlace l (stored old P) c kid_low kid_high key) kid_is (child_place l (stored old P) page low high key value n at place)
 
-  find_is : find key_cmp key (items l (nodes (stored old P)) kid) ≡ None → find key_cmp key (items (suc l) (nodes (stored old P)) page) ≡ None
-  find_is none = tree_step (nodes (stored old P)) l key page place.tree ∙ ap (λ o. find key_cmp key (items l (nodes (stored old P)) (child_in key o))) at ∙ none
+  find_is : IsThere stands (find key_cmp key (items l (nodes (stored old P)) kid)) → IsThere stands (find key_cmp key (items (suc l) (nodes (stored old P)) page))
+  find_is is = subst (IsThere stands) (sym (tree_step (nodes (stored old P)) l key page place.tree ∙ ap (λ o. find key_cmp key (items l (nodes (stored old P)) (child_in key o))) at)) is
 
   -- the child stayed one page
-  pub raise_done : (new : View) → Changes old new l kid key value P kid_low kid_high Done → Changes old new (suc l) page key value P low high Done
+  pub raise_done : (new : View) → Changes stands old new l kid key value P kid_low kid_high Done → Changes stands old new (suc l) page key value P low high Done
   raise_done new c =
       let b = subst (λ k. Became l (stored old P) (stored new P) (met l (nodes (stored old P)) k) (Some kid_low) kid_high ((kid_low, k) ∷ []) (put key_cmp key value (items l (nodes (stored old P)) k)) c.1 []) (sym kid_is) c.3 in
       (find_is c.0, c.1, c.2, kept l (stored old P) page low high key value n at place (stored new P) c.1 [] (λ x f. free_node old P x (c.2 x f)) b)
 
-  module _ (mid : View) (bound v : List ℕ) (next : ℕ) (given : dropped mid ≡ dropped old) (c : Changes old mid l kid key value P kid_low kid_high (Split bound next))
+  module _ (mid : View) (bound v : List ℕ) (next : ℕ) (given : dropped mid ≡ dropped old) (c : Changes stands old mid l kid key value P kid_low kid_high (Split bound next))
       (held : IsSome (page_of mid page)) (small : IsBound (bound, v)) (spelled : number_at 4 v 0 ≡ next) where
     twins : Became l (stored old P) (stored mid P) (met l (nodes (stored old P)) (choice l (stored old P) page low high key value n at place).kid.1) (Some kid_low) kid_high
         ((kid_low, (choice l (stored old P) page low high key value n at place).kid.1) ∷ (bound, next) ∷ []) (put key_cmp key value (items l (nodes (stored old P)) (choice l (stored old P) page low high key value n at place).kid.1)) c.1 []
@@ -91,7 +91,7 @@ module _ (l : ℕ) (old : View) (P : Pages) (page : ℕ) (key value low : List �
     inner = subst (IsInner (suc l)) at place.tree.0
 
     -- it became two, and the page has room for the bound
-    pub raise_grown : (new : View) → PutOne mid new page n bound v → Changes old new (suc l) page key value P low high Done
+    pub raise_grown : (new : View) → PutOne mid new page n bound v → Changes stands old new (suc l) page key value P low high Done
     raise_grown new o = (
       find_is c.0,
       c.1,
@@ -101,7 +101,7 @@ module _ (l : ℕ) (old : View) (P : Pages) (page : ℕ) (key value low : List �
     )
 
     -- and the page is split too
-    pub raise_split : (new : View) (top : List ℕ) (r : ℕ) → nodes (stored mid P) page ≡ Some n → PutTwo mid new (suc l) page r n top bound v → Changes old new (suc l) page key value P low high (Split top r)
+    pub raise_split : (new : View) (top : List ℕ) (r : ℕ) → nodes (stored mid P) page ≡ Some n → PutTwo mid new (suc l) page r n top bound v → Changes stands old new (suc l) page key value P low high (Split top r)
     raise_split new top r there t =
         let none = free_node mid P r t.free in
         let unused : Has r c.1 → ⊥ = (λ f. now_node l (stored old P) (stored mid P) _ _ _ _ _ c.1 r c.3 (inr f) none) in

@@ -16,7 +16,7 @@ use Rattle.sb_btree.specs.Inserts.{OverTrees}
 use Rattle.sb_btree.specs.Spending.{AsksWithin, PutsWithin, TakesAt, TakesOne, taken_of}
 use Rattle.sb_btree.specs.Walks.{OverNodes, as_walk}
 use Rattle.sb_btree.specs.declared.insertion.Put.{Put}
-use Rattle.sb_btree.specs.declared.insertion.Put.TheVariants.{Stands, Done, Split}
+use Rattle.sb_btree.specs.declared.insertion.Put.TheVariants.{Kept, Done, Split}
 use Rattle.sb_btree.specs.declared.walk.Stop.{Stop}
 use Rattle.sb_btree.specs.declared.walk.Stop.TheVariants as stop
 use Rattle.sb_btree.proofs.Children.{over-append, AreChildren-left, AreChildren-right, all_map, chosen}
@@ -42,17 +42,17 @@ leaf_two : (o : Option Node) (size : ℕ) → IsLeaf o → size ≤ 2036 → 407
 leaf_two None size leaf fits lacks = absurd leaf
 leaf_two (Some n) size leaf fits lacks = two_entries 2036 size n.entries (all_map IsSmall (λ (e : Entry). size_of e ≤ 2036) small_size n.entries leaf.2) (omega (arith, fits)) lacks
 
-inner_two : (l : ℕ) (o : Option Node) → IsInner l o → 4072 < sizes (entries_of o) + 610 → 2 ≤ length (entries_of o)
+pub inner_two : (l : ℕ) (o : Option Node) → IsInner l o → 4072 < sizes (entries_of o) + 610 → 2 ≤ length (entries_of o)
 inner_two l None inner lacks = absurd inner
 inner_two l (Some n) inner lacks = two_entries 610 610 n.entries (all_map IsBound (λ (e : Entry). size_of e ≤ 610) bound_size n.entries inner.2) (omega arith) lacks
 
 -- ---- a child among its neighbours
-record Among (l : ℕ) (N : Nodes) (p child : ℕ) : Type 0 where
-  tree : IsTree l N child
+pub record Among (l : ℕ) (N : Nodes) (p child : ℕ) : Type 0 where
+  pub tree : IsTree l N child
   -- pages that are fewer than twice the entries below the child leave as many more at the page as that has entries
-  rest : (t o : ℕ) → length (met l N child) + t < o + 2 * length (items l N child) → length (met (suc l) N p) + t + length (entries_of (N p)) ≤ o + 2 * length (items (suc l) N p)
+  pub rest : (t o : ℕ) → length (met l N child) + t < o + 2 * length (items l N child) → length (met (suc l) N p) + t + length (entries_of (N p)) ≤ o + 2 * length (items (suc l) N p)
 
-among : (l : ℕ) (N : Nodes) (p child : ℕ) (key : List ℕ) (n : Node) → N p ≡ Some n → child ≡ child_for key n.head.a (map child_of n.entries) → IsTree (suc l) N p → Among l N p child
+pub among : (l : ℕ) (N : Nodes) (p child : ℕ) (key : List ℕ) (n : Node) → N p ≡ Some n → child ≡ child_for key n.head.a (map child_of n.entries) → IsTree (suc l) N p → Among l N p child
 among l N p child key n there at tree =
     let all : List Child = ([], n.head.a) ∷ map child_of n.entries in
     let c = chosen key None ([], n.head.a) (map child_of n.entries) (above-first key) tt in
@@ -84,7 +84,7 @@ at_leaf old new N page size n outcome there used tree fits takes = by outcome ta
     two lacks = leaf_two (N page) size tree fits (subst (λ o. 4072 < sizes (entries_of o) + size) (sym there) (omega (arith, used, lacks)))
 
     by : (outcome : Result Put Stop) → TakesAt old new size (Some n) outcome → PutsWithin 0 N page old new outcome
-    by (Ok Stands) takes = tt
+    by (Ok Kept) takes = tt
     by (Ok Done) takes = tt
     by (Ok (Split bound next)) takes = omega (arith, takes.1, two takes.0)
     by (Err (stop.Need x)) takes = tt
@@ -117,7 +117,7 @@ split_within l N p child old mid new bound next outcome a two below n there used
     many lacks = two (subst (λ o. 4072 < sizes (entries_of o) + 610) (sym there) (omega (arith, used, lacks)))
 
     by : (outcome : Result Put Stop) → TakesAt mid new 610 (Some n) outcome → PutsWithin (suc l) N p old new outcome
-    by (Ok Stands) takes = tt
+    by (Ok Kept) takes = tt
     by (Ok Done) takes = tt
     by (Ok (Split top other)) takes = omega (arith, takes.1, many takes.0, a.rest (taken_of mid) (taken_of old) below)
     by (Err (stop.Need x)) takes = tt
@@ -127,7 +127,7 @@ split_within l N p child old mid new bound next outcome a two below n there used
 
 module _ (old : View) (l m page child : ℕ) (key bytes : List ℕ) (head : Head) (down : l ≡ suc m) (is : IsTreePage (page_of old page) l bytes head)
     (at : child ≡ nth_child head.a (node_in bytes).entries (passed (Some key) (node_in bytes).entries)) where
-  kid_is : child ≡ child_for key (node_in bytes).head.a (map child_of (node_in bytes).entries)
+  pub kid_is : child ≡ child_for key (node_in bytes).head.a (map child_of (node_in bytes).entries)
   kid_is = at ∙ ap (λ (h : Head). nth_child h.a (node_in bytes).entries (passed (Some key) (node_in bytes).entries)) is.head_is ∙ sym (child_passed key (node_in bytes).head.a (node_in bytes).entries)
 
   pub same_room : (new : View) (s : Stop) → OverNodes old m child (λ N. PutsWithin m N child old new (Err s))

@@ -24,7 +24,7 @@ trees_are_small P root es read =
 
 -- ---- edits
 -- also an empty leaf has a digit
-root_digits : (N : Nodes) (l p : ℕ) → IsTree l N p → l + 1 ≤ digits (length (items l N p) + 1)
+pub root_digits : (N : Nodes) (l p : ℕ) → IsTree l N p → l + 1 ≤ digits (length (items l N p) + 1)
 root_digits N zero p tree = digits_many zero (length (items zero N p) + 1) (length (items zero N p) + 1) (omega arith) (omega arith)
 root_digits N (suc l) p tree = digits_of_tree N (suc l) p (tree, tree.1)
 

@@ -1,5 +1,5 @@
 -- A walk down to a leaf and the puts on its way back, for all pages in which the key's place is in the tree.
-use Rattle.std.proofs.Common.{◌≡◌, ℕ, suc, true, false, List, ◌∷◌, Some, refl, ap, sym, ◌∙◌, subst, arith, T, true≢false}
+use Rattle.std.proofs.Common.{◌≡◌, ℕ, suc, Bool, true, false, List, ◌∷◌, Some, refl, ap, sym, ◌∙◌, subst, arith, T, true≢false}
 use Rattle.std.specs.Prelude.{Result, Ok, Err}
 use Rattle.sb_ctx.specs.View.{View, page_of, dropped, stored}
 use Rattle.sb_node.specs.declared.head.Head.{Head}
@@ -17,7 +17,7 @@ use Rattle.sb_btree.specs.Inserts.{PutAt, PutChildAt, PutsAt, OverPlaces, KeepsH
 use Rattle.sb_btree.specs.Ways.{way}
 use Rattle.sb_btree.specs.Walks.{Needs, OverNodes}
 use Rattle.sb_btree.specs.declared.insertion.Put.{Put}
-use Rattle.sb_btree.specs.declared.insertion.Put.TheVariants.{Stands, Done, Split}
+use Rattle.sb_btree.specs.declared.insertion.Put.TheVariants.{Kept, Done, Split}
 use Rattle.sb_btree.specs.declared.walk.Stop.{Stop}
 use Rattle.sb_btree.specs.declared.walk.Stop.TheVariants as stop
 use Rattle.sb_btree.specs.declared.walk.Walk.{Walk}
@@ -30,12 +30,12 @@ use Rattle.sb_btree.proofs.Puts.{IsWhole, leaf_puts, same_puts, child_puts}
 use Rattle.sb_btree.proofs.Raised.{kid, kid_low, kid_high, kid_place}
 use Rattle.sb_btree.proofs.Roots.{stored_shows}
 
-pub stop_puts : (old : View) (l page : ℕ) (key value : List ℕ) (s : Stop) → Lacks (page_of old page) (is_amiss l (page_of old page)) page s → OverPlaces old l page key (λ P low high. PutsAt old old l page key value P low high (Err s))
-stop_puts old l page key value (stop.Need n) lacks P low high place = tt
-stop_puts old l page key value stop.Fresh lacks P low high place = tt
-stop_puts old l page key value (stop.Broken n) lacks P low high place =
+pub stop_puts : (stands : Bool) (old : View) (l page : ℕ) (key value : List ℕ) (s : Stop) → Lacks (page_of old page) (is_amiss l (page_of old page)) page s → OverPlaces old l page key (λ P low high. PutsAt stands old old l page key value P low high (Err s))
+stop_puts stands old l page key value (stop.Need n) lacks P low high place = tt
+stop_puts stands old l page key value stop.Fresh lacks P low high place = tt
+stop_puts stands old l page key value (stop.Broken n) lacks P low high place =
     true≢false (sym lacks.1 ∙ tree_amiss l (page_of old page) (nodes (stored old P)) page (stored_shows old P page) place.tree)
-stop_puts old l page key value stop.NoMemory lacks P low high place = tt
+stop_puts stands old l page key value stop.NoMemory lacks P low high place = tt
 
 -- ---- a held page of a level
 pub held_is : (c : View) (l page : ℕ) (bytes : List ℕ) (head : Head) → IsTreePage (page_of c page) l bytes head → held_node (page_of c page) ≡ Some (node_in bytes)
@@ -54,82 +54,82 @@ still_held old mid l m page bytes head down is keeps =
     keeps page bytes is.held_is is.form (omega (arith, up, down))
 
 -- a put at it, as it was before changes of lower pages
-pub put_there : (old mid new : View) (l page : ℕ) (key value bytes : List ℕ) (head : Head) (outcome : Result Put Stop) → IsTreePage (page_of old page) l bytes head → page_of mid page ≡ page_of old page
-    → PutAt mid new l page (held_node (page_of mid page)) key value outcome → PutAt mid new l page (Some (node_in bytes)) key value outcome
-put_there old mid new l page key value bytes head outcome is still put =
-    subst (λ o. PutAt mid new l page o key value outcome) (ap held_node still ∙ held_is old l page bytes head is) put
+pub put_there : (stands : Bool) (old mid new : View) (l page : ℕ) (key value bytes : List ℕ) (head : Head) (outcome : Result Put Stop) → IsTreePage (page_of old page) l bytes head → page_of mid page ≡ page_of old page
+    → PutAt stands mid new l page (held_node (page_of mid page)) key value outcome → PutAt stands mid new l page (Some (node_in bytes)) key value outcome
+put_there stands old mid new l page key value bytes head outcome is still put =
+    subst (λ o. PutAt stands mid new l page o key value outcome) (ap held_node still ∙ held_is old l page bytes head is) put
 
 -- no place is in a page of which an entry has no child
-pub entries_puts : (old : View) (l m page : ℕ) (key value bytes : List ℕ) (head : Head) (s : Stop) → l ≡ suc m → IsTreePage (page_of old page) l bytes head → all_by is_bound (node_in bytes).entries ≡ false
-    → OverPlaces old l page key (λ P low high. PutsAt old old l page key value P low high (Err s))
-entries_puts old l m page key value bytes head s down is none P low high place = absurd (entries_lead l m old page bytes head down is none (nodes (stored old P)) (stored_shows old P) place.tree)
+pub entries_puts : (stands : Bool) (old : View) (l m page : ℕ) (key value bytes : List ℕ) (head : Head) (s : Stop) → l ≡ suc m → IsTreePage (page_of old page) l bytes head → all_by is_bound (node_in bytes).entries ≡ false
+    → OverPlaces old l page key (λ P low high. PutsAt stands old old l page key value P low high (Err s))
+entries_puts stands old l m page key value bytes head s down is none P low high place = absurd (entries_lead l m old page bytes head down is none (nodes (stored old P)) (stored_shows old P) place.tree)
 
-at_leaf : (old new : View) (page : ℕ) (key value bytes : List ℕ) (head : Head) (outcome : Result Put Stop) → IsTreePage (page_of old page) 0 bytes head → IsSmall (key, value)
-    → PutAt old new 0 page (Some (node_in bytes)) key value outcome → OverPlaces old 0 page key (λ P low high. PutsAt old new 0 page key value P low high outcome)
-at_leaf old new page key value bytes head outcome is small put P low high place =
-    leaf_puts old new P page key value low high (node_in bytes) outcome (shown old (nodes (stored old P)) page 0 bytes head (stored_shows old P) is) (held_some old page bytes is.held_is) place small (rising bytes old 0 page head is) put
+at_leaf : (stands : Bool) (old new : View) (page : ℕ) (key value bytes : List ℕ) (head : Head) (outcome : Result Put Stop) → IsTreePage (page_of old page) 0 bytes head → IsSmall (key, value)
+    → PutAt stands old new 0 page (Some (node_in bytes)) key value outcome → OverPlaces old 0 page key (λ P low high. PutsAt stands old new 0 page key value P low high outcome)
+at_leaf stands old new page key value bytes head outcome is small put P low high place =
+    leaf_puts stands old new P page key value low high (node_in bytes) outcome (shown old (nodes (stored old P)) page 0 bytes head (stored_shows old P) is) (held_some old page bytes is.held_is) place small (rising bytes old 0 page head is) put
 
-pub leaf_walk : (old new : View) (l page : ℕ) (key value bytes : List ℕ) (head : Head) (outcome : Result Put Stop) → l ≡ 0 → IsTreePage (page_of old page) l bytes head → IsSmall (key, value)
-    → PutAt old new l page (Some (node_in bytes)) key value outcome → OverPlaces old l page key (λ P low high. PutsAt old new l page key value P low high outcome)
-leaf_walk old new l page key value bytes head outcome zero_is =
-    subst (λ k. IsTreePage (page_of old page) k bytes head → IsSmall (key, value) → PutAt old new k page (Some (node_in bytes)) key value outcome → OverPlaces old k page key (λ P low high. PutsAt old new k page key value P low high outcome)) (sym zero_is)
-    (at_leaf old new page key value bytes head outcome)
+pub leaf_walk : (stands : Bool) (old new : View) (l page : ℕ) (key value bytes : List ℕ) (head : Head) (outcome : Result Put Stop) → l ≡ 0 → IsTreePage (page_of old page) l bytes head → IsSmall (key, value)
+    → PutAt stands old new l page (Some (node_in bytes)) key value outcome → OverPlaces old l page key (λ P low high. PutsAt stands old new l page key value P low high outcome)
+leaf_walk stands old new l page key value bytes head outcome zero_is =
+    subst (λ k. IsTreePage (page_of old page) k bytes head → IsSmall (key, value) → PutAt stands old new k page (Some (node_in bytes)) key value outcome → OverPlaces old k page key (λ P low high. PutsAt stands old new k page key value P low high outcome)) (sym zero_is)
+    (at_leaf stands old new page key value bytes head outcome)
 
 -- ---- a put that split no page
 pub whole : (put : Put) → ((bound : List ℕ) (next : ℕ) → put ≡ Split bound next → ⊥) → IsWhole (Ok put)
-whole Stands h = tt
+whole Kept h = tt
 whole Done h = tt
 whole (Split bound next) h = absurd (h bound next refl)
 
 pub whole_split : (c : View) (l page : ℕ) (put : Put) → ((bound : List ℕ) (next : ℕ) → put ≡ Split bound next → ⊥) → IsSplit c l page put
-whole_split c l page Stands h = tt
+whole_split c l page Kept h = tt
 whole_split c l page Done h = tt
 whole_split c l page (Split bound next) h = absurd (h bound next refl)
 
 -- ---- a step to a child
-module _ (m : ℕ) (old : View) (page child : ℕ) (key value bytes : List ℕ) (head : Head) (is : IsTreePage (page_of old page) (suc m) bytes head)
+module _ (stands : Bool) (m : ℕ) (old : View) (page child : ℕ) (key value bytes : List ℕ) (head : Head) (is : IsTreePage (page_of old page) (suc m) bytes head)
     (at : child ≡ nth_child head.a (node_in bytes).entries (passed (Some key) (node_in bytes).entries)) where
   kid_is : child ≡ nth_child (node_in bytes).head.a (node_in bytes).entries (passed (Some key) (node_in bytes).entries)
   kid_is = at ∙ ap (λ (h : Head). nth_child h.a (node_in bytes).entries (passed (Some key) (node_in bytes).entries)) is.head_is
 
-  same_step : (new : View) (outcome : Result Put Stop) → IsWhole outcome → OverPlaces old m child key (λ P low high. PutsAt old new m child key value P low high outcome)
-      → OverPlaces old (suc m) page key (λ P low high. PutsAt old new (suc m) page key value P low high outcome)
+  same_step : (new : View) (outcome : Result Put Stop) → IsWhole outcome → OverPlaces old m child key (λ P low high. PutsAt stands old new m child key value P low high outcome)
+      → OverPlaces old (suc m) page key (λ P low high. PutsAt stands old new (suc m) page key value P low high outcome)
   same_step new outcome whole below P low high place =
       let n = node_in bytes in
       let there = shown old (nodes (stored old P)) page (suc m) bytes head (stored_shows old P) is in
-      let to : child ≡ kid m old P page key value low high n there place = kid_is ∙ sym (child_passed key n.head.a n.entries) in
-      let down = subst (λ c. IsPlace m (stored old P) c (kid_low m old P page key value low high n there place) (kid_high m old P page key value low high n there place) key) (sym to) (kid_place m old P page key value low high n there place) in
-      same_puts m old P page key value low high n there place new outcome whole
-      (subst (λ c. PutsAt old new m c key value P (kid_low m old P page key value low high n there place) (kid_high m old P page key value low high n there place) outcome) to (below P _ _ down))
+      let to : child ≡ kid stands m old P page key value low high n there place = kid_is ∙ sym (child_passed key n.head.a n.entries) in
+      let down = subst (λ c. IsPlace m (stored old P) c (kid_low stands m old P page key value low high n there place) (kid_high stands m old P page key value low high n there place) key) (sym to) (kid_place stands m old P page key value low high n there place) in
+      same_puts stands m old P page key value low high n there place new outcome whole
+      (subst (λ c. PutsAt stands old new m c key value P (kid_low stands m old P page key value low high n there place) (kid_high stands m old P page key value low high n there place) outcome) to (below P _ _ down))
 
   split_step : (mid new : View) (bound : List ℕ) (next : ℕ) (outcome : Result Put Stop) → dropped mid ≡ dropped old → page_of mid page ≡ page_of old page
-      → OverPlaces old m child key (λ P low high. PutsAt old mid m child key value P low high (Ok (Split bound next))) → PutChildAt mid new (suc m) page (Some (node_in bytes)) bound next outcome
-      → OverPlaces old (suc m) page key (λ P low high. PutsAt old new (suc m) page key value P low high outcome)
+      → OverPlaces old m child key (λ P low high. PutsAt stands old mid m child key value P low high (Ok (Split bound next))) → PutChildAt mid new (suc m) page (Some (node_in bytes)) bound next outcome
+      → OverPlaces old (suc m) page key (λ P low high. PutsAt stands old new (suc m) page key value P low high outcome)
   split_step mid new bound next outcome given still below put P low high place =
       let n = node_in bytes in
       let there = shown old (nodes (stored old P)) page (suc m) bytes head (stored_shows old P) is in
-      let to : child ≡ kid m old P page key value low high n there place = kid_is ∙ sym (child_passed key n.head.a n.entries) in
-      let down = subst (λ c. IsPlace m (stored old P) c (kid_low m old P page key value low high n there place) (kid_high m old P page key value low high n there place) key) (sym to) (kid_place m old P page key value low high n there place) in
-      child_puts m old P page key value low high n there place mid new bound next outcome given (held_some mid page bytes (still ∙ is.held_is))
+      let to : child ≡ kid stands m old P page key value low high n there place = kid_is ∙ sym (child_passed key n.head.a n.entries) in
+      let down = subst (λ c. IsPlace m (stored old P) c (kid_low stands m old P page key value low high n there place) (kid_high stands m old P page key value low high n there place) key) (sym to) (kid_place stands m old P page key value low high n there place) in
+      child_puts stands m old P page key value low high n there place mid new bound next outcome given (held_some mid page bytes (still ∙ is.held_is))
       (stored_shows mid P page bytes (still ∙ is.held_is) ∙ node_of-form bytes is.form)
-      (subst (λ c. PutsAt old mid m c key value P (kid_low m old P page key value low high n there place) (kid_high m old P page key value low high n there place) (Ok (Split bound next))) to (below P _ _ down)) put
+      (subst (λ c. PutsAt stands old mid m c key value P (kid_low stands m old P page key value low high n there place) (kid_high stands m old P page key value low high n there place) (Ok (Split bound next))) to (below P _ _ down)) put
 
 -- no page was split
-pub same_walk : (old new : View) (l m page child : ℕ) (key value bytes : List ℕ) (head : Head) (outcome : Result Put Stop) → l ≡ suc m → IsTreePage (page_of old page) l bytes head
+pub same_walk : (stands : Bool) (old new : View) (l m page child : ℕ) (key value bytes : List ℕ) (head : Head) (outcome : Result Put Stop) → l ≡ suc m → IsTreePage (page_of old page) l bytes head
     → child ≡ nth_child head.a (node_in bytes).entries (passed (Some key) (node_in bytes).entries) → IsWhole outcome
-    → OverPlaces old m child key (λ P low high. PutsAt old new m child key value P low high outcome) → OverPlaces old l page key (λ P low high. PutsAt old new l page key value P low high outcome)
-same_walk old new l m page child key value bytes head outcome down is at whole below =
-    subst (λ k. OverPlaces old k page key (λ P low high. PutsAt old new k page key value P low high outcome)) (sym down)
-    (same_step m old page child key value bytes head (subst (λ k. IsTreePage (page_of old page) k bytes head) down is) at new outcome whole below)
+    → OverPlaces old m child key (λ P low high. PutsAt stands old new m child key value P low high outcome) → OverPlaces old l page key (λ P low high. PutsAt stands old new l page key value P low high outcome)
+same_walk stands old new l m page child key value bytes head outcome down is at whole below =
+    subst (λ k. OverPlaces old k page key (λ P low high. PutsAt stands old new k page key value P low high outcome)) (sym down)
+    (same_step stands m old page child key value bytes head (subst (λ k. IsTreePage (page_of old page) k bytes head) down is) at new outcome whole below)
 
 -- the child became two
-pub split_walk : (old mid new : View) (l m page child : ℕ) (key value bytes : List ℕ) (head : Head) (bound : List ℕ) (next : ℕ) (outcome : Result Put Stop) → l ≡ suc m → IsTreePage (page_of old page) l bytes head
+pub split_walk : (stands : Bool) (old mid new : View) (l m page child : ℕ) (key value bytes : List ℕ) (head : Head) (bound : List ℕ) (next : ℕ) (outcome : Result Put Stop) → l ≡ suc m → IsTreePage (page_of old page) l bytes head
     → child ≡ nth_child head.a (node_in bytes).entries (passed (Some key) (node_in bytes).entries) → dropped mid ≡ dropped old → page_of mid page ≡ page_of old page
-    → OverPlaces old m child key (λ P low high. PutsAt old mid m child key value P low high (Ok (Split bound next))) → PutChildAt mid new l page (Some (node_in bytes)) bound next outcome
-    → OverPlaces old l page key (λ P low high. PutsAt old new l page key value P low high outcome)
-split_walk old mid new l m page child key value bytes head bound next outcome down is at given still below put =
-    subst (λ k. OverPlaces old k page key (λ P low high. PutsAt old new k page key value P low high outcome)) (sym down)
-    (split_step m old page child key value bytes head (subst (λ k. IsTreePage (page_of old page) k bytes head) down is) at mid new bound next outcome given still below
+    → OverPlaces old m child key (λ P low high. PutsAt stands old mid m child key value P low high (Ok (Split bound next))) → PutChildAt mid new l page (Some (node_in bytes)) bound next outcome
+    → OverPlaces old l page key (λ P low high. PutsAt stands old new l page key value P low high outcome)
+split_walk stands old mid new l m page child key value bytes head bound next outcome down is at given still below put =
+    subst (λ k. OverPlaces old k page key (λ P low high. PutsAt stands old new k page key value P low high outcome)) (sym down)
+    (split_step stands m old page child key value bytes head (subst (λ k. IsTreePage (page_of old page) k bytes head) down is) at mid new bound next outcome given still below
     (subst (λ k. PutChildAt mid new k page (Some (node_in bytes)) bound next outcome) down put))
 
 -- the way to the child goes on from the page

@@ -1,5 +1,5 @@
 -- How many edits a Ctx counts once a page of it has other bytes.
-use Rattle.std.proofs.Common.{◌≡◌, ◌≢◌, ℕ, ◌+◌, ◌≤◌, ◌==◌, Bool, true, false, true≢false, cond, not, ◌&&◌, List, [], ◌∷◌, length, map, filter, Option, Some, None, option_map, refl, sym, ap, subst, ◌∙◌, arith, eq-eqb, ne_eqb}
+use Rattle.std.proofs.Common.{◌≡◌, ◌≢◌, ℕ, ◌+◌, ◌-◌, ◌≤◌, ◌==◌, Bool, true, false, true≢false, cond, not, ◌&&◌, List, [], ◌∷◌, length, map, filter, Option, Some, None, option_map, refl, sym, ap, subst, ◌∙◌, arith, eq-eqb, ne_eqb}
 use Rattle.std.specs.Str.{bytes_eq}
 use Rattle.std.proofs.lemmas.List.{length-map}
 use Rattle.std.proofs.lemmas.Bool.{cond-true, cond-false}
@@ -8,7 +8,7 @@ use Rattle.sb_relation.specs.Fits.{is_empty}
 use Rattle.sb_forms.specs.Pages.{zeros}
 use Rattle.sb_ctx.specs.View.{HeldPage, View, held_at, page_of, bytes_put, with_page, fresh_page, is_edited, is_freed, edits_of}
 use Rattle.sb_ctx.specs.Held.{Entries, page_in, with_bytes}
-use Rattle.sb_btree.specs.Spending.{taken_of}
+use Rattle.sb_btree.specs.Spending.{taken_of, written}
 use Rattle.sb_ctx.proofs.HeldLaws.{page_in-cons, page_in-bytes_put}
 use Rattle.sb_ctx.proofs.ViewLaws.{page_of-other}
 
@@ -25,7 +25,7 @@ with_page-none : (c : View) (n : ℕ) (bytes : List ℕ) → held_at c n ≡ Non
 with_page-none c n bytes is = ap (λ (held : Entries). record c { held = held }) (bytes_put-none c.held n bytes is)
 
 -- ---- entries that pass a test, by a change of one
-abbrev counted : (HeldPage → Bool) → Entries → ℕ
+abbrev pub counted : (HeldPage → Bool) → Entries → ℕ
 counted p held = length (filter (λ e. p e.1) held)
 
 abbrev one_if : Bool → ℕ
@@ -53,7 +53,7 @@ counted-put p (e ∷ held) n bytes h is =
     ] refl
 
 -- ---- what one page counts
-abbrev is_taken : HeldPage → Bool
+abbrev pub is_taken : HeldPage → Bool
 is_taken h = h.fresh && not (is_empty h.now)
 
 abbrev weight : HeldPage → ℕ
@@ -65,7 +65,7 @@ flagged e = (e.0, not (is_empty e.1.now))
 abbrev taken_in : Entries → List (ℕ × Bool)
 taken_in held = filter (λ e. e.1) (map flagged held)
 
-taken_counted : (held : Entries) → length (taken_in (filter (λ e. e.1.fresh) held)) ≡ counted is_taken held
+pub taken_counted : (held : Entries) → length (taken_in (filter (λ e. e.1.fresh) held)) ≡ counted is_taken held
 taken_counted [] = refl
 taken_counted (e ∷ held) = by e.1.fresh ∙ at e.1.fresh (not (is_empty e.1.now)) (taken_counted held)
   where
@@ -84,7 +84,7 @@ taken_counted (e ∷ held) = by e.1.fresh ∙ at e.1.fresh (not (is_empty e.1.no
     at true false rest = rest
     at false t rest = rest
 
-edits_counted : (c : View) → edits_of c ≡ counted is_edited c.held + counted is_taken c.held + counted is_freed c.held
+pub edits_counted : (c : View) → edits_of c ≡ counted is_edited c.held + counted is_taken c.held + counted is_freed c.held
 edits_counted c =
     omega (arith, taken_counted c.held, length-map (filter (λ e. is_edited e.1) c.held) (λ e. e.0), length-map (filter (λ e. is_freed e.1) c.held) (λ e. e.0))
 
@@ -123,11 +123,32 @@ weight-none h none = by h.fresh (is_empty h.given) (is_empty h.now) (bytes_eq h.
     by f g false s is = absurd (true≢false (sym is))
 
 -- ---- what writing a page costs
--- a page that has bytes, and other bytes then
-pub edits-written : (c : View) (n : ℕ) (page bytes : List ℕ) → page_of c n ≡ Some page → page ≢ [] → bytes ≢ [] → edits_of (with_page n bytes c) ≤ edits_of c + 1
-edits-written c n page bytes is had has = by (held_at c n) refl is
+pub held-same : (c : View) (n : ℕ) (bytes : List ℕ) (h : HeldPage) → held_at c n ≡ Some h → held_at (with_page n bytes c) n ≡ Some (with_bytes bytes h)
+held-same c n bytes h is =
+    page_in-bytes_put c.held n n bytes ∙ cond-true (n == n) (option_map (with_bytes bytes) (page_in c.held n)) (page_in c.held n) (eq-eqb n n refl) ∙ ap (option_map (with_bytes bytes)) is
+
+held-other : (c : View) (n m : ℕ) (bytes : List ℕ) → (n ≡ m → ⊥) → held_at (with_page n bytes c) m ≡ held_at c m
+held-other c n m bytes other =
+    page_in-bytes_put c.held n m bytes ∙ cond-false (n == m) (option_map (with_bytes bytes) (page_in c.held m)) (page_in c.held m) (ne_eqb n m other)
+
+abbrev edited_in : Option HeldPage → ℕ
+edited_in o = elim o [ None ↦ 0 | Some h ↦ one_if (is_edited h) ]
+
+pub written-few : (c : View) (n : ℕ) → written c n ≤ 1
+written-few c n = by (held_at c n)
   where
-    by : (o : Option HeldPage) → held_at c n ≡ o → option_map (λ (h : HeldPage). h.now) o ≡ Some page → edits_of (with_page n bytes c) ≤ edits_of c + 1
+    by : (o : Option HeldPage) → edited_in o ≤ 1
+    by None = omega arith
+    by (Some h) = at_most_one (is_edited h)
+
+pub written-other : (c : View) (n m : ℕ) (bytes : List ℕ) → (n ≡ m → ⊥) → written (with_page n bytes c) m ≡ written c m
+written-other c n m bytes other = ap edited_in (held-other c n m bytes other)
+
+-- a page that has bytes, and other bytes then
+pub edits-page : (c : View) (n : ℕ) (page bytes : List ℕ) → page_of c n ≡ Some page → page ≢ [] → bytes ≢ [] → edits_of (with_page n bytes c) + written c n ≡ edits_of c + written (with_page n bytes c) n
+edits-page c n page bytes is had has = by (held_at c n) refl is
+  where
+    by : (o : Option HeldPage) → held_at c n ≡ o → option_map (λ (h : HeldPage). h.now) o ≡ Some page → edits_of (with_page n bytes c) + written c n ≡ edits_of c + written (with_page n bytes c) n
     by None there now = cc
     by (Some h) there now =
         omega (
@@ -135,9 +156,12 @@ edits-written c n page bytes is had has = by (held_at c n) refl is
           edits-put c n bytes h there,
           weight-some h (ap is_empty (same_Some h.now page now) ∙ some_bytes page had),
           weight-some (with_bytes bytes h) (some_bytes bytes has),
-          at_most_one (is_edited h),
-          at_most_one (is_edited (with_bytes bytes h)),
+          ap edited_in there,
+          ap edited_in (held-same c n bytes h there),
         )
+
+pub edits-written : (c : View) (n : ℕ) (page bytes : List ℕ) → page_of c n ≡ Some page → page ≢ [] → bytes ≢ [] → edits_of (with_page n bytes c) + written c n ≤ edits_of c + 1
+edits-written c n page bytes is had has = omega (arith, edits-page c n page bytes is had has, written-few (with_page n bytes c) n)
 
 pub taken-written : (c : View) (n : ℕ) (page bytes : List ℕ) → page_of c n ≡ Some page → page ≢ [] → bytes ≢ [] → taken_of (with_page n bytes c) ≡ taken_of c
 taken-written c n page bytes is had has = by (held_at c n) refl is
@@ -154,6 +178,17 @@ edits-freed c n = by (held_at c n) refl
     by : (o : Option HeldPage) → held_at c n ≡ o → edits_of (with_page n [] c) ≤ edits_of c + 1
     by None there = omega (arith, ap edits_of (with_page-none c n [] there))
     by (Some h) there = omega (arith, edits-put c n [] h there, weight-none (with_bytes [] h) refl)
+
+pub taken-freed : (c : View) (n : ℕ) → taken_of (with_page n [] c) ≤ taken_of c
+taken-freed c n = by (held_at c n) refl
+  where
+    none : (f : Bool) → one_if (f && false) ≡ 0
+    none true = refl
+    none false = refl
+
+    by : (o : Option HeldPage) → held_at c n ≡ o → taken_of (with_page n [] c) ≤ taken_of c
+    by None there = omega (arith, ap taken_of (with_page-none c n [] there))
+    by (Some h) there = omega (arith, taken-put c n [] h there, none h.fresh)
 
 -- ---- fresh pages
 -- a fresh page that is written for the first time
@@ -177,14 +212,6 @@ edits-again c n old bytes is had has =
     edited [] had = absurd (had refl)
     edited (b ∷ old) had = refl
 
-pub held-same : (c : View) (n : ℕ) (bytes : List ℕ) (h : HeldPage) → held_at c n ≡ Some h → held_at (with_page n bytes c) n ≡ Some (with_bytes bytes h)
-held-same c n bytes h is =
-    page_in-bytes_put c.held n n bytes ∙ cond-true (n == n) (option_map (with_bytes bytes) (page_in c.held n)) (page_in c.held n) (eq-eqb n n refl) ∙ ap (option_map (with_bytes bytes)) is
-
-held-other : (c : View) (n m : ℕ) (bytes : List ℕ) → (n ≡ m → ⊥) → held_at (with_page n bytes c) m ≡ held_at c m
-held-other c n m bytes other =
-    page_in-bytes_put c.held n m bytes ∙ cond-false (n == m) (option_map (with_bytes bytes) (page_in c.held m)) (page_in c.held m) (ne_eqb n m other)
-
 pub some_zeros : zeros ≢ []
 unfolding zeros
 some_zeros none = cc
@@ -200,12 +227,12 @@ taking [] has = absurd (has refl)
 taking (b ∷ bytes) has = refl
 
 -- A page with bytes is written, and a fresh one taken and written, in either order.
-pub record Doubles (c new : View) : Type 0 where
-  pub edits : edits_of new ≤ edits_of c + 3
+pub record Doubles (c new : View) (page : ℕ) : Type 0 where
+  pub edits : edits_of new ≤ edits_of c + (3 - written c page)
   pub taken : taken_of new ≡ taken_of c + 1
 
 pub doubles-left : (c : View) (page next : ℕ) (bytes left right : List ℕ) → page_of c page ≡ Some bytes → bytes ≢ [] → held_at c next ≡ Some fresh_page → left ≢ [] → right ≢ []
-    → Doubles c (with_page next right (with_page page left (with_page next zeros c)))
+    → Doubles c (with_page next right (with_page page left (with_page next zeros c))) page
 doubles-left c page next bytes left right is has free has_left has_right =
     let apart = free_apart c page next bytes is has free in
     let one : View = with_page next zeros c in
@@ -214,7 +241,14 @@ doubles-left c page next bytes left right is has free has_left has_right =
     let first : held_at one next ≡ Some (with_bytes zeros fresh_page) = held-same c next zeros fresh_page free in
     let there : held_at two next ≡ Some (with_bytes zeros fresh_page) = held-other one page next left apart ∙ first in
     record {
-      edits = omega (arith, edits-taken c next zeros free some_zeros, edits-written one page bytes left still has has_left, edits-again two next zeros right there some_zeros has_right);
+      edits = omega (
+        arith,
+        edits-taken c next zeros free some_zeros,
+        edits-written one page bytes left still has has_left,
+        written-other c next page zeros (λ same. apart (sym same)),
+        written-few c page,
+        edits-again two next zeros right there some_zeros has_right,
+      );
       taken = omega (
         arith,
         taken-put c next zeros fresh_page free,
@@ -226,7 +260,7 @@ doubles-left c page next bytes left right is has free has_left has_right =
     }
 
 pub doubles-right : (c : View) (page next : ℕ) (bytes left right : List ℕ) → page_of c page ≡ Some bytes → bytes ≢ [] → held_at c next ≡ Some fresh_page → left ≢ [] → right ≢ []
-    → Doubles c (with_page page left (with_page next right (with_page next zeros c)))
+    → Doubles c (with_page page left (with_page next right (with_page next zeros c))) page
 doubles-right c page next bytes left right is has free has_left has_right =
     let apart = free_apart c page next bytes is has free in
     let one : View = with_page next zeros c in
@@ -234,7 +268,15 @@ doubles-right c page next bytes left right is has free has_left has_right =
     let first : held_at one next ≡ Some (with_bytes zeros fresh_page) = held-same c next zeros fresh_page free in
     let still : page_of two page ≡ Some bytes = page_of-other one next page right (λ same. apart (sym same)) ∙ page_of-other c next page zeros (λ same. apart (sym same)) ∙ is in
     record {
-      edits = omega (arith, edits-taken c next zeros free some_zeros, edits-again one next zeros right first some_zeros has_right, edits-written two page bytes left still has has_left);
+      edits = omega (
+        arith,
+        edits-taken c next zeros free some_zeros,
+        edits-again one next zeros right first some_zeros has_right,
+        edits-written two page bytes left still has has_left,
+        written-other c next page zeros (λ same. apart (sym same)),
+        written-other one next page right (λ same. apart (sym same)),
+        written-few c page,
+      );
       taken = omega (
         arith,
         taken-put c next zeros fresh_page free,

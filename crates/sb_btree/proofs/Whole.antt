@@ -1,12 +1,16 @@
 -- No page of a tree is amiss, and its ways are short.
-use Rattle.std.proofs.Common.{◌≡◌, ℕ, zero, suc, ◌≤◌, Bool, true, false, cond, ◌&&◌, List, [], ◌∷◌, length, map, Option, Some, None, refl, ap, sym, ◌∙◌, subst, inl, inr, arith}
+use Rattle.std.proofs.Common.{◌≡◌, ℕ, zero, suc, ◌≤◌, Bool, true, false, cond, ◌&&◌, List, [], ◌∷◌, ◌++◌, length, map, Option, Some, None, refl, ap, sym, ◌∙◌, subst, inl, inr, arith}
 use Rattle.std.specs.Prelude.{nat_eq, nat_lt, ◌||◌}
 use Rattle.std.proofs.lemmas.Bool.Decides.{nat_tests}
 use Rattle.sb_ctx.specs.View.{HeldPages}
 use Rattle.sb_node.specs.Entries.{Entry, is_below}
 use Rattle.sb_node.specs.Page.{Node, node_of}
-use Rattle.sb_forms.specs.Tree.{Nodes, nodes, Child, child_of, children_of, over, items, met, AreChildren, IsLeaf, IsInner, IsChild, IsTree, IsRoot, Has, level_of, child_for}
+use Rattle.sb_forms.specs.Pages.{Pages}
+use Rattle.sb_forms.specs.Read.{has, read_tree}
+use Rattle.sb_forms.specs.TreePages.{tree_met}
+use Rattle.sb_forms.specs.Tree.{Nodes, nodes, Child, child_of, children_of, over, items, met, AreChildren, IsLeaf, IsInner, IsChild, IsTree, IsRoot, Has, level_of, child_for, child_in}
 use Rattle.sb_btree.specs.Broken.{held_node, is_of_level, is_amiss, children_at, any_by, breaks_below, is_no_root, TreesAreWhole}
+use Rattle.sb_btree.specs.Removes.{before, beside, beside_in, removal_way, is_on_removal_way}
 use Rattle.sb_btree.specs.Ways.{child_on, way, tree_way, WaysAreShort}
 use Rattle.sb_btree.proofs.Children.{children_child}
 use Rattle.sb_btree.proofs.Descending.{tree_amiss}
@@ -126,3 +130,45 @@ ways_are_short P root es read key =
     let r = (read_root P root es read).0 in
     let l = level_of (nodes P root) in
     (omega (arith, length-way l (nodes P) key root, r.shallow), λ n on. is_has n (met l (nodes P) root) (way_met l (nodes P) key root n r.tree (has_is n (tree_way root P key) on)))
+
+-- ---- the ways of removals
+met_first : (l : ℕ) (N : Nodes) (p : ℕ) → Has p (met l N p)
+met_first zero N p = inl refl
+met_first (suc l) N p = inl refl
+
+over_before : (f : ℕ → List ℕ) → ((c : ℕ) → Has c (f c)) → (key : List ℕ) (d c : ℕ) (ks : List Child) → Has (before key d c ks) (f d ++ (f c ++ over f ks))
+over_before f own key d c [] = has_left d (f d) (f c ++ []) (own d)
+over_before f own key d c (k ∷ ks) =
+    elim (is_below key k.0) as (λ b. Has (cond b d (before key c k.1 ks)) (f d ++ (f c ++ over f (k ∷ ks)))) [
+      | true ↦ has_left d (f d) (f c ++ over f (k ∷ ks)) (own d)
+      | false ↦ has_right (before key c k.1 ks) (f d) (f c ++ over f (k ∷ ks)) (over_before f own key c k.1 ks)
+    ]
+
+over_beside : (f : ℕ → List ℕ) → ((c : ℕ) → Has c (f c)) → (key : List ℕ) (o : Option Node) → (o ≡ None → ⊥) → Has (beside_in key o) (over f (children_of o))
+over_beside f own key None some = absurd (some refl)
+over_beside f own key (Some n) some = by n.head.a (map child_of n.entries)
+  where
+    by : (d : ℕ) (ks : List Child) → Has (beside key d ks) (f d ++ over f ks)
+    by d [] = has_left d (f d) [] (own d)
+    by d (k ∷ ks) = elim (is_below key k.0) as (λ b. Has (cond b k.1 (before key d k.1 ks)) (f d ++ over f (k ∷ ks))) [
+      | true ↦ has_right k.1 (f d) (over f (k ∷ ks)) (has_left k.1 (f k.1) (over f ks) (own k.1))
+      | false ↦ over_before f own key d k.1 ks
+    ]
+
+same_child : (key : List ℕ) (o : Option Node) → child_in key o ≡ child_on (Some key) o
+same_child key None = refl
+same_child key (Some n) = refl
+
+removal_met : (l : ℕ) (N : Nodes) (key : List ℕ) (p x : ℕ) → IsTree l N p → Has x (removal_way l N key p) → Has x (met l N p)
+removal_met zero N key p x t h = h
+removal_met (suc l) N key p x t (inl e) = inl e
+removal_met (suc l) N key p x t (inr (inl e)) = inr (subst (λ y. Has y (over (met l N) (children_of (N p)))) (sym e) (over_beside (met l N) (met_first l N) key (N p) (some_node (suc l) N p t)))
+removal_met (suc l) N key p x t (inr (inr h)) =
+    inr (over_child (met l N) (Some key) x (N p) (some_node (suc l) N p t)
+    (removal_met l N key (child_on (Some key) (N p)) x (child_tree l N (Some key) p t) (subst (λ c. Has x (removal_way l N key c)) (same_child key (N p)) h)))
+
+-- the tree meets the pages on them
+pub removal_ways_met : (P : Pages) (root : ℕ) (es : List Entry) → read_tree root P ≡ Some es → (key : List ℕ) (n : ℕ) → is_on_removal_way root P key n ≡ true → has n (tree_met root P) ≡ true
+removal_ways_met P root es read key n on =
+    let l = level_of (nodes P root) in
+    is_has n (met l (nodes P) root) (removal_met l (nodes P) key root n (read_root P root es read).0.tree (has_is n (removal_way l (nodes P) key root) on))

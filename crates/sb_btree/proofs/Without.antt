@@ -27,13 +27,13 @@ no_items (x ∷ xs) e = absurd (omega (arith, e))
 abbrev stays : List ℕ → Entry → Bool
 stays key e = not (bytes_eq e.0 key)
 
-same_bytes : (x : List ℕ) → bytes_eq x x ≡ true
+pub same_bytes : (x : List ℕ) → bytes_eq x x ≡ true
 same_bytes x = sym (is_eq-slice_cmp x x) ∙ ap is_eq (tied_itself nat_list_cmp_total x)
 
-apart_less : (key x : List ℕ) → key_cmp key x ≡ Greater → not (bytes_eq x key) ≡ true
+pub apart_less : (key x : List ℕ) → key_cmp key x ≡ Greater → not (bytes_eq x key) ≡ true
 apart_less key x e = ap not (sym (is_eq-slice_cmp x key) ∙ ap is_eq (nat_list_cmp_total.antisymm x key ∙ ap ordering_reverse e))
 
-apart_more : (key x : List ℕ) → key_cmp key x ≡ Less → not (bytes_eq x key) ≡ true
+pub apart_more : (key x : List ℕ) → key_cmp key x ≡ Less → not (bytes_eq x key) ≡ true
 apart_more key x e = ap not (sym (is_eq-slice_cmp x key) ∙ ap is_eq (nat_list_cmp_total.antisymm x key ∙ ap ordering_reverse e))
 
 -- ---- entries with other keys stay
@@ -81,7 +81,7 @@ without_every P zero (e ∷ es) h = h.1
 without_every P (suc j) (e ∷ es) h = subst (AllByRecursion P) (sym (without_later j e es)) (h.0, without_every P j es h.1)
 
 -- ---- the entry at the key's place is cut out
-above_all : (key : List ℕ) (es : List Entry) → T (below_all key_cmp key es) → AllMore key es
+pub above_all : (key : List ℕ) (es : List Entry) → T (below_all key_cmp key es) → AllMore key es
 above_all key [] h = tt
 above_all key (e ∷ es) h = (is_less (key_cmp key e.0) (T_to _ (first _ _ h)), above_all key es (second _ _ h))
 

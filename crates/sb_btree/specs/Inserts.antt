@@ -1,5 +1,5 @@
 -- What an insert makes of the pages.
-use Rattle.std.specs.Prelude.{ℕ, zero, suc, ◌≡◌, ◌<◌, ◌≤◌, ◌⊎◌, Bool, true, false, List, [], ◌∷◌, ◌++◌, length, cond, nat_eq, Option, Some, None, IsSome, Result, Ok, Err}
+use Rattle.std.specs.Prelude.{ℕ, zero, suc, ◌≡◌, ◌<◌, ◌≤◌, ◌⊎◌, not, Bool, true, false, List, [], ◌∷◌, ◌++◌, length, cond, nat_eq, Option, Some, None, IsSome, Result, Ok, Err}
 use Rattle.std.specs.FinMap.Entries.{find, put}
 use Rattle.sb_bytes.specs.Field.{number_at}
 use Rattle.sb_forms.specs.Pages.{Pages, zeros}
@@ -12,7 +12,7 @@ use Rattle.sb_forms.specs.Read.{all_by, is_small, is_bound, has, read_tree}
 use Rattle.sb_forms.specs.Tree.{nodes, Child, items, met, Has}
 use Rattle.sb_forms.specs.TreePages.{tree_met}
 use Rattle.sb_btree.specs.declared.insertion.Put.{Put}
-use Rattle.sb_btree.specs.declared.insertion.Put.TheVariants.{Stands, Done, Split}
+use Rattle.sb_btree.specs.declared.insertion.Put.TheVariants.{Kept, Done, Split}
 use Rattle.sb_btree.specs.declared.walk.Stop.{Stop}
 use Rattle.sb_btree.specs.declared.walk.Stop.TheVariants as stop
 use Rattle.sb_btree.specs.declared.walk.Walk.{Walk}
@@ -30,21 +30,34 @@ MayAsk c NoMemory = Unit {0}
 abbrev pub IsFree : View → ℕ → Type 0
 IsFree c n = held_at c n ≡ Some fresh_page
 
+-- a value was found, or none was
+abbrev pub IsThere : Bool → Option (List ℕ) → Type 0
+IsThere true value = IsSome value
+IsThere false value = value ≡ None
+
 -- Where the pages went: each page of the new tree was one of the old tree or a fresh one that was free, each page of the old tree is one of the new tree, and every other page has the bytes that it had.
 pub record Grew (c : View) (root : ℕ) (before after : Pages) : Type 0 where
   pub from : (n : ℕ) → has n (tree_met root after) ≡ true → (has n (tree_met root before) ≡ true) ⊎ IsFree c n
   pub to : (n : ℕ) → has n (tree_met root before) ≡ true → has n (tree_met root after) ≡ true
   pub keeps : (n : ℕ) → has n (tree_met root after) ≡ false → after n ≡ before n
 
--- The end of an insert into a tree with these entries: it is put in; or the key stands, and nothing changes. A question and want of memory say nothing of the tree, and no page of it is called broken.
+-- The end of a put into a tree with these entries, where the key is to stand, or isn't to. The value is put in; or it is otherwise with the key, and nothing changes. A question and want of memory say nothing of the tree, and no page of it is called broken.
+abbrev pub Puts : Bool → View → View → ℕ → List ℕ → List ℕ → Pages → List Entry → Walk Bool → Type 0
+Puts stands old new root key value P es (Ready true) =
+    IsThere stands (find key_cmp key es) × (read_tree root (stored new P) ≡ Some (put key_cmp key value es)) × Grew old root (stored old P) (stored new P)
+Puts stands old new root key value P es (Ready false) = IsThere (not stands) (find key_cmp key es) × (new ≡ old)
+Puts stands old new root key value P es (Need n) = Unit {0}
+Puts stands old new root key value P es Fresh = Unit {0}
+Puts stands old new root key value P es (Broken n) = ⊥
+Puts stands old new root key value P es NoMemory = Unit {0}
+
+-- of an insert, whose key isn't to stand
 abbrev pub Inserts : View → View → ℕ → List ℕ → List ℕ → Pages → List Entry → Walk Bool → Type 0
-Inserts old new root key value P es (Ready true) =
-    (find key_cmp key es ≡ None) × (read_tree root (stored new P) ≡ Some (put key_cmp key value es)) × Grew old root (stored old P) (stored new P)
-Inserts old new root key value P es (Ready false) = IsSome (find key_cmp key es) × (new ≡ old)
-Inserts old new root key value P es (Need n) = Unit {0}
-Inserts old new root key value P es Fresh = Unit {0}
-Inserts old new root key value P es (Broken n) = ⊥
-Inserts old new root key value P es NoMemory = Unit {0}
+Inserts old new root key value P es walk = Puts false old new root key value P es walk
+
+-- of another value for a key that is to stand
+abbrev pub Replaces : View → View → ℕ → List ℕ → List ℕ → Pages → List Entry → Walk Bool → Type 0
+Replaces old new root key value P es walk = Puts true old new root key value P es walk
 
 -- what is so of all pages that, with what the Ctx made of them, are a tree with these items
 abbrev pub OverTrees : View → ℕ → (Pages → List Entry → Type 0) → Type 0
@@ -61,18 +74,18 @@ abbrev pub WereFree : View → List ℕ → Type 0
 WereFree c fresh = (x : ℕ) → Has x fresh → IsFree c x
 
 -- what a put at a page of a level makes of the pages
-abbrev pub Changes : View → View → ℕ → ℕ → List ℕ → List ℕ → Pages → List ℕ → Option (List ℕ) → Put → Type 0
-Changes old new l p key value P low high put_is =
-    (find key_cmp key (items l (nodes (stored old P)) p) ≡ None)
+abbrev pub Changes : Bool → View → View → ℕ → ℕ → List ℕ → List ℕ → Pages → List ℕ → Option (List ℕ) → Put → Type 0
+Changes stands old new l p key value P low high put_is =
+    IsThere stands (find key_cmp key (items l (nodes (stored old P)) p))
     × (fresh : List ℕ) × WereFree old fresh
     × Became l (stored old P) (stored new P) (met l (nodes (stored old P)) p) (Some low) high (children_after p low put_is) (put key_cmp key value (items l (nodes (stored old P)) p)) fresh []
 
-abbrev pub PutsAt : View → View → ℕ → ℕ → List ℕ → List ℕ → Pages → List ℕ → Option (List ℕ) → Result Put Stop → Type 0
-PutsAt old new l p key value P low high (Ok Stands) = IsSome (find key_cmp key (items l (nodes (stored old P)) p)) × (new ≡ old)
-PutsAt old new l p key value P low high (Ok Done) = Changes old new l p key value P low high Done
-PutsAt old new l p key value P low high (Ok (Split bound next)) = Changes old new l p key value P low high (Split bound next) × (length bound ≤ 602)
-PutsAt old new l p key value P low high (Err (stop.Broken n)) = ⊥
-PutsAt old new l p key value P low high (Err s) = Unit {0}
+abbrev pub PutsAt : Bool → View → View → ℕ → ℕ → List ℕ → List ℕ → Pages → List ℕ → Option (List ℕ) → Result Put Stop → Type 0
+PutsAt stands old new l p key value P low high (Ok Kept) = IsThere (not stands) (find key_cmp key (items l (nodes (stored old P)) p)) × (new ≡ old)
+PutsAt stands old new l p key value P low high (Ok Done) = Changes stands old new l p key value P low high Done
+PutsAt stands old new l p key value P low high (Ok (Split bound next)) = Changes stands old new l p key value P low high (Split bound next) × (length bound ≤ 602)
+PutsAt stands old new l p key value P low high (Err (stop.Broken n)) = ⊥
+PutsAt stands old new l p key value P low high (Err s) = Unit {0}
 
 -- what is so of all pages in which the key's place is in the tree of a level at a page
 abbrev pub OverPlaces : View → ℕ → ℕ → List ℕ → (Pages → List ℕ → Option (List ℕ) → Type 0) → Type 0
@@ -121,20 +134,20 @@ pub record PutTwo (old new : View) (l page next : ℕ) (n : Node) (bound key val
   pub some : 0 < length lesser
 
 -- what a put at a held page comes to
-abbrev pub PutAt : View → View → ℕ → ℕ → Option Node → List ℕ → List ℕ → Result Put Stop → Type 0
-PutAt old new l page None key value outcome = ⊥
-PutAt old new l page (Some n) key value (Ok Stands) = IsSome (find key_cmp key n.entries) × (new ≡ old)
-PutAt old new l page (Some n) key value (Ok Done) = (find key_cmp key n.entries ≡ None) × PutOne old new page n key value
-PutAt old new l page (Some n) key value (Ok (Split bound next)) = (find key_cmp key n.entries ≡ None) × (length bound ≤ 602) × PutTwo old new l page next n bound key value
-PutAt old new l page (Some n) key value (Err (stop.Need x)) = ⊥
-PutAt old new l page (Some n) key value (Err stop.Fresh) = free_page new ≡ None
-PutAt old new l page (Some n) key value (Err (stop.Broken x)) = (x ≡ page) × (is_page l (Some n) ≡ false)
-PutAt old new l page (Some n) key value (Err stop.NoMemory) = Unit {0}
+abbrev pub PutAt : Bool → View → View → ℕ → ℕ → Option Node → List ℕ → List ℕ → Result Put Stop → Type 0
+PutAt stands old new l page None key value outcome = ⊥
+PutAt stands old new l page (Some n) key value (Ok Kept) = IsThere (not stands) (find key_cmp key n.entries) × (new ≡ old)
+PutAt stands old new l page (Some n) key value (Ok Done) = IsThere stands (find key_cmp key n.entries) × PutOne old new page n key value
+PutAt stands old new l page (Some n) key value (Ok (Split bound next)) = IsThere stands (find key_cmp key n.entries) × (length bound ≤ 602) × PutTwo old new l page next n bound key value
+PutAt stands old new l page (Some n) key value (Err (stop.Need x)) = ⊥
+PutAt stands old new l page (Some n) key value (Err stop.Fresh) = free_page new ≡ None
+PutAt stands old new l page (Some n) key value (Err (stop.Broken x)) = (x ≡ page) × (is_page l (Some n) ≡ false)
+PutAt stands old new l page (Some n) key value (Err stop.NoMemory) = Unit {0}
 
 -- the same of a child that is put into an inner page, in an entry of four bytes; its bound doesn't stand there
 abbrev pub PutChildAt : View → View → ℕ → ℕ → Option Node → List ℕ → ℕ → Result Put Stop → Type 0
-PutChildAt old new l page held bound child (Ok Stands) = ⊥
-PutChildAt old new l page held bound child outcome = (v : List ℕ) × (length v ≡ 4) × (number_at 4 v 0 ≡ child) × PutAt old new l page held bound v outcome
+PutChildAt old new l page held bound child (Ok Kept) = ⊥
+PutChildAt old new l page held bound child outcome = (v : List ℕ) × (length v ≡ 4) × (number_at 4 v 0 ≡ child) × PutAt false old new l page held bound v outcome
 
 -- both halves are stored, the second one in a page that was free
 abbrev pub StoresHalves : View → View → ℕ → List ℕ → List ℕ → List ℕ → Put → Type 0

@@ -15,7 +15,7 @@ mod preparing;
 mod removal;
 mod walk;
 
-pub use insertion::insert;
+pub use insertion::{insert, replace};
 pub use laws::{reads_trees, trees_are_small, trees_are_whole, ways_are_short};
 pub use lookup::{find, next};
 pub use preparing::prepare;

@@ -1,7 +1,7 @@
 //! New trees.
 
-ghost use Rattle.std.specs.Prelude.{◌≡◌};
-ghost use Rattle.sb_ctx.specs.View.{dropped, page_of};
+ghost use Rattle.std.specs.Prelude.{◌≡◌, ◌+◌, ◌≤◌};
+ghost use Rattle.sb_ctx.specs.View.{dropped, edits_of, page_of};
 ghost use Rattle.sb_btree.specs.Broken.{breaks};
 ghost use Rattle.sb_btree.specs.Inserts.{MayAsk};
 ghost use Rattle.sb_btree.specs.Prepared.{Prepares};
@@ -16,6 +16,7 @@ pub fn prepare(ctx: &mut Ctx, root: u32) -> Walk<()>
     ensures given { dropped ctx.new ≡ dropped ctx.old }
     ensures asks { MayAsk ctx.new result }
     ensures broken { Breaks (breaks root (page_of ctx.old)) result }
+    ensures edits { edits_of ctx.new ≤ edits_of ctx.old + 1 }
     ensures prepares { Prepares ctx.old ctx.new root result }
 {
     let Some(page) = ctx.page(root) else {

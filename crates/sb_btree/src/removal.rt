@@ -1,14 +1,17 @@
 //! Entries taken out of a tree.
 
-ghost use Rattle.std.specs.Prelude.{◌≡◌, ◌<◌, ◌≤◌, ◌-◌, length, true, Some, IsSome, IfOk, IfErr};
-ghost use Rattle.sb_ctx.specs.View.{dropped, page_of, room_of};
+ghost use Rattle.std.specs.Prelude.{◌≡◌, ◌<◌, ◌≤◌, ◌+◌, ◌-◌, ◌*◌, length, true, Some, IsSome, IfOk, IfErr};
+ghost use Rattle.sb_ctx.specs.View.{dropped, edits_of, page_of, room_of, stored};
+ghost use Rattle.sb_fold.specs.Costs.{digits};
 ghost use Rattle.sb_node.specs.Page.{has_form, node_in};
 ghost use Rattle.sb_btree.specs.Broken.{breaks, breaks_below, held_node};
 ghost use Rattle.sb_btree.specs.Held.{IsRootPage};
 ghost use Rattle.sb_btree.specs.Inserts.{MayAsk, OverPlaces, OverTrees, is_tree_page};
 ghost use Rattle.sb_forms.specs.Read.{has};
 ghost use Rattle.sb_btree.specs.Removes.{CutsEntry, DropsChild, GivesChild, IsOther, KeepsAbove, LeavesPage, MayBreak, MergesChild, RaisesChild, Removes, TakesAt, TakesChild, TakesContent, TakesEntry, Wrote, is_on_removal_way, removal_way, taker};
-ghost use Rattle.sb_forms.specs.Tree.{entries_of};
+ghost use Rattle.sb_btree.specs.Spending.{AsksWithin, MergesWithin, RaisesAt, TakesBeside, TakesWithin, spared, written};
+ghost use Rattle.sb_forms.specs.Tree.{IsInner, entries_of};
+ghost use Rattle.sb_forms.specs.TreePages.{tree_met};
 ghost use Rattle.sb_btree.specs.Walks.{Breaks, Needs, OnTree, OverNodes, as_walk};
 
 use crate::insertion::{MOST_KEY, Put, grow, put_child};
@@ -34,8 +37,8 @@ enum Taken {
 
 /// Takes the entry of a key out of the tree. False where the tree hasn't the key.
 ///
-/// An emptied leaf but the root is given back. An inner page that is left with one child gives this child to the one
-/// beside it and is given back; the one beside it may be split by that. A root with one child takes that child's content.
+/// A leaf goes with its last entry, unless it is the root. An inner page needs two children: where only one is left, that
+/// one moves to a neighbour, which may have to be split for it, and the page goes. A root takes the place of an only child.
 pub fn remove(alloc: Global, ctx: &mut Ctx, root: u32, key: &[u8]) -> Walk<bool>
     ensures given { dropped ctx.new ≡ dropped ctx.old }
     ensures asks { MayAsk ctx.new result }
@@ -44,6 +47,10 @@ pub fn remove(alloc: Global, ctx: &mut Ctx, root: u32, key: &[u8]) -> Walk<bool>
     // over pages that are a tree
     ensures removes { OverTrees ctx.old root (λ P es. Removes ctx.old ctx.new root key.now P es result) }
     ensures way { OnTree ctx.old root (λ P. Needs (is_on_removal_way root P key.now) result) }
+
+    // what it takes of such pages
+    ensures edits { OverTrees ctx.old root (λ P es. edits_of ctx.new < edits_of ctx.old + 5 * digits (length es + 1)) }
+    ensures room { OverTrees ctx.old root (λ P es. AsksWithin (2 * length es) (length (tree_met root (stored ctx.old P))) ctx.old ctx.new result) }
 {
     match root_level(ctx, root) {
         Ok(level) => answer(remove_at_root(alloc, ctx, root, level, key)),
@@ -64,6 +71,8 @@ fn remove_at_root(
     ensures broken { Breaks (breaks_below level (page_of ctx.old) root) (as_walk result) }
     ensures removes { OverTrees ctx.old root (λ P es. Removes ctx.old ctx.new root key.now P es (as_walk result)) }
     ensures way { OnTree ctx.old root (λ P. Needs (is_on_removal_way root P key.now) (as_walk result)) }
+    ensures edits { edits_of ctx.new ≤ edits_of ctx.old + (5 * level + 4) }
+    ensures room { OverTrees ctx.old root (λ P es. AsksWithin (2 * length es) (length (tree_met root (stored ctx.old P))) ctx.old ctx.new (as_walk result)) }
 {
     match remove_below(alloc, ctx, root, level, key)? {
         Taken::Lacks => Ok(false),
@@ -101,6 +110,8 @@ fn remove_below(
     ensures single { IfOk result (MayBreak ctx.old ctx.new level page) }
     ensures takes { OverPlaces ctx.old level page key.now (λ P low high. TakesAt ctx.old ctx.new level page key.now P low high result) }
     ensures way { OverNodes ctx.old level page (λ N. Needs (λ n. has n (removal_way level N key.now page)) (as_walk result)) }
+    ensures edits { edits_of ctx.new + spared result ≤ edits_of ctx.old + (5 * level + 1) }
+    ensures room { OverNodes ctx.old level page (λ N. TakesWithin level N page ctx.old ctx.new result) }
 {
     let (bytes, head) = tree_page(ctx, page, level)?;
     if level == 0 {
@@ -126,6 +137,7 @@ fn take_entry(alloc: Global, ctx: &mut Ctx, page: u32, key: &[u8]) -> Result<Tak
     requires { is_tree_page 0 (held_node (page_of ctx.old page)) ≡ true }
     ensures given { dropped ctx.new ≡ dropped ctx.old }
     ensures takes { TakesEntry ctx.old ctx.new page (held_node (page_of ctx.old page)) key.now result }
+    ensures edits { edits_of ctx.new ≤ edits_of ctx.old + 1 }
 {
     let Some(bytes) = ctx.page(page) else {
         unreachable!();
@@ -144,6 +156,7 @@ fn cut_entry(ctx: &mut Ctx, page: u32, copy: &mut [u8], i: u16) -> Result<Taken,
     requires within { i < (node_in copy.old).head.count }
     ensures given { dropped ctx.new ≡ dropped ctx.old }
     ensures cuts { CutsEntry ctx.old ctx.new page (node_in copy.old) i result }
+    ensures edits { edits_of ctx.new ≤ edits_of ctx.old + 1 }
 {
     cut(copy, i);
     let Some(head) = form(copy) else {
@@ -162,6 +175,7 @@ fn drop_child(alloc: Global, ctx: &mut Ctx, page: u32, i: u16, child: u32) -> Re
     requires within { i ≤ length (entries_of (held_node (page_of ctx.old page))) }
     ensures given { dropped ctx.new ≡ dropped ctx.old }
     ensures drops { DropsChild ctx.old ctx.new page (held_node (page_of ctx.old page)) i result }
+    ensures edits { edits_of ctx.new + written ctx.old page ≤ edits_of ctx.old + written ctx.new page }
     ensures other { IfOk result (IsOther child) }
 {
     let Some(bytes) = ctx.page(page) else {
@@ -179,6 +193,7 @@ fn cut_child(ctx: &mut Ctx, page: u32, copy: &mut [u8], i: u16, child: u32) -> R
     requires within { i ≤ length (node_in copy.old).entries }
     ensures given { dropped ctx.new ≡ dropped ctx.old }
     ensures drops { DropsChild ctx.old ctx.new page (Some (node_in copy.old)) i result }
+    ensures edits { edits_of ctx.new + written ctx.old page ≤ edits_of ctx.old + written ctx.new page }
     ensures other { IfOk result (IsOther child) }
 {
     let Some(head) = form(copy) else {
@@ -220,6 +235,8 @@ fn merge(
     requires child { is_tree_page (level - 1) (held_node (page_of ctx.old child)) ≡ true }
     ensures given { dropped ctx.new ≡ dropped ctx.old }
     ensures merges { MergesChild ctx.old ctx.new level page (held_node (page_of ctx.old page)) i child left result }
+    ensures edits { edits_of ctx.new + spared result ≤ edits_of ctx.old + 7 }
+    ensures room { IsInner level (held_node (page_of ctx.old page)) → MergesWithin ctx.old ctx.new (held_node (page_of ctx.old page)) result }
     ensures other { IfOk result (IsOther child) }
 {
     let put = give_away(alloc, ctx, page, level, i, child, left)?;
@@ -246,6 +263,8 @@ fn give_away(
     requires child { is_tree_page (level - 1) (held_node (page_of ctx.old child)) ≡ true }
     ensures given { dropped ctx.new ≡ dropped ctx.old }
     ensures gives { GivesChild ctx.old ctx.new level page (held_node (page_of ctx.old page)) i child left result }
+    ensures edits { edits_of ctx.new ≤ edits_of ctx.old + 4 }
+    ensures room { TakesBeside ctx.old ctx.new result }
 {
     let Some(bytes) = ctx.page(page) else {
         unreachable!();
@@ -292,6 +311,8 @@ fn take_child(
     requires bound { length bound.now ≤ 602 }
     ensures given { dropped ctx.new ≡ dropped ctx.old }
     ensures takes { TakesChild ctx.old ctx.new level page (held_node (page_of ctx.old page)) bound.now child in_front result }
+    ensures edits { edits_of ctx.new ≤ edits_of ctx.old + 3 }
+    ensures room { TakesBeside ctx.old ctx.new result }
 {
     let (bytes, head) = tree_page(ctx, page, level)?;
     if !in_front {
@@ -308,6 +329,7 @@ fn set_first(ctx: &mut Ctx, page: u32, copy: &mut [u8], child: u32) -> Result<()
     requires form { has_form copy.old ≡ true }
     ensures given { dropped ctx.new ≡ dropped ctx.old }
     ensures set { IfOk result (λ done. Wrote ctx.old ctx.new page (taker true child (node_in copy.old))) }
+    ensures edits { edits_of ctx.new + written ctx.old page ≤ edits_of ctx.old + written ctx.new page }
     ensures stops { IfErr result (λ stop. stop ≡ Stop.NoMemory) }
 {
     let Some(head) = form(copy) else {
@@ -332,6 +354,8 @@ fn raise(
     requires bound { length bound ≤ 602 }
     ensures given { dropped ctx.new ≡ dropped ctx.old }
     ensures raises { RaisesChild ctx.old ctx.new level page (held_node (page_of ctx.old page)) bound next result }
+    ensures edits { edits_of ctx.new ≤ edits_of ctx.old + (3 - written ctx.old page) }
+    ensures room { RaisesAt ctx.old ctx.new (held_node (page_of ctx.old page)) result }
 {
     match put_child(alloc, ctx, page, level, bound.as_slice(), next)? {
         Put::Split(bound, next) => Ok(Taken::Split(bound, next)),
@@ -344,6 +368,7 @@ fn take_content(alloc: Global, ctx: &mut Ctx, root: u32, only: u32, level: u8) -
     requires { room_of ctx.old root ≡ 4096 }
     ensures given { dropped ctx.new ≡ dropped ctx.old }
     ensures takes { TakesContent ctx.old ctx.new root only level result }
+    ensures edits { edits_of ctx.new ≤ edits_of ctx.old + 2 }
 {
     let (bytes, _) = tree_page(ctx, only, level)?;
     let content = copied(alloc, bytes)?;

@@ -139,6 +139,29 @@ fn an_entry_is_put_into_an_empty_leaf(rt: HostRuntime) -> Result<(), Fail> {
 }
 
 #[test]
+fn a_value_is_replaced_below_the_root(rt: HostRuntime) -> Result<(), Fail> {
+    let mut ctx = Ctx::new(rt.alloc());
+    give(&mut ctx, 7, &ROOT)?;
+    give(&mut ctx, 8, &LEAF)?;
+    assert!(rt;
+        matches!(
+            &replace(rt.alloc(), &mut ctx, 7, b"c", b"six"),
+            Walk::Ready(false)
+        )
+    );
+    assert!(rt;
+        matches!(
+            &replace(rt.alloc(), &mut ctx, 7, b"b", b"six"),
+            Walk::Ready(true)
+        )
+    );
+    assert!(rt;
+        matches!(&find(rt.alloc(), &ctx, 7, b"b"), Walk::Ready(Some(value)) if value.as_slice() == b"six".as_slice())
+    );
+    Ok(())
+}
+
+#[test]
 fn a_full_leaf_is_split(rt: HostRuntime) -> Result<(), Fail> {
     let mut ctx = Ctx::new(rt.alloc());
     give(&mut ctx, 7, &EMPTY)?;

@@ -1,11 +1,13 @@
-pub mod Spelled
 pub mod Entries
 pub mod RowsOf
 pub mod Few
+pub mod Counted
 pub mod TreeRows
 pub mod Columns
 pub mod Changing
+pub mod Within
 pub mod MethodLaws
 pub mod PutLaws
 pub mod RemoveLaws
+pub mod UpdateLaws
 pub mod ExampleLaws

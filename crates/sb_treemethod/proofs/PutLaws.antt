@@ -1,5 +1,5 @@
 -- What is answered when a row is added, and when an instance is made.
-use Rattle.std.proofs.Common.{◌≡◌, ◌≢◌, ℕ, ◌<◌, nat_lt, nat_le, length, Bool, true, false, cond, List, [], Option, Some, None, IsSome, is_some, option_map, is_none, refl, ap, sym, ◌∙◌, subst, arith, true≢false, eq-eqb}
+use Rattle.std.proofs.Common.{◌≡◌, ◌≢◌, ℕ, ◌+◌, ◌<◌, ◌≤◌, nat_lt, nat_le, length, Bool, true, false, cond, List, [], Option, Some, None, IsSome, is_some, option_map, is_none, refl, ap, sym, ◌∙◌, subst, arith, true≢false, eq-eqb}
 use Rattle.std.specs.FinMap.Entries.{find, put}
 use Rattle.std.proofs.lemmas.Bool.{ltb-true, ltb-false}
 use Rattle.std.proofs.lemmas.Bool.Decides.{nat_tests}
@@ -8,16 +8,16 @@ use Rattle.sb_relation.specs.Keys.{NewKeys, Just, Taken, Coded, is_free, new_key
 use Rattle.sb_node.specs.Entries.{key_cmp}
 use Rattle.sb_node.specs.Page.{node_of}
 use Rattle.sb_forms.specs.Pages.{Pages, ArePages, new_pages, zeros}
-use Rattle.sb_forms.specs.TreePages.{is_row_entry, row_in, tree_rows}
+use Rattle.sb_forms.specs.Stored.{row_in}
+use Rattle.sb_forms.specs.TreePages.{is_row_entry, tree_rows}
 use Rattle.sb_ctx.specs.declared.instance.Instance.{Instance}
 use Rattle.sb_ctx.specs.declared.calls.MethodCall.TheVariants as call
 use Rattle.sb_ctx.specs.declared.moves.Move.TheVariants.{Done, Duplicate, Key as Keyed}
-use Rattle.sb_ctx.specs.View.{View, page_of, room_of, dropped, HoldsPart, stored}
+use Rattle.sb_ctx.specs.View.{View, page_of, room_of, dropped, edits_of, HoldsPart, stored}
 use Rattle.sb_ctx.proofs.ViewLaws.{given-page, stored-clean, stored-same, stored-other, room_of-page}
-use Rattle.sb_ctx.proofs.BoundLaws.{page_count-few}
 use Rattle.sb_ctx.specs.Laws.{IsMethod}
 use Rattle.sb_ctx.specs.Method.{code_of, MayHold}
-use Rattle.sb_ctx.specs.MethodAnswers.{Changes, Gets}
+use Rattle.sb_ctx.specs.MethodAnswers.{Changes, Gets, HasRoom, IsOnPath, most_pages}
 use Rattle.sb_btree.specs.Broken.{breaks}
 use Rattle.sb_btree.specs.Inserts.{Inserts, MayAsk, OverTrees, Grew}
 use Rattle.sb_btree.specs.Prepared.{IsPrepared, Prepares}
@@ -25,26 +25,33 @@ use Rattle.sb_btree.specs.Walks.{Breaks}
 use Rattle.sb_btree.specs.declared.walk.Walk.{Walk}
 use Rattle.sb_btree.specs.declared.walk.Walk.TheVariants as walk
 use Rattle.sb_btree.proofs.Edits.{held_still}
+use Rattle.sb_btree.proofs.Reading.{eq_says}
+use Rattle.sb_btree.proofs.Spending.{trees_are_small}
 use Rattle.sb_btree.proofs.Whole.{trees_are_whole}
 use Rattle.sb_treemethod.specs.TreeMethod.{tree_method, IsEntryOf}
 use Rattle.sb_treemethod.specs.Answered.{prepare_move, put_move}
-use Rattle.sb_treemethod.proofs.Spelled.{row_in-spelling}
+use Rattle.sb_forms.proofs.Spelled.{row_in-spelling}
 use Rattle.sb_treemethod.proofs.Entries.{entry_of_row}
 use Rattle.sb_treemethod.proofs.RowsOf.{row_at-rows_of, with_row-rows_of}
 use Rattle.sb_treemethod.proofs.TreeRows.{Formed, formed, tree_of, rows_from, are_rows, rooted}
 use Rattle.sb_treemethod.proofs.Changing.{TreeOf-grown, TreeOf-prepared}
-use Rattle.sb_treemethod.proofs.MethodLaws.{changes, Changes-question, reads_still}
+use Rattle.sb_treemethod.proofs.Counted.{clean_edits, pages_few, sound_dropped}
+use Rattle.sb_treemethod.proofs.MethodLaws.{changes, Changes-question}
+use Rattle.sb_treemethod.proofs.Within.{AskedBy, Bounds, Within, as_many, reads_still, within}
 
 -- ---- the law of the box
 pub IsMethod-tree_method : IsMethod tree_method
 IsMethod-tree_method = record {
+  heap = λ is. cc;
   tree = λ is. record { durable = refl; rows = λ inst P. refl };
   formed = λ inst P rows holds.
       let f = formed inst.root inst.schema inst.key P rows holds in
       record {
         lawful = are_rows inst.root inst.schema inst.key P rows f;
         root = rooted inst.root P f.es f.tree;
-        bound = λ pages. omega (arith, page_count-few P);
+        bound = λ pages.
+            let t = tree_of inst.root inst.schema inst.key P rows pages f in
+            omega (arith, pages_few inst.root P t.all, trees_are_small P inst.root f.es f.tree, as_many inst.root inst P rows f);
         whole = λ held n some. trees_are_whole P inst.root f.es f.tree held n some;
       };
 }
@@ -85,12 +92,12 @@ pub value_read : (inst : Instance) (row : Row) (key value : List ℕ) → MayHol
 value_read inst row key value may entry = ap row_in entry.value_is ∙ row_in-spelling row may.is_row.tuple
 
 -- ---- a row that is added
-grew_from : (root : ℕ) (old : View) (P Q : Pages) → dropped old ≡ old → HoldsPart old P → Grew old root (stored old P) Q → Grew old root P Q
+pub grew_from : (root : ℕ) (old : View) (P Q : Pages) → dropped old ≡ old → HoldsPart old P → Grew old root (stored old P) Q → Grew old root P Q
 grew_from root old P Q clean part grew = subst (λ (R : Pages). Grew old root R Q) (stored-clean old P clean part) grew
 
 Changes-inserted : (inst : Instance) (row : Row) (code value : List ℕ) (old new : View) → dropped old ≡ old → dropped new ≡ old → MayHold tree_method inst row → IsEntryOf inst row code value
-    → OverTrees old inst.root (λ P es. Inserts old new inst.root code value P es (walk.Ready true)) → Changes tree_method inst (call.Insert row) old new (Keyed code)
-Changes-inserted inst row code value old new clean given may entry inserts =
+    → OverTrees old inst.root (λ P es. Inserts old new inst.root code value P es (walk.Ready true)) → Within inst (call.Insert row) old new (Keyed code) → Changes tree_method inst (call.Insert row) old new (Keyed code)
+Changes-inserted inst row code value old new clean given may entry inserts spends =
     changes inst (call.Insert row) old new (Keyed code) given tt tt (short_key inst row code value may entry)
     (λ P part rows holds.
     let f = formed inst.root inst.schema inst.key P rows holds in
@@ -101,10 +108,11 @@ Changes-inserted inst row code value old new clean given may entry inserts =
     (ap (λ k. is_none (row_at rows k)) (sym entry.key_is) ∙ ap is_none (row_under inst P rows code f) ∙ none_under (find key_cmp code f.es) put_in.0) entry.key_is
     (rows_from inst.root inst.schema inst.key (stored new P) (put key_cmp code value f.es) grown
     ∙ ap Some (sym (with_row-rows_of code value f.es) ∙ (λ i. with_row (sym f.same i) code (value_read inst row code value may entry i)))))
+    spends
 
 Changes-duplicate : (inst : Instance) (row : Row) (code value : List ℕ) (old new : View) → dropped old ≡ old → dropped new ≡ old → IsEntryOf inst row code value
-    → OverTrees old inst.root (λ P es. Inserts old new inst.root code value P es (walk.Ready false)) → Changes tree_method inst (call.Insert row) old new Duplicate
-Changes-duplicate inst row code value old new clean given entry inserts =
+    → OverTrees old inst.root (λ P es. Inserts old new inst.root code value P es (walk.Ready false)) → Within inst (call.Insert row) old new Duplicate → Changes tree_method inst (call.Insert row) old new Duplicate
+Changes-duplicate inst row code value old new clean given entry inserts spends =
     changes inst (call.Insert row) old new Duplicate given tt tt tt
     (λ P part rows holds.
     let f = formed inst.root inst.schema inst.key P rows holds in
@@ -112,15 +120,28 @@ Changes-duplicate inst row code value old new clean given entry inserts =
     got_none inst rows None (code_of inst row) (λ k. with_row rows k row) (stored new P)
     (ap (λ k. is_none (row_at rows k)) (sym entry.key_is) ∙ ap is_none (row_under inst P rows code f) ∙ some_under (find key_cmp code f.es) stands.0)
     (ap (λ (v : View). tree_rows inst.root inst.schema inst.key (stored v P)) stands.1 ∙ holds_still inst old P rows clean part holds))
+    spends
+
+pub asked_put : (code : Key) (w : Walk Bool) → AskedBy w (put_move code w)
+asked_put code (walk.Ready true) = tt
+asked_put code (walk.Ready false) = tt
+asked_put code (walk.Need n) = refl
+asked_put code walk.Fresh = refl
+asked_put code (walk.Broken n) = tt
+asked_put code walk.NoMemory = tt
 
 pub Changes-put : (inst : Instance) (row : Row) (code value : List ℕ) (old new : View) (w : Walk Bool) → dropped old ≡ old → dropped new ≡ old → MayAsk new w → Breaks (breaks inst.root (page_of old)) w
-    → OverTrees old inst.root (λ P es. Inserts old new inst.root code value P es w) → MayHold tree_method inst row → IsEntryOf inst row code value → Changes tree_method inst (call.Insert row) old new (put_move code w)
-Changes-put inst row code value old new (walk.Ready true) clean given asks broken inserts may entry = Changes-inserted inst row code value old new clean given may entry inserts
-Changes-put inst row code value old new (walk.Ready false) clean given asks broken inserts may entry = Changes-duplicate inst row code value old new clean given entry inserts
-Changes-put inst row code value old new (walk.Need n) clean given asks broken inserts may entry = Changes-question {T = Bool} inst (call.Insert row) old new (walk.Need n) tt clean given asks broken
-Changes-put inst row code value old new walk.Fresh clean given asks broken inserts may entry = Changes-question {T = Bool} inst (call.Insert row) old new walk.Fresh tt clean given asks broken
-Changes-put inst row code value old new (walk.Broken n) clean given asks broken inserts may entry = Changes-question {T = Bool} inst (call.Insert row) old new (walk.Broken n) (λ P part. tt) clean given asks broken
-Changes-put inst row code value old new walk.NoMemory clean given asks broken inserts may entry = Changes-question {T = Bool} inst (call.Insert row) old new walk.NoMemory tt clean given asks broken
+    → OverTrees old inst.root (λ P es. Inserts old new inst.root code value P es w) → MayHold tree_method inst row → IsEntryOf inst row code value → Bounds inst (call.Insert row) old new w → Changes tree_method inst (call.Insert row) old new (put_move code w)
+Changes-put inst row code value old new w clean given asks broken inserts may entry b = by w asks broken inserts (within inst (call.Insert row) old new w (put_move code w) given asks (asked_put code w) b)
+  where
+    by : (w : Walk Bool) → MayAsk new w → Breaks (breaks inst.root (page_of old)) w → OverTrees old inst.root (λ P es. Inserts old new inst.root code value P es w) → Within inst (call.Insert row) old new (put_move code w)
+        → Changes tree_method inst (call.Insert row) old new (put_move code w)
+    by (walk.Ready true) asks broken inserts spends = Changes-inserted inst row code value old new clean given may entry inserts spends
+    by (walk.Ready false) asks broken inserts spends = Changes-duplicate inst row code value old new clean given entry inserts spends
+    by (walk.Need n) asks broken inserts spends = Changes-question {T = Bool} inst (call.Insert row) old new (walk.Need n) tt clean given asks broken spends
+    by walk.Fresh asks broken inserts spends = Changes-question {T = Bool} inst (call.Insert row) old new walk.Fresh tt clean given asks broken spends
+    by (walk.Broken n) asks broken inserts spends = Changes-question {T = Bool} inst (call.Insert row) old new (walk.Broken n) (λ P part. tt) clean given asks broken spends
+    by walk.NoMemory asks broken inserts spends = Changes-question {T = Bool} inst (call.Insert row) old new walk.NoMemory tt clean given asks broken spends
 
 -- ---- an instance is made
 new_root : (root : ℕ) (P : Pages) → ((n : ℕ) → P n ≡ new_pages root n) → P root ≡ zeros
@@ -140,8 +161,8 @@ low_root root P are is = by (nat_lt root 65536) refl
         none : ◌≡◌ {A = ℕ} 0 4096 → ⊥
         none e = cc
 
-Changes-made : (inst : Instance) (old new : View) → dropped old ≡ old → dropped new ≡ old → IsPrepared old new inst.root → Changes tree_method inst call.Prepare old new Done
-Changes-made inst old new clean given made =
+Changes-made : (inst : Instance) (old new : View) → dropped old ≡ old → dropped new ≡ old → IsPrepared old new inst.root → Within inst call.Prepare old new Done → Changes tree_method inst call.Prepare old new Done
+Changes-made inst old new clean given made spends =
     changes inst call.Prepare old new Done given tt tt tt
     (λ P part is_new.
     let there = ap is_some made.held in
@@ -149,6 +170,7 @@ Changes-made inst old new clean given made =
     rows_from inst.root inst.schema inst.key (stored new P) []
     (TreeOf-prepared inst.root inst.schema inst.key P (stored new P) (low_root inst.root P part.are_pages (new_root inst.root P is_new)) is_new (ap node_of at_root ∙ made.node_is)
     (λ n other. ap (λ (v : View). stored v P n) made.changed ∙ stored-other old P inst.root n made.leaf other ∙ ap (λ (Q : Pages). Q n) (stored-clean old P clean part))))
+    spends
 
 is_none_new : (inst : Instance) (old : View) (P : Pages) → dropped old ≡ old → HoldsPart old P → IsSome (page_of old inst.root) → room_of old inst.root ≢ 4096 → ((n : ℕ) → P n ≡ new_pages inst.root n) → ⊥
 is_none_new inst old P clean part there other is_new = by (page_of old inst.root) refl there
@@ -158,12 +180,37 @@ is_none_new inst old P clean part there other is_new = by (page_of old inst.root
     by (Some bytes) is some =
         other (room_of-page old inst.root bytes is ∙ ap length (sym (given-page old P inst.root bytes clean part is) ∙ new_root inst.root P is_new) ∙ long_zeros)
 
-pub Changes-prepared : (inst : Instance) (old new : View) (w : Walk (Unit {0})) → dropped old ≡ old → dropped new ≡ old → MayAsk new w → Breaks (breaks inst.root (page_of old)) w → Prepares old new inst.root w
+-- a new tree is one page
+made_within : (inst : Instance) (old new : View) (w : Walk (Unit {0})) → dropped old ≡ old → dropped new ≡ old → Prepares old new inst.root w → edits_of new ≤ edits_of old + 1 → Within inst call.Prepare old new (prepare_move w)
+made_within inst old new w clean given is few ctx P part rows before = record {
+  path = path w is;
+  room = room w is;
+  edits = omega (arith, few, clean_edits old clean (sound_dropped new old given ctx.sound));
+}
+  where
+    path : (w : Walk (Unit {0})) → Prepares old new inst.root w → IsOnPath tree_method inst call.Prepare P (prepare_move w)
+    path (walk.Ready end) is = tt
+    path (walk.Need n) is = (eq_says n inst.root).1 is.0
+    path walk.Fresh is = tt
+    path (walk.Broken n) is = tt
+    path walk.NoMemory is = tt
+
+    room : (w : Walk (Unit {0})) → Prepares old new inst.root w → HasRoom (most_pages tree_method call.Prepare (length rows)) P new (prepare_move w)
+    room (walk.Ready end) is = tt
+    room (walk.Need n) is = tt
+    room walk.Fresh is = absurd is
+    room (walk.Broken n) is = tt
+    room walk.NoMemory is = tt
+
+pub Changes-prepared : (inst : Instance) (old new : View) (w : Walk (Unit {0})) → dropped old ≡ old → dropped new ≡ old → MayAsk new w → Breaks (breaks inst.root (page_of old)) w → Prepares old new inst.root w → edits_of new ≤ edits_of old + 1
     → Changes tree_method inst call.Prepare old new (prepare_move w)
-Changes-prepared inst old new (walk.Ready end) clean given asks broken is = Changes-made inst old new clean given is
-Changes-prepared inst old new (walk.Need n) clean given asks broken is = Changes-question {T = Unit {0}} inst call.Prepare old new (walk.Need n) tt clean given asks broken
-Changes-prepared inst old new walk.Fresh clean given asks broken is = absurd is
-Changes-prepared inst old new (walk.Broken n) clean given asks broken is =
-    let there = held_still new old n (clean ∙ sym given) asks in
-    Changes-question {T = Unit {0}} inst call.Prepare old new (walk.Broken n) (λ P part. is_none_new inst old P clean part (subst (λ m. IsSome (page_of old m)) is.0 there) is.1) clean given asks broken
-Changes-prepared inst old new walk.NoMemory clean given asks broken is = Changes-question {T = Unit {0}} inst call.Prepare old new walk.NoMemory tt clean given asks broken
+Changes-prepared inst old new w clean given asks broken is few = by w asks broken is (made_within inst old new w clean given is few)
+  where
+    by : (w : Walk (Unit {0})) → MayAsk new w → Breaks (breaks inst.root (page_of old)) w → Prepares old new inst.root w → Within inst call.Prepare old new (prepare_move w) → Changes tree_method inst call.Prepare old new (prepare_move w)
+    by (walk.Ready end) asks broken is spends = Changes-made inst old new clean given is spends
+    by (walk.Need n) asks broken is spends = Changes-question {T = Unit {0}} inst call.Prepare old new (walk.Need n) tt clean given asks broken spends
+    by walk.Fresh asks broken is spends = absurd is
+    by (walk.Broken n) asks broken is spends =
+        let there = held_still new old n (clean ∙ sym given) asks in
+        Changes-question {T = Unit {0}} inst call.Prepare old new (walk.Broken n) (λ P part. is_none_new inst old P clean part (subst (λ m. IsSome (page_of old m)) is.0 there) is.1) clean given asks broken spends
+    by walk.NoMemory asks broken is spends = Changes-question {T = Unit {0}} inst call.Prepare old new walk.NoMemory tt clean given asks broken spends

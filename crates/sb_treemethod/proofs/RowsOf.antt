@@ -11,7 +11,8 @@ use Rattle.std.proofs.lemmas.Option.{same_Some}
 use Rattle.sb_value.specs.Order.{bytes_cmp}
 use Rattle.sb_relation.specs.Db.{Key, Row, Rows, row_at, with_row, without_row}
 use Rattle.sb_node.specs.Entries.{Entry, key_cmp, is_below}
-use Rattle.sb_forms.specs.TreePages.{row_in, rows_of}
+use Rattle.sb_forms.specs.Stored.{row_in}
+use Rattle.sb_forms.specs.TreePages.{rows_of}
 use Rattle.sb_ctx.specs.MethodAnswers.{is_above, row_above}
 use Rattle.sb_btree.specs.Ways.{is_behind}
 use Rattle.sb_btree.proofs.Order.{same_key}

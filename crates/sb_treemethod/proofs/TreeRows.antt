@@ -151,7 +151,7 @@ each_key schema key (e ∷ es) all =
     let parts = and_parts (is_row_entry schema key e) (list_all (is_row_entry schema key) es) all in
     All-cons (λ row. is_record_key row.0 ≡ true) (as_row e) (rows_of es) (row_entry schema key e parts.0).is_key (each_key schema key es parts.1)
 
-rising : (root : ℕ) (P : Pages) (es : List Entry) → read_tree root P ≡ Some es → T (is_sorted key_cmp es)
+pub rising : (root : ℕ) (P : Pages) (es : List Entry) → read_tree root P ≡ Some es → T (is_sorted key_cmp es)
 rising root P es is =
     let root_is = read_root P root es is in
     subst (λ (l : List Entry). T (is_sorted key_cmp l)) (sym root_is.1) (tree_sorted P (level_of (nodes P root)) root root_is.0.tree)

@@ -1,5 +1,5 @@
 -- What the walks over a tree are answered with.
-use Rattle.std.specs.Prelude.{◌≡◌, ℕ, Bool, true, false, List, Option, Some, None}
+use Rattle.std.specs.Prelude.{◌≡◌, ℕ, Bool, true, false, List, Option, Some, None, is_some}
 use Rattle.sb_value.specs.declared.schema.Column.{Column}
 use Rattle.sb_codec.specs.Tuples.{tuple_spelling}
 use Rattle.sb_relation.specs.Db.{Key}
@@ -29,9 +29,13 @@ put_move key (walk.Ready true) = Keyed key
 put_move key (walk.Ready false) = Duplicate
 put_move key w = question_of w
 
-abbrev pub was_removed : Walk Bool → Bool
-was_removed (walk.Ready done) = done
-was_removed w = false
+abbrev pub was_done : Walk Bool → Bool
+was_done (walk.Ready done) = done
+was_done w = false
+
+abbrev pub was_found : Walk (Option (List ℕ)) → Bool
+was_found (walk.Ready value) = is_some value
+was_found w = false
 
 -- no entry has the key
 abbrev pub lack_move : Walk Bool → Move
@@ -43,16 +47,21 @@ abbrev pub remove_move : Walk Bool → Move
 remove_move (walk.Ready true) = Done
 remove_move w = lack_move w
 
--- another row has the code that a row is to get; that row is there, or it isn't
-abbrev pub taken_move : Walk (Option (List ℕ)) → Move
-taken_move (walk.Ready (Some value)) = Duplicate
-taken_move (walk.Ready None) = NoRecord
-taken_move w = question_of w
+-- the entry has another value under this key
+abbrev pub replace_move : Key → Walk Bool → Move
+replace_move key (walk.Ready true) = Keyed key
+replace_move key w = lack_move w
 
--- The row is put in again. A page that was given isn't called broken for what the removal made of the pages.
-abbrev pub moved_move : Key → Walk Bool → Move
-moved_move key (walk.Broken n) = NoMemory
-moved_move key w = put_move key w
+-- a value isn't there
+abbrev pub missing_move : Walk (Option (List ℕ)) → Move
+missing_move (walk.Ready (Some value)) = NoMemory
+missing_move (walk.Ready None) = NoRecord
+missing_move w = question_of w
+
+-- A row under its old key is taken out, which is in under this one. A page that was given isn't called broken for what the insert made of the pages.
+abbrev pub move_move : Key → Walk Bool → Move
+move_move key (walk.Broken n) = NoMemory
+move_move key w = replace_move key w
 
 -- the row that the bytes spell, under this key, or want of memory
 abbrev pub IsFound : List Column → Key → List ℕ → Move → Type 0

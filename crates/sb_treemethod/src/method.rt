@@ -5,10 +5,9 @@ ghost use Rattle.sb_treemethod.specs.TreeMethod.{tree_method};
 
 use crate::rows::entry_of;
 use crate::walks::{
-    got, inserted, is_removed, is_taken, lacking, moved, prepared, question, refused, removed,
-    stepped,
+    got, inserted, is_done, is_found, missing, moved, prepared, removed, replaced, stepped,
 };
-use sb_btree::{Walk, find, insert, next, prepare, remove};
+use sb_btree::{find, insert, next, prepare, remove, replace};
 use sb_ctx::{Ctx, Instance, Move, StorageMethod};
 use sb_value::{Names, RecKey, Schema, Tuple};
 use std::alloc::Global;
@@ -72,17 +71,20 @@ impl StorageMethod for TreeMethod {
         let Ok((code, value)) = entry_of(alloc, inst, tuple) else {
             return Move::NoMemory;
         };
-        match is_taken(alloc, ctx, inst.root, key, &code) {
-            Walk::Ready(false) => {}
-            Walk::Ready(true) => return refused(find(alloc, ctx, inst.root, key.as_slice())),
-            walk => return question(walk),
+        if code == *key {
+            let walk = replace(alloc, ctx, inst.root, key.as_slice(), value.as_slice());
+            return replaced(code, walk);
+        }
+        let found = find(alloc, ctx, inst.root, key.as_slice());
+        if !is_found(&found) {
+            return missing(found);
+        }
+        let put = insert(alloc, ctx, inst.root, code.as_slice(), value.as_slice());
+        if !is_done(&put) {
+            return inserted(code, put);
         }
         let removal = remove(alloc, ctx, inst.root, key.as_slice());
-        if !is_removed(&removal) {
-            return lacking(removal);
-        }
-        let walk = insert(alloc, ctx, inst.root, code.as_slice(), value.as_slice());
-        moved(code, walk)
+        moved(code, removal)
     }
 
     fn get(&self, alloc: Global, ctx: &mut Ctx, inst: &Instance, key: &RecKey) -> Move {

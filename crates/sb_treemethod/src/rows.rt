@@ -5,15 +5,12 @@ ghost use Rattle.std.specs.Option.{option_copied};
 ghost use Rattle.sb_pred.specs.Columns.{column_value, place_of};
 ghost use Rattle.sb_relation.specs.Db.{values_in};
 ghost use Rattle.sb_relation.specs.Lawful.{IsRow};
-ghost use Rattle.sb_treemethod.specs.TreeMethod.{IsEntryOf, IsRowFrom};
+ghost use Rattle.sb_treemethod.specs.TreeMethod.{IsEntryOf};
 
-use sb_codec::{decode_tuple, encode_tuple, ordered_key};
+use sb_codec::{encode_tuple, ordered_key};
 use sb_ctx::Instance;
 use sb_value::{Bytes, Names, RecKey, Schema, Str, Tuple, Value};
 use std::alloc::{AllocError, Global};
-
-/// The bytes that the spelling of a row has at most.
-const MOST_BYTES: usize = 1000;
 
 /// The record key of a row, and its spelling.
 pub fn entry_of(alloc: Global, inst: &Instance, row: &Tuple) -> Result<(RecKey, Bytes), AllocError>
@@ -23,23 +20,6 @@ pub fn entry_of(alloc: Global, inst: &Instance, row: &Tuple) -> Result<(RecKey, 
     let values = values_of(alloc, &inst.schema, row, &inst.key)?;
     let key = ordered_key(alloc, &values)?;
     Ok((key, encode_tuple(alloc, row)?))
-}
-
-/// The row that the bytes spell, where it is one that the relation may have.
-pub fn row_from(alloc: Global, inst: &Instance, bytes: &[u8]) -> Result<Option<Tuple>, AllocError>
-    ensures { IfOk result (IsRowFrom inst.now.schema bytes.now) }
-{
-    if bytes.len() > MOST_BYTES {
-        return Ok(None);
-    }
-    let Some(row) = decode_tuple(alloc, bytes)? else {
-        return Ok(None);
-    };
-    if inst.schema.fits(&row).is_ok() && inst.schema.short_enough(&row) {
-        Ok(Some(row))
-    } else {
-        Ok(None)
-    }
 }
 
 /// The values of a row in the named columns; a column that isn't there has none.

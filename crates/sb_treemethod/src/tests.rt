@@ -268,6 +268,21 @@ fn a_row_is_deleted(rt: HostRuntime) -> Result<(), Fail> {
 }
 
 #[test]
+fn a_row_is_replaced_under_its_key(rt: HostRuntime) -> Result<(), Fail> {
+    let alloc = rt.alloc();
+    let method = TreeMethod::new();
+    let inst = instance(alloc)?;
+    let mut ctx = three_rows(alloc, &inst)?;
+    let two = key(alloc, 2)?;
+    let done = update(&method, alloc, &mut ctx, &inst, &two, &row(alloc, 2, "d")?);
+    assert!(rt; matches!(done, Move::Key(_)));
+    let mut ctx = again(alloc, &ctx)?;
+    let behind = next(&method, alloc, &mut ctx, &inst, Some(&two));
+    assert_eq!(rt; number_of(&behind), Some(7));
+    Ok(())
+}
+
+#[test]
 fn a_row_moves_to_another_key(rt: HostRuntime) -> Result<(), Fail> {
     let alloc = rt.alloc();
     let method = TreeMethod::new();

@@ -1,17 +1,11 @@
 //! Answers to walks over the tree.
 
-ghost use Rattle.std.specs.Prelude.{◌≡◌, ◌&&◌, is_some, not};
-ghost use Rattle.std.specs.FinMap.Entries.{find as find_in};
-ghost use Rattle.std.specs.Str.{bytes_eq};
-ghost use Rattle.sb_btree.specs.Broken.{breaks};
-ghost use Rattle.sb_btree.specs.Walks.{AsksFor, Breaks, Gives, OverTree};
-ghost use Rattle.sb_ctx.specs.View.{page_of};
-ghost use Rattle.sb_node.specs.Entries.{key_cmp};
-ghost use Rattle.sb_treemethod.specs.Answered.{IsFound, IsGot, IsNext, lack_move, moved_move, prepare_move, put_move, question_of, remove_move, taken_move, was_removed};
+ghost use Rattle.std.specs.Prelude.{◌≡◌};
+ghost use Rattle.sb_treemethod.specs.Answered.{IsFound, IsGot, IsNext, lack_move, missing_move, move_move, prepare_move, put_move, question_of, remove_move, replace_move, was_done, was_found};
 
-use crate::rows::row_from;
-use sb_btree::{Walk, find};
-use sb_ctx::{Ctx, Instance, Move};
+use sb_btree::Walk;
+use sb_ctx::{Instance, Move};
+use sb_forms::row_from;
 use sb_value::{Bytes, RecKey};
 use std::alloc::Global;
 
@@ -61,12 +55,22 @@ pub fn removed(walk: Walk<bool>) -> Move
     }
 }
 
-/// Whether an entry was taken out.
-pub fn is_removed(walk: &Walk<bool>) -> bool
-    ensures { result ≡ was_removed walk.now }
+/// Whether an entry was put in.
+pub fn is_done(walk: &Walk<bool>) -> bool
+    ensures { result ≡ was_done walk.now }
 {
     match walk {
         Walk::Ready(done) => *done,
+        _ => false,
+    }
+}
+
+/// Whether a value was found.
+pub fn is_found(walk: &Walk<Option<Bytes>>) -> bool
+    ensures { result ≡ was_found walk.now }
+{
+    match walk {
+        Walk::Ready(value) => value.is_some(),
         _ => false,
     }
 }
@@ -81,43 +85,34 @@ pub fn lacking(walk: Walk<bool>) -> Move
     }
 }
 
-/// Whether another row than that of the key has the code.
-pub fn is_taken(alloc: Global, ctx: &Ctx, root: u32, key: &RecKey, code: &RecKey) -> Walk<bool>
-    ensures asks { AsksFor ctx.now result }
-    ensures broken { Breaks (breaks root (page_of ctx.now)) result }
-    ensures gives { OverTree ctx.now root (λ es. Gives (λ taken. taken ≡ (not (bytes_eq code.now key.now) && is_some (find_in key_cmp code.now es))) result) }
+/// The answer to another value under a key.
+pub fn replaced(key: RecKey, walk: Walk<bool>) -> Move
+    ensures { result ≡ replace_move key walk }
 {
-    if code == key {
-        return Walk::Ready(false);
-    }
-    match find(alloc, ctx, root, code.as_slice()) {
-        Walk::Ready(value) => Walk::Ready(value.is_some()),
-        Walk::Need(n) => Walk::Need(n),
-        Walk::Fresh => Walk::Fresh,
-        Walk::Broken(n) => Walk::Broken(n),
-        Walk::NoMemory => Walk::NoMemory,
+    match walk {
+        Walk::Ready(true) => Move::Key(key),
+        walk => lacking(walk),
     }
 }
 
-/// The answer to a look-up of the row that was to get the code of another one.
-pub fn refused(walk: Walk<Option<Bytes>>) -> Move
-    ensures { result ≡ taken_move walk }
+/// The answer to a look-up of a row that isn't there.
+pub fn missing(walk: Walk<Option<Bytes>>) -> Move
+    ensures { result ≡ missing_move walk }
 {
     match walk {
-        Walk::Ready(Some(_)) => Move::Duplicate,
         Walk::Ready(None) => Move::NoRecord,
         walk => question(walk),
     }
 }
 
-/// The answer to an insert of a row whose old entry was taken out. A page that was given isn't called broken for what the
-/// removal made of the pages.
-pub fn moved(code: RecKey, walk: Walk<bool>) -> Move
-    ensures { result ≡ moved_move code walk }
+/// The answer to the removal of a row that was put in under another key. A page that was given isn't called broken for
+/// what the insert made of the pages.
+pub fn moved(key: RecKey, walk: Walk<bool>) -> Move
+    ensures { result ≡ move_move key walk }
 {
     match walk {
         Walk::Broken(_) => Move::NoMemory,
-        walk => inserted(code, walk),
+        walk => replaced(key, walk),
     }
 }
 
@@ -153,7 +148,7 @@ fn found(alloc: Global, inst: &Instance, key: RecKey, value: &Bytes) -> Move
     if key.len() > MOST_KEY {
         return Move::NoMemory;
     }
-    match row_from(alloc, inst, value.as_slice()) {
+    match row_from(alloc, &inst.schema, value.as_slice()) {
         Ok(Some(row)) => Move::Row(key, row),
         _ => Move::NoMemory,
     }

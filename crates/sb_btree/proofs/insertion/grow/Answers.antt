@@ -53,7 +53,7 @@ pub returns-clause-edits : goal.returns-clause-edits
 returns-clause-edits c =
     let a = tree_at c.args.ctx.now c.args.level c.args.root c.in-Some.bytes.now c.in-Some.ensures c.requires.held in
     let t = takes c.args.ctx.now c.fresh.new.self c.args.root c.in-Some-fresh.first c.in-Some-fresh.ensures.sound c.in-Some-fresh.ensures.number c.in-Some-fresh.ensures.taken a.room in
-    (top_double c.args.ctx.now c.fresh.new.self c.write_both.new.ctx c.args.root c.in-Some-fresh.first t a.room c.make_top.new.page c.deref.result.now (omega arith) (ap length (c.deref.ensures.value ∙ c.in_ok-content.ensures) ∙ form_size c.in-Some.bytes.now a.form) c.in_ok-write_both.ensures.written).edits
+    omega (arith, (top_double c.args.ctx.now c.fresh.new.self c.write_both.new.ctx c.args.root c.in-Some-fresh.first t a.room c.make_top.new.page c.deref.result.now (omega arith) (ap length (c.deref.ensures.value ∙ c.in_ok-content.ensures) ∙ form_size c.in-Some.bytes.now a.form) c.in_ok-write_both.ensures.written).edits)
 
 pub returns-clause-takes : goal.returns-clause-takes
 returns-clause-takes c =

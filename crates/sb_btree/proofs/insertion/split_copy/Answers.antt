@@ -1,5 +1,4 @@
 use Rattle.std.proofs.Common.{refl, sym, ap, ◌∙◌, arith}
-use Rattle.sb_ctx.proofs.ViewLaws.{room_of-page}
 use Rattle.sb_node.specs.Page.{node_in, empty_node}
 use Rattle.sb_node.proofs.Runs.{form_size}
 use Rattle.sb_btree.proofs.Bounds.{kind_first, lacks_page, halves_put}
@@ -10,7 +9,7 @@ pub bounds-copy-0 : goal.bounds-copy-0
 bounds-copy-0 c = omega (arith, form_size c.args.copy.now c.requires.form)
 
 pub store_halves-requires-clause-page : goal.store_halves-requires-clause-page
-store_halves-requires-clause-page c = room_of-page c.args.ctx.now c.args.page c.args.copy.now c.requires.same ∙ form_size c.args.copy.now c.requires.form
+store_halves-requires-clause-page c = c.requires.room
 
 pub store_halves-requires-clause-left : goal.store_halves-requires-clause-left
 store_halves-requires-clause-left c = form_size c.split.new.page c.split.ensures.stays.form

@@ -1,5 +1,5 @@
-use Rattle.std.proofs.Common.{◌≡◌, ℕ, Bool, true, false, cond, List, length, Some, None, nat_lt, refl, sym, ap, ◌∙◌}
-use Rattle.sb_ctx.specs.View.{page_of}
+use Rattle.std.proofs.Common.{◌≡◌, arith, ℕ, Bool, true, false, cond, List, length, Some, None, nat_lt, refl, sym, ap, ◌∙◌}
+use Rattle.sb_ctx.specs.View.{edits_of, page_of}
 use Rattle.sb_ctx.proofs.ViewLaws.{room_of-page}
 use Rattle.sb_node.specs.Page.{has_form, node_in}
 use Rattle.sb_node.proofs.Runs.{form_size}
@@ -7,6 +7,8 @@ use Rattle.sb_btree.specs.Broken.{is_no_root}
 use Rattle.sb_btree.specs.declared.walk.Stop.TheVariants as stop
 use Rattle.sb_btree.proofs.Roots.{no_root_breaks}
 use Rattle.sb_btree.proofs.Tops.{edit_given}
+use Rattle.sb_btree.proofs.Edits.{edited}
+use Rattle.sb_btree.proofs.Written.{edits-whole}
 use Rattle.sb_btree.proofs.preparing.prepare.Goals as goal
 
 -- bytes of another length are no page of a tree
@@ -26,3 +28,9 @@ pub returns-in-Ok-clause-given : goal.returns-in-Ok-clause-given
 returns-in-Ok-clause-given c =
     let room = room_of-page c.args.ctx.now c.args.root c.in-Some.page.now (sym c.in-Some.ensures) ∙ c.if-page-ne-PAGE_SIZE.false in
     edit_given c.args.ctx.now c.edit.new.self c.args.root c.clear.new.page room (form_size c.clear.new.page c.clear.ensures.form) c.in-Ok.ensures.ok
+
+pub returns-in-Ok-clause-edits : goal.returns-in-Ok-clause-edits
+returns-in-Ok-clause-edits c =
+    let room = room_of-page c.args.ctx.now c.args.root c.in-Some.page.now (sym c.in-Some.ensures) ∙ c.if-page-ne-PAGE_SIZE.false in
+    let long = form_size c.clear.new.page c.clear.ensures.form in
+    omega (arith, ap edits_of (edited c.args.ctx.now c.edit.new.self c.args.root c.clear.new.page room long c.in-Ok.ensures.ok), edits-whole c.args.ctx.now c.args.root c.clear.new.page room long)

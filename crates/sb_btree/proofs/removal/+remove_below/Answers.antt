@@ -1,12 +1,12 @@
-use Rattle.std.proofs.Common.{◌≡◌, ◌-◌, ◌≤◌, ◌∙◌, [], IsSome, suc, sym, ap, subst, arith, length}
+use Rattle.std.proofs.Common.{◌≡◌, ◌+◌, ◌-◌, ◌*◌, ◌≤◌, ◌∙◌, [], IsSome, suc, sym, ap, subst, arith, length}
 use Rattle.std.specs.Prelude.{Ok, Err}
 use Rattle.std.proofs.lemmas.Result.{err_from_is_err_and}
 use Rattle.sb_ctx.proofs.ViewLaws.{dropped-with_page}
-use Rattle.sb_ctx.specs.View.{View, dropped, page_of, with_page}
+use Rattle.sb_ctx.specs.View.{View, dropped, edits_of, page_of, with_page}
 use Rattle.sb_node.specs.Page.{node_in}
 use Rattle.sb_btree.specs.Broken.{held_node}
 use Rattle.sb_btree.specs.Held.{nth_child}
-use Rattle.sb_forms.specs.Tree.{entries_of}
+use Rattle.sb_forms.specs.Tree.{IsInner, entries_of}
 use Rattle.sb_btree.specs.Inserts.{OverPlaces}
 use Rattle.sb_btree.specs.Removes.{TakesAt, LeavesPage, DropsChild}
 use Rattle.sb_btree.specs.declared.removal.Taken.{Taken}
@@ -18,6 +18,9 @@ use Rattle.sb_btree.proofs.Stepped.{entries_take, leaf_over, same_over, empty_ov
 use Rattle.sb_btree.proofs.Below.{leaf_keeps, needs_below, page_still, still_node, freed_node, apart_child, drop_asks, drop_breaks, drop_keeps, drop_leaves, merge_asks, merge_breaks, merge_keeps, merge_leaves, merge_way, raise_asks, raise_breaks, raise_keeps, raise_leaves}
 use Rattle.sb_btree.proofs.Breaking.{drop_may, merge_may}
 use Rattle.sb_btree.proofs.Giving.{has_room, like_node, node_some}
+use Rattle.sb_btree.specs.Spending.{MergesWithin, RaisesAt, TakesWithin, spared}
+use Rattle.sb_btree.proofs.Sparing.{emptied_taken, entry_spared, entry_within, merged_taken, raise_spared, raised_taken, same_taken, spared-few, still_within}
+use Rattle.sb_btree.proofs.Weights.{edits-freed, written-few}
 use Rattle.sb_btree.proofs.removal.+remove_below.Goals as goal
 
 pub returns-in_err-bytes-clause-broken : goal.returns-in_err-bytes-clause-broken
@@ -260,3 +263,86 @@ returns-in-Single-clause-single t c =
     let low : c.count_upto-i.result ≤ length (node_in c.in_ok-bytes.bytes.now).entries = omega (arith, all, c.count_upto-i.ensures.within) in
     merge_may c.args.ctx.now c.remove_below.new.ctx c.merge.new.ctx c.args.level (c.args.level - 1) c.args.page c.in-Some.child c.count_upto-i.result c.in-Single.left c.in_ok-bytes.bytes.now c.in_ok-bytes.head c.merge.result down c.in_ok-bytes.ensures.ok
     c.in_ok-done.ensures.given c.in_ok-done.ensures.higher low c.merge.ensures.merges c.merge.ensures.other
+
+-- ---- what it takes
+pub returns-then-level-eq0-clause-edits : goal.returns-then-level-eq0-clause-edits
+returns-then-level-eq0-clause-edits t c =
+    omega (arith, c.take_entry.ensures.edits, entry_spared c.args.ctx.now c.take_entry.new.ctx c.args.page (held_node (page_of c.args.ctx.now c.args.page)) c.args.key.now c.take_entry.result c.take_entry.ensures.takes)
+
+pub returns-then-level-eq0-clause-room : goal.returns-then-level-eq0-clause-room
+returns-then-level-eq0-clause-room t c =
+    λ N shows tree. entry_within c.args.ctx.now c.take_entry.new.ctx c.args.level N c.args.page (held_node (page_of c.args.ctx.now c.args.page)) c.args.key.now c.take_entry.result c.take_entry.ensures.takes
+
+pub returns-in_err-done-clause-edits : goal.returns-in_err-done-clause-edits
+returns-in_err-done-clause-edits t c =
+    let p = err_from_is_err_and c.from_residual-in_err-done.result c.from_residual-in_err-done.ensures.1 in
+    omega (arith, ap spared p.1, c.in_err-done.ensures.edits)
+
+pub returns-in_err-done-clause-room : goal.returns-in_err-done-clause-room
+returns-in_err-done-clause-room t c =
+    let down : c.args.level ≡ suc (c.args.level - 1) = omega arith in
+    let p = err_from_is_err_and c.from_residual-in_err-done.result c.from_residual-in_err-done.ensures.1 in
+    let at = c.in-Some.ensures ∙ ap (nth_child c.in_ok-bytes.head.a (node_in c.in_ok-bytes.bytes.now).entries) c.count_upto-i.ensures.passed in
+    rw (p.1, p.2)
+    (same_taken c.args.ctx.now c.args.level (c.args.level - 1) c.args.page c.in-Some.child c.args.key.now c.in_ok-bytes.bytes.now c.in_ok-bytes.head down c.in_ok-bytes.ensures.ok at c.remove_below.new.ctx c.in_err-done.field-0.0 c.in_err-done.ensures.room)
+
+pub returns-in_err-free-in-Empty-clause-edits : goal.returns-in_err-free-in-Empty-clause-edits
+returns-in_err-free-in-Empty-clause-edits t c =
+    let p = err_from_is_err_and c.from_residual-in_err-free-in-Empty.result c.from_residual-in_err-free-in-Empty.ensures.1 in
+    omega (arith, ap spared p.1, c.in_ok-done.ensures.edits, ap edits_of c.in_err-free-in-Empty.ensures.err)
+
+pub returns-in_ok-free-in-Empty-clause-edits : goal.returns-in_ok-free-in-Empty-clause-edits
+returns-in_ok-free-in-Empty-clause-edits t c =
+    omega (
+      arith,
+      c.in_ok-done.ensures.edits,
+      ap edits_of c.in_ok-free-in-Empty.ensures.ok,
+      edits-freed c.remove_below.new.ctx c.in-Some.child,
+      c.drop_child.ensures.edits,
+      written-few c.drop_child.new.ctx c.args.page,
+      spared-few c.drop_child.result,
+    )
+
+pub returns-in_ok-free-in-Empty-clause-room : goal.returns-in_ok-free-in-Empty-clause-room
+returns-in_ok-free-in-Empty-clause-room t c =
+    let down : c.args.level ≡ suc (c.args.level - 1) = omega arith in
+    let left = subst (λ done. LeavesPage c.remove_below.new.ctx (c.args.level - 1) c.in-Some.child done) c.in-Empty.is c.in_ok-done.ensures.leaves in
+    let freed : c.free.new.self ≡ with_page c.in-Some.child [] c.remove_below.new.ctx = c.in_ok-free-in-Empty.ensures.ok in
+    let node = freed_node c.args.ctx.now c.remove_below.new.ctx c.args.level (c.args.level - 1) c.args.page c.in-Some.child c.in_ok-bytes.bytes.now c.in_ok-bytes.head down c.in_ok-bytes.ensures.ok c.in_ok-done.ensures.given c.in_ok-done.ensures.higher c.count_upto-i.result c.remove_below.new.ctx (Ok Empty) left in
+    let drops = subst (λ (v : View). DropsChild v c.drop_child.new.ctx c.args.page (held_node (page_of v c.args.page)) c.count_upto-i.result c.drop_child.result) freed c.drop_child.ensures.drops in
+    let at = c.in-Some.ensures ∙ ap (nth_child c.in_ok-bytes.head.a (node_in c.in_ok-bytes.bytes.now).entries) c.count_upto-i.ensures.passed in
+    emptied_taken c.args.ctx.now c.args.level (c.args.level - 1) c.args.page c.in-Some.child c.args.key.now c.in_ok-bytes.bytes.now c.in_ok-bytes.head down c.in_ok-bytes.ensures.ok at c.remove_below.new.ctx c.drop_child.new.ctx c.count_upto-i.result c.drop_child.result
+    (λ N shows tree. subst (λ done. TakesWithin (c.args.level - 1) N c.in-Some.child c.args.ctx.now c.remove_below.new.ctx (Ok done)) c.in-Empty.is (c.in_ok-done.ensures.room N shows tree))
+    (node_some (held_node (page_of (with_page c.in-Some.child [] c.remove_below.new.ctx) c.args.page)) (node_in c.in_ok-bytes.bytes.now) node)
+    (subst (λ o. DropsChild (with_page c.in-Some.child [] c.remove_below.new.ctx) c.drop_child.new.ctx c.args.page o c.count_upto-i.result c.drop_child.result) node drops)
+
+pub returns-in-Single-clause-edits : goal.returns-in-Single-clause-edits
+returns-in-Single-clause-edits t c =
+    let below = subst (λ done. edits_of c.remove_below.new.ctx + spared (Ok done) ≤ edits_of c.args.ctx.now + (5 * (c.args.level - 1) + 1)) c.in-Single.is c.in_ok-done.ensures.edits in
+    omega (arith, below, c.merge.ensures.edits)
+
+pub returns-in-Single-clause-room : goal.returns-in-Single-clause-room
+returns-in-Single-clause-room t c =
+    let down : c.args.level ≡ suc (c.args.level - 1) = omega arith in
+    let still = still_node c.args.ctx.now c.remove_below.new.ctx c.args.level (c.args.level - 1) c.args.page c.in-Some.child c.in_ok-bytes.bytes.now c.in_ok-bytes.head down c.in_ok-bytes.ensures.ok c.in_ok-done.ensures.given c.in_ok-done.ensures.higher in
+    let at = c.in-Some.ensures ∙ ap (nth_child c.in_ok-bytes.head.a (node_in c.in_ok-bytes.bytes.now).entries) c.count_upto-i.ensures.passed in
+    merged_taken c.args.ctx.now c.args.level (c.args.level - 1) c.args.page c.in-Some.child c.args.key.now c.in_ok-bytes.bytes.now c.in_ok-bytes.head down c.in_ok-bytes.ensures.ok at c.remove_below.new.ctx c.merge.new.ctx c.in-Single.left c.merge.result
+    (λ N shows tree. subst (λ done. TakesWithin (c.args.level - 1) N c.in-Some.child c.args.ctx.now c.remove_below.new.ctx (Ok done)) c.in-Single.is (c.in_ok-done.ensures.room N shows tree))
+    (subst (λ o. IsInner c.args.level o → MergesWithin c.remove_below.new.ctx c.merge.new.ctx o c.merge.result) still c.merge.ensures.room)
+
+pub returns-in-Split-clause-edits : goal.returns-in-Split-clause-edits
+returns-in-Split-clause-edits t c =
+    omega (arith, c.in_ok-done.ensures.edits, c.raise.ensures.edits, raise_spared c.remove_below.new.ctx c.raise.new.ctx (held_node (page_of c.remove_below.new.ctx c.args.page)) c.raise.result c.raise.ensures.room)
+
+pub returns-in-Split-clause-room : goal.returns-in-Split-clause-room
+returns-in-Split-clause-room t c =
+    let down : c.args.level ≡ suc (c.args.level - 1) = omega arith in
+    let still = still_node c.args.ctx.now c.remove_below.new.ctx c.args.level (c.args.level - 1) c.args.page c.in-Some.child c.in_ok-bytes.bytes.now c.in_ok-bytes.head down c.in_ok-bytes.ensures.ok c.in_ok-done.ensures.given c.in_ok-done.ensures.higher in
+    let at = c.in-Some.ensures ∙ ap (nth_child c.in_ok-bytes.head.a (node_in c.in_ok-bytes.bytes.now).entries) c.count_upto-i.ensures.passed in
+    raised_taken c.args.ctx.now c.args.level (c.args.level - 1) c.args.page c.in-Some.child c.args.key.now c.in_ok-bytes.bytes.now c.in_ok-bytes.head down c.in_ok-bytes.ensures.ok at c.remove_below.new.ctx c.raise.new.ctx c.in-Split.bound c.in-Split.next c.raise.result
+    (λ N shows tree. subst (λ done. TakesWithin (c.args.level - 1) N c.in-Some.child c.args.ctx.now c.remove_below.new.ctx (Ok done)) c.in-Split.is (c.in_ok-done.ensures.room N shows tree))
+    (subst (λ o. RaisesAt c.remove_below.new.ctx c.raise.new.ctx o c.raise.result) still c.raise.ensures.room)
+
+pub returns-in_default-2-clause-room : goal.returns-in_default-2-clause-room
+returns-in_default-2-clause-room t c =
+    λ N shows tree. still_within c.args.level N c.args.page c.args.ctx.now c.remove_below.new.ctx c.in_ok-done.done c.in_default-2.not-Empty c.in_default-2.not-Single c.in_default-2.not-Split

@@ -1,7 +1,7 @@
 use Rattle.std.proofs.Common.{◌≡◌, ◌-◌, ◌⊎◌, ◌∙◌, inl, inr, refl, sym, ap, suc, arith, length}
 use Rattle.std.specs.Prelude.{slice_get}
 use Rattle.sb_ctx.proofs.ViewLaws.{dropped-with_page}
-use Rattle.sb_ctx.specs.View.{dropped, page_of}
+use Rattle.sb_ctx.specs.View.{dropped, edits_of, page_of}
 use Rattle.sb_node.specs.declared.head.Head.{Head}
 use Rattle.sb_node.specs.Page.{node_in}
 use Rattle.sb_btree.specs.Broken.{held_node}
@@ -11,6 +11,8 @@ use Rattle.sb_btree.specs.declared.walk.Stop.TheVariants.{Broken}
 use Rattle.sb_btree.proofs.Edits.{tree_at}
 use Rattle.sb_btree.proofs.Cutting.{count_of, count_none}
 use Rattle.sb_btree.proofs.Giving.{has_room, like_node, takes_nodes, long_bound, beside_place, gave_stop, gave}
+use Rattle.sb_btree.proofs.Sparing.{beside_freed}
+use Rattle.sb_btree.proofs.Weights.{edits-freed}
 use Rattle.sb_btree.proofs.removal.give_away.Goals as goal
 use Rattle.sb_btree.proofs.removal.give_away.Goals.{then-i-eq0, else-i-eq0}
 
@@ -66,3 +68,9 @@ returns-clause-gives c =
     let bound : c.as_slice.result.now ≡ c.entry.result.0.now = c.as_slice.ensures ∙ c.from_vec-bound.ensures ∙ c.in_ok-copied.ensures in
     gave c.args.ctx.now c.args.level (c.args.level - 1) c.args.page (node_in c.in-Some.bytes.now) c.args.i c.args.child c.args.left down a.node_is c.take_child.new.ctx c.free.new.self (c.args.level - 1) c.in-Some-child_at.beside (c.entry.result.0.now, c.entry.result.1.now)
     c.as_slice.result.now _ c.in_ok-put.put refl (ap (slice_get (node_in c.in-Some.bytes.now).entries) (sym c.saturating_sub.ensures) ∙ c.entry.ensures) (omega (arith, c.if-bound-gt-MOST_KEY.false)) beside bound refl c.in_ok-put.ensures.takes c.in_ok-free.ensures.ok
+
+pub returns-clause-edits : goal.returns-clause-edits
+returns-clause-edits c = omega (arith, ap edits_of c.in_ok-free.ensures.ok, edits-freed c.take_child.new.ctx c.args.child, c.in_ok-put.ensures.edits)
+
+pub returns-clause-room : goal.returns-clause-room
+returns-clause-room c = beside_freed c.args.ctx.now c.take_child.new.ctx c.free.new.self c.args.child c.in_ok-put.put c.in_ok-free.ensures.ok c.in_ok-put.ensures.room

@@ -1,7 +1,7 @@
-use Rattle.std.proofs.Common.{◌≡◌, ◌-◌, ◌∙◌, Bool, Some, suc, sym, ap, arith, subst}
+use Rattle.std.proofs.Common.{◌≡◌, ◌-◌, ◌*◌, length, ◌∙◌, Bool, Some, suc, sym, ap, arith, subst}
 use Rattle.std.specs.Prelude.{Ok}
 use Rattle.std.proofs.lemmas.Result.{err_from_is_err_and}
-use Rattle.sb_ctx.specs.View.{page_of}
+use Rattle.sb_ctx.specs.View.{edits_of, page_of, stored}
 use Rattle.sb_node.proofs.Runs.{form_size}
 use Rattle.sb_node.proofs.Edited.{node_of-form}
 use Rattle.sb_btree.specs.Broken.{held_node}
@@ -13,6 +13,10 @@ use Rattle.sb_btree.proofs.Tops.{edit_given, room_held}
 use Rattle.sb_btree.proofs.Edits.{edited}
 use Rattle.sb_btree.proofs.Giving.{has_room, like_node, node_some}
 use Rattle.sb_btree.proofs.Lowered.{removal_root_way, stop_removes, lacks_removes, done_removes, empty_removes, single_removes, single_way, content_removes, split_removes, content_asks}
+use Rattle.sb_forms.specs.TreePages.{tree_met}
+use Rattle.sb_btree.specs.Spending.{TakesWithin}
+use Rattle.sb_btree.proofs.Sparing.{content_within, removal_asks, removal_grows}
+use Rattle.sb_btree.proofs.Written.{edits-whole}
 use Rattle.sb_btree.proofs.removal.remove_at_root.Goals as goal
 
 pub returns-in_err-remove_below-clause-removes : goal.returns-in_err-remove_below-clause-removes
@@ -102,3 +106,39 @@ returns-in_ok-grow-in-Split-clause-removes c =
     (λ P low high place. subst (λ b. TakesAt c.args.ctx.now c.remove_below.new.ctx c.args.level c.args.root c.args.key.now P low high (Ok (Split b c.in-Split.next))) (sym c.as_slice.ensures)
     (subst (λ taken. TakesAt c.args.ctx.now c.remove_below.new.ctx c.args.level c.args.root c.args.key.now P low high (Ok taken)) c.in-Split.is (c.in_ok-remove_below.ensures.takes P low high place))) in
     split_removes c.args.ctx.now c.args.root c.args.level c.args.key.now c.requires.root c.remove_below.new.ctx c.grow.new.ctx c.as_slice.result.now c.in-Split.next c.in_ok-remove_below.ensures.given takes c.in_ok-grow-in-Split.ensures.grows.0 c.in_ok-grow-in-Split.ensures.grows.1
+
+-- ---- what it takes
+pub returns-in_err-remove_below-clause-edits : goal.returns-in_err-remove_below-clause-edits
+returns-in_err-remove_below-clause-edits c = omega (arith, c.in_err-remove_below.ensures.edits)
+
+pub returns-in_err-remove_below-clause-room : goal.returns-in_err-remove_below-clause-room
+returns-in_err-remove_below-clause-room c =
+    let p = err_from_is_err_and c.from_residual.result c.from_residual.ensures.1 in
+    rw (p.1, p.2) (removal_asks c.args.ctx.now c.args.root c.args.level c.requires.root Bool c.remove_below.new.ctx c.in_err-remove_below.field-0.0 c.in_err-remove_below.ensures.room)
+
+pub returns-in_ok-edit-in-Empty-clause-edits : goal.returns-in_ok-edit-in-Empty-clause-edits
+returns-in_ok-edit-in-Empty-clause-edits c =
+    let left = subst (λ taken. LeavesPage c.remove_below.new.ctx c.args.level c.args.root taken) c.in-Empty.is c.in_ok-remove_below.ensures.leaves in
+    let room = has_room c.remove_below.new.ctx c.args.root (like_node c.args.level (held_node (page_of c.remove_below.new.ctx c.args.root)) left) in
+    let long = form_size c.clear.new.page c.clear.ensures.form in
+    omega (
+      arith,
+      c.in_ok-remove_below.ensures.edits,
+      ap edits_of (edited c.remove_below.new.ctx c.edit.new.self c.args.root c.clear.new.page room long c.in_ok-edit-in-Empty.ensures.ok),
+      edits-whole c.remove_below.new.ctx c.args.root c.clear.new.page room long,
+    )
+
+pub returns-in_err-take_content-in-Single-clause-edits : goal.returns-in_err-take_content-in-Single-clause-edits
+returns-in_err-take_content-in-Single-clause-edits c = omega (arith, c.in_ok-remove_below.ensures.edits, c.in_err-take_content-in-Single.ensures.edits)
+
+pub returns-in_err-take_content-in-Single-clause-room : goal.returns-in_err-take_content-in-Single-clause-room
+returns-in_err-take_content-in-Single-clause-room c =
+    let p = err_from_is_err_and c.from_residual-in_err-take_content-in-Single.result c.from_residual-in_err-take_content-in-Single.ensures.1 in
+    rw (p.1, p.2) (λ P es read. content_within Bool c.args.ctx.now c.remove_below.new.ctx c.take_content.new.ctx c.args.root c.in-Single.child (c.args.level - 1) (2 * length es) (length (tree_met c.args.root (stored c.args.ctx.now P))) c.in_err-take_content-in-Single.field-0.0 c.in_err-take_content-in-Single.ensures.takes)
+
+pub returns-in_err-grow-in-Split-clause-room : goal.returns-in_err-grow-in-Split-clause-room
+returns-in_err-grow-in-Split-clause-room c =
+    let p = err_from_is_err_and c.from_residual-in_err-grow-in-Split.result c.from_residual-in_err-grow-in-Split.ensures.1 in
+    rw (p.1, p.2)
+    (removal_grows c.args.ctx.now c.args.root c.args.level c.requires.root Bool c.remove_below.new.ctx c.grow.new.ctx c.in-Split.bound c.in-Split.next c.in_err-grow-in-Split.field-0.0
+    (λ N shows tree. subst (λ taken. TakesWithin c.args.level N c.args.root c.args.ctx.now c.remove_below.new.ctx (Ok taken)) c.in-Split.is (c.in_ok-remove_below.ensures.room N shows tree)) c.in_err-grow-in-Split.ensures.takes)

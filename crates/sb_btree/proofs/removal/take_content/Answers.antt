@@ -1,6 +1,6 @@
 use Rattle.std.proofs.Common.{◌≡◌, ◌∙◌, [], sym, ap, arith, subst, length, true}
 use Rattle.sb_ctx.proofs.ViewLaws.{dropped-with_page}
-use Rattle.sb_ctx.specs.View.{dropped, page_of, with_page}
+use Rattle.sb_ctx.specs.View.{dropped, edits_of, page_of, with_page}
 use Rattle.sb_node.specs.Page.{has_form, node_in}
 use Rattle.sb_node.proofs.Edited.{node_of-form}
 use Rattle.sb_node.proofs.Runs.{form_size}
@@ -9,6 +9,8 @@ use Rattle.sb_btree.proofs.Edits.{edited}
 use Rattle.sb_btree.proofs.Tops.{edit_given}
 use Rattle.sb_btree.proofs.Walked.{held_is}
 use Rattle.sb_btree.proofs.Giving.{HasNode, has_room, has_with, node_some}
+use Rattle.sb_btree.proofs.Weights.{edits-freed}
+use Rattle.sb_btree.proofs.Written.{edits-whole}
 use Rattle.sb_btree.proofs.removal.take_content.Goals as goal
 
 pub edit-requires-clause-room : goal.edit-requires-clause-room
@@ -49,3 +51,17 @@ returns-clause-takes c =
       form = c.in_ok-bytes.ensures.ok.form;
       changed = c.in_ok-free.ensures.ok ∙ ap (with_page c.args.only []) (now ∙ ap (λ b. with_page c.args.root b c.args.ctx.now) same);
     }
+
+pub returns-in_err-free-clause-edits : goal.returns-in_err-free-clause-edits
+returns-in_err-free-clause-edits c =
+    let same : c.deref.result.now ≡ c.in_ok-bytes.bytes.now = c.deref.ensures.value ∙ c.in_ok-content.ensures in
+    let size = ap length same ∙ form_size c.in_ok-bytes.bytes.now c.in_ok-bytes.ensures.ok.form in
+    let now = edited c.args.ctx.now c.edit.new.self c.args.root c.deref.result.now c.requires size c.in_ok-edit.ensures.ok in
+    omega (arith, ap edits_of c.in_err-free.ensures.err, ap edits_of now, edits-whole c.args.ctx.now c.args.root c.deref.result.now c.requires size)
+
+pub returns-clause-edits : goal.returns-clause-edits
+returns-clause-edits c =
+    let same : c.deref.result.now ≡ c.in_ok-bytes.bytes.now = c.deref.ensures.value ∙ c.in_ok-content.ensures in
+    let size = ap length same ∙ form_size c.in_ok-bytes.bytes.now c.in_ok-bytes.ensures.ok.form in
+    let now = edited c.args.ctx.now c.edit.new.self c.args.root c.deref.result.now c.requires size c.in_ok-edit.ensures.ok in
+    omega (arith, ap edits_of c.in_ok-free.ensures.ok, edits-freed c.edit.new.self c.args.only, ap edits_of now, edits-whole c.args.ctx.now c.args.root c.deref.result.now c.requires size)

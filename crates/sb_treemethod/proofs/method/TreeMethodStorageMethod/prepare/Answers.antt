@@ -10,4 +10,4 @@ returns c =
     let made = c.prepare.ensures in
     let clean = c.requires.clean.unchanged in
     subst (Changes tree_method c.args.inst.now Prepare c.args.ctx.now c.prepare.new.ctx) (sym c.prepared.ensures)
-    (Changes-prepared c.args.inst.now c.args.ctx.now c.prepare.new.ctx c.prepare.result clean (made.given ∙ clean) made.asks made.broken made.prepares)
+    (Changes-prepared c.args.inst.now c.args.ctx.now c.prepare.new.ctx c.prepare.result clean (made.given ∙ clean) made.asks made.broken made.prepares made.edits)

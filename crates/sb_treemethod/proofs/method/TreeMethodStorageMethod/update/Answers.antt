@@ -1,76 +1,117 @@
-use Rattle.std.proofs.Common.{◌≡◌, ◌&&◌, not, is_some, Bool, true, false, List, ℕ, sym, ap, subst, ◌∙◌}
+use Rattle.std.proofs.Common.{◌≡◌, ℕ, Bool, true, false, List, Some, IsSome, sym, subst, ◌∙◌, arith}
 use Rattle.std.specs.FinMap.Entries.{find}
 use Rattle.std.specs.Str.{bytes_eq}
+use Rattle.sb_value.specs.Equal.{bytes_same}
+use Rattle.sb_fold.specs.Costs.{tree_cost}
 use Rattle.sb_node.specs.Entries.{key_cmp}
 use Rattle.sb_ctx.specs.declared.calls.MethodCall.TheVariants.{Update}
 use Rattle.sb_ctx.specs.MethodAnswers.{Changes}
-use Rattle.sb_btree.specs.Inserts.{Inserts, OverTrees}
-use Rattle.sb_btree.specs.Walks.{Gives, OverTree}
+use Rattle.sb_btree.specs.Inserts.{Inserts, OverTrees, Replaces}
+use Rattle.sb_btree.specs.Removes.{Removes, is_on_removal_way}
+use Rattle.sb_btree.specs.Walks.{Gives, Needs, OnTree, OverTree}
+use Rattle.sb_btree.specs.Ways.{is_on_way}
 use Rattle.sb_btree.specs.declared.walk.Walk.{Walk}
 use Rattle.sb_btree.specs.declared.walk.Walk.TheVariants.{Ready}
-use Rattle.sb_btree.specs.Removes.{Removes}
+use Rattle.sb_btree.proofs.Whole.{ways_are_short}
 use Rattle.sb_treemethod.specs.TreeMethod.{tree_method}
 use Rattle.sb_treemethod.proofs.MethodLaws.{Changes-memory}
-use Rattle.sb_treemethod.proofs.RemoveLaws.{Changes-asked, Changes-lacks, Changes-moved, Changes-refused, was_ready}
+use Rattle.sb_treemethod.proofs.UpdateLaws.{Changes-missing, Changes-moved, Changes-replaced, Changes-unput, was_ready, was_there}
+use Rattle.sb_treemethod.proofs.Within.{look_bounds, tree_bounds}
 use Rattle.sb_treemethod.proofs.method.TreeMethodStorageMethod.update.Goals as goal
 
 pub returns-in_default : goal.returns-in_default
 returns-in_default c = Changes-memory c.args.inst.now _ c.args.ctx.now c.requires.clean.unchanged
 
-pub returns-in_default-is_taken : goal.returns-in_default-is_taken
-returns-in_default-is_taken c =
+-- ---- under the same key
+pub returns-then-eq : goal.returns-then-eq
+returns-then-eq c =
     let old = c.args.ctx.now in
-    let asked = c.is_taken.ensures in
-    subst (Changes tree_method c.args.inst.now (Update c.args.key.now c.args.tuple.now) old old) (sym c.question.ensures)
-    (Changes-asked {T = Bool} c.args.inst.now c.args.key.now c.args.tuple.now old c.is_taken.result c.requires.clean.unchanged asked.asks asked.broken)
-
-pub returns-in-Ready-true : goal.returns-in-Ready-true
-returns-in-Ready-true c =
-    let old = c.args.ctx.now in
-    let key = c.args.key.now in
+    let new = c.replace-walk.new.ctx in
+    let inst = c.args.inst.now in
+    let root = inst.root in
+    let row = c.args.tuple.now in
     let code = c.in-Ok.code in
-    let root = c.args.inst.now.root in
-    let found = c.find.ensures in
-    let taken : c.is_taken.result ≡ Ready true = c.in-Ready-true.is ∙ ap Ready c.in-Ready-true.field-0-test in
-    subst (Changes tree_method c.args.inst.now (Update key c.args.tuple.now) old old) (sym c.refused.ensures)
-    (Changes-refused c.args.inst.now key c.args.tuple.now code c.in-Ok.value old c.find.result c.requires.clean.unchanged found.asks found.broken c.in-Ok.ensures.key_is
-    (subst (λ (w : Walk Bool). OverTree old root (λ es. Gives (λ taken. taken ≡ (not (bytes_eq code key) && is_some (find key_cmp code es))) w)) taken c.is_taken.ensures.gives)
-    (subst (λ (k : List ℕ). OverTree old root (λ es. Gives (λ value. value ≡ find key_cmp k es) c.find.result)) c.as_slice.ensures found.gives))
-
-pub returns-then-not-is_removed : goal.returns-then-not-is_removed
-returns-then-not-is_removed c =
-    let old = c.args.ctx.now in
-    let new = c.remove-removal.new.ctx in
-    let root = c.args.inst.now.root in
-    let made = c.remove-removal.ensures in
+    let made = c.replace-walk.ensures in
     let clean = c.requires.clean.unchanged in
-    subst (Changes tree_method c.args.inst.now (Update c.args.key.now c.args.tuple.now) old new) (sym c.lacking.ensures)
-    (Changes-lacks c.args.inst.now c.args.key.now c.args.tuple.now old new c.remove-removal.result clean (made.given ∙ clean) made.asks made.broken
-    (subst (λ (key : List ℕ). OverTrees old root (λ P es. Removes old new root key P es c.remove-removal.result)) c.as_slice-2.ensures made.removes))
+    let same : code ≡ c.args.key.now = (bytes_same code c.args.key.now).0 (sym c.eq.ensures ∙ c.if-eq.true) in
+    let slice : c.as_slice.result.now ≡ code = c.as_slice.ensures ∙ sym same in
+    subst (λ key. Changes tree_method inst (Update key row) old new c.replaced.result) same
+    (subst (Changes tree_method inst (Update code row) old new) (sym c.replaced.ensures)
+    (Changes-replaced inst row code c.in-Ok.value old new c.replace-walk.result clean (made.given ∙ clean) made.asks made.broken c.requires.row c.in-Ok.ensures
+    (subst (λ (value : List ℕ). OverTrees old root (λ P es. Replaces old new root code value P es c.replace-walk.result)) c.as_slice-then-eq.ensures
+    (subst (λ (key : List ℕ). OverTrees old root (λ P es. Replaces old new root key c.as_slice-then-eq.result.now P es c.replace-walk.result)) slice made.replaces))
+    (tree_bounds inst (Update code row) old new c.replace-walk.result (λ P. is_on_way root P (Some code)) tree_cost clean (λ P es read n is. (ways_are_short P root es read (Some code)).1 n is) (λ n. omega arith)
+    (subst (λ (key : List ℕ). OnTree old root (λ P. Needs (is_on_way root P (Some key)) c.replace-walk.result)) slice made.way) made.edits made.room)))
+
+-- ---- under another key
+pub returns-then-not-is_found : goal.returns-then-not-is_found
+returns-then-not-is_found c =
+    let old = c.args.ctx.now in
+    let inst = c.args.inst.now in
+    let root = inst.root in
+    let key = c.args.key.now in
+    let row = c.args.tuple.now in
+    let found = c.find-found.ensures in
+    let clean = c.requires.clean.unchanged in
+    subst (Changes tree_method inst (Update key row) old old) (sym c.missing.ensures)
+    (Changes-missing inst key row old c.find-found.result clean found.asks found.broken
+    (subst (λ (k : List ℕ). OverTree old root (λ es. Gives (λ value. value ≡ find key_cmp k es) c.find-found.result)) c.as_slice-2.ensures found.gives)
+    (look_bounds inst (Update key row) old c.find-found.result (λ P. is_on_way root P (Some key)) clean found.asks (λ P es read n is. (ways_are_short P root es read (Some key)).1 n is)
+    (subst (λ (k : List ℕ). OnTree old root (λ P. Needs (is_on_way root P (Some k)) c.find-found.result)) c.as_slice-2.ensures found.way)))
+
+pub returns-then-not-is_done : goal.returns-then-not-is_done
+returns-then-not-is_done c =
+    let old = c.args.ctx.now in
+    let new = c.insert-put.new.ctx in
+    let inst = c.args.inst.now in
+    let root = inst.root in
+    let key = c.args.key.now in
+    let row = c.args.tuple.now in
+    let code = c.in-Ok.code in
+    let made = c.insert-put.ensures in
+    let clean = c.requires.clean.unchanged in
+    let other : bytes_eq code key ≡ false = sym c.eq.ensures ∙ c.if-eq.false in
+    let gives = subst (λ (k : List ℕ). OverTree old root (λ es. Gives (λ value. value ≡ find key_cmp k es) c.find-found.result)) c.as_slice-2.ensures c.find-found.ensures.gives in
+    let there : OverTree old root (λ es. IsSome (find key_cmp key es)) = was_there root key old c.find-found.result (sym c.if-not-is_found.ensures) gives in
+    subst (Changes tree_method inst (Update key row) old new) (sym c.inserted.ensures)
+    (Changes-unput inst key row code c.in-Ok.value old new c.insert-put.result clean (made.given ∙ clean) made.asks made.broken c.in-Ok.ensures other (sym c.if-not-is_done.ensures) there
+    (subst (λ (value : List ℕ). OverTrees old root (λ P es. Inserts old new root code value P es c.insert-put.result)) c.as_slice-4.ensures
+    (subst (λ (k : List ℕ). OverTrees old root (λ P es. Inserts old new root k c.as_slice-4.result.now P es c.insert-put.result)) c.as_slice-3.ensures made.inserts))
+    (tree_bounds inst (Update key row) old new c.insert-put.result (λ P. is_on_way root P (Some code)) tree_cost clean (λ P es read n is. (ways_are_short P root es read (Some code)).1 n is) (λ n. omega arith)
+    (subst (λ (k : List ℕ). OnTree old root (λ P. Needs (is_on_way root P (Some k)) c.insert-put.result)) c.as_slice-3.ensures made.way) made.edits made.room))
 
 pub returns : goal.returns
 returns c =
     let old = c.args.ctx.now in
-    let mid = c.remove-removal.new.ctx in
-    let new = c.insert-walk.new.ctx in
+    let mid = c.insert-put.new.ctx in
+    let new = c.remove-removal.new.ctx in
     let inst = c.args.inst.now in
+    let root = inst.root in
     let key = c.args.key.now in
+    let row = c.args.tuple.now in
     let code = c.in-Ok.code in
     let value = c.in-Ok.value in
-    let clean = c.requires.clean.unchanged in
+    let put = c.insert-put.ensures in
     let removed = c.remove-removal.ensures in
-    let put = c.insert-walk.ensures in
-    let free : c.is_taken.result ≡ Ready false = c.in-Ready-false.is ∙ ap Ready c.in-Ready-false.field-0-test in
-    let done : c.remove-removal.result ≡ Ready true = was_ready c.remove-removal.result (sym c.if-not-is_removed.ensures) in
-    subst (Changes tree_method inst (Update key c.args.tuple.now) old new) (sym c.moved.ensures)
-    (Changes-moved inst key c.args.tuple.now code value old mid new c.insert-walk.result c.requires.row c.in-Ok.ensures (record {
+    let clean = c.requires.clean.unchanged in
+    let other : bytes_eq code key ≡ false = sym c.eq.ensures ∙ c.if-eq.false in
+    let gives = subst (λ (k : List ℕ). OverTree old root (λ es. Gives (λ value. value ≡ find key_cmp k es) c.find-found.result)) c.as_slice-2.ensures c.find-found.ensures.gives in
+    let there : OverTree old root (λ es. IsSome (find key_cmp key es)) = was_there root key old c.find-found.result (sym c.if-not-is_found.ensures) gives in
+    let done : c.insert-put.result ≡ Ready true = was_ready c.insert-put.result (sym c.if-not-is_done.ensures) in
+    subst (Changes tree_method inst (Update key row) old new) (sym c.moved.ensures)
+    (Changes-moved inst key row code value old mid new c.requires.row c.in-Ok.ensures c.remove-removal.result (record {
       clean = clean;
-      given = removed.given ∙ clean;
-      new_given = put.given ∙ removed.given ∙ clean;
-      free = subst (λ (w : Walk Bool). OverTree old inst.root (λ es. Gives (λ taken. taken ≡ (not (bytes_eq code key) && is_some (find key_cmp code es))) w)) free c.is_taken.ensures.gives;
-      removes = subst (λ (w : Walk Bool). OverTrees old inst.root (λ P es. Removes old mid inst.root key P es w)) done
-          (subst (λ (k : List ℕ). OverTrees old inst.root (λ P es. Removes old mid inst.root k P es c.remove-removal.result)) c.as_slice-2.ensures removed.removes);
-      asks = put.asks;
-      inserts = subst (λ (v : List ℕ). OverTrees mid inst.root (λ P es. Inserts mid new inst.root code v P es c.insert-walk.result)) c.as_slice-4.ensures
-          (subst (λ (k : List ℕ). OverTrees mid inst.root (λ P es. Inserts mid new inst.root k c.as_slice-4.result.now P es c.insert-walk.result)) c.as_slice-3.ensures put.inserts);
+      given = put.given ∙ clean;
+      new_given = removed.given ∙ put.given ∙ clean;
+      other = other;
+      there = there;
+      inserts = subst (λ (w : Walk Bool). OverTrees old root (λ P es. Inserts old mid root code value P es w)) done
+          (subst (λ (v : List ℕ). OverTrees old root (λ P es. Inserts old mid root code v P es c.insert-put.result)) c.as_slice-4.ensures
+          (subst (λ (k : List ℕ). OverTrees old root (λ P es. Inserts old mid root k c.as_slice-4.result.now P es c.insert-put.result)) c.as_slice-3.ensures put.inserts));
+      cost = put.edits;
+      asks = removed.asks;
+      removes = subst (λ (k : List ℕ). OverTrees mid root (λ P es. Removes mid new root k P es c.remove-removal.result)) c.as_slice-5.ensures removed.removes;
+      way = subst (λ (k : List ℕ). OnTree mid root (λ P. Needs (is_on_removal_way root P k) c.remove-removal.result)) c.as_slice-5.ensures removed.way;
+      edits = removed.edits;
+      room = removed.room;
     }))

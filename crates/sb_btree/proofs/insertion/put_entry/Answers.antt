@@ -5,11 +5,11 @@ use Rattle.sb_btree.proofs.Descending.{way_first}
 use Rattle.sb_btree.proofs.Inserted.{no_root_inserts}
 use Rattle.sb_btree.proofs.Roots.{no_root_needs}
 use Rattle.sb_btree.proofs.Spending.{edits_over}
-use Rattle.sb_btree.proofs.insertion.insert.Goals as goal
+use Rattle.sb_btree.proofs.insertion.put_entry.Goals as goal
 
-pub returns-in-Err-clause-inserts : goal.returns-in-Err-clause-inserts
-returns-in-Err-clause-inserts c =
-    rw c.answer-in-Err.ensures (no_root_inserts c.args.ctx.now c.args.root c.args.key.now c.args.value.now c.in-Err.stop c.in-Err.ensures.stops)
+pub returns-in-Err-clause-puts : goal.returns-in-Err-clause-puts
+returns-in-Err-clause-puts c =
+    rw c.answer-in-Err.ensures (no_root_inserts c.args.stands c.args.ctx.now c.args.root c.args.key.now c.args.value.now c.in-Err.stop c.in-Err.ensures.stops)
 
 pub returns-in-Err-clause-way : goal.returns-in-Err-clause-way
 returns-in-Err-clause-way c =
@@ -17,4 +17,4 @@ returns-in-Err-clause-way c =
 
 pub returns-in-Ok-clause-edits : goal.returns-in-Ok-clause-edits
 returns-in-Ok-clause-edits c =
-    edits_over c.args.ctx.now c.insert_at_root.new.ctx c.args.root c.in-Ok.level c.in-Ok.ensures.ok c.insert_at_root.ensures.edits
+    edits_over c.args.ctx.now c.put_at_root.new.ctx c.args.root c.in-Ok.level c.in-Ok.ensures.ok c.put_at_root.ensures.edits
