@@ -1,8 +1,9 @@
 -- One call of an attachment, and a turn of its driver.
-use Rattle.std.proofs.Common.{◌≡◌, ℕ, true, false, List, All, Some, true≢false, refl, sym, ap, subst, ◌∙◌}
+use Rattle.std.proofs.Common.{◌≡◌, ℕ, List, All, Some, true≢false, Result, Ok, Err, IfErr, sym, ap, subst, ◌∙◌}
+use Rattle.std.specs.Result.{IsErrAnd}
 use Rattle.sb_relation.specs.Changes.{changed}
 use Rattle.sb_relation.specs.Content.{Content}
-use Rattle.sb_relation.specs.Db.{Name, Db}
+use Rattle.sb_relation.specs.Db.{Db}
 use Rattle.sb_forms.specs.Pages.{Pages}
 use Rattle.sb_ctx.specs.declared.instance.Instance.{Instance}
 use Rattle.sb_ctx.specs.declared.calls.AttachCall.{AttachCall}
@@ -17,10 +18,12 @@ use Rattle.sb_ctx.proofs.ViewLaws.{stored-clean}
 use Rattle.sb_ctx.specs.Laws.{IsAttachment}
 use Rattle.sb_ctx.proofs.PageLaws.{AreSomeOf-given}
 use Rattle.sb_drive.specs.declared.turns.DriveFault.{DriveFault}
-use Rattle.sb_drive.specs.declared.turns.DriveFault.TheVariants.{Damaged, NoMemory as OutOfMemory}
+use Rattle.sb_drive.specs.declared.turns.DriveFault.TheVariants.{Damaged}
+use Rattle.sb_drive.specs.declared.space.SpaceFault.{SpaceFault}
+use Rattle.sb_drive.specs.declared.space.SpaceFault.TheVariants as fault
 use Rattle.sb_drive.specs.declared.turns.Turn.TheVariants.{Stop}
-use Rattle.sb_drive.specs.AttachCalls.{HasCause}
-use Rattle.sb_drive.specs.Turns.{turn_of, is_find, OnFind}
+use Rattle.sb_drive.specs.AttachCalls.{HasCause, HasSpaceCause}
+use Rattle.sb_drive.specs.Turns.{turn_of, in_memory, OnFind}
 
 -- a reading call is one that changes nothing
 pub Changes-Looks : (a : Attachment) (inst : Instance) (call : AttachCall) (old new : View) (move : Move) → IsClean old → Looks a inst call old new move → Changes a inst call old new move
@@ -59,18 +62,36 @@ Answers-found a inst call c d P after (Broken n) same answers = answers
 Answers-found a inst call c d P after NoMemory same answers = tt
 Answers-found a inst call c d P after move same answers = Ends-found a inst call c d P after move same answers
 
+pub Spends-found : (a : Attachment) (inst : Instance) (call : AttachCall) (c d : View) (P : Pages) (new : View) (move : Move) → c.found ≡ d.found → Spends a inst call c P new move → Spends a inst call d P new move
+Spends-found a inst calls.Prepare c d P new move same spends = spends
+Spends-found a inst (calls.Build key row) c d P new move same spends = λ rule db stands built buckets before. spends rule db stands built buckets (record { of = before.of; lawful = before.lawful; found = FoundIn-same c d db same before.found; content = before.content })
+Spends-found a inst (calls.Changed change) c d P new move same spends = λ rule db stands buckets before.
+    spends rule db stands buckets (record { of = before.of; lawful = before.lawful; found = FoundIn-same c d (changed db inst.relation change) same before.found; content = before.content })
+Spends-found a inst (calls.Late entry) c d P new move same spends = λ rule db stands buckets before. spends rule db stands buckets (record { found = FoundIn-same c d db same before.found; content = before.content })
+Spends-found a inst (calls.NextEntry low above) c d P new move same spends = spends
+Spends-found a inst calls.Sums c d P new move same spends = spends
+
 -- ---- a page that is called broken
 -- a driver stops at Damaged only where the box called that page broken
-pub HasCause-stop : (a : Attachment) (inst : Instance) (call : AttachCall) (c : View) (P after : Pages) (move : Move) (fault : DriveFault) → turn_of move ≡ Stop fault → HoldsPart c P → IsBroken a inst c move → Answers a inst call c P after move
-    → HasCause a inst call P fault
-HasCause-stop a inst call c P after (Need n) fault is part broken answers = cc
-HasCause-stop a inst call c P after Fresh fault is part broken answers = cc
-HasCause-stop a inst call c P after (After low) fault is part broken answers = cc
-HasCause-stop a inst call c P after (Broken n) fault is part broken answers =
-    let same : Damaged n ≡ fault = cc in
-    subst (HasCause a inst call P) same (record { held = given_at c; given = AreSomeOf-given c P part; may = broken; not_new = answers })
-HasCause-stop a inst call c P after NoMemory fault is part broken answers = let same : OutOfMemory ≡ fault = cc in subst (HasCause a inst call P) same tt
-HasCause-stop a inst call c P after move fault is part broken answers = cc
+pub HasSpaceCause-stop : (a : Attachment) (inst : Instance) (call : AttachCall) (c : View) (P after : Pages) (move : Move) (e : SpaceFault) → turn_of move ≡ Stop e → HoldsPart c P → IsBroken a inst c move → Answers a inst call c P after move
+    → HasSpaceCause a inst call P e
+HasSpaceCause-stop a inst call c P after (Need n) e is part broken answers = cc
+HasSpaceCause-stop a inst call c P after Fresh e is part broken answers = cc
+HasSpaceCause-stop a inst call c P after (After low) e is part broken answers = cc
+HasSpaceCause-stop a inst call c P after (Broken n) e is part broken answers =
+    let same : fault.Damaged n ≡ e = cc in
+    subst (HasSpaceCause a inst call P) same (record { held = given_at c; given = AreSomeOf-given c P part; may = broken; not_new = answers })
+HasSpaceCause-stop a inst call c P after NoMemory e is part broken answers = let same : fault.NoMemory ≡ e = cc in subst (HasSpaceCause a inst call P) same tt
+HasSpaceCause-stop a inst call c P after move e is part broken answers = cc
+
+-- the same over a memory
+pub HasCause-in_memory : {T : Type 0} (a : Attachment) (inst : Instance) (call : AttachCall) (P : Pages) (r : Result T DriveFault) (e : SpaceFault) → IsErrAnd r (λ f. f ≡ in_memory e) → HasSpaceCause a inst call P e → IfErr r (HasCause a inst call P)
+HasCause-in_memory a inst call P (Err f) e is cause = subst (HasCause a inst call P) (sym is) (by e cause)
+  where
+    by : (e : SpaceFault) → HasSpaceCause a inst call P e → HasCause a inst call P (in_memory e)
+    by (fault.Damaged n) cause = cause
+    by e cause = tt
+HasCause-in_memory a inst call P (Ok x) e is cause = tt
 
 -- pages that are formed are never damaged
 pub HasCause-formed : (a : Attachment) (inst : Instance) (call : AttachCall) (P : Pages) (content : Content) (n : ℕ) → IsAttachment a → a.content inst P ≡ Some content → HasCause a inst call P (Damaged n) → ⊥
@@ -86,21 +107,6 @@ pub Answers-end : (a : Attachment) (inst : Instance) (call : AttachCall) (c : Vi
 Answers-end a inst call c P stored after move end is same answers =
     subst (λ (Q : Pages). Answers a inst call c P Q end) (sym same) (subst (λ (e : Move). Answers a inst call c P stored e) is answers)
 
--- no other end is a find
-pub OnFind-other : (move : Move) (IsSo : Type 0) → is_find move ≡ false → OnFind move IsSo
-OnFind-other (Find relation columns values) IsSo other = cc
-OnFind-other move IsSo other = tt
-
-pub OnFind-always : (move : Move) (IsSo : Type 0) → IsSo → OnFind move IsSo
-OnFind-always (Find relation columns values) IsSo so = so
-OnFind-always move IsSo so = tt
-
--- what a find asks for isn't changed by dropping the edits
-pub AsksFor-dropped : (c : View) (move : Move) → is_find move ≡ true → AsksFor c move → AsksFor (dropped c) move
-AsksFor-dropped c (Find relation columns values) is asks = asks
-AsksFor-dropped c move is asks = cc
-
--- a find is no end of a call
-pub Answers-find : (a : Attachment) (inst : Instance) (call : AttachCall) (c : View) (P after : Pages) (move : Move) → is_find move ≡ true → Answers a inst call c P after move
-Answers-find a inst call c P after (Find relation columns values) is = tt
-Answers-find a inst call c P after move is = cc
+pub OnFind-so : (move : Move) (IsSo IsThen : Type 0) → (IsSo → IsThen) → OnFind move IsSo → OnFind move IsThen
+OnFind-so (Find relation columns values) IsSo IsThen then so = then so
+OnFind-so move IsSo IsThen then so = tt

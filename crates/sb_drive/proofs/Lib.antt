@@ -7,6 +7,8 @@ pub mod StoresLemmas
 pub mod TurnsLemmas
 pub mod MeasureLemmas
 pub mod AsksLemmas
+pub mod SpacesLemmas
 pub mod MethodLemmas
 pub mod AttachLemmas
+pub mod MemoryLemmas
 pub mod TestLemmas

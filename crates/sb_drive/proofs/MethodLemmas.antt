@@ -1,5 +1,6 @@
 -- One call of a storage method, and a turn of its driver.
-use Rattle.std.proofs.Common.{◌≡◌, ℕ, ◌≤◌, length, Some, sym, ap, subst, ◌∙◌, arith, true≢false}
+use Rattle.std.proofs.Common.{◌≡◌, ℕ, ◌≤◌, length, Some, Result, Ok, Err, IfErr, sym, ap, subst, ◌∙◌, arith, true≢false}
+use Rattle.std.specs.Result.{IsErrAnd}
 use Rattle.sb_relation.specs.Db.{Rows}
 use Rattle.sb_forms.specs.Pages.{Pages, new_pages}
 use Rattle.sb_ctx.specs.declared.instance.Instance.{Instance}
@@ -8,16 +9,18 @@ use Rattle.sb_ctx.specs.declared.calls.MethodCall.TheVariants as calls
 use Rattle.sb_ctx.specs.declared.moves.Move.{Move}
 use Rattle.sb_ctx.specs.declared.moves.Move.TheVariants.{Need, Fresh, After, Broken, NoMemory}
 use Rattle.sb_ctx.specs.Method.{Method}
-use Rattle.sb_ctx.specs.MethodAnswers.{Answers, AsksFor, Before, Changes, HasRoom, Holds, IsBroken, Looks, MayEnd, Reads, most_pages}
+use Rattle.sb_ctx.specs.MethodAnswers.{Answers, AsksFor, Before, Changes, HasRoom, Holds, IsBroken, Looks, Reads, most_pages}
 use Rattle.sb_ctx.specs.View.{View, given_at, dropped, HoldsPart, stored, IsClean}
 use Rattle.sb_ctx.specs.Laws.{IsMethod}
 use Rattle.sb_ctx.proofs.PageLaws.{AreSomeOf-given}
 use Rattle.sb_ctx.proofs.ViewLaws.{stored-clean}
 use Rattle.sb_drive.specs.declared.turns.DriveFault.{DriveFault}
-use Rattle.sb_drive.specs.declared.turns.DriveFault.TheVariants.{Damaged, NoMemory as OutOfMemory}
+use Rattle.sb_drive.specs.declared.turns.DriveFault.TheVariants.{Damaged}
+use Rattle.sb_drive.specs.declared.space.SpaceFault.{SpaceFault}
+use Rattle.sb_drive.specs.declared.space.SpaceFault.TheVariants as fault
 use Rattle.sb_drive.specs.declared.turns.Turn.TheVariants.{Stop}
-use Rattle.sb_drive.specs.MethodCalls.{HasCause}
-use Rattle.sb_drive.specs.Turns.{turn_of}
+use Rattle.sb_drive.specs.MethodCalls.{HasCause, HasSpaceCause}
+use Rattle.sb_drive.specs.Turns.{turn_of, in_memory}
 use Rattle.sb_drive.proofs.StoresLemmas.{edits_of-clean}
 
 -- a reading call asks for no fresh page
@@ -49,16 +52,25 @@ Changes-Looks-is m inst call kind old new move is before clean looks =
 
 -- ---- a page that is called broken
 -- a driver stops at Damaged only where the box called that page broken
-pub HasCause-stop : (m : Method) (inst : Instance) (call : MethodCall) (c : View) (P after : Pages) (move : Move) (fault : DriveFault) → turn_of move ≡ Stop fault → HoldsPart c P → IsBroken m inst c move → Answers m inst call P after move
-    → HasCause m inst call P fault
-HasCause-stop m inst call c P after (Need n) fault is part broken answers = cc
-HasCause-stop m inst call c P after Fresh fault is part broken answers = cc
-HasCause-stop m inst call c P after (After low) fault is part broken answers = cc
-HasCause-stop m inst call c P after (Broken n) fault is part broken answers =
-    let same : Damaged n ≡ fault = cc in
-    subst (HasCause m inst call P) same (record { held = given_at c; given = AreSomeOf-given c P part; may = broken; not_new = answers })
-HasCause-stop m inst call c P after NoMemory fault is part broken answers = let same : OutOfMemory ≡ fault = cc in subst (HasCause m inst call P) same tt
-HasCause-stop m inst call c P after move fault is part broken answers = cc
+pub HasSpaceCause-stop : (m : Method) (inst : Instance) (call : MethodCall) (c : View) (P after : Pages) (move : Move) (e : SpaceFault) → turn_of move ≡ Stop e → HoldsPart c P → IsBroken m inst c move → Answers m inst call P after move
+    → HasSpaceCause m inst call P e
+HasSpaceCause-stop m inst call c P after (Need n) e is part broken answers = cc
+HasSpaceCause-stop m inst call c P after Fresh e is part broken answers = cc
+HasSpaceCause-stop m inst call c P after (After low) e is part broken answers = cc
+HasSpaceCause-stop m inst call c P after (Broken n) e is part broken answers =
+    let same : fault.Damaged n ≡ e = cc in
+    subst (HasSpaceCause m inst call P) same (record { held = given_at c; given = AreSomeOf-given c P part; may = broken; not_new = answers })
+HasSpaceCause-stop m inst call c P after NoMemory e is part broken answers = let same : fault.NoMemory ≡ e = cc in subst (HasSpaceCause m inst call P) same tt
+HasSpaceCause-stop m inst call c P after move e is part broken answers = cc
+
+-- the same over a memory
+pub HasCause-in_memory : {T : Type 0} (m : Method) (inst : Instance) (call : MethodCall) (P : Pages) (r : Result T DriveFault) (e : SpaceFault) → IsErrAnd r (λ f. f ≡ in_memory e) → HasSpaceCause m inst call P e → IfErr r (HasCause m inst call P)
+HasCause-in_memory m inst call P (Err f) e is cause = subst (HasCause m inst call P) (sym is) (by e cause)
+  where
+    by : (e : SpaceFault) → HasSpaceCause m inst call P e → HasCause m inst call P (in_memory e)
+    by (fault.Damaged n) cause = cause
+    by e cause = tt
+HasCause-in_memory m inst call P (Ok x) e is cause = tt
 
 -- pages that are formed are never damaged
 pub HasCause-formed : (m : Method) (inst : Instance) (call : MethodCall) (P : Pages) (rows : Rows) (n : ℕ) → IsMethod m → m.read inst P ≡ Some rows → HasCause m inst call P (Damaged n) → ⊥
@@ -72,7 +84,3 @@ HasCause-new m inst P n new cause = cause.not_new new
 pub Answers-end : (m : Method) (inst : Instance) (call : MethodCall) (P stored after : Pages) (move end : Move) → move ≡ end → after ≡ stored → Answers m inst call P stored move → Answers m inst call P after end
 Answers-end m inst call P stored after move end is same answers =
     subst (λ (Q : Pages). Answers m inst call P Q end) (sym same) (subst (λ (e : Move). Answers m inst call P stored e) is answers)
-
--- it is an end of the call
-pub MayEnd-end : (inst : Instance) (call : MethodCall) (move end : Move) → move ≡ end → MayEnd inst call move → MayEnd inst call end
-MayEnd-end inst call move end is may = subst (MayEnd inst call) is may

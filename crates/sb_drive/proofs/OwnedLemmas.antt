@@ -1,10 +1,10 @@
 -- The pages of an owner, once some pages of memory are written.
-use Rattle.std.proofs.Common.{◌≡◌, ◌≢◌, ℕ, ◌+◌, ◌<◌, ◌≤◌, ◌==◌, Bool, true, false, cond, List, [], ◌∷◌, ◌++◌, refl, sym, ap, ◌∙◌, arith, eqb-true, eq-eqb, ne_eqb}
+use Rattle.std.proofs.Common.{◌≡◌, ◌≢◌, ℕ, ◌==◌, Bool, true, false, cond, List, [], refl, sym, ap, ◌∙◌, arith, eqb-true, eq-eqb, ne_eqb}
 use Rattle.std.proofs.lemmas.Bool.{cond-true, cond-false}
 use Rattle.std.proofs.lemmas.Bool.Decides.{nat_tests}
-use Rattle.sb_forms.specs.Pages.{Pages, new_pages, no_pages, zeros}
-use Rattle.sb_drive.specs.Instances.{IsLeastOwner, IsLeastFree}
-use Rattle.sb_drive.specs.Slots.{Slot, Slots, Contents, Keeps, nobodys, bytes_for, owned, slots, with_slot}
+use Rattle.sb_forms.specs.Pages.{new_pages, zeros}
+use Rattle.sb_drive.specs.Instances.{IsLeastOwner}
+use Rattle.sb_drive.specs.Slots.{Slot, Slots, bytes_for, owned, with_slot}
 
 -- an owner sees the bytes of its own page
 pub bytes_for-own : (owner : ℕ) (bytes : List ℕ) → owner ≢ 0 → bytes_for owner (owner, bytes) ≡ bytes
@@ -41,11 +41,3 @@ owned-beside s owner root o bytes free other = λ i n. by n (root == n) refl i
     by : (n : ℕ) (b : Bool) → root == n ≡ b → bytes_for o (cond b (owner, bytes) (s n)) ≡ bytes_for o (s n)
     by n true here = bytes_for-other o (owner, bytes) (λ same. other (sym same)) ∙ sym (bytes_for-free o (s n) (ap (λ m. (s m).0) (sym (eqb-true root n here)) ∙ free))
     by n false there = refl
-
--- no page was the new owner's
-pub owned-unused : (s : Slots) (taken : List ℕ) (owner : ℕ) → IsLeastOwner s taken owner → owned s owner ≡ no_pages
-owned-unused s taken owner own = λ i n. bytes_for-other owner (s n) (own.unused n) i
-
--- ---- where nothing happens
-pub Keeps-same : (owner : ℕ) (old new : Contents) → new ≡ old → Keeps owner old new
-Keeps-same owner old new same = record { others = λ o other. ap (λ (m : Contents). owned (slots m.now) o) same; was = ap (λ (m : Contents). m.was) same }

@@ -1,11 +1,10 @@
 -- What a search by rising numbers has found so far.
-use Rattle.std.proofs.Common.{◌≡◌, ◌≢◌, inl, inr, ℕ, ◌+◌, ◌<◌, ◌≤◌, ◌==◌, Bool, true, false, List, Option, Some, None, refl, sym, subst, ◌∙◌, arith, eqb-true}
+use Rattle.std.proofs.Common.{◌≡◌, inl, inr, ℕ, ◌+◌, ◌<◌, ◌≤◌, ◌==◌, Bool, true, false, List, Option, Some, None, refl, sym, subst, ◌∙◌, arith, eqb-true}
 use Rattle.std.proofs.lemmas.List.{get_or_default}
 use Rattle.std.proofs.lemmas.Bool.Decides.{nat_tests}
 use Rattle.sb_forms.specs.Pages.{Pages, IsNext}
-use Rattle.sb_drive.specs.Asks.{IsNextFrom}
 use Rattle.sb_drive.specs.Instances.{IsUsed, IsLeastOwner}
-use Rattle.sb_drive.specs.Slots.{Slots}
+use Rattle.sb_drive.specs.Slots.{IsNextFrom, Slots}
 
 -- one number more
 pub one-more : (P : ℕ → Type 0) (least n : ℕ) → ((m : ℕ) → least ≤ m → m < n → P m) → P n → (m : ℕ) → least ≤ m → m < n + 1 → P m

@@ -1,26 +1,24 @@
 -- What the writes of edited and freed pages make of each owner's pages.
-use Rattle.std.proofs.Common.{◌≡◌, ◌≢◌, ℕ, zero, suc, ◌+◌, ◌<◌, ◌≤◌, ◌==◌, Bool, true, false, cond, not, ◌&&◌, ◌||◌, List, [], ◌∷◌, ◌++◌, length, map, filter, take, get_or, All, Option, Some, None, option_map, slice_get, bytes_eq, refl, sym, ap, subst, ◌∙◌, arith, eqb-true, eq-eqb, true≢false, append_assoc}
+use Rattle.std.proofs.Common.{◌≡◌, ◌≢◌, ℕ, suc, ◌+◌, ◌<◌, ◌==◌, Bool, true, false, cond, not, ◌&&◌, ◌||◌, List, [], ◌∷◌, ◌++◌, length, map, filter, take, get_or, All, Option, Some, None, option_map, slice_get, bytes_eq, refl, sym, ap, subst, ◌∙◌, arith, eqb-true, eq-eqb, true≢false, append_assoc, length-append}
 use Rattle.std.specs.List.{list_any}
-use Rattle.std.proofs.lemmas.Bool.{cond-true, cond-false, and_right}
+use Rattle.std.proofs.lemmas.Bool.{cond-false, and_right}
 use Rattle.std.proofs.lemmas.Bool.Decides.{nat_tests}
-use Rattle.std.proofs.lemmas.List.{take_more, map-append}
+use Rattle.std.proofs.lemmas.List.{take_more, map-append, length-map}
 use Rattle.std.proofs.lemmas.List.Elements.{All-push, All-append, All-map, All-weaker, All-get_or}
 use Rattle.std.proofs.lemmas.List.Folds.{list_any_at, list_any-append}
 use Rattle.std.proofs.lemmas.Option.{slice_get_within, get_or_from_slice_get}
 use Rattle.std.proofs.lemmas.Slice.Eq.{bytes_eq-Decides}
 use Rattle.sb_relation.specs.Fits.{is_empty}
-use Rattle.sb_forms.specs.Pages.{Pages, IsWhole, ArePages}
-use Rattle.sb_ctx.specs.View.{HeldPage, View, held_at, page_of, as_given, dropped, is_edited, is_freed, edited_pages, fresh_pages, freed_pages, edits_of, HoldsPart, stored}
+use Rattle.sb_forms.specs.Pages.{Pages, IsWhole}
+use Rattle.sb_ctx.specs.View.{HeldPage, View, held_at, as_given, dropped, is_edited, is_freed, edited_pages, freed_pages, edits_of, HoldsPart, stored}
 use Rattle.sb_ctx.specs.Held.{Entries, each}
 use Rattle.sb_ctx.proofs.HeldLaws.{page_in-place}
 use Rattle.sb_ctx.proofs.ListedLaws.{IsListed, edited-page, freed-page, stored-not_listed}
-use Rattle.sb_ctx.specs.Sized.{IsCtx}
 use Rattle.sb_ctx.specs.Sound.{IsSound}
-use Rattle.sb_ctx.proofs.PageLaws.{ArePages-stored}
 use Rattle.sb_ctx.proofs.ViewLaws.{no_bytes, stored_by}
 use Rattle.sb_drive.specs.declared.slots.Write.{Write}
 use Rattle.sb_drive.specs.Slots.{Slot, Slots, IsPage, nobodys, bytes_for, owned}
-use Rattle.sb_drive.specs.Stores.{Adds, MayWrite, slot_of, bytes_in, writes_to}
+use Rattle.sb_drive.specs.Stores.{Adds, IsPageIn, MayWrite, slot_of, bytes_in, writes_to}
 use Rattle.sb_drive.specs.Writes.{written, AreAmong, ArePagesTo}
 use Rattle.sb_drive.proofs.OwnedLemmas.{bytes_for-own, bytes_for-other, bytes_for-free}
 use Rattle.sb_drive.proofs.SlotsLemmas.{bytes_for-nobodys}
@@ -30,15 +28,16 @@ abbrev pub write_of : ℕ → View → ℕ → Write
 write_of owner c n = record { number = n; slot = slot_of owner (bytes_in c n) }
 
 -- ---- the writes
-pub Adds-more : (s : Slots) (owner : ℕ) (c : View) (ns : List ℕ) (i n : ℕ) (w : Write) (old mid new : List Write) → slice_get ns i ≡ Some n → w ≡ write_of owner c n → MayWrite s owner n →
+pub Adds-more : (s : Slots) (owner : ℕ) (c : View) (ns : List ℕ) (i n : ℕ) (w : Write) (old mid new : List Write) → slice_get ns i ≡ Some n → w ≡ write_of owner c n → MayWrite s owner n → IsPageIn c n →
     Adds s owner c (take i ns) old mid → new ≡ mid ++ w ∷ [] → Adds s owner c (take (i + 1) ns) old new
-Adds-more s owner c ns i n w old mid new at is may added made =
+Adds-more s owner c ns i n w old mid new at is may whole added made =
     let more : take (i + 1) ns ≡ take i ns ++ n ∷ [] =
     take_more ns i n (slice_get_within ns i n at) ∙ ap (λ (x : ℕ). take i ns ++ x ∷ []) (get_or_from_slice_get ns i n n at) in
     record {
       writes = made ∙ (λ j. added.writes j ++ is j ∷ []) ∙ append_assoc old (writes_to owner c (take i ns)) (write_of owner c n ∷ [])
           ∙ ap (λ (ws : List Write). old ++ ws) (sym (ap (writes_to owner c) more ∙ map-append (write_of owner c) (take i ns) (n ∷ [])));
       may = subst (λ (xs : List ℕ). All (MayWrite s owner) xs) (sym more) (All-push (MayWrite s owner) (take i ns) n added.may may);
+      whole = subst (λ (xs : List ℕ). All (IsPageIn c) xs) (sym more) (All-push (IsPageIn c) (take i ns) n added.whole whole);
     }
 
 pub Adds-append : (s : Slots) (owner : ℕ) (c : View) (ns ms : List ℕ) (old mid new : List Write) → Adds s owner c ns old mid → Adds s owner c ms mid new → Adds s owner c (ns ++ ms) old new
@@ -46,6 +45,7 @@ Adds-append s owner c ns ms old mid new first then = record {
   writes = then.writes ∙ ap (λ (ws : List Write). ws ++ writes_to owner c ms) first.writes ∙ append_assoc old (writes_to owner c ns) (writes_to owner c ms)
       ∙ ap (λ (ws : List Write). old ++ ws) (sym (map-append (write_of owner c) ns ms));
   may = All-append (MayWrite s owner) ns ms first.may then.may;
+  whole = All-append (IsPageIn c) ns ms first.whole then.whole;
 }
 
 pub AreAmong-Adds : (s : Slots) (owner : ℕ) (c : View) (ns : List ℕ) (new : List Write) → Adds s owner c ns [] new → AreAmong 65536 new
@@ -54,18 +54,6 @@ AreAmong-Adds s owner c ns new added =
     (All-map (λ w. w.number < 65536) (write_of owner c) ns (All-weaker (MayWrite s owner) (λ n. n < 65536) (λ n may. may.below) ns added.may))
 
 -- ---- what is written is whole
-bytes_in-whole : (c : View) (P : Pages) (n : ℕ) → ArePages (stored c P) → bytes_in c n ≢ [] → IsWhole (bytes_in c n)
-bytes_in-whole c P n are some = by (held_at c n) refl some
-  where
-    bytes_of : Option HeldPage → List ℕ
-    bytes_of o = elim (option_map (λ (h : HeldPage). h.now) o) [ None ↦ [] | Some bytes ↦ bytes ]
-
-    by : (o : Option HeldPage) → held_at c n ≡ o → bytes_of o ≢ [] → IsWhole (bytes_of o)
-    by None there some = absurd (some refl)
-    by (Some h) there some =
-        let same : stored c P n ≡ h.now = ap (λ (o : Option HeldPage). stored_by (P n) o) there in
-        subst IsWhole same (are.whole n (λ none. some (sym same ∙ none)))
-
 slot_of-whole : (owner : ℕ) (bytes : List ℕ) → (bytes ≢ [] → IsWhole bytes) → IsPage (slot_of owner bytes)
 slot_of-whole owner bytes whole = by (is_empty bytes)
   where
@@ -73,11 +61,10 @@ slot_of-whole owner bytes whole = by (is_empty bytes)
     by true = IsPage-nobodys
     by false = whole
 
-pub ArePagesTo-Adds : (s : Slots) (owner : ℕ) (c : View) (P : Pages) (ns : List ℕ) (new : List Write) → IsCtx c → HoldsPart c P → Adds s owner c ns [] new → ArePagesTo new
-ArePagesTo-Adds s owner c P ns new is part added =
+pub ArePagesTo-Adds : (s : Slots) (owner : ℕ) (c : View) (ns : List ℕ) (new : List Write) → Adds s owner c ns [] new → ArePagesTo new
+ArePagesTo-Adds s owner c ns new added =
     subst ArePagesTo (sym added.writes)
-    (All-map (λ w. IsPage w.slot) (write_of owner c) ns (All-weaker (MayWrite s owner) (λ n. IsPage (slot_of owner (bytes_in c n)))
-    (λ n may. slot_of-whole owner (bytes_in c n) (bytes_in-whole c P n (ArePages-stored c P is.sized part))) ns added.may))
+    (All-map (λ w. IsPage w.slot) (write_of owner c) ns (All-weaker (IsPageIn c) (λ n. IsPage (slot_of owner (bytes_in c n))) (λ n whole. slot_of-whole owner (bytes_in c n) whole) ns added.whole))
 
 -- a page is as it was written last, or as it was
 pub written-at : (f : ℕ → Slot) (ns : List ℕ) (s : Slots) (m : ℕ) → written (map (λ n. record { number = n; slot = f n }) ns) s m ≡ cond (list_any (λ n. n == m) ns) (f m) (s m)
@@ -204,12 +191,9 @@ not_freed h = by (is_empty h.given)
     by true = refl
     by false = refl
 
-pub made_pages-clean : (c : View) → dropped c ≡ c → made_pages c ≡ []
-made_pages-clean c clean =
-    ap made_pages (sym clean) ∙ (λ i. none_pass is_edited not_edited c.held i ++ none_pass is_freed not_freed c.held i)
-
-pub none_written : (s : Slots) (owner : ℕ) (c : View) (ws : List Write) → dropped c ≡ c → Adds s owner c (made_pages c) [] ws → ws ≡ []
-none_written s owner c ws clean added = added.writes ∙ ap (writes_to owner c) (made_pages-clean c clean)
+pub none_written : (s : Slots) (owner : ℕ) (c : View) (ws : List Write) → edits_of c ≡ 0 → Adds s owner c (made_pages c) [] ws → length ws ≡ 0
+none_written s owner c ws none added =
+    ap (λ (l : List Write). length l) added.writes ∙ length-map (made_pages c) (write_of owner c) ∙ omega (arith, none, length-append (edited_pages c) (freed_pages c))
 
 -- ---- the edits of a clean Ctx
 -- a fresh page was given without bytes

@@ -1,5 +1,5 @@
 -- The boxes of the tests, whose pages are never formed.
-use Rattle.std.proofs.Common.{◌≡◌, ℕ, ◌≤◌, Bool, true, false, cond, List, [], ◌∷◌, Option, Some, None, IsSome, IfSome, All, is_some, option_map, refl, sym, ap, subst, ◌∙◌, arith}
+use Rattle.std.proofs.Common.{◌≡◌, ℕ, Bool, true, false, cond, List, [], ◌∷◌, Option, Some, None, IsSome, IfSome, All, is_some, option_map, refl, sym, ap, subst, ◌∙◌, arith}
 use Rattle.std.specs.Ordering.{eq_by_cmp}
 use Rattle.std.proofs.lemmas.Option.{same_Some}
 use Rattle.std.proofs.lemmas.Cmp.{nat_list_cmp_total, eq_by_cmp_equiv}
@@ -9,8 +9,7 @@ use Rattle.sb_value.specs.Order.{bytes_cmp}
 use Rattle.sb_rule.specs.declared.change.Change.{Change}
 use Rattle.sb_rule.specs.declared.rule.Rule.TheVariants.{Foreign}
 use Rattle.sb_forms.specs.Pages.{Pages}
-use Rattle.sb_relation.specs.Db.{Name, Key, Rows, Relation, Db, relation_at}
-use Rattle.sb_relation.specs.Fits.{MayKeep, MayStand}
+use Rattle.sb_relation.specs.Db.{Name, Relation}
 use Rattle.sb_relation.specs.Keys.{is_record_key}
 use Rattle.sb_relation.specs.Lawful.{AreRows, IsRow}
 use Rattle.sb_ctx.specs.declared.instance.Instance.{Instance}

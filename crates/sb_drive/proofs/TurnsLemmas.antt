@@ -1,13 +1,13 @@
 -- What an answer means to a driver.
-use Rattle.std.proofs.Common.{◌≡◌, ℕ, subst, sym, Result, Ok, Err, OnErr}
+use Rattle.std.proofs.Common.{◌≡◌, subst}
 use Rattle.sb_ctx.specs.declared.moves.Move.{Move}
-use Rattle.sb_ctx.specs.declared.moves.Move.TheVariants.{Done, Acts, Need, Fresh, After, Find, Veto, NoRecord, Duplicate, Range, Key, Row, Entry, Sums, End, Broken, NoMemory}
+use Rattle.sb_ctx.specs.declared.moves.Move.TheVariants.{Need, Fresh, After, Find, Broken, NoMemory}
 use Rattle.sb_ctx.specs.MethodAnswers.{AsksFor}
 use Rattle.sb_ctx.specs.AttachAnswers.{AsksFor as AttachAsksFor}
 use Rattle.sb_ctx.specs.View.{View}
 use Rattle.sb_drive.specs.declared.turns.Ask.{Ask}
 use Rattle.sb_drive.specs.declared.turns.Ask.TheVariants as ask
-use Rattle.sb_drive.specs.declared.turns.Turn.TheVariants.{Give, Stop, End as Ends}
+use Rattle.sb_drive.specs.declared.turns.Turn.TheVariants.{Give, End as Ends}
 use Rattle.sb_drive.specs.Turns.{turn_of, IsEnd}
 use Rattle.sb_drive.proofs.AsksLemmas.{IsAsked}
 
@@ -38,8 +38,3 @@ IsEnd-end (After low) end is = cc
 IsEnd-end (Broken n) end is = cc
 IsEnd-end NoMemory end is = cc
 IsEnd-end move end is = let same : move ≡ end = cc in subst IsEnd same tt
-
--- what is so in any case is so at an error
-pub OnErr-always : {T E P : Type 0} (r : Result T E) → P → OnErr r P
-OnErr-always (Ok x) so = tt
-OnErr-always (Err e) so = so

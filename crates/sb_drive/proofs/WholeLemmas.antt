@@ -1,11 +1,12 @@
 -- Each page of a memory is whole, now and as it was.
-use Rattle.std.proofs.Common.{◌≡◌, ◌≢◌, ℕ, zero, suc, ◌<◌, ◌≤◌, ◌==◌, Bool, true, false, cond, List, [], ◌∷◌, ◌++◌, length, All, refl, sym, ap, subst, ◌∙◌, arith, ne_eqb}
+use Rattle.std.proofs.Common.{◌≡◌, ◌≢◌, ℕ, zero, suc, ◌<◌, ◌≤◌, ◌==◌, Bool, true, false, cond, List, [], ◌∷◌, ◌++◌, length, refl, sym, ap, subst, ◌∙◌, arith, ne_eqb}
 use Rattle.std.proofs.lemmas.Bool.{cond-false}
 use Rattle.std.proofs.lemmas.List.Elements.{All-nil, All-cons, All-append, All-replicate, All-weaker, All-head, All-tail}
 use Rattle.std.proofs.lemmas.List.{length-replicate}
 use Rattle.sb_forms.specs.Pages.{IsWhole, ArePages, zeros}
 use Rattle.sb_drive.specs.declared.slots.Write.{Write}
-use Rattle.sb_drive.specs.Slots.{Slot, Slots, Contents, IsPage, AreWhole, nobodys, bytes_for, owned, slots, listed, pages_of, with_slot}
+use Rattle.sb_drive.specs.MemorySpaces.{HasPages}
+use Rattle.sb_drive.specs.Slots.{Slot, Slots, Contents, IsPage, AreWhole, nobodys, bytes_for, owned, slots, pages_of, with_slot}
 use Rattle.sb_drive.specs.Writes.{written, undone, AreAmong, ArePagesTo, IsMemory}
 use Rattle.sb_drive.proofs.SlotsLemmas.{bytes_for-nobodys, seen, slots-past, slots-seen, slots-listed}
 use Rattle.sb_drive.proofs.WritesLemmas.{undone-append}
@@ -34,7 +35,7 @@ AreWhole-written (w ∷ ws) s all whole =
     AreWhole-written ws (with_slot w.number w.slot s) (All-tail (λ x. IsPage x.slot) w ws all) (AreWhole-with_slot w.number w.slot s (All-head (λ x. IsPage x.slot) w ws all) whole)
 
 -- ---- what an owner sees
-bytes_for-whole : (owner : ℕ) (slot : Slot) → IsPage slot → bytes_for owner slot ≢ [] → IsWhole (bytes_for owner slot)
+pub bytes_for-whole : (owner : ℕ) (slot : Slot) → IsPage slot → bytes_for owner slot ≢ [] → IsWhole (bytes_for owner slot)
 bytes_for-whole owner slot is some = by (owner == 0) (slot.0 == owner) some
   where
     by : (b d : Bool) → cond b [] (cond d slot.1 []) ≢ [] → IsWhole (cond b [] (cond d slot.1 []))
@@ -65,6 +66,17 @@ ArePages-was pages undo m owner view is =
   where
     past : (n : ℕ) → 65536 ≤ n → undone undo (slots pages) n ≡ nobodys
     past n far = undone-past undo (slots pages) (length pages) n is.among (omega (arith, is.most)) ∙ slots-past pages n (omega (arith, is.most))
+
+pub HasPages-now : (pages : List Slot) (undo : List Write) (m : Contents) → seen pages undo ≡ m → IsMemory pages undo → HasPages (slots m.now) m
+HasPages-now pages undo m view is =
+    subst (λ (s : Slots). HasPages s m) (sym same) (record {
+      are = sym same;
+      whole = is.now;
+      few = λ n far. ap (λ (slot : Slot). slot.0) (slots-past pages n (omega (arith, is.most)));
+    })
+  where
+    same : slots m.now ≡ slots pages
+    same = slots-seen pages undo m view is.most
 
 -- ---- what the calls of a memory leave
 pub IsMemory-none : IsMemory [] []

@@ -2,7 +2,8 @@ pub mod Slots
 pub mod Writes
 pub mod Instances
 pub mod Turns
-pub mod Asks
+pub mod Spaces
+pub mod MemorySpaces
 pub mod Stores
 pub mod MethodCalls
 pub mod AttachCalls

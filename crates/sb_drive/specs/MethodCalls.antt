@@ -7,6 +7,8 @@ use Rattle.sb_ctx.specs.declared.calls.MethodCall.TheVariants as call
 use Rattle.sb_ctx.specs.View.{HeldPages, AreSomeOf}
 use Rattle.sb_ctx.specs.Method.{Method, MayHold}
 use Rattle.sb_ctx.specs.MethodAnswers.{NotNew}
+use Rattle.sb_drive.specs.declared.space.SpaceFault.{SpaceFault}
+use Rattle.sb_drive.specs.declared.space.SpaceFault.TheVariants as space
 use Rattle.sb_drive.specs.declared.turns.DriveFault.{DriveFault}
 use Rattle.sb_drive.specs.declared.turns.DriveFault.TheVariants.{Damaged, NoMemory}
 
@@ -33,3 +35,8 @@ pub record IsDamaged (m : Method) (inst : Instance) (c : MethodCall) (P : Pages)
 abbrev pub HasCause : Method → Instance → MethodCall → Pages → DriveFault → Type 0
 HasCause m inst c P (Damaged n) = IsDamaged m inst c P n
 HasCause m inst c P NoMemory = Unit {0}
+
+-- the same of a call over a space
+abbrev pub HasSpaceCause : Method → Instance → MethodCall → Pages → SpaceFault → Type 0
+HasSpaceCause m inst c P (space.Damaged n) = IsDamaged m inst c P n
+HasSpaceCause m inst c P e = Unit {0}

@@ -1,5 +1,5 @@
 -- Pages of several owners in memory.
-use Rattle.std.specs.Prelude.{◌≡◌, ◌≢◌, ℕ, ◌==◌, cond, List, [], map, get_or}
+use Rattle.std.specs.Prelude.{◌≡◌, ◌≢◌, ℕ, ◌<◌, ◌≤◌, ◌==◌, cond, List, [], map, get_or, Option, Some, None}
 use Rattle.std.specs.List.{range_with_len}
 use Rattle.sb_forms.specs.Pages.{Pages, IsWhole}
 
@@ -57,3 +57,8 @@ nothing = record { now = listed (λ n. nobodys); was = listed (λ n. nobodys) }
 pub record Keeps (owner : ℕ) (old new : Contents) : Type 0 where
   pub others : (o : ℕ) → (o ≡ owner → ⊥) → pages_of new.now o ≡ pages_of old.now o
   pub was : new.was ≡ old.was
+
+-- this is the least page from a number on, if there is one
+abbrev pub IsNextFrom : Pages → ℕ → Option ℕ → Type 0
+IsNextFrom P first None = (n : ℕ) → first ≤ n → P n ≡ []
+IsNextFrom P first (Some next) = (first ≤ next) × (P next ≢ []) × ((n : ℕ) → first ≤ n → n < next → P n ≡ [])

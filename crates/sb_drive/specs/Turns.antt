@@ -1,9 +1,13 @@
 -- What a driver does with the answer of a call.
-use Rattle.std.specs.Prelude.{Bool, true, false}
+use Rattle.std.specs.Prelude.{◌^◌, ◌<◌, Bool, true, false, Some, None}
 use Rattle.sb_ctx.specs.declared.moves.Move.{Move}
 use Rattle.sb_ctx.specs.declared.moves.Move.TheVariants.{Need, Fresh, After, Find, Broken, NoMemory}
+use Rattle.sb_drive.specs.declared.turns.Ask.{Ask}
 use Rattle.sb_drive.specs.declared.turns.Ask.TheVariants as ask
-use Rattle.sb_drive.specs.declared.turns.DriveFault.TheVariants as fault
+use Rattle.sb_drive.specs.declared.space.SpaceFault.{SpaceFault}
+use Rattle.sb_drive.specs.declared.space.SpaceFault.TheVariants as fault
+use Rattle.sb_drive.specs.declared.turns.DriveFault.{DriveFault}
+use Rattle.sb_drive.specs.declared.turns.DriveFault.TheVariants as drive
 use Rattle.sb_drive.specs.declared.turns.Turn.{Turn}
 use Rattle.sb_drive.specs.declared.turns.Turn.TheVariants.{Give, Stop, End}
 
@@ -15,6 +19,18 @@ turn_of (After low) = Give (ask.After low)
 turn_of (Broken n) = Stop (fault.Damaged n)
 turn_of NoMemory = Stop fault.NoMemory
 turn_of move = End move
+
+-- page numbers have 32 bits
+abbrev pub IsNumbered : Ask → Type 0
+IsNumbered (ask.Page n) = n < 2 ^ 32
+IsNumbered ask.Fresh = Unit {0}
+IsNumbered (ask.After None) = Unit {0}
+IsNumbered (ask.After (Some n)) = n < 2 ^ 32
+
+-- what is asked for is numbered so
+abbrev pub AsksNumbered : Turn → Type 0
+AsksNumbered (Give a) = IsNumbered a
+AsksNumbered turn = Unit {0}
 
 -- neither a question that a driver answers nor a stop
 abbrev pub IsEnd : Move → Type 0
@@ -33,3 +49,8 @@ is_find move = false
 abbrev pub OnFind : Move → Type 0 → Type 0
 OnFind (Find relation columns values) IsSo = IsSo
 OnFind move IsSo = Unit {0}
+
+-- what a refusal is over a memory, which has neither a disk nor a log
+abbrev pub in_memory : SpaceFault → DriveFault
+in_memory (fault.Damaged n) = drive.Damaged n
+in_memory e = drive.NoMemory

@@ -1,36 +1,46 @@
-//! Giving a call what it asks for.
+//! Giving a call what it asks for of the pages in memory.
 
-ghost use Rattle.std.specs.Prelude.{◌≡◌, OnOk, OnErr, IfSome};
-ghost use Rattle.sb_ctx.specs.View.{dropped};
-ghost use Rattle.sb_drive.specs.Asks.{IsFreshFor, IsGiven, IsNumbered};
+ghost use Rattle.std.specs.Prelude.{◌≡◌, ℕ, ◌<◌, false, OnOk, OnErr, IfErr, IfSome, IfNone, IsSome};
+ghost use Rattle.sb_ctx.specs.View.{dropped, page_of};
 ghost use Rattle.sb_drive.specs.Slots.{slots};
+ghost use Rattle.sb_drive.specs.Spaces.{IsAnswerFault, IsFreshIn, IsFull, IsGift, IsGivenIn};
 
 use crate::memory::{MOST_PAGES, Memory};
+use crate::space::SpaceFault;
 use crate::turns::Ask;
-use sb_ctx::{Ctx, Instance};
-use std::alloc::AllocError;
+use sb_ctx::Ctx;
 
-/// Drops the edits, and gives what is asked for: of a page that isn't the instance's no bytes. Refused where memory
-/// runs out or no page is free.
-pub fn answer(memory: &Memory, inst: &Instance, ctx: &mut Ctx, ask: Ask) -> Result<(), AllocError>
-    ensures ok { OnOk result (IsGiven (slots memory.now.now) inst.now.owner (dropped ctx.old) ask ctx.new) }
-    ensures err { OnErr result (ctx.new ≡ dropped ctx.old) }
-    ensures number { IsNumbered ask }
+const FULL: SpaceFault = SpaceFault::TempFull {
+    used: MOST_PAGES,
+    total: MOST_PAGES,
+};
+
+/// Drops the edits, and gives what is asked for: of a page that isn't the owner's no bytes. Refused where memory runs
+/// out or no page is free.
+pub fn answer(memory: &Memory, owner: u16, ctx: &mut Ctx, ask: Ask) -> Result<(), SpaceFault>
+    ensures given { OnOk result (IsGivenIn 65536 (slots memory.now.now) owner (dropped ctx.old) ask ctx.new) }
+    ensures gift { OnOk result (IsGift (dropped ctx.old) ask ctx.new) }
+    ensures kept { OnErr result (ctx.new ≡ dropped ctx.old) }
+    ensures undamaged { IfErr result IsAnswerFault }
+    ensures full { IfErr result (IsFull false 65536 (slots memory.now.now) (dropped ctx.old) ask) }
 {
+    memory.are_pages();
     ctx.drop_edits();
     match ask {
-        Ask::Page(n) => ctx.give_page(n, memory.page(inst.owner, n)),
+        Ask::Page(n) => ctx.give_page(n, memory.page(owner, n))?,
         Ask::Fresh => {
-            let n = fresh_page(memory, ctx).ok_or(AllocError)?;
-            ctx.give_fresh(n)
+            let n = fresh_page(memory, ctx).ok_or(FULL)?;
+            ctx.give_fresh(n)?
         }
-        Ask::After(n) => ctx.give_after(n, memory.next_page(inst.owner, n)),
+        Ask::After(n) => ctx.give_after(n, memory.next_page(owner, n))?,
     }
+    Ok(())
 }
 
 /// The least page that is nobody's and isn't held.
 fn fresh_page(memory: &Memory, ctx: &Ctx) -> Option<u32>
-    ensures { IfSome result (IsFreshFor (slots memory.now.now) ctx.now) }
+    ensures some { IfSome result (IsFreshIn 65536 (slots memory.now.now) ctx.now) }
+    ensures none { IfNone result ((m : ℕ) → m < 65536 → (slots memory.now.now m).0 ≡ 0 → IsSome (page_of ctx.now m)) }
 {
     for n in 0..MOST_PAGES {
         if memory.owner_of(n) == 0 && ctx.page(n).is_none() {

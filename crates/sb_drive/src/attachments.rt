@@ -1,57 +1,67 @@
 //! The driver of attachments.
 
-ghost use Rattle.std.specs.Prelude.{◌≡◌, IfOk, IfErr, OnErr};
+ghost use Rattle.std.specs.Prelude.{◌≡◌, IfOk, IfErr};
 ghost use Rattle.sb_ctx.specs.Attachment.{IsInstance};
 ghost use Rattle.sb_ctx.specs.AttachAnswers.{Answers, Changes, MayEnd};
 ghost use Rattle.sb_ctx.specs.View.{IsClean, HoldsPart};
-ghost use Rattle.sb_drive.specs.AttachCalls.{Fits, IsReading, HandsUp, HasCause};
-ghost use Rattle.sb_drive.specs.Slots.{Keeps, pages_of};
+ghost use Rattle.sb_drive.specs.AttachCalls.{CostsIn, Fits, IsReading, HandsUpIn, HasSpaceCause};
+ghost use Rattle.sb_drive.specs.Slots.{Slots, owned};
+ghost use Rattle.sb_drive.specs.Spaces.{IsFullFor, IsRefused, Leaves, LeadsOn, UnlessDown, Wanted};
 ghost use Rattle.sb_drive.specs.Turns.{IsEnd, OnFind};
 
-use crate::asks::answer;
-use crate::memory::Memory;
-use crate::stores::store;
-use crate::turns::{DriveFault, Turn, is_find, turn_of};
+use crate::space::{PageSpace, SpaceFault};
+use crate::turns::{Turn, is_find, turn_of};
 use sb_ctx::{AttachCall, Attachment, Ctx, Instance, Move};
 use std::alloc::Global;
 
 /// Runs one call of an attachment on the pages of the instance's owner to its end, or to a find, which the caller
 /// answers into `ctx` before it makes the call again.
-pub fn drive_attachment(
-    memory: &mut Memory,
+pub fn run_attachment<S: PageSpace>(
+    space: &mut S,
     alloc: Global,
     boxed: &dyn Attachment,
     inst: &Instance,
     call: &AttachCall,
     ctx: &mut Ctx,
-) -> Result<Move, DriveFault>
+) -> Result<Move, SpaceFault>
+    requires ready { S.is_ready space.old }
     requires inst { IsInstance (attachment boxed.now) inst.now }
     requires fits { Fits (attachment boxed.now) inst.now call.now }
     requires clean { IsClean ctx.old }
-    requires part { HoldsPart ctx.old (pages_of memory.old.now inst.now.owner) }
-    ensures answers { IfOk result (λ move. Answers (attachment boxed.now) inst.now call.now ctx.old
-        (pages_of memory.old.now inst.now.owner) (pages_of memory.new.now inst.now.owner) move) }
+    requires part { (want : Wanted) (s : Slots) → S.has want s space.old → HoldsPart ctx.old (owned s inst.now.owner) }
+
+    ensures answers { IfOk result (λ move. (want : Wanted) (s : Slots) → S.has want s space.old
+        → Leaves S.has inst.now.owner want s space.new
+        (λ after. Answers (attachment boxed.now) inst.now call.now ctx.old (owned s inst.now.owner) after move)) }
     ensures may { IfOk result (MayEnd call.now) }
     ensures ends { IfOk result IsEnd }
-    ensures find { IfOk result (λ move. OnFind move (HandsUp inst.now.owner memory.old memory.new ctx.new move)) }
+    ensures find { IfOk result (λ move. OnFind move (HandsUpIn S.has S.leads inst.now.owner space.old space.new ctx.new move)) }
     ensures found { ctx.new.found ≡ ctx.old.found }
+    ensures others { UnlessDown result ((want : Wanted) (s : Slots) → S.has want s space.old
+        → Leaves S.has inst.now.owner want s space.new (λ after. Unit {0})) }
+    ensures damaged { IfErr result (λ e. (want : Wanted) (s : Slots) → S.has want s space.old
+        → HasSpaceCause (attachment boxed.now) inst.now call.now (owned s inst.now.owner) e) }
+    ensures full { IfErr result (λ e. (want : Wanted) (s : Slots) → S.has want s space.old
+        → IsFullFor S.leads S.durable S.total space.old s e) }
 
-    ensures others { Keeps inst.now.owner memory.old memory.new }
-    ensures reads { IsReading call.now → memory.new ≡ memory.old }
-    ensures err { OnErr result (memory.new ≡ memory.old) }
-    ensures damaged { IfErr result (HasCause (attachment boxed.now) inst.now call.now (pages_of memory.old.now inst.now.owner)) }
+    ensures leads { LeadsOn S.leads space.old space.new }
+    ensures costs { CostsIn S.has S.leads (attachment boxed.now) inst.now call.now space.old space.new ctx.old }
+    ensures reads { IsReading call.now → S.leads 0 space.old space.new }
+    ensures refused { IfErr result (λ e. IsRefused (S.leads 0 space.old space.new) (S.fails e space.old space.new) e) }
+    ensures ready { S.is_ready space.new }
 {
     loop {
         let made = make_call(boxed, alloc, ctx, inst, call);
+        ctx.is_ctx();
         match turn_of(made) {
-            Turn::Give(ask) => answer(memory, inst, ctx, ask)?,
+            Turn::Give(ask) => space.answer(inst.owner, ctx, ask)?,
             Turn::Stop(fault) => return Err(fault),
             Turn::End(end) => {
                 if is_find(&end) {
                     ctx.drop_edits();
                     return Ok(end);
                 }
-                store(memory, alloc, inst, ctx)?;
+                space.store(alloc, inst.owner, ctx)?;
                 return Ok(end);
             }
         }

@@ -2,9 +2,9 @@
 
 ghost use Rattle.std.specs.Prelude.{◌≡◌, ◌≢◌, ℕ, ◌<◌, ◌≤◌, ◌↔◌, IsTrue, [], OnOk, OnErr, IfOk, IfSome, IfNone};
 ghost use Rattle.sb_forms.specs.Pages.{ArePages, IsNext, new_pages};
-ghost use Rattle.sb_drive.specs.Asks.{IsNextFrom};
 ghost use Rattle.sb_drive.specs.Instances.{IsLeastOwner, IsLeastFree, IsUsed};
-ghost use Rattle.sb_drive.specs.Slots.{Keeps, nothing, slots, pages_of};
+ghost use Rattle.sb_drive.specs.MemorySpaces.{HasPages};
+ghost use Rattle.sb_drive.specs.Slots.{IsNextFrom, Keeps, nothing, slots, pages_of};
 ghost use Rattle.sb_drive.specs.Writes.{written, AreAmong, ArePagesTo};
 
 use crate::slots::{Slot, Write, exchange_all, has_owner, make_room};
@@ -13,6 +13,9 @@ use std::marker::Model;
 
 /// How many pages there are at most.
 pub const MOST_PAGES: u32 = 65536;
+
+/// How many bytes a page has.
+pub const PAGE_LEN: usize = 4096;
 
 /// The pages of several instances, by number, and what is to be written back where the command is undone.
 #[derive(Drop)]
@@ -55,7 +58,7 @@ impl Memory {
         let alloc = *self.pages.allocator();
         let owner = self.unused_owner(taken).ok_or(AllocError)?;
         let root = self.free_page().ok_or(AllocError)?;
-        let slot = Slot::new(owner, vec![in alloc; 0; 4096]?);
+        let slot = Slot::new(owner, vec![in alloc; 0; PAGE_LEN]?);
         let mut writes = Vec::new(alloc);
         writes.push(Write { number: root, slot })?;
         self.write(writes)?;
@@ -140,8 +143,9 @@ impl Memory {
         Ok(())
     }
 
-    /// A lemma: each page of an owner is whole.
+    /// A lemma: these are its pages, and each page of an owner is whole.
     pub fn are_pages(&self)
+        ensures has { HasPages (slots self.now.now) self.now }
         ensures now { (owner : ℕ) → ArePages (pages_of self.now.now owner) }
         ensures was { (owner : ℕ) → ArePages (pages_of self.now.was owner) }
     {

@@ -1,48 +1,62 @@
 //! The driver of storage methods.
 
-ghost use Rattle.std.specs.Prelude.{◌≡◌, IfOk, IfErr, OnErr};
+ghost use Rattle.std.specs.Prelude.{◌≡◌, IfOk, IfErr};
+ghost use Rattle.sb_relation.specs.Db.{Rows};
 ghost use Rattle.sb_ctx.specs.Method.{IsInstance};
-ghost use Rattle.sb_ctx.specs.MethodAnswers.{Answers, Changes, MayEnd};
-ghost use Rattle.sb_ctx.specs.View.{IsClean, HoldsPart};
-ghost use Rattle.sb_drive.specs.MethodCalls.{Fits, IsReading, HasCause};
-ghost use Rattle.sb_drive.specs.Slots.{Keeps, pages_of};
+ghost use Rattle.sb_ctx.specs.MethodAnswers.{Answers, Before, Changes, MayEnd};
+ghost use Rattle.sb_ctx.specs.View.{IsClean};
+ghost use Rattle.sb_drive.specs.MethodCalls.{Fits, IsReading, HasSpaceCause};
+ghost use Rattle.sb_drive.specs.Slots.{Slots, owned};
+ghost use Rattle.sb_drive.specs.Spaces.{IsFullFor, IsRefused, Leaves, LeadsOn, LeadsWithin, UnlessDown, Wanted};
 ghost use Rattle.sb_drive.specs.Turns.{IsEnd};
 
-use crate::asks::answer;
-use crate::memory::Memory;
-use crate::stores::store;
-use crate::turns::{DriveFault, Turn, turn_of};
+use crate::space::{PageSpace, SpaceFault};
+use crate::turns::{Turn, turn_of};
 use sb_ctx::{Ctx, Instance, MethodCall, Move, StorageMethod};
 use std::alloc::Global;
 
-/// Runs one call of a storage method to its end on the pages of the instance's owner.
-pub fn drive_method(
-    memory: &mut Memory,
+/// Runs one call of a storage method to its end on the pages of the instance's owner. Refused where the box calls a
+/// page broken or wants memory, and where the space refuses a page or the edits.
+pub fn run_method<S: PageSpace>(
+    space: &mut S,
     alloc: Global,
     boxed: &dyn StorageMethod,
     inst: &Instance,
     call: &MethodCall,
-) -> Result<Move, DriveFault>
+) -> Result<Move, SpaceFault>
+    requires ready { S.is_ready space.old }
     requires inst { IsInstance (method boxed.now) inst.now }
     requires fits { Fits (method boxed.now) inst.now call.now }
-    ensures answers { IfOk result (λ move. Answers (method boxed.now) inst.now call.now
-        (pages_of memory.old.now inst.now.owner) (pages_of memory.new.now inst.now.owner) move) }
+
+    ensures answers { IfOk result (λ move. (want : Wanted) (s : Slots) → S.has want s space.old
+        → Leaves S.has inst.now.owner want s space.new
+        (λ after. Answers (method boxed.now) inst.now call.now (owned s inst.now.owner) after move)) }
     ensures may { IfOk result (MayEnd inst.now call.now) }
     ensures ends { IfOk result IsEnd }
-    ensures others { Keeps inst.now.owner memory.old memory.new }
-    ensures reads { IsReading call.now → memory.new ≡ memory.old }
-    ensures err { OnErr result (memory.new ≡ memory.old) }
-    ensures damaged { IfErr result (HasCause (method boxed.now) inst.now call.now (pages_of memory.old.now inst.now.owner)) }
+    ensures others { UnlessDown result ((want : Wanted) (s : Slots) → S.has want s space.old
+        → Leaves S.has inst.now.owner want s space.new (λ after. Unit {0})) }
+    ensures damaged { IfErr result (λ e. (want : Wanted) (s : Slots) → S.has want s space.old
+        → HasSpaceCause (method boxed.now) inst.now call.now (owned s inst.now.owner) e) }
+    ensures full { IfErr result (λ e. (want : Wanted) (s : Slots) → S.has want s space.old
+        → IsFullFor S.leads S.durable S.total space.old s e) }
+
+    ensures leads { LeadsOn S.leads space.old space.new }
+    ensures costs { (want : Wanted) (s : Slots) (rows : Rows) → S.has want s space.old
+        → Before (method boxed.now) inst.now call.now (owned s inst.now.owner) rows
+        → LeadsWithin S.leads ((method boxed.now).cost call.now rows) space.old space.new }
+    ensures reads { IsReading call.now → S.leads 0 space.old space.new }
+    ensures refused { IfErr result (λ e. IsRefused (S.leads 0 space.old space.new) (S.fails e space.old space.new) e) }
+    ensures ready { S.is_ready space.new }
 {
-    memory.are_pages();
     let mut ctx = Ctx::new(alloc);
     loop {
         let made = make_call(boxed, alloc, &mut ctx, inst, call);
+        ctx.is_ctx();
         match turn_of(made) {
-            Turn::Give(ask) => answer(memory, inst, &mut ctx, ask)?,
+            Turn::Give(ask) => space.answer(inst.owner, &mut ctx, ask)?,
             Turn::Stop(fault) => return Err(fault),
             Turn::End(end) => {
-                store(memory, alloc, inst, &ctx)?;
+                space.store(alloc, inst.owner, &ctx)?;
                 return Ok(end);
             }
         }

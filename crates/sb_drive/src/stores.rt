@@ -1,32 +1,27 @@
 //! Storing what a call made of the pages.
 
 ghost use Rattle.std.specs.Prelude.{◌≡◌, ◌↔◌, IsTrue, OnOk, OnErr, IfOk};
-ghost use Rattle.sb_ctx.specs.View.{HoldsPart, dropped, edited_pages, freed_pages, stored};
+ghost use Rattle.sb_ctx.specs.View.{HoldsPart, edited_pages, edits_of, freed_pages, stored};
 ghost use Rattle.sb_drive.specs.Slots.{Keeps, slots, pages_of};
-ghost use Rattle.sb_drive.specs.Stores.{Adds, MayWrite, bytes_in, slot_of};
+ghost use Rattle.sb_drive.specs.Stores.{Adds, IsPageIn, MayWrite, bytes_in, slot_of};
 
-use crate::memory::{MOST_PAGES, Memory};
+use crate::memory::{MOST_PAGES, Memory, PAGE_LEN};
 use crate::slots::{Slot, Write};
-use sb_ctx::{Ctx, Instance};
+use sb_ctx::Ctx;
 use std::alloc::{AllocError, Global};
 
-/// Stores the edits: taken pages become the instance's, and freed ones nobody's. Refused where memory runs out, with
-/// all as it was.
-pub fn store(
-    memory: &mut Memory,
-    alloc: Global,
-    inst: &Instance,
-    ctx: &Ctx,
-) -> Result<(), AllocError>
-    requires { HoldsPart ctx.now (pages_of memory.old.now inst.now.owner) }
-    ensures pages { OnOk result (pages_of memory.new.now inst.now.owner ≡ stored ctx.now (pages_of memory.old.now inst.now.owner)) }
-    ensures others { Keeps inst.now.owner memory.old memory.new }
-    ensures clean { dropped ctx.now ≡ ctx.now → memory.new ≡ memory.old }
+/// Stores the edits: taken pages become the owner's, and freed ones nobody's. Refused, with all as it was, where
+/// memory runs out, and where a page is another owner's or isn't a whole page.
+pub fn store(memory: &mut Memory, alloc: Global, owner: u16, ctx: &Ctx) -> Result<(), AllocError>
+    ensures pages { OnOk result (HoldsPart ctx.now (pages_of memory.old.now owner)
+        → pages_of memory.new.now owner ≡ stored ctx.now (pages_of memory.old.now owner)) }
+    ensures others { Keeps owner memory.old memory.new }
+    ensures none { edits_of ctx.now ≡ 0 → memory.new ≡ memory.old }
     ensures err { OnErr result (memory.new ≡ memory.old) }
 {
     let mut writes = Vec::new(alloc);
-    add_edited(memory, alloc, inst.owner, ctx, &mut writes)?;
-    add_freed(memory, alloc, inst.owner, ctx, &mut writes)?;
+    add_edited(memory, alloc, owner, ctx, &mut writes)?;
+    add_freed(memory, alloc, owner, ctx, &mut writes)?;
     ctx.is_ctx();
     if writes.is_empty() {
         return Ok(());
@@ -83,13 +78,16 @@ fn write_to(
 ) -> Result<Write, AllocError>
     ensures write { IfOk result (λ w. w ≡ record { number = n; slot = slot_of owner (bytes_in ctx.now n) }) }
     ensures may { OnOk result (MayWrite (slots memory.now.now) owner n) }
+    ensures whole { OnOk result (IsPageIn ctx.now n) }
 {
+    ctx.is_ctx();
     if !may_write(memory, owner, n) {
         return Err(AllocError);
     }
     let slot = match ctx.page(n) {
-        Some(bytes) if !bytes.is_empty() => Slot::new(owner, bytes.to_vec(alloc)?),
-        _ => Slot::nobodys(alloc),
+        Some([]) | None => Slot::nobodys(alloc),
+        Some(bytes) if bytes.len() == PAGE_LEN => Slot::new(owner, bytes.to_vec(alloc)?),
+        Some(_) => return Err(AllocError),
     };
     Ok(Write { number: n, slot })
 }

@@ -1,9 +1,10 @@
 //! What a driver does with the answer of a call.
 
 ghost use Rattle.std.specs.Prelude.{◌≡◌};
-ghost use Rattle.sb_drive.specs.Turns.{turn_of, is_find};
+ghost use Rattle.sb_drive.specs.Turns.{AsksNumbered, turn_of, is_find, in_memory};
 ghost use Rattle.sb_drive.specs.declared.turns.DriveFault.TheVariants.{NoMemory};
 
+use crate::space::SpaceFault;
 use sb_ctx::Move;
 use std::alloc::AllocError;
 
@@ -15,7 +16,7 @@ pub enum Ask {
     After(Option<u32>),
 }
 
-/// Why a call didn't come to its end. Damaged names a page that the box called broken.
+/// Why a call over a memory didn't come to its end. Damaged names a page that the box called broken.
 #[derive(Clone, Copy, Debug, PartialEq, Eq, Drop)]
 pub enum DriveFault {
     Damaged { page: u32 },
@@ -30,23 +31,36 @@ impl From<AllocError> for DriveFault {
     }
 }
 
+/// A memory is refused nothing by a disk: what isn't a damaged page is want of memory or of a page.
+impl From<SpaceFault> for DriveFault {
+    ghost from_gives = { λ fault e. e ≡ in_memory fault };
+
+    fn from(fault: SpaceFault) -> DriveFault {
+        match fault {
+            SpaceFault::Damaged { page } => DriveFault::Damaged { page },
+            _ => DriveFault::NoMemory,
+        }
+    }
+}
+
 /// What is to be done: give what is asked for, stop, or end the call with this move.
 #[derive(Drop)]
 pub enum Turn {
     Give(Ask),
-    Stop(DriveFault),
+    Stop(SpaceFault),
     End(Move),
 }
 
 pub fn turn_of(made: Move) -> Turn
-    ensures { result ≡ turn_of made }
+    ensures turn { result ≡ turn_of made }
+    ensures numbered { AsksNumbered result }
 {
     match made {
         Move::Need(n) => Turn::Give(Ask::Page(n)),
         Move::Fresh => Turn::Give(Ask::Fresh),
         Move::After(n) => Turn::Give(Ask::After(n)),
-        Move::Broken(page) => Turn::Stop(DriveFault::Damaged { page }),
-        Move::NoMemory => Turn::Stop(DriveFault::NoMemory),
+        Move::Broken(page) => Turn::Stop(SpaceFault::Damaged { page }),
+        Move::NoMemory => Turn::Stop(SpaceFault::NoMemory),
         end => Turn::End(end),
     }
 }

@@ -1,4 +1,4 @@
-use Rattle.std.proofs.Common.{ℕ, length, set, subst, sym, ◌∙◌, arith}
+use Rattle.std.proofs.Common.{length, set, subst, sym, ◌∙◌, arith}
 use Rattle.std.proofs.lemmas.List.{length-set}
 use Rattle.sb_drive.specs.Slots.{slots}
 use Rattle.sb_drive.specs.Writes.{AreAmong}

@@ -1,4 +1,4 @@
-use Rattle.std.proofs.Common.{◌≡◌, ◌≤◌, length, take, drop}
+use Rattle.std.proofs.Common.{◌≡◌, length, take, drop}
 use Rattle.sb_drive.specs.Slots.{slots}
 use Rattle.sb_drive.specs.Writes.{written, undone, AreAmong}
 use Rattle.sb_drive.proofs.slots.exchange_all.Given as goal

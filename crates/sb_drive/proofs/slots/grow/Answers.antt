@@ -1,5 +1,5 @@
-use Rattle.std.proofs.Common.{[], ◌∷◌, ◌++◌, ap, ◌∙◌, arith, rules, length-append}
-use Rattle.sb_drive.specs.Slots.{Slot, nobodys, slots}
+use Rattle.std.proofs.Common.{[], ◌∷◌, ◌++◌, ap, ◌∙◌, rules, length-append}
+use Rattle.sb_drive.specs.Slots.{Slot, slots}
 use Rattle.sb_drive.proofs.SlotsLemmas.{slots-push}
 use Rattle.sb_drive.proofs.slots.grow.Goals as goal
 

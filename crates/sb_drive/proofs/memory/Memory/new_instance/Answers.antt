@@ -1,4 +1,4 @@
-use Rattle.std.proofs.Common.{◌≡◌, ℕ, List, [], ◌∷◌, ◌++◌, replicate, ap, sym, ◌∙◌, rules}
+use Rattle.std.proofs.Common.{◌≡◌, ℕ, List, [], ◌∷◌, ◌++◌, replicate, ap, ◌∙◌, rules}
 use Rattle.sb_forms.specs.Pages.{zeros}
 use Rattle.sb_drive.specs.Instances.{IsLeastOwner, IsLeastFree}
 use Rattle.sb_drive.specs.Slots.{Slot, Slots, slots, owned, with_slot}

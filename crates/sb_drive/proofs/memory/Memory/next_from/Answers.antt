@@ -1,4 +1,4 @@
-use Rattle.std.proofs.Common.{◌≡◌, ℕ, ◌<◌, ◌≤◌, nat_lt, Bool, true, false, [], length, refl, arith}
+use Rattle.std.proofs.Common.{◌≡◌, ◌≤◌, nat_lt, true, false, [], length, refl, arith}
 use Rattle.std.proofs.lemmas.Bool.Decides.{nat_tests}
 use Rattle.sb_drive.specs.Slots.{pages_of}
 use Rattle.sb_drive.proofs.SlotsLemmas.{pages_of-past}

@@ -1,5 +1,5 @@
 use Rattle.std.proofs.Common.{get_or, sym, ap, ◌∙◌}
-use Rattle.sb_drive.specs.Slots.{Slot, nobodys, bytes_for}
+use Rattle.sb_drive.specs.Slots.{nobodys, bytes_for}
 use Rattle.sb_drive.proofs.SlotsLemmas.{slot-seen, slots-past, bytes_for-nobodys}
 use Rattle.sb_drive.proofs.memory.Memory.page.Goals as goal
 

@@ -1,6 +1,6 @@
-use Rattle.std.proofs.Common.{◌≡◌, ℕ, List, [], ◌<◌, Some, length, set, ap, sym, subst, ◌∙◌, arith}
+use Rattle.std.proofs.Common.{◌≡◌, List, [], ◌<◌, Some, length, ap, sym, subst, ◌∙◌, arith}
 use Rattle.std.proofs.lemmas.List.{length-set}
-use Rattle.std.proofs.lemmas.List.Elements.{All-nil, All-pop}
+use Rattle.std.proofs.lemmas.List.Elements.{All-pop}
 use Rattle.sb_drive.specs.Slots.{Contents, AreWhole, slots, listed}
 use Rattle.sb_drive.specs.Writes.{undone, AreAmong}
 use Rattle.sb_drive.specs.declared.slots.Write.{Write}

@@ -1,7 +1,7 @@
 use Rattle.std.proofs.Common.{◌≡◌, List, ◌++◌, ◌≤◌, length, refl, ap, subst, sym, ◌∙◌, arith}
 use Rattle.std.specs.Vec.{with_items}
 use Rattle.std.proofs.lemmas.List.{with_items_is}
-use Rattle.sb_drive.specs.Slots.{Slot, Slots, Contents, slots, listed}
+use Rattle.sb_drive.specs.Slots.{Slot, Contents, slots, listed}
 use Rattle.sb_drive.specs.Writes.{written, undone, IsMemory}
 use Rattle.sb_drive.proofs.SlotsLemmas.{slots-kept, slots-seen}
 use Rattle.sb_drive.proofs.WritesLemmas.{undone-append}

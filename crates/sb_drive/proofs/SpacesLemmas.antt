@@ -1,0 +1,64 @@
+-- What calls over a space leave, whatever the space is.
+use Rattle.std.proofs.Common.{◌≡◌, inr, ℕ, ◌+◌, ◌≤◌, Result, Ok, Err, IfErr, sym, subst, arith}
+use Rattle.std.specs.Result.{IsErrAnd}
+use Rattle.sb_forms.specs.Pages.{Pages, ArePages}
+use Rattle.sb_drive.specs.declared.space.SpaceFault.{SpaceFault}
+use Rattle.sb_drive.specs.declared.space.SpaceFault.TheVariants.{Fault, Damaged, Down, NoMemory}
+use Rattle.sb_drive.specs.Slots.{AreWhole, Slots, owned}
+use Rattle.sb_drive.specs.Spaces.{IsRefused, IsStoreFault, Leaves, LeadsWithin, UnlessDown, Wanted}
+use Rattle.sb_drive.proofs.OwnedLemmas.{bytes_for-free}
+use Rattle.sb_drive.proofs.WholeLemmas.{bytes_for-whole}
+
+-- each owner's pages are pages
+pub ArePages-few : (s : Slots) (owner : ℕ) → AreWhole s → ((n : ℕ) → 65536 ≤ n → (s n).0 ≡ 0) → ArePages (owned s owner)
+ArePages-few s owner whole few = record {
+  below = λ n far. bytes_for-free owner (s n) (few n far);
+  whole = λ n some. bytes_for-whole owner (s n) (whole n) some;
+}
+
+-- ---- what is left
+pub Leaves-so : {S : Type 0} (Has : Wanted → Slots → S → Type 0) (owner : ℕ) (want : Wanted) (s : Slots) (new : S) (IsSo IsThen : Pages → Type 0) → ((after : Pages) → IsSo after → IsThen after) → Leaves Has owner want s new IsSo → Leaves Has owner want s new IsThen
+Leaves-so Has owner want s new IsSo IsThen then left = record { slots = left.slots; has = left.has; others = left.others; own = then (owned left.slots owner) left.own }
+
+-- ---- how many changes are made
+-- what a space says of calls that follow one another
+abbrev pub GoesOn : {S : Type 0} → (ℕ → S → S → Type 0) → Type 0
+GoesOn {S} Leads = (k l : ℕ) (a b c : S) → Leads k a b → Leads l b c → Leads (k + l) a c
+
+pub LeadsWithin-none : {S : Type 0} (Leads : ℕ → S → S → Type 0) (most : ℕ) (old new : S) → Leads 0 old new → LeadsWithin Leads most old new
+LeadsWithin-none Leads most old new leads = record { changes = 0; within = omega arith; leads = leads }
+
+pub LeadsWithin-zero : {S : Type 0} (Leads : ℕ → S → S → Type 0) (most : ℕ) (old new : S) → most ≡ 0 → LeadsWithin Leads most old new → Leads 0 old new
+LeadsWithin-zero Leads most old new none within =
+    let same : within.changes ≡ 0 = omega (arith, within.within, none) in
+    subst (λ k. Leads k old new) same within.leads
+
+pub LeadsWithin-more : {S : Type 0} (Leads : ℕ → S → S → Type 0) (few most : ℕ) (old new : S) → few ≤ most → LeadsWithin Leads few old new → LeadsWithin Leads most old new
+LeadsWithin-more Leads few most old new le within = record { changes = within.changes; within = omega (arith, le, within.within); leads = within.leads }
+
+-- where none is made first
+pub LeadsWithin-on : {S : Type 0} (Leads : ℕ → S → S → Type 0) (most : ℕ) (a b c : S) → GoesOn Leads → Leads 0 a b → LeadsWithin Leads most b c → LeadsWithin Leads most a c
+LeadsWithin-on Leads most a b c goes_on first then =
+    let sum : 0 + then.changes ≡ then.changes = omega arith in
+    record { changes = then.changes; within = then.within; leads = subst (λ k. Leads k a c) sum (goes_on 0 then.changes a b c first then.leads) }
+
+-- ---- refusals
+pub IsRefused-store : (Same Fails : Type 0) (e : SpaceFault) → IsStoreFault e → Fails → IsRefused Same Fails e
+IsRefused-store Same Fails (Damaged n) is fails = absurd is
+IsRefused-store Same Fails NoMemory is fails = inr fails
+IsRefused-store Same Fails e is fails = fails
+
+-- ---- what is left unless a call on the disk has failed
+UnlessDown-err : (T U : Type 0) (e : SpaceFault) (A B : Type 0) → (A → B) → UnlessDown {T = T} (Err e) A → UnlessDown {T = U} (Err e) B
+UnlessDown-err T U Fault A B then left = tt
+UnlessDown-err T U Down A B then left = tt
+UnlessDown-err T U e A B then left = then left
+
+-- the same fault is passed on
+pub UnlessDown-passed : (T U : Type 0) (r : Result U SpaceFault) (e : SpaceFault) (A B : Type 0) → IsErrAnd r (λ x. x ≡ e) → (A → B) → UnlessDown {T = T} (Err e) A → UnlessDown r B
+UnlessDown-passed T U (Err x) e A B is then left = UnlessDown-err T U x A B then (subst (λ y. UnlessDown {T = T} (Err y) A) (sym is) left)
+UnlessDown-passed T U (Ok x) e A B is then left = absurd is
+
+pub IfErr-passed : {U : Type 0} (r : Result U SpaceFault) (e : SpaceFault) (P : SpaceFault → Type 0) → IsErrAnd r (λ x. x ≡ e) → P e → IfErr r P
+IfErr-passed (Err x) e P is so = subst P (sym is) so
+IfErr-passed (Ok x) e P is so = tt

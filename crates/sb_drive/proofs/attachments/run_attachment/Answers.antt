@@ -1,0 +1,188 @@
+use Rattle.std.proofs.Common.{◌≡◌, ◌<◌, ◌∙◌, ap, sym, subst}
+use Rattle.sb_ctx.proofs.ViewLaws.{HoldsPart-from_dropped}
+use Rattle.sb_ctx.specs.declared.moves.Move.{Move}
+use Rattle.sb_ctx.specs.AttachAnswers.{Answers}
+use Rattle.sb_ctx.specs.View.{View, HoldsPart, IsClean, dropped, edits_of, stored}
+use Rattle.sb_drive.specs.Slots.{Slots, owned}
+use Rattle.sb_drive.specs.Spaces.{Leaves, Wanted}
+use Rattle.sb_drive.specs.Turns.{AsksNumbered}
+use Rattle.sb_drive.proofs.AsksLemmas.{IsAsked-dropped, IsClean-IsGift, HoldsPart-IsGivenIn, found-IsGift, to_ask-IsGift}
+use Rattle.sb_drive.proofs.AttachLemmas.{HasSpaceCause-stop, Answers-end, Answers-found, Spends-found}
+use Rattle.sb_drive.proofs.MeasureLemmas.{to_ask}
+use Rattle.sb_drive.proofs.SpacesLemmas.{LeadsWithin-none, LeadsWithin-on, LeadsWithin-zero, Leaves-so, UnlessDown-passed}
+use Rattle.sb_drive.proofs.StoresLemmas.{edits_of-clean}
+use Rattle.sb_drive.proofs.TurnsLemmas.{IsAsked-attachment, end-is}
+use Rattle.sb_drive.proofs.attachments.run_attachment.Goals as goal
+
+pub loop-ask-smaller : goal.loop-ask-smaller
+loop-ask-smaller g c =
+    let ctx = c.make_call-made.new.ctx in
+    let ask = c.in-Give.ask in
+    let changes = c.make_call-made.ensures.changes in
+    let asked = IsAsked-dropped ctx ask (IsAsked-attachment ctx c.make_call-made.result ask (sym c.turn_of.ensures.turn ∙ c.in-Give.is) changes.asks) in
+    subst (λ (v : View). to_ask c.answer.new.ctx < to_ask v) changes.given
+    (to_ask-IsGift (dropped ctx) c.answer.new.ctx ask (subst AsksNumbered c.in-Give.is c.turn_of.ensures.numbered) asked c.in_ok-answer-in-Give.ensures.gift)
+
+pub loop-ask-preserved : goal.loop-ask-preserved
+loop-ask-preserved g c =
+    let owner = c.args.inst.now.owner in
+    let ctx = c.make_call-made.new.ctx in
+    let given = c.make_call-made.ensures.changes.given in
+    let before = c.loop-ask.invariant in
+    let answer = c.in_ok-answer-in-Give.ensures in
+    record {
+      ready = answer.ready;
+      clean = IsClean-IsGift (dropped ctx) c.answer.new.ctx c.in-Give.ask answer.gift (subst IsClean (sym given) before.clean);
+      found = found-IsGift (dropped ctx) c.answer.new.ctx c.in-Give.ask answer.gift ∙ ap (λ (v : View). v.found) given ∙ before.found;
+      leads = g.met.S.PageSpace.goes_on 0 0 c.args.space.now c.loop-ask.space c.answer.new.self before.leads answer.leads;
+      has = λ want s has. answer.pages want s (before.has want s has);
+      part = λ want s has. HoldsPart-IsGivenIn (g.S.PageSpace.total c.loop-ask.space) s owner (dropped ctx) c.answer.new.ctx c.in-Give.ask answer.gift (answer.given want s (before.has want s has))
+          (subst (λ (v : View). HoldsPart v (owned s owner)) (sym given) (before.part want s has));
+    }
+
+-- ---- a page is refused
+pub returns-in_err-answer-in-Give-clause-leads : goal.returns-in_err-answer-in-Give-clause-leads
+returns-in_err-answer-in-Give-clause-leads g c =
+    (0, g.met.S.PageSpace.goes_on 0 0 c.args.space.now c.loop-ask.space c.answer.new.self c.loop-ask.invariant.leads c.in_err-answer-in-Give.ensures.leads)
+
+pub returns-in_err-answer-in-Give-clause-costs : goal.returns-in_err-answer-in-Give-clause-costs
+returns-in_err-answer-in-Give-clause-costs g c =
+    let a = (goal.Attachment-dyn g c.args.boxed.now).attachment c.args.boxed.now.1 in
+    let inst = c.args.inst.now in
+    let ctx = c.make_call-made.new.ctx in
+    let leads = g.met.S.PageSpace.goes_on 0 0 c.args.space.now c.loop-ask.space c.answer.new.self c.loop-ask.invariant.leads c.in_err-answer-in-Give.ensures.leads in
+    record {
+      ctx = ctx;
+      move = c.make_call-made.result;
+      leads = LeadsWithin-none g.S.PageSpace.leads (edits_of ctx) c.args.space.now c.answer.new.self leads;
+      spends = λ want s has. Spends-found a inst c.args.call.now c.loop-ask.ctx c.args.ctx.now (owned s inst.owner) ctx c.make_call-made.result c.loop-ask.invariant.found
+          (c.make_call-made.ensures.changes.spends c.is_ctx.ensures (owned s inst.owner) (c.loop-ask.invariant.part want s has));
+    }
+
+pub returns-in_err-answer-in-Give-clause-reads : goal.returns-in_err-answer-in-Give-clause-reads
+returns-in_err-answer-in-Give-clause-reads g c = λ reads.
+    g.met.S.PageSpace.goes_on 0 0 c.args.space.now c.loop-ask.space c.answer.new.self c.loop-ask.invariant.leads c.in_err-answer-in-Give.ensures.leads
+
+-- ---- the box stops
+pub returns-in-Stop-clause-damaged : goal.returns-in-Stop-clause-damaged
+returns-in-Stop-clause-damaged g c = λ want s has.
+    let a = (goal.Attachment-dyn g c.args.boxed.now).attachment c.args.boxed.now.1 in
+    let inst = c.args.inst.now in
+    let P = owned s inst.owner in
+    let part = c.loop-ask.invariant.part want s has in
+    let changes = c.make_call-made.ensures.changes in
+    HasSpaceCause-stop a inst c.args.call.now c.loop-ask.ctx P (stored c.make_call-made.new.ctx P) c.make_call-made.result c.in-Stop.fault (sym c.turn_of.ensures.turn ∙ c.in-Stop.is) part
+    changes.broken (changes.answers P part)
+
+pub returns-in-Stop-clause-costs : goal.returns-in-Stop-clause-costs
+returns-in-Stop-clause-costs g c =
+    let a = (goal.Attachment-dyn g c.args.boxed.now).attachment c.args.boxed.now.1 in
+    let inst = c.args.inst.now in
+    let ctx = c.make_call-made.new.ctx in
+    record {
+      ctx = ctx;
+      move = c.make_call-made.result;
+      leads = LeadsWithin-none g.S.PageSpace.leads (edits_of ctx) c.args.space.now c.loop-ask.space c.loop-ask.invariant.leads;
+      spends = λ want s has. Spends-found a inst c.args.call.now c.loop-ask.ctx c.args.ctx.now (owned s inst.owner) ctx c.make_call-made.result c.loop-ask.invariant.found
+          (c.make_call-made.ensures.changes.spends c.is_ctx.ensures (owned s inst.owner) (c.loop-ask.invariant.part want s has));
+    }
+
+-- ---- a find is handed up
+pub returns-then-is_find-clause-costs : goal.returns-then-is_find-clause-costs
+returns-then-is_find-clause-costs g c =
+    let a = (goal.Attachment-dyn g c.args.boxed.now).attachment c.args.boxed.now.1 in
+    let inst = c.args.inst.now in
+    let ctx = c.make_call-made.new.ctx in
+    record {
+      ctx = ctx;
+      move = c.make_call-made.result;
+      leads = LeadsWithin-none g.S.PageSpace.leads (edits_of ctx) c.args.space.now c.loop-ask.space c.loop-ask.invariant.leads;
+      spends = λ want s has. Spends-found a inst c.args.call.now c.loop-ask.ctx c.args.ctx.now (owned s inst.owner) ctx c.make_call-made.result c.loop-ask.invariant.found
+          (c.make_call-made.ensures.changes.spends c.is_ctx.ensures (owned s inst.owner) (c.loop-ask.invariant.part want s has));
+    }
+
+-- ---- the edits are refused
+pub returns-in_err-store-in-End-clause-others : goal.returns-in_err-store-in-End-clause-others
+returns-in_err-store-in-End-clause-others g c =
+    let owner = c.args.inst.now.owner in
+    let ctx = c.make_call-made.new.ctx in
+    UnlessDown-passed (Unit {0}) Move c.from_residual-in_err-store-in-End.result c.in_err-store-in-End.field-0.0
+    ((want : Wanted) (s : Slots) → g.S.PageSpace.has want s c.loop-ask.space → HoldsPart ctx (owned s owner) → Leaves g.S.PageSpace.has owner want s c.store.new.self (λ after. Unit {0}))
+    ((want : Wanted) (s : Slots) → g.S.PageSpace.has want s c.args.space.now → Leaves g.S.PageSpace.has owner want s c.store.new.self (λ after. Unit {0}))
+    c.from_residual-in_err-store-in-End.ensures.1
+    (λ left want s has. left want s (c.loop-ask.invariant.has want s has)
+    (HoldsPart-from_dropped ctx c.loop-ask.ctx (owned s owner) c.make_call-made.ensures.changes.given (c.loop-ask.invariant.part want s has)))
+    c.in_err-store-in-End.ensures.pages
+
+pub returns-in_err-store-in-End-clause-leads : goal.returns-in_err-store-in-End-clause-leads
+returns-in_err-store-in-End-clause-leads g c =
+    let within = LeadsWithin-on g.S.PageSpace.leads (edits_of c.make_call-made.new.ctx) c.args.space.now c.loop-ask.space c.store.new.self g.met.S.PageSpace.goes_on c.loop-ask.invariant.leads c.in_err-store-in-End.ensures.leads in
+    (within.changes, within.leads)
+
+pub returns-in_err-store-in-End-clause-costs : goal.returns-in_err-store-in-End-clause-costs
+returns-in_err-store-in-End-clause-costs g c =
+    let a = (goal.Attachment-dyn g c.args.boxed.now).attachment c.args.boxed.now.1 in
+    let inst = c.args.inst.now in
+    let ctx = c.make_call-made.new.ctx in
+    record {
+      ctx = ctx;
+      move = c.make_call-made.result;
+      leads = LeadsWithin-on g.S.PageSpace.leads (edits_of ctx) c.args.space.now c.loop-ask.space c.store.new.self g.met.S.PageSpace.goes_on c.loop-ask.invariant.leads c.in_err-store-in-End.ensures.leads;
+      spends = λ want s has. Spends-found a inst c.args.call.now c.loop-ask.ctx c.args.ctx.now (owned s inst.owner) ctx c.make_call-made.result c.loop-ask.invariant.found
+          (c.make_call-made.ensures.changes.spends c.is_ctx.ensures (owned s inst.owner) (c.loop-ask.invariant.part want s has));
+    }
+
+pub returns-in_err-store-in-End-clause-reads : goal.returns-in_err-store-in-End-clause-reads
+returns-in_err-store-in-End-clause-reads g c = λ reads.
+    let ctx = c.make_call-made.new.ctx in
+    let none = edits_of-clean ctx c.is_ctx.ensures.sound (c.make_call-made.ensures.changes.given ∙ sym (c.make_call-made.ensures.reads reads)) in
+    LeadsWithin-zero g.S.PageSpace.leads (edits_of ctx) c.args.space.now c.store.new.self none
+    (LeadsWithin-on g.S.PageSpace.leads (edits_of ctx) c.args.space.now c.loop-ask.space c.store.new.self g.met.S.PageSpace.goes_on c.loop-ask.invariant.leads c.in_err-store-in-End.ensures.leads)
+
+-- ---- the end
+pub returns-in-End-clause-answers : goal.returns-in-End-clause-answers
+returns-in-End-clause-answers g c = λ want s has.
+    let a = (goal.Attachment-dyn g c.args.boxed.now).attachment c.args.boxed.now.1 in
+    let inst = c.args.inst.now in
+    let call = c.args.call.now in
+    let P = owned s inst.owner in
+    let ctx = c.make_call-made.new.ctx in
+    let changes = c.make_call-made.ensures.changes in
+    let part = c.loop-ask.invariant.part want s has in
+    let answers = Answers-found a inst call c.loop-ask.ctx c.args.ctx.now P (stored ctx P) c.make_call-made.result c.loop-ask.invariant.found (changes.answers P part) in
+    Leaves-so g.S.PageSpace.has inst.owner want s c.store.new.self (λ after. after ≡ stored ctx P) (λ after. Answers a inst call c.args.ctx.now P after c.in-End.end)
+    (λ after same. Answers-end a inst call c.args.ctx.now P (stored ctx P) after c.make_call-made.result c.in-End.end (end-is c.make_call-made.result c.in-End.end (sym c.turn_of.ensures.turn ∙ c.in-End.is)) same answers)
+    (c.in_ok-store-in-End.ensures.pages want s (c.loop-ask.invariant.has want s has) (HoldsPart-from_dropped ctx c.loop-ask.ctx P changes.given part))
+
+pub returns-in-End-clause-others : goal.returns-in-End-clause-others
+returns-in-End-clause-others g c = λ want s has.
+    let P = owned s c.args.inst.now.owner in
+    let ctx = c.make_call-made.new.ctx in
+    let part = HoldsPart-from_dropped ctx c.loop-ask.ctx P c.make_call-made.ensures.changes.given (c.loop-ask.invariant.part want s has) in
+    Leaves-so g.S.PageSpace.has c.args.inst.now.owner want s c.store.new.self (λ after. after ≡ stored ctx P) (λ after. Unit {0}) (λ after so. tt)
+    (c.in_ok-store-in-End.ensures.pages want s (c.loop-ask.invariant.has want s has) part)
+
+pub returns-in-End-clause-leads : goal.returns-in-End-clause-leads
+returns-in-End-clause-leads g c =
+    let within = LeadsWithin-on g.S.PageSpace.leads (edits_of c.make_call-made.new.ctx) c.args.space.now c.loop-ask.space c.store.new.self g.met.S.PageSpace.goes_on c.loop-ask.invariant.leads c.in_ok-store-in-End.ensures.leads in
+    (within.changes, within.leads)
+
+pub returns-in-End-clause-costs : goal.returns-in-End-clause-costs
+returns-in-End-clause-costs g c =
+    let a = (goal.Attachment-dyn g c.args.boxed.now).attachment c.args.boxed.now.1 in
+    let inst = c.args.inst.now in
+    let ctx = c.make_call-made.new.ctx in
+    record {
+      ctx = ctx;
+      move = c.make_call-made.result;
+      leads = LeadsWithin-on g.S.PageSpace.leads (edits_of ctx) c.args.space.now c.loop-ask.space c.store.new.self g.met.S.PageSpace.goes_on c.loop-ask.invariant.leads c.in_ok-store-in-End.ensures.leads;
+      spends = λ want s has. Spends-found a inst c.args.call.now c.loop-ask.ctx c.args.ctx.now (owned s inst.owner) ctx c.make_call-made.result c.loop-ask.invariant.found
+          (c.make_call-made.ensures.changes.spends c.is_ctx.ensures (owned s inst.owner) (c.loop-ask.invariant.part want s has));
+    }
+
+pub returns-in-End-clause-reads : goal.returns-in-End-clause-reads
+returns-in-End-clause-reads g c = λ reads.
+    let ctx = c.make_call-made.new.ctx in
+    let none = edits_of-clean ctx c.is_ctx.ensures.sound (c.make_call-made.ensures.changes.given ∙ sym (c.make_call-made.ensures.reads reads)) in
+    LeadsWithin-zero g.S.PageSpace.leads (edits_of ctx) c.args.space.now c.store.new.self none
+    (LeadsWithin-on g.S.PageSpace.leads (edits_of ctx) c.args.space.now c.loop-ask.space c.store.new.self g.met.S.PageSpace.goes_on c.loop-ask.invariant.leads c.in_ok-store-in-End.ensures.leads)

@@ -1,0 +1,18 @@
+use Rattle.sb_ctx.specs.View.{HoldsPart, IsClean}
+use Rattle.sb_drive.specs.Slots.{Slots, owned}
+use Rattle.sb_drive.specs.Spaces.{Wanted}
+use Rattle.sb_drive.proofs.MeasureLemmas.{to_ask}
+use Rattle.sb_drive.proofs.methods.run_method.Given as goal
+
+abbrev pub invariant-loop-ask : goal.invariant-loop-ask
+invariant-loop-ask g l = record {
+  ready : g.S.PageSpace.is_ready l.space;
+  clean : IsClean l.ctx;
+  leads : g.S.PageSpace.leads 0 l.fn.space l.space;
+  has : (want : Wanted) (s : Slots) → g.S.PageSpace.has want s l.fn.space → g.S.PageSpace.has want s l.space;
+  part : (want : Wanted) (s : Slots) → g.S.PageSpace.has want s l.fn.space → HoldsPart l.ctx (owned s l.inst.owner);
+}
+
+-- what may still be asked for
+abbrev pub decreases-loop-ask : goal.decreases-loop-ask
+decreases-loop-ask g l = to_ask l.ctx
