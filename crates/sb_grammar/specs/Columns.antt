@@ -26,14 +26,14 @@ abbrev pub Misfit : List Token → List Token → Type 0
 Misfit before [] = (c : Command) → Spells c before → ⊥
 Misfit before (t ∷ rest) = Begins (before ++ t ∷ []) → ⊥
 
--- the rest begins at the first token such that no command begins with the tokens up to it
+-- the tokens fit some command up to here, and no command goes on into the rest
 pub record FirstMisfit (tokens rest : List Token) : Type 0 where
   pub before : List Token
   pub whole : tokens ≡ before ++ rest
   pub begins : Begins before
   pub misfit : Misfit before rest
 
--- Behind some tokens come others up to an ending. The fault is the first of them such that no command begins with the tokens up to it; else it is the place where no token can be read, or, where no command has just these tokens, the column behind the line.
+-- Behind some tokens come others up to an ending. The fault is the first of them that no command goes on with; where each of them goes on, it is the place that holds no token, or, if the line ends before a command does, the column behind it.
 abbrev pub FaultBehind : List Token → List Placed → Ending → ℕ → Type 0
 FaultBehind before [] (Whole end) column = (column ≡ end) × ((c : Command) → Spells c before → ⊥)
 FaultBehind before [] (Stuck place) column = column ≡ place

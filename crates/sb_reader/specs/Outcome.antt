@@ -15,7 +15,7 @@ IsOrMemory (Ok found) c = found ≡ c
 IsOrMemory (Err NoMemory) c = Unit {0}
 IsOrMemory (Err (Misfit rest)) c = ⊥
 
--- the rest is the end of the tokens that begins at the first of them such that no command begins with the tokens up to it
+-- the rest is what is left of the tokens from the first one on that no command goes on with
 pub record EndsAtMisfit (tokens rest : List Placed) : Type 0 where
   pub front : List Placed
   pub whole : tokens ≡ front ++ rest

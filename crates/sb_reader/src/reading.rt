@@ -21,7 +21,7 @@ fn misfit_of_last<'a>(count: usize, tokens: &'a [Placed]) -> Fault<'a>
     Fault::Misfit(&tokens[tokens.len() - count..])
 }
 
-/// The command that the tokens spell. The fault begins at the first token such that no command begins with the tokens up to it.
+/// The command that the tokens spell. The fault holds the tokens from the first one on that no command goes on with.
 pub fn read_command<'a>(alloc: Global, tokens: &'a [Placed]) -> Result<Command, Fault<'a>>
     ensures found { IfOk result (λ c. Spells c (tokens_of tokens.now)) }
     ensures only { (c : Order) → Spells c (tokens_of tokens.now) → IsOrMemory result c }

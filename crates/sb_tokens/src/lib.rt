@@ -1,8 +1,8 @@
 //! The tokens of a line: words, numbers, texts, record keys and signs, with their columns.
 //!
-//! Tokens are parted by spaces and tabs, which are needed only between two tokens that would else join. At each place the
-//! longest token is read. All digits that follow are read with a number, and all letters, digits and `_` with a word; where
-//! the number is outside 64 bits, or the word has more than 32 bytes, no token can be read there.
+//! Any number of spaces and tabs may stand between tokens; some must where two tokens would run into one. A token goes on as
+//! far as it can: a number takes in every digit behind it, a word every letter, digit and `_`. One that comes out too long by
+//! that, a number outside 64 bits or a word of over 32 bytes, is no token, and neither is any shorter front of it.
 #![tactic(auto)]
 
 mod quoted;

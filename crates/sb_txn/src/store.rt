@@ -230,8 +230,8 @@ impl Store {
         checkpoint(disk, &mut self.journal, &mut self.pool, &mut self.book)
     }
 
-    // Brings the page into memory, where it isn't held.
-    fn load<D: Disk>(&mut self, disk: &mut D, n: u32) -> Result<(), StoreFault>
+    /// Brings a page into memory, where it isn't held yet, so that `held` can lend it.
+    pub fn load<D: Disk>(&mut self, disk: &mut D, n: u32) -> Result<(), StoreFault>
         requires ready { IsReady (parts D.told D.len disk.old self.old) }
         requires page { n < self.old.pool.geometry.pages }
 
@@ -244,8 +244,8 @@ impl Store {
         load(disk, &mut self.journal, &mut self.pool, &mut self.book, n)
     }
 
-    // The bytes of a page that is held.
-    fn held(&self, n: u32) -> &[u8]
+    /// The bytes of a page that was loaded and is in memory still, 4,096 of them.
+    pub fn held(&self, n: u32) -> &[u8]
         requires { IsHeld self.now.pool n }
         ensures bytes { held self.now.pool n ≡ Some (record { bytes = result.now; dirty = is_dirty (held self.now.pool n) }) }
         ensures long { length result.now ≡ 4096 }
