@@ -1,0 +1,10 @@
+pub mod Broken
+pub mod Heap
+pub mod Answered
+pub mod Links
+pub mod Held
+pub mod Spots
+pub mod Prepared
+pub mod Slots
+pub mod Scans
+pub mod Examples
