@@ -1,0 +1,10 @@
+pub mod Loading
+pub mod Calling
+pub mod Looking
+pub mod Ranges
+pub mod Changed
+pub mod Owning
+pub mod Keeping
+pub mod Listing
+pub mod Whole
+pub mod Endings

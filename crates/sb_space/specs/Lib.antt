@@ -1,0 +1,10 @@
+pub mod Faults
+pub mod Table
+pub mod Works
+pub mod Durable
+pub mod View
+pub mod Owners
+pub mod Stored
+pub mod Telling
+pub mod Composing
+pub mod SpaceLaws
