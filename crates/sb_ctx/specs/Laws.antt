@@ -9,7 +9,7 @@ use Rattle.sb_forms.specs.TreePages.{tree_rows}
 use Rattle.sb_ctx.specs.declared.instance.Instance.{Instance}
 use Rattle.sb_ctx.specs.View.{HeldPages, AreSomeOf}
 use Rattle.sb_ctx.specs.Method.{Method}
-use Rattle.sb_ctx.specs.Attachment.{Attachment}
+use Rattle.sb_ctx.specs.Attachment.{Attachment, keeps_pages}
 
 -- the storage method of code 1 is durable and keeps its rows in the pages of a heap
 pub record IsHeap (m : Method) : Type 0 where
@@ -41,7 +41,7 @@ pub record HoldContent (a : Attachment) (inst : Instance) (P : Pages) (content :
   pub bound : ArePages P → page_count P ≤ a.bound content
   pub whole : (held : HeldPages) (n : ℕ) → AreSomeOf held P → a.may_break inst held n ≡ false
 
--- the same of an attachment; a check without an owner and without pages is formed, and has no content
+-- The same of an attachment. One that keeps no pages is formed without an owner and without pages, and has no content.
 pub record IsAttachment (a : Attachment) : Type 0 where
-  pub check : a.rules.code ≡ 5 → (inst : Instance) (P : Pages) → inst.owner ≡ 0 → ((n : ℕ) → P n ≡ []) → a.content inst P ≡ Some no_content
+  pub pageless : keeps_pages a.rules.code ≡ false → (inst : Instance) (P : Pages) → inst.owner ≡ 0 → ((n : ℕ) → P n ≡ []) → a.content inst P ≡ Some no_content
   pub formed : (inst : Instance) (P : Pages) (content : Content) → a.content inst P ≡ Some content → HoldContent a inst P content

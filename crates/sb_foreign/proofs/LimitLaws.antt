@@ -22,7 +22,7 @@ use Rattle.sb_foreign.specs.Limits.{limit, limit_rules, is_within}
 use Rattle.sb_foreign.proofs.WatchedLaws.{of_row, of_none, Keeps-new, HoldContent-nothing}
 
 pub IsAttachment-limit : IsAttachment limit
-IsAttachment-limit = record { check = λ is. cc; formed = HoldContent-nothing limit_rules }
+IsAttachment-limit = record { pageless = λ is. cc; formed = HoldContent-nothing limit_rules }
 
 boundless_limit : IsBoundlessFor limit
 boundless_limit = record { bound = λ content. refl; cost = λ c before after. refl; path = λ inst P c n. refl; code = refl }

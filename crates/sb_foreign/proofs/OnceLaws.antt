@@ -31,7 +31,7 @@ use Rattle.sb_foreign.specs.Onces.{once, once_rules, number_row, asked, is_once,
 use Rattle.sb_foreign.proofs.WatchedLaws.{of_row, of_none, Keeps-new, HoldContent-nothing}
 
 pub IsAttachment-once : IsAttachment once
-IsAttachment-once = record { check = λ is. cc; formed = HoldContent-nothing once_rules }
+IsAttachment-once = record { pageless = λ is. cc; formed = HoldContent-nothing once_rules }
 
 boundless_once : IsBoundlessFor once
 boundless_once = record { bound = λ content. refl; cost = λ c before after. refl; path = λ inst P c n. refl; code = refl }

@@ -3,4 +3,5 @@ pub mod Stood
 pub mod Meaning
 pub mod Entries
 pub mod Calls
+pub mod Triggers
 pub mod Examples

@@ -1,29 +1,33 @@
--- A check keeps the law of attachments, and takes no pages.
+-- The box of a rule without pages keeps the law of attachments, and takes no pages.
 use Rattle.std.proofs.Common.{suc, ◌≡◌, ℕ, ◌≤◌, ◌==◌, Bool, true, false, cond, not, ◌&&◌, List, [], ◌∷◌, length, map, filter, slice_get, Option, Some, None, option_map, refl, sym, ap, subst, ◌∙◌, arith, eq-eqb, eqb-true, true≢false}
 use Rattle.std.specs.List.{range_with_len, find as first}
 use Rattle.std.proofs.lemmas.Bool.{and_parts, cond-true}
 use Rattle.std.proofs.lemmas.List.{length-map}
 use Rattle.std.proofs.lemmas.Option.{same_Some}
 use Rattle.sb_value.specs.Equal.{bytes_same}
+use Rattle.sb_rule.specs.declared.change.Change.{Change}
+use Rattle.sb_rule.specs.declared.rule.Rule.{Rule}
 use Rattle.sb_relation.specs.Content.{Content, no_content}
+use Rattle.sb_relation.specs.Db.{Key, Row, Db}
 use Rattle.sb_relation.specs.Fits.{is_empty}
 use Rattle.sb_relation.specs.Images.{Entry}
-use Rattle.sb_forms.specs.Pages.{Pages, page_numbers, page_count}
+use Rattle.sb_forms.specs.Pages.{Pages, page_numbers, page_count, new_pages}
 use Rattle.sb_ctx.specs.declared.instance.Instance.{Instance}
 use Rattle.sb_ctx.specs.declared.calls.AttachCall.{AttachCall}
 use Rattle.sb_ctx.specs.declared.calls.AttachCall.TheVariants as call
 use Rattle.sb_ctx.specs.declared.moves.Move.{Move}
-use Rattle.sb_ctx.specs.declared.moves.Move.TheVariants.{Need, Fresh, Broken, End, Sums as Summed}
+use Rattle.sb_ctx.specs.declared.moves.Move.TheVariants.{Done, Need, Fresh, Broken, End, Sums as Summed, NoMemory}
 use Rattle.sb_ctx.specs.View.{HeldPage, View, held_at, is_edited, is_freed, edited_pages, fresh_pages, freed_pages, edits_of, IsClean, HoldsPart}
 use Rattle.sb_ctx.specs.Held.{Entries}
 use Rattle.sb_ctx.proofs.HeldLaws.{page_in-place}
 use Rattle.sb_ctx.proofs.ViewLaws.{given-page, stored-clean}
+use Rattle.sb_ctx.specs.Attachment.{IsOwned, StandsOn, keeps_pages}
 use Rattle.sb_ctx.specs.Sized.{IsCtx}
 use Rattle.sb_ctx.specs.MethodAnswers.{HasRoom}
-use Rattle.sb_ctx.specs.AttachAnswers.{AsksFor, IsBroken, MayEnd, Answers, IsOnPath, Costs, most_pages, Spends, Reads, NextIs, is_entry_above, Changes, Looks}
+use Rattle.sb_ctx.specs.AttachAnswers.{AsksFor, IsBroken, MayEnd, Answers, IsOnPath, Costs, most_pages, Spends, Reads, NextIs, is_entry_above, Changes, Looks, first_content}
 use Rattle.sb_ctx.specs.Laws.{HoldContent, IsAttachment}
 use Rattle.sb_ctx.proofs.BoundLaws.{count_below}
-use Rattle.sb_rules.specs.Checks.{check}
+use Rattle.sb_rules.specs.Pageless.{pageless}
 
 -- ---- the law
 none_kept : (p : ℕ → Bool) → ((n : ℕ) → p n ≡ false) → (ns : List ℕ) → filter p ns ≡ []
@@ -37,35 +41,35 @@ no_count P none = ap (λ (ns : List ℕ). length ns) (none_kept (λ n. not (is_e
 both : (a b : Bool) → a ≡ true → b ≡ true → (a && b) ≡ true
 both a b e f = ap (λ c. c && b) e ∙ f
 
-pub formed : (inst : Instance) (P : Pages) → inst.owner ≡ 0 → ((n : ℕ) → P n ≡ []) → check.content inst P ≡ Some no_content
-formed inst P owner none =
+pub formed : (code : ℕ) (inst : Instance) (P : Pages) → inst.owner ≡ 0 → ((n : ℕ) → P n ≡ []) → (pageless code).content inst P ≡ Some no_content
+formed code inst P owner none =
     cond-true (inst.owner == 0 && page_count P == 0) (Some no_content) None
     (both (inst.owner == 0) (page_count P == 0) (eq-eqb inst.owner 0 owner) (eq-eqb (page_count P) 0 (no_count P none)))
 
-holds : (inst : Instance) (P : Pages) (content : Content) → check.content inst P ≡ Some content → HoldContent check inst P content
-holds inst P content is = by (inst.owner == 0 && page_count P == 0) refl is
+holds : (code : ℕ) (inst : Instance) (P : Pages) (content : Content) → (pageless code).content inst P ≡ Some content → HoldContent (pageless code) inst P content
+holds code inst P content is = by (inst.owner == 0 && page_count P == 0) refl is
   where
-    by : (b : Bool) → (inst.owner == 0 && page_count P == 0) ≡ b → cond b (Some no_content) None ≡ Some content → HoldContent check inst P content
+    by : (b : Bool) → (inst.owner == 0 && page_count P == 0) ≡ b → cond b (Some no_content) None ≡ Some content → HoldContent (pageless code) inst P content
     by false fails is = cc
     by true passes is =
         let parts = and_parts (inst.owner == 0) (page_count P == 0) passes in
         let none : page_count P ≡ 0 = eqb-true (page_count P) 0 parts.1 in
-        subst (HoldContent check inst P) (same_Some no_content content is) (record {
+        subst (HoldContent (pageless code) inst P) (same_Some no_content content is) (record {
           rising = refl;
           root = λ owned. absurd (owned (eqb-true inst.owner 0 parts.0));
           bound = λ pages. omega (arith, none);
           whole = λ held n some. refl;
         })
 
-no_content-only : (inst : Instance) (P : Pages) (content : Content) → check.content inst P ≡ Some content → no_content ≡ content
-no_content-only inst P content is = by (inst.owner == 0 && page_count P == 0) is
+no_content-only : (code : ℕ) (inst : Instance) (P : Pages) (content : Content) → (pageless code).content inst P ≡ Some content → no_content ≡ content
+no_content-only code inst P content is = by (inst.owner == 0 && page_count P == 0) is
   where
     by : (b : Bool) → cond b (Some no_content) None ≡ Some content → no_content ≡ content
     by true is = same_Some no_content content is
     by false is = cc
 
-pub IsAttachment-check : IsAttachment check
-IsAttachment-check = record { check = λ code inst P owner none. formed inst P owner none; formed = holds }
+pub IsAttachment-pageless : (code : ℕ) → IsAttachment (pageless code)
+IsAttachment-pageless code = record { pageless = λ none_kept inst P owner none. formed code inst P owner none; formed = holds code }
 
 -- ---- nothing is made of the pages
 and_false : (b : Bool) → (b && false) ≡ false
@@ -126,74 +130,89 @@ AsksNoPage Fresh = ⊥
 AsksNoPage (Broken n) = ⊥
 AsksNoPage move = Unit {0}
 
-on_path : (inst : Instance) (c : AttachCall) (P : Pages) (move : Move) → AsksNoPage move → IsOnPath check inst c P move
-on_path inst c P (Need n) none = absurd none
-on_path inst c P move none = tt
+on_path : (code : ℕ) (inst : Instance) (c : AttachCall) (P : Pages) (move : Move) → AsksNoPage move → IsOnPath (pageless code) inst c P move
+on_path code inst c P (Need n) none = absurd none
+on_path code inst c P move none = tt
 
 has_room : (most : ℕ) (P : Pages) (c : View) (move : Move) → AsksNoPage move → HasRoom most P c move
 has_room most P c Fresh none = absurd none
 has_room most P c move none = tt
 
-not_broken : (inst : Instance) (c : View) (move : Move) → AsksNoPage move → IsBroken check inst c move
-not_broken inst c (Broken n) none = absurd none
-not_broken inst c move none = tt
+not_broken : (code : ℕ) (inst : Instance) (c : View) (move : Move) → AsksNoPage move → IsBroken (pageless code) inst c move
+not_broken code inst c (Broken n) none = absurd none
+not_broken code inst c move none = tt
 
-spends : (inst : Instance) (c : AttachCall) (old : View) (P : Pages) (move : Move) → AsksNoPage move → IsClean old → IsCtx old → HoldsPart old P → Spends check inst c old P old move
-spends inst c old P move none clean ctx part = by c
+spends : (code : ℕ) (inst : Instance) (c : AttachCall) (old : View) (P : Pages) (move : Move) → AsksNoPage move → IsClean old → IsCtx old → HoldsPart old P → Spends (pageless code) inst c old P old move
+spends code inst c old P move none clean ctx part = by c
   where
-    costs : (c : AttachCall) (before after : Content) → Costs check inst c P before after old move
-    costs c before after = record { path = on_path inst c P move none; room = has_room (most_pages check c before after) P old move none; edits = no_edits old P ctx clean part }
+    costs : (c : AttachCall) (before after : Content) → Costs (pageless code) inst c P before after old move
+    costs c before after = record { path = on_path code inst c P move none; room = has_room (most_pages (pageless code) c before after) P old move none; edits = no_edits old P ctx clean part }
 
-    by : (c : AttachCall) → Spends check inst c old P old move
+    by : (c : AttachCall) → Spends (pageless code) inst c old P old move
     by call.Prepare = λ at rule db stands. costs call.Prepare _ _
     by (call.Build key row) = λ rule db stands built buckets before. costs (call.Build key row) _ _
     by (call.Changed change) = λ rule db stands buckets before. costs (call.Changed change) _ _
-    by (call.Late entry) = λ rule db stands buckets before. on_path inst (call.Late entry) P move none
-    by (call.NextEntry low above) = λ formed. on_path inst (call.NextEntry low above) P move none
-    by call.Sums = λ formed. on_path inst call.Sums P move none
+    by (call.Late entry) = λ rule db stands buckets before. on_path code inst (call.Late entry) P move none
+    by (call.NextEntry low above) = λ formed. on_path code inst (call.NextEntry low above) P move none
+    by call.Sums = λ formed. on_path code inst call.Sums P move none
 
-pub changes : (inst : Instance) (c : AttachCall) (old : View) (move : Move) → IsClean old → AsksNoPage move → AsksFor old move → MayEnd c move
-    → ((P : Pages) → Answers check inst c old P P move) → Changes check inst c old old move
-changes inst c old move clean none asks ends answers = record {
+pub changes : (code : ℕ) (inst : Instance) (c : AttachCall) (old : View) (move : Move) → IsClean old → AsksNoPage move → AsksFor old move → MayEnd c move
+    → ((P : Pages) → Answers (pageless code) inst c old P P move) → Changes (pageless code) inst c old old move
+changes code inst c old move clean none asks ends answers = record {
   given = clean.unchanged;
   asks = asks;
-  broken = not_broken inst old move none;
+  broken = not_broken code inst old move none;
   ends = ends;
-  answers = λ P part. subst (λ after. Answers check inst c old P after move) (sym (stored-clean old P clean.unchanged part)) (answers P);
-  spends = λ ctx P part. spends inst c old P move none clean ctx part;
+  answers = λ P part. subst (λ after. Answers (pageless code) inst c old P after move) (sym (stored-clean old P clean.unchanged part)) (answers P);
+  spends = λ ctx P part. spends code inst c old P move none clean ctx part;
 }
 
-pub looks : (inst : Instance) (entry : List ℕ) (old : View) (move : Move) → AsksNoPage move → Reads (call.Late entry) move → AsksFor old move → MayEnd (call.Late entry) move
-    → ((P : Pages) → Answers check inst (call.Late entry) old P P move) → Looks check inst (call.Late entry) old old move
-looks inst entry old move none reads asks ends answers = record {
+pub looks : (code : ℕ) (inst : Instance) (entry : List ℕ) (old : View) (move : Move) → AsksNoPage move → Reads (call.Late entry) move → AsksFor old move → MayEnd (call.Late entry) move
+    → ((P : Pages) → Answers (pageless code) inst (call.Late entry) old P P move) → Looks (pageless code) inst (call.Late entry) old old move
+looks code inst entry old move none reads asks ends answers = record {
   same = refl;
   reads = reads;
   asks = asks;
-  broken = not_broken inst old move none;
+  broken = not_broken code inst old move none;
   ends = ends;
   answers = λ P part. answers P;
-  spends = λ P part rule db stands buckets before. on_path inst (call.Late entry) P move none;
+  spends = λ P part rule db stands buckets before. on_path code inst (call.Late entry) P move none;
 }
 
+-- ---- the first call, and want of memory
+pub Changes-prepared : (code : ℕ) (inst : Instance) (old : View) → keeps_pages code ≡ false → ((rule : Rule) (db : Db) → StandsOn (pageless code) inst rule db → first_content (pageless code) inst rule db ≡ no_content)
+    → IsClean old → IsOwned (keeps_pages code) inst → Changes (pageless code) inst call.Prepare old old Done
+Changes-prepared code inst old no_pages none clean owned = changes code inst call.Prepare old Done clean tt tt tt (λ P at rule db stands.
+    formed code inst P (subst (λ b. IsOwned b inst) no_pages owned) (λ n. at n ∙ ap (λ b. cond b (new_pages inst.root n) []) no_pages) ∙ ap Some (sym (none rule db stands)))
+
+pub Changes-memory-build : (code : ℕ) (inst : Instance) (key : Key) (row : Row) (old : View) → IsClean old → Changes (pageless code) inst (call.Build key row) old old NoMemory
+Changes-memory-build code inst key row old clean = changes code inst (call.Build key row) old NoMemory clean tt tt tt (λ P. tt)
+
+pub Changes-memory : (code : ℕ) (inst : Instance) (ch : Change) (old : View) → IsClean old → Changes (pageless code) inst (call.Changed ch) old old NoMemory
+Changes-memory code inst ch old clean = changes code inst (call.Changed ch) old NoMemory clean tt tt tt (λ P. tt)
+
+pub Looks-memory : (code : ℕ) (inst : Instance) (entry : List ℕ) (old : View) → Looks (pageless code) inst (call.Late entry) old old NoMemory
+Looks-memory code inst entry old = looks code inst entry old NoMemory tt tt tt tt (λ P. tt)
+
 -- ---- what is listed
-pub Looks-end : (inst : Instance) (low : List ℕ) (above : Option Entry) (old : View) → Looks check inst (call.NextEntry low above) old old End
-Looks-end inst low above old = record {
+pub Looks-end : (code : ℕ) (inst : Instance) (low : List ℕ) (above : Option Entry) (old : View) → Looks (pageless code) inst (call.NextEntry low above) old old End
+Looks-end code inst low above old = record {
   same = refl;
   reads = tt;
   asks = tt;
   broken = tt;
   ends = tt;
-  answers = λ P part content is. subst (λ (c : Content). NextIs (first (is_entry_above low above) c.entries) End) (no_content-only inst P content is) refl;
+  answers = λ P part content is. subst (λ (c : Content). NextIs (first (is_entry_above low above) c.entries) End) (no_content-only code inst P content is) refl;
   spends = λ P part formed. tt;
 }
 
-pub Looks-sums : (inst : Instance) (old : View) → Looks check inst call.Sums old old (Summed [])
-Looks-sums inst old = record {
+pub Looks-sums : (code : ℕ) (inst : Instance) (old : View) → Looks (pageless code) inst call.Sums old old (Summed [])
+Looks-sums code inst old = record {
   same = refl;
   reads = tt;
   asks = tt;
   broken = tt;
   ends = tt;
-  answers = λ P part content is. ap (λ (c : Content). Summed c.sums) (no_content-only inst P content is);
+  answers = λ P part content is. ap (λ (c : Content). Summed c.sums) (no_content-only code inst P content is);
   spends = λ P part formed. tt;
 }

@@ -1,5 +1,5 @@
 -- What the box of checks means, and what it answers.
-use Rattle.std.specs.Prelude.{◌≡◌, ◌==◌, Bool, true, false, cond, ◌&&◌, List, [], ◌∷◌, length, All, Option, Some, None, ◌⊎◌}
+use Rattle.std.specs.Prelude.{◌≡◌, ◌==◌, Bool, true, false, List, [], ◌∷◌, length, All, Option, Some, None, ◌⊎◌}
 use Rattle.std.specs.List.{list_any, IsDistinct}
 use Rattle.std.specs.Str.{bytes_eq}
 use Rattle.sb_value.specs.declared.value.Value.{Value}
@@ -9,29 +9,17 @@ use Rattle.sb_pred.specs.Tree.{Tree}
 use Rattle.sb_rule.specs.declared.rule.Rule.{Rule}
 use Rattle.sb_rule.specs.declared.rule.Rule.TheVariants.{Check}
 use Rattle.sb_rule.specs.Spelling.{SpellsRule}
-use Rattle.sb_relation.specs.Content.{no_content}
 use Rattle.sb_relation.specs.Db.{Name, Key, Row, values_in}
 use Rattle.sb_relation.specs.Fits.{first_unnamed, places_in}
-use Rattle.sb_relation.specs.Foreign.{AttachRules}
-use Rattle.sb_relation.specs.Images.{no_image}
-use Rattle.sb_forms.specs.Pages.{page_count}
-use Rattle.sb_ctx.specs.Attachment.{Attachment, plain_attachment}
+use Rattle.sb_ctx.specs.Attachment.{Attachment}
 use Rattle.sb_ctx.specs.View.{View, found_of}
 use Rattle.sb_ctx.specs.declared.instance.Instance.{Instance}
 use Rattle.sb_ctx.specs.declared.moves.Move.{Move}
 use Rattle.sb_ctx.specs.declared.moves.Move.TheVariants.{Done, Acts, Find, Veto, NoMemory}
+use Rattle.sb_rules.specs.Pageless.{pageless}
 
--- What a check admits, the rule says; all but the code is for codes of others.
-abbrev pub check_rules : AttachRules
-check_rules = record { code = 5; fits = λ schema desc. true; admits = λ desc db name change. true; image = λ desc schema rows. no_image }
-
--- It has no owner, no pages and no content. It takes no page, edits none and asks for none.
 abbrev pub check : Attachment
-check = record (plain_attachment check_rules (λ inst P. cond (inst.owner == 0 && page_count P == 0) (Some no_content) None)) {
-  bound = λ content. 0;
-  cost = λ c before after. 0;
-  path = λ inst P c n. false;
-}
+check = pageless 5
 
 -- the instance's bytes spell this check and no other rule
 abbrev pub Keeps : Instance → Tree → Bool → Type 0
@@ -60,10 +48,6 @@ pub record AreNames (schema : List Column) (names : List Name) : Type 0 where
 abbrev pub asked : Option (List Key) → Name → List Name → List Value → Move
 asked (Some keys) relation columns values = verdict_of (length keys == 0)
 asked None relation columns values = Find relation columns values
-
--- this one, or want of memory
-abbrev pub IsOrMemory : Move → Move → Type 0
-IsOrMemory wanted move = (move ≡ wanted) ⊎ (move ≡ NoMemory)
 
 -- the answer of a find of the rows that have the row's value under each name
 pub record IsAnswered (c : View) (inst : Instance) (row : Row) (move : Move) : Type 0 where

@@ -1,2 +1,4 @@
+pub mod Pageless
 pub mod Checks
+pub mod Triggers
 pub mod Examples

@@ -2,8 +2,9 @@
 
 ghost use Rattle.sb_rules.specs.Checks.{check};
 
-use crate::keeping::kept_by;
-use crate::testing::{new_row, none_stands, queue, verdict};
+use crate::keeping::check_kept;
+use crate::rows::new_row;
+use crate::testing::{none_stands, queue, verdict};
 use sb_codec::decode_tuple;
 use sb_ctx::{Attachment, Ctx, Instance, Move};
 use sb_pred::eval;
@@ -45,14 +46,14 @@ impl Attachment for Check {
         _key: &RecKey,
         tuple: &Tuple,
     ) -> Move {
-        match kept_by(alloc, inst) {
+        match check_kept(alloc, inst) {
             Ok(kept) => verdict(eval(&kept.pred, &inst.schema, None, Some(tuple))),
             Err(_) => Move::NoMemory,
         }
     }
 
     fn on_change(&self, alloc: Global, _ctx: &mut Ctx, inst: &Instance, change: &Change) -> Move {
-        let Ok(kept) = kept_by(alloc, inst) else {
+        let Ok(kept) = check_kept(alloc, inst) else {
             return Move::NoMemory;
         };
         let Some(new) = new_row(change) else {
@@ -66,7 +67,7 @@ impl Attachment for Check {
     }
 
     fn late_check(&self, alloc: Global, ctx: &mut Ctx, inst: &Instance, entry: &Bytes) -> Move {
-        let Ok(kept) = kept_by(alloc, inst) else {
+        let Ok(kept) = check_kept(alloc, inst) else {
             return Move::NoMemory;
         };
         let Ok(spelled) = decode_tuple(alloc, entry.as_slice()) else {

@@ -1,4 +1,4 @@
-//! What a check's instance keeps.
+//! What instances keep.
 
 ghost use Rattle.std.specs.Prelude.{◌≡◌, Some, IfOk};
 ghost use Rattle.std.specs.Option.{option_copied};
@@ -6,28 +6,58 @@ ghost use Rattle.sb_pred.specs.Columns.{place_of, column_value};
 ghost use Rattle.sb_relation.specs.Db.{values_in};
 ghost use Rattle.sb_ctx.specs.Attachment.{IsInstance};
 ghost use Rattle.sb_rules.specs.Checks.{check, is_in, AreNames, Keeps};
+ghost use Rattle.sb_rules.specs.Triggers.{trigger, KeepsTrigger};
 
 use sb_ctx::Instance;
 use sb_pred::Pred;
-use sb_relation::{Rule, read_rule};
+use sb_relation::{Action, Event, Rule, read_rule};
 use sb_value::{Names, Schema, Str, Tuple, Value};
 use std::alloc::{AllocError, Global};
 
-const CODE: u16 = 5;
-
 /// The predicate that each row passes, and whether new rows are tested at the commit.
 #[derive(Drop)]
-pub struct Kept {
+pub struct KeptCheck {
     pub pred: Pred,
     pub deferred: bool,
 }
 
-pub fn kept_by(alloc: Global, inst: &Instance) -> Result<Kept, AllocError>
+pub fn check_kept(alloc: Global, inst: &Instance) -> Result<KeptCheck, AllocError>
     requires { IsInstance check inst.now }
     ensures { IfOk result (λ kept. Keeps inst.now kept.pred kept.deferred) }
 {
-    match read_rule(alloc, CODE, inst.desc.as_slice())? {
-        Some(Rule::Check { pred, deferred }) => Ok(Kept { pred, deferred }),
+    match read_rule(alloc, 5, inst.desc.as_slice())? {
+        Some(Rule::Check { pred, deferred }) => Ok(KeptCheck { pred, deferred }),
+        _ => unreachable!(),
+    }
+}
+
+/// What sets the trigger off, what it does, and whether that waits for the commit.
+#[derive(Drop)]
+pub struct KeptTrigger {
+    pub event: Event,
+    pub pred: Pred,
+    pub action: Action,
+    pub deferred: bool,
+}
+
+pub fn trigger_kept(alloc: Global, inst: &Instance) -> Result<KeptTrigger, AllocError>
+    requires { IsInstance trigger inst.now }
+    ensures { IfOk result (λ kept. KeepsTrigger inst.now kept.event kept.pred kept.action kept.deferred) }
+{
+    match read_rule(alloc, 7, inst.desc.as_slice())? {
+        Some(
+            Rule::Trigger {
+                event,
+                pred,
+                action,
+                deferred,
+            },
+        ) => Ok(KeptTrigger {
+            event,
+            pred,
+            action,
+            deferred,
+        }),
         _ => unreachable!(),
     }
 }

@@ -1,17 +1,15 @@
 //! What a check answers.
 
 ghost use Rattle.std.specs.Prelude.{◌≡◌, ◌∷◌, [], IfOk};
-ghost use Rattle.std.specs.Option.{option_copied};
 ghost use Rattle.sb_codec.specs.Tuples.{tuple_spelling, IsTuple};
 ghost use Rattle.sb_ctx.specs.AttachAnswers.{AsksFor};
-ghost use Rattle.sb_rule.specs.Bound.{row_after};
 ghost use Rattle.sb_ctx.specs.declared.moves.Move.TheVariants.{Find as Finds};
-ghost use Rattle.sb_rules.specs.Checks.{verdict_of, queued, IsAsked, IsOrMemory};
+ghost use Rattle.sb_rules.specs.Pageless.{IsOrMemory};
+ghost use Rattle.sb_rules.specs.Checks.{verdict_of, queued, IsAsked};
 
 use crate::keeping::{names_of, values_of};
 use sb_codec::encode_tuple;
 use sb_ctx::{Actions, Checks, Ctx, Instance, Move};
-use sb_relation::Change;
 use sb_value::{Names, Tuple};
 use std::alloc::{AllocError, Global};
 
@@ -20,15 +18,6 @@ pub fn verdict(passes: bool) -> Move
     ensures { result ≡ verdict_of passes }
 {
     if passes { Move::Done } else { Move::Veto }
-}
-
-pub fn new_row(change: &Change) -> Option<&Tuple>
-    ensures { option_copied result ≡ row_after change.now }
-{
-    match change {
-        Change::Delete { .. } => None,
-        Change::Insert { new, .. } | Change::Update { new, .. } => Some(new),
-    }
 }
 
 fn entry_of(alloc: Global, row: &Tuple) -> Result<Checks, AllocError>

@@ -1,6 +1,8 @@
 //! What no clause says: that calls succeed while memory lasts. And each call once, through its bound, with the check
 //! `k >= 0` over rows of one number.
 
+mod triggers;
+
 ghost use Rattle.std.specs.Prelude.{◌≡◌, codes, ◌∷◌, [], IfOk};
 ghost use Rattle.sb_rule.specs.Spelling.{rule_spelling, IsStorableRule};
 ghost use Rattle.sb_ctx.specs.declared.instance.Instance.{Instance as Seen};

@@ -1,5 +1,5 @@
-use Rattle.sb_rules.proofs.Meaning.{IsAttachment-check}
+use Rattle.sb_rules.proofs.Meaning.{IsAttachment-pageless}
 use Rattle.sb_rules.proofs.check.CheckAttachment.code.Goals as goal
 
 pub returns-clause-law : goal.returns-clause-law
-returns-clause-law c = IsAttachment-check
+returns-clause-law c = IsAttachment-pageless 5

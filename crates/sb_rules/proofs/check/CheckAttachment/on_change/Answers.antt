@@ -1,7 +1,8 @@
 use Rattle.std.proofs.Common.{sym, ◌∙◌, ap}
 use Rattle.std.specs.Option.{option_copied}
 use Rattle.sb_rules.specs.Checks.{verdict_of}
-use Rattle.sb_rules.proofs.Calls.{Changes-tested, Changes-gone, Changes-left, Changes-memory}
+use Rattle.sb_rules.proofs.Calls.{Changes-tested, Changes-gone, Changes-left}
+use Rattle.sb_rules.proofs.Meaning.{Changes-memory}
 use Rattle.sb_rules.proofs.check.CheckAttachment.on_change.Goals as goal
 
 pub returns : goal.returns
@@ -10,7 +11,7 @@ returns c =
     c.requires.clean c.in-Ok.ensures c.if-kept.false (sym c.in-Some.ensures) (c.verdict.ensures ∙ ap verdict_of c.eval.ensures)
 
 pub returns-in_default : goal.returns-in_default
-returns-in_default c = Changes-memory c.args.inst.now c.args.change.now c.args._ctx.now c.requires.clean
+returns-in_default c = Changes-memory 5 c.args.inst.now c.args.change.now c.args._ctx.now c.requires.clean
 
 pub returns-in_default-new_row : goal.returns-in_default-new_row
 returns-in_default-new_row c =

@@ -9,4 +9,4 @@ use Rattle.sb_rules.proofs.check.CheckAttachment.sums.Goals as goal
 pub returns : goal.returns
 returns c =
     subst (λ sums. Looks check c.args._inst.now Sums c.args._ctx.now c.args._ctx.now (Summed sums)) (sym (c.from_vec.ensures ∙ c.new.ensures.items))
-    (Looks-sums c.args._inst.now c.args._ctx.now)
+    (Looks-sums 5 c.args._inst.now c.args._ctx.now)

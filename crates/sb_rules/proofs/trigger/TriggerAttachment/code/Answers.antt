@@ -1,0 +1,5 @@
+use Rattle.sb_rules.proofs.Meaning.{IsAttachment-pageless}
+use Rattle.sb_rules.proofs.trigger.TriggerAttachment.code.Goals as goal
+
+pub returns-clause-law : goal.returns-clause-law
+returns-clause-law c = IsAttachment-pageless 7

@@ -1,0 +1,256 @@
+//! A trigger on the relation `e` of salaries and departments: whoever comes with more than 100 adds that to the total of
+//! the department in `d`.
+
+ghost use Rattle.std.specs.Prelude.{◌≡◌, codes, ◌∷◌, [], IfOk, pos};
+ghost use Rattle.sb_pred.specs.Spelling.{IsShortTerm};
+ghost use Rattle.sb_rule.specs.Spelling.{rule_spelling, IsStorableRule, IsShortAction};
+ghost use Rattle.sb_ctx.specs.View.{IsClean};
+ghost use Rattle.sb_ctx.specs.declared.instance.Instance.{Instance as Seen};
+ghost use Rattle.sb_ctx.specs.Attachment.{IsInstance, MayHold, MayMeet};
+ghost use Rattle.sb_rules.specs.Triggers.{trigger};
+ghost use Rattle.sb_rules.specs.Examples.{staff, well_paid, adds_salary, hires};
+
+use super::{built, changed, key, late};
+use crate::Trigger;
+use sb_ctx::{Attachment, Ctx, Instance, Move};
+use sb_pred::{Op, Pred, Term};
+use sb_relation::{Action, Change, Event, Pairs, Rule, write_rule};
+use sb_value::{Bytes, Column, Kind, Names, Schema, Str, Tuple, Value};
+use std::alloc::{AllocError, Global};
+use std::test::*;
+
+fn employees(alloc: Global) -> Result<Str, AllocError>
+    ensures { IfOk result (λ s. s ≡ codes "e") }
+{
+    Ok(Str::from_string(String::from_str(alloc, "e")?))
+}
+
+fn salary(alloc: Global) -> Result<Str, AllocError>
+    ensures { IfOk result (λ s. s ≡ codes "salary") }
+{
+    Ok(Str::from_string(String::from_str(alloc, "salary")?))
+}
+
+fn dept(alloc: Global) -> Result<Str, AllocError>
+    ensures { IfOk result (λ s. s ≡ codes "dept") }
+{
+    Ok(Str::from_string(String::from_str(alloc, "dept")?))
+}
+
+fn columns(alloc: Global) -> Result<Schema, AllocError>
+    ensures { IfOk result (λ s. s ≡ staff) }
+{
+    let first = Column {
+        name: salary(alloc)?,
+        kind: Kind::Int,
+        limit: 0,
+    };
+    let second = Column {
+        name: dept(alloc)?,
+        kind: Kind::Int,
+        limit: 0,
+    };
+    Ok(Schema::from_vec(vec![in alloc; first, second]?))
+}
+
+fn predicate(alloc: Global) -> Result<Pred, AllocError>
+    ensures { IfOk result (λ pred. pred ≡ well_paid) }
+{
+    Ok(Pred::cmp(
+        Op::Gt,
+        Term::New(salary(alloc)?),
+        Term::Const(Value::Int(100)),
+    ))
+}
+
+fn action(alloc: Global) -> Result<Action, AllocError>
+    ensures { IfOk result (λ action. action ≡ adds_salary) }
+{
+    let id = Str::from_string(String::from_str(alloc, "id")?);
+    let pair = (id, Term::New(dept(alloc)?));
+    Ok(Action::Add {
+        relation: Str::from_string(String::from_str(alloc, "d")?),
+        column: Str::from_string(String::from_str(alloc, "total")?),
+        term: Term::New(salary(alloc)?),
+        pairs: Pairs::from_vec(vec![in alloc; pair]?),
+    })
+}
+
+fn desc(alloc: Global, deferred: bool) -> Result<Bytes, AllocError>
+    ensures spelled { IfOk result (λ desc. desc ≡ rule_spelling (hires deferred)) }
+    ensures storable { IfOk result (λ desc. IsStorableRule (hires deferred)) }
+{
+    let rule = Rule::Trigger {
+        event: Event::Insert,
+        pred: predicate(alloc)?,
+        action: action(alloc)?,
+        deferred,
+    };
+    let mut desc = Bytes::new(alloc);
+    write_rule(&rule, &mut desc)?;
+    Ok(desc)
+}
+
+fn instance(alloc: Global, deferred: bool) -> Result<Instance, AllocError>
+    ensures trigger { IfOk result (IsInstance trigger) }
+    ensures columns { IfOk result (λ inst. inst.schema ≡ staff) }
+{
+    Ok(Instance {
+        relation: employees(alloc)?,
+        owner: 0,
+        root: 0,
+        durable: true,
+        code: 7,
+        desc: desc(alloc, deferred)?,
+        schema: columns(alloc)?,
+        key: Names::from_vec(Vec::new(alloc)),
+    })
+}
+
+fn row(alloc: Global, salary: i64) -> Result<Tuple, AllocError>
+    ensures { IfOk result (λ row. row ≡ Value.Int salary ∷ Value.Int (pos 7) ∷ []) }
+{
+    Ok(Tuple::from_vec(vec![in alloc; Value::Int(salary), Value::Int(7)]?))
+}
+
+#[test]
+fn nothing_is_made(rt: HostRuntime) -> Result<(), Fail> {
+    let alloc = rt.alloc();
+    let trigger = Trigger::new();
+    let inst = instance(alloc, false)?;
+    assert_eq!(rt; Attachment::code(&trigger), 7);
+    assert!(rt; Attachment::fits(&trigger, &inst.schema, &inst.desc));
+    let made = Attachment::prepare(&trigger, alloc, &mut Ctx::new(alloc), &inst);
+    assert!(rt; matches!(made, Move::Done));
+    assert!(rt; matches!(built(&trigger, alloc, &inst, &row(alloc, 150)?), Move::Done));
+    let entry = Bytes::new(alloc);
+    let tested = late(&trigger, alloc, &mut Ctx::new(alloc), &inst, &entry);
+    assert!(rt; matches!(tested, Move::Done));
+    let end = Attachment::next_entry(
+        &trigger,
+        alloc,
+        &mut Ctx::new(alloc),
+        &inst,
+        &key(alloc),
+        None,
+    );
+    assert!(rt; matches!(end, Move::End));
+    match Attachment::sums(&trigger, alloc, &mut Ctx::new(alloc), &inst) {
+        Move::Sums(sums) => assert!(rt; sums.as_slice().is_empty()),
+        _ => return Err(Fail::from("no sums")),
+    }
+    Ok(())
+}
+
+fn change(alloc: Global, old: Option<i64>, new: Option<i64>) -> Result<Change, AllocError>
+    ensures { IfOk result (λ change. (inst : Seen) → inst.schema ≡ staff → MayMeet trigger inst change) }
+{
+    match (old, new) {
+        (Some(old), Some(new)) => Ok(Change::Update {
+            from: key(alloc),
+            old: row(alloc, old)?,
+            to: key(alloc),
+            new: row(alloc, new)?,
+        }),
+        (None, Some(new)) => Ok(Change::Insert {
+            key: key(alloc),
+            new: row(alloc, new)?,
+        }),
+        (old, None) => Ok(Change::Delete {
+            key: key(alloc),
+            old: row(alloc, old.unwrap_or(0))?,
+        }),
+    }
+}
+
+fn constant(term: &Term) -> Option<i64> {
+    match term {
+        Term::Const(value) => match value {
+            Value::Int(number) => Some(*number),
+            Value::Text(_) => None,
+        },
+        _ => None,
+    }
+}
+
+fn is_of_dept_7(pairs: &Pairs) -> bool {
+    match pairs.as_slice() {
+        [pair] => pair.0.as_str() == "id" && constant(&pair.1) == Some(7),
+        _ => false,
+    }
+}
+
+/// Whether this adds 150 to the total of department 7.
+fn is_raise(action: &Action) -> bool {
+    match action {
+        Action::Add {
+            relation,
+            column,
+            term,
+            pairs,
+        } => {
+            relation.as_str() == "d"
+                && column.as_str() == "total"
+                && constant(term) == Some(150)
+                && is_of_dept_7(pairs)
+        }
+        _ => false,
+    }
+}
+
+fn is_one_raise(actions: &[Action]) -> bool {
+    match actions {
+        [action] => is_raise(action),
+        _ => false,
+    }
+}
+
+#[derive(Clone, Copy, Debug, PartialEq, Eq)]
+enum Then {
+    Nothing,
+    AtOnce,
+    AtTheCommit,
+}
+
+fn what_follows(answer: &Move) -> Option<Then> {
+    match answer {
+        Move::Done => Some(Then::Nothing),
+        Move::Acts { now, late, checks } => {
+            if !checks.as_slice().is_empty() {
+                None
+            } else if is_one_raise(now.as_slice()) && late.as_slice().is_empty() {
+                Some(Then::AtOnce)
+            } else if is_one_raise(late.as_slice()) && now.as_slice().is_empty() {
+                Some(Then::AtTheCommit)
+            } else {
+                None
+            }
+        }
+        _ => None,
+    }
+}
+
+/// Whether the trigger is deferred, the salary of the row that goes, that of the row that comes, and what follows.
+const CHANGES: [(bool, Option<i64>, Option<i64>, Then); 7] = [
+    (false, None, Some(150), Then::AtOnce),
+    (false, None, Some(100), Then::Nothing),
+    (false, Some(50), Some(150), Then::Nothing),
+    (false, Some(150), None, Then::Nothing),
+    (true, None, Some(150), Then::AtTheCommit),
+    (true, None, Some(-150), Then::Nothing),
+    (true, Some(150), None, Then::Nothing),
+];
+
+#[test]
+fn actions_follow(rt: HostRuntime) -> Result<(), Fail> {
+    let alloc = rt.alloc();
+    for (deferred, old, new, wanted) in CHANGES {
+        let inst = instance(alloc, deferred)?;
+        let answer = changed(&Trigger::new(), alloc, &inst, &change(alloc, old, new)?);
+        assert!(rt;
+            what_follows(&answer) == Some(wanted),
+            "from {old:?} to {new:?}"
+        );
+    }
+    Ok(())
+}
