@@ -15,7 +15,7 @@ use Rattle.sb_images.specs.Store.{IsReadyOn, KeepsRest}
 use Rattle.sb_pool.specs.declared.fault.PoolFault.{PoolFault}
 use Rattle.sb_pool.specs.declared.fault.PoolFault.TheVariants.{Fault}
 use Rattle.sb_pool.specs.Pages.{AgreesOn, KeepsPages}
-use Rattle.sb_pool.specs.State.{State, IsHeld, IsDirty, NoneMoreDirty}
+use Rattle.sb_pool.specs.State.{State, AreClean, IsHeld, IsDirty, NoneMoreDirty}
 
 -- The disk has room for a store of these sizes. In its regions a clean journal stands, with a gate for what is pending.
 pub record Serves (told : Option Story) (size : ℕ) (j : journal.State) (g : Geometry) : Type 0 where
@@ -69,6 +69,10 @@ pub record KeepsForced {D T E : Type 0} (told : D → Option Story) (len faults 
 -- the journal is as it was, or what was pending was forced
 abbrev pub IsSameOrForced : journal.State → journal.State → Type 0
 IsSameOrForced j k = (k ≡ j) ⊎ (k ≡ after_force j)
+
+-- With no page dirty the disk tells what it told, and the journal is as it was.
+pub record ReadsClean (pool : State) (j k : journal.State) (old new : Option Story) : Type 0 where
+  pub only : AreClean pool → (new ≡ old) × (k ≡ j)
 
 -- each page that is dirty has an Image among the records
 abbrev pub AreImaged : State → List Record → Type 0

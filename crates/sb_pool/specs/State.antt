@@ -1,5 +1,5 @@
 -- A pool of pages as contracts see it.
-use Rattle.std.specs.Prelude.{◌≡◌, ℕ, Bool, true, false, Option, Some, None, IsSome, List, map, replicate, slice_index_or}
+use Rattle.std.specs.Prelude.{◌≡◌, ℕ, ◌<◌, Bool, true, false, Option, Some, None, IsSome, List, map, replicate, slice_index_or}
 use Rattle.sb_log.specs.declared.geometry.Geometry.{Geometry}
 
 -- a page in memory, and whether it was written since the last flush
@@ -34,6 +34,10 @@ is_dirty (Some h) = h.dirty
 -- page p was written since the last flush
 abbrev pub IsDirty : State → ℕ → Type 0
 IsDirty pool p = IsWritten (held pool p)
+
+-- no page of the store was written since the last flush
+abbrev pub AreClean : State → Type 0
+AreClean pool = (p : ℕ) → p < pool.geometry.pages → IsDirty pool p → ⊥
 
 -- each page that is dirty was so before
 abbrev pub NoneMoreDirty : State → State → Type 0

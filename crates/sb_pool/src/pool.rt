@@ -6,7 +6,7 @@ ghost use Rattle.sb_images.specs.Store.{IfTold};
 ghost use Rattle.sb_journal.specs.State.{State, after_force};
 ghost use Rattle.sb_log.specs.Restored.{imaged};
 ghost use Rattle.sb_pool.specs.declared.fault.PoolFault.TheVariants.{NoMemory};
-ghost use Rattle.sb_pool.specs.Calls.{Serves, Keeps, KeepsFlushed, IsSameOrForced, InStore, KeepsImages, FlushesImages, IsLoad};
+ghost use Rattle.sb_pool.specs.Calls.{Serves, Keeps, KeepsFlushed, IsSameOrForced, InStore, KeepsImages, FlushesImages, IsLoad, ReadsClean};
 ghost use Rattle.sb_pool.specs.Pages.{AgreesOn, Becomes, KeepsPages, AreFlushed, with_bytes, pool_page, bytes_or};
 ghost use Rattle.sb_pool.specs.State.{held, IsHeld, IsDirty, is_dirty, NoneMoreDirty, empty_pool, flushed};
 
@@ -95,6 +95,9 @@ impl Pool {
         // A crash anywhere in the call leaves what the store restores.
         ensures images { InStore (D.told disk.old) journal.old self.old (λ want recs.
             KeepsImages want self.old.geometry recs journal.new (D.told disk.old) (D.told disk.new) result) }
+
+        // With no page dirty it only reads.
+        ensures reads { ReadsClean self.old journal.old journal.new (D.told disk.old) (D.told disk.new) }
 
         ensures journal { OnOk result (IsSameOrForced journal.old journal.new) }
         ensures keeps { Keeps D.told D.len D.faults disk.old disk.new journal.old journal.new self.old self.new result }

@@ -1,6 +1,7 @@
 //! Pages that are brought into memory.
 
 ghost use Rattle.std.specs.Prelude.{◌<◌, IfErr, OnOk};
+ghost use Rattle.sb_pool.specs.Calls.{ReadsClean};
 ghost use Rattle.sb_pool.specs.State.{IsHeld};
 ghost use Rattle.sb_txn.specs.Clauses.{parts, IsReady, IsFaultOrDown, Keeps, LeavesWanted, Loads};
 ghost use Rattle.sb_txn.specs.State.{together};
@@ -27,6 +28,7 @@ pub(crate) fn load<D: Disk>(
         (parts D.told D.len disk.new (together journal.new pool.new book.new))) }
     ensures any_moment { LeavesWanted (parts D.told D.len disk.old (together journal.old pool.old book.old))
         (parts D.told D.len disk.new (together journal.new pool.new book.new)) }
+    ensures reads { ReadsClean pool.old journal.old journal.new (D.told disk.old) (D.told disk.new) }
     ensures err { IfErr result IsFaultOrDown }
     ensures keeps { Keeps D.told D.len D.faults disk.old disk.new
         (together journal.old pool.old book.old) (together journal.new pool.new book.new) result }

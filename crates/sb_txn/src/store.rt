@@ -6,6 +6,7 @@ ghost use Rattle.sb_disk.specs.Moments.{LeavesOnly};
 ghost use Rattle.sb_log.specs.declared.geometry.Geometry.{Geometry};
 ghost use Rattle.sb_images.specs.Images.{Restores};
 ghost use Rattle.sb_images.specs.Store.{IfTold, IsMounted};
+ghost use Rattle.sb_pool.specs.Calls.{ReadsClean};
 ghost use Rattle.sb_pool.specs.State.{held, IsHeld, is_dirty};
 ghost use Rattle.sb_txn.specs.Book.{Out, MayBegin, IsAmong, out_with, others, standing_of};
 ghost use Rattle.sb_txn.specs.Clauses.{parts, IsReady, IsStoreOf, Keeps, IsFaultOrDown, LeavesWanted, Loads, IsPaged, Begins, AsksNothing, GoesBack, Aborts, Commits, LeavesCommit, LeavesOne, IsIdle, Checkpoints};
@@ -238,6 +239,10 @@ impl Store {
         ensures held { OnOk result (IsHeld self.new.pool n) }
         ensures loads { OnOk result (Loads (parts D.told D.len disk.old self.old) (parts D.told D.len disk.new self.new)) }
         ensures any_moment { LeavesWanted (parts D.told D.len disk.old self.old) (parts D.told D.len disk.new self.new) }
+
+        // With no page dirty it only reads.
+        ensures reads { ReadsClean self.old.pool self.old.journal self.new.journal (D.told disk.old) (D.told disk.new) }
+
         ensures err { IfErr result IsFaultOrDown }
         ensures keeps { Keeps D.told D.len D.faults disk.old disk.new self.old self.new result }
     {

@@ -1,4 +1,5 @@
-use Rattle.std.proofs.Common.{rules, ◌≡◌, ◌<◌, ℕ, List, Option, length, map, get_or, set, refl, ◌∙◌, ap, subst, arith}
+use Rattle.std.proofs.Common.{rules, ◌≡◌, ◌<◌, ℕ, List, Option, Result, Ok, Err, OnOk, length, map, get_or, set, refl, ◌∙◌, ap, subst, arith}
+use Rattle.std.specs.Result.{IsErrAnd}
 use Rattle.sb_disk.specs.Disk.{splice}
 use Rattle.sb_log.specs.declared.geometry.Geometry.{Geometry}
 use Rattle.sb_pool.specs.declared.frame.Content.TheVariants.{Dirty}
@@ -29,6 +30,21 @@ write_at a pool mid page offset position bytes f new is count same lt at some di
       puts = subst (λ (h : Option Held). Puts mid (record { geometry = a.geometry; pages = map held_of (set a.frames.items page new); position = position }) page h)
           (dirty_frame new (splice offset bytes f.bytes.items) dirty wrote) (Puts-frame a mid page new position is below);
     }
+
+no_value : {T E : Type 0} (r : Result T E) (e : E) (P : Type 0) → IsErrAnd r (λ f. f ≡ e) → OnOk r P
+no_value (Ok x) e P is = absurd is
+no_value (Err f) e P is = tt
+
+pub returns-in_err-load-clause-images : goal.returns-in_err-load-clause-images
+returns-in_err-load-clause-images g c = λ want opened pending ready imaged here. record {
+  leaves = (c.in_err-load.ensures.images want opened pending ready imaged).leaves;
+  ready = no_value c.from_residual.result c.in_err-load.field-0.0 _ c.from_residual.ensures.1;
+}
+
+pub returns-clause-images : goal.returns-clause-images
+returns-clause-images g c = λ want opened pending ready imaged here.
+    let i = c.in_ok-load.ensures.images want opened pending ready imaged in
+    record { leaves = i.leaves; ready = i.ready }
 
 pub returns-clause-written : goal.returns-clause-written
 returns-clause-written g c =
