@@ -1,5 +1,5 @@
 -- Calls of a borrowed store one after another.
-use Rattle.std.proofs.Common.{◌≡◌, ℕ, ◌+◌, ◌≤◌, true, Option, Result, Ok, Err, IfErr, sym, subst, arith}
+use Rattle.std.proofs.Common.{◌≡◌, ℕ, ◌+◌, ◌≤◌, true, Option, Result, Ok, Err, IfErr, sym, ap, subst, arith}
 use Rattle.std.specs.Result.{IsErrAnd}
 use Rattle.sb_disk.specs.Disk.{Story}
 use Rattle.sb_drive.specs.declared.space.SpaceFault.{SpaceFault}
@@ -109,3 +109,8 @@ module _ {D : Type 0} (told : D → Option Story) (len faults : D → ℕ) where
 
   pub Calls-most : {T : Type 0} (k l : ℕ) (a b : Lent D) (r : Result T SpaceFault) → k ≤ l → Calls told len faults k a b r → Calls told len faults l a b r
   Calls-most k l a b r most calls = record { leads = Leads-most k l a b most calls.leads; ready = calls.ready; up = calls.up; fails = calls.fails }
+
+-- a refusal that is handed on is that one
+pub handed-is : {T : Type 0} (r : Result T SpaceFault) (e : SpaceFault) → IsErrAnd r (λ f. f ≡ e) → r ≡ Err e
+handed-is (Ok x) e is = absurd is
+handed-is {T = T} (Err f) e is = let same : SpaceFault → Result T SpaceFault = λ x. Err x in ap same is

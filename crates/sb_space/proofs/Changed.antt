@@ -22,8 +22,8 @@ use Rattle.sb_txn.proofs.RoomLemmas.{SameRoom-forced, Grows-rest}
 use Rattle.sb_drive.specs.Spaces.{UnlessDown}
 use Rattle.sb_space.specs.Faults.{fault_of}
 use Rattle.sb_space.specs.Table.{AreWhole}
-use Rattle.sb_space.specs.Works.{Serves, Stands, Makes, Works, Fails, IsAlone, undos_of}
-use Rattle.sb_space.specs.Composing.{nothing_more}
+use Rattle.sb_space.specs.Works.{Serves, Stands, LeadsBack, Makes, Works, Fails, IsAlone, undos_of}
+use Rattle.sb_space.specs.Composing.{LeadsBack-none, LeadsBack-one, nothing_more}
 use Rattle.sb_space.proofs.Loading.{no_error, Works-failed}
 use Rattle.sb_space.specs.Telling.{told_so, told_map}
 
@@ -43,7 +43,7 @@ AreWhole-changed pages now n offset bytes within small whole p less =
     ]
 
 -- the transaction is the only one that is out
-alone_out : (tx : ℕ) (os : List Out) (o : Out) → out_with tx os ≡ Some o → others tx os ≡ [] → os ≡ o ∷ []
+pub alone_out : (tx : ℕ) (os : List Out) (o : Out) → out_with tx os ≡ Some o → others tx os ≡ [] → os ≡ o ∷ []
 alone_out tx os o found none =
     let at = out_with-split tx os o found in
     at.is ∙ by at.before at.behind (sym at.rest_is ∙ none)
@@ -111,8 +111,9 @@ module _ {D : Type 0} (told : D → Option Story) (len faults : D → ℕ) (tx :
       pages = λ want now store. record {
         pages = with_bytes page offset bytes now;
         store = made.pages want now store;
-        back = told_map (told d) (made.image ≡ now page) (AreWhole s.pool.geometry.pages now → AreWhole s.pool.geometry.pages (with_bytes page offset bytes now) × ((p : ℕ) → unwound (undo ∷ []) (with_bytes page offset bytes now) p ≡ now p))
-            (λ image whole. (AreWhole-changed s.pool.geometry.pages now page offset bytes within small whole, stands_still want now store whole image)) (made.was want now store);
+        back = told_map (told d) (made.image ≡ now page) (AreWhole s.pool.geometry.pages now → LeadsBack s.pool.geometry.pages (undo ∷ []) now (with_bytes page offset bytes now))
+            (λ image whole. LeadsBack-one s.pool.geometry.pages undo now (with_bytes page offset bytes now) whole (AreWhole-changed s.pool.geometry.pages now page offset bytes within small whole) (stands_still want now store whole image))
+            (made.was want now store);
       };
       grows = made.grows;
     }
@@ -166,7 +167,7 @@ module _ {D : Type 0} (told : D → Option Story) (len faults : D → ℕ) (tx :
       pages = λ want now store. record {
         pages = now;
         store = still.pages want now store;
-        back = told_so (told d) (AreWhole s.pool.geometry.pages now → AreWhole s.pool.geometry.pages now × ((q : ℕ) → now q ≡ now q)) (λ whole. (whole, λ q. refl));
+        back = told_so (told d) (AreWhole s.pool.geometry.pages now → LeadsBack s.pool.geometry.pages [] now now) (LeadsBack-none s.pool.geometry.pages now);
       };
       grows = let g = Grows-rest s t still.journal in record { bytes = let b = g.bytes in omega (arith, b); least = g.least; gates = let b = g.gates in omega (arith, b) };
     }

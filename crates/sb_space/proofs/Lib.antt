@@ -8,3 +8,12 @@ pub mod Keeping
 pub mod Listing
 pub mod Whole
 pub mod Endings
+pub mod Rewriting
+pub mod Clearing
+pub mod Marking
+pub mod GoingBack
+pub mod Transacting
+pub mod TablePages
+pub mod OpeningLemmas
+pub mod NewStores
+pub mod Lookups

@@ -12,8 +12,8 @@ use Rattle.sb_txn.proofs.RoomLemmas.{Grows-rest}
 use Rattle.sb_drive.specs.Spaces.{UnlessDown}
 use Rattle.sb_space.specs.Faults.{fault_of}
 use Rattle.sb_space.specs.Table.{AreWhole}
-use Rattle.sb_space.specs.Works.{Serves, Makes, Works, Fails, IsAlone, undos_of}
-use Rattle.sb_space.specs.Composing.{nothing_more}
+use Rattle.sb_space.specs.Works.{Serves, LeadsBack, Makes, Works, Fails, IsAlone, undos_of}
+use Rattle.sb_space.specs.Composing.{LeadsBack-none, nothing_more}
 use Rattle.sb_space.specs.Telling.{told_so}
 
 pub IsAlone-same : (tx : ℕ) (a b : Book) → b ≡ a → IsAlone tx a → IsAlone tx b
@@ -42,7 +42,7 @@ Makes-loads tx a b loads = record {
   pages = λ want now store. record {
     pages = now;
     store = loads.pages want now store;
-    back = told_so a.told (AreWhole a.store.pool.geometry.pages now → AreWhole a.store.pool.geometry.pages now × ((q : ℕ) → now q ≡ now q)) (λ whole. (whole, λ q. refl));
+    back = told_so a.told (AreWhole a.store.pool.geometry.pages now → LeadsBack a.store.pool.geometry.pages [] now now) (LeadsBack-none a.store.pool.geometry.pages now);
   };
   grows = Grows-rest a.store b.store loads.journal;
 }

@@ -20,7 +20,7 @@ use Rattle.sb_txn.specs.State.{State}
 use Rattle.sb_space.specs.Durable.{Lent, Leads, parts_in}
 use Rattle.sb_space.specs.Table.{AreWhole, IsTable, owner_at, shown, slots_in}
 use Rattle.sb_space.specs.Owners.{IsOwned, IsBehind}
-use Rattle.sb_space.specs.Works.{HasPages, MeansDown}
+use Rattle.sb_space.specs.Works.{HasPages, LeadsBack, MeansDown, Stands}
 use Rattle.sb_space.specs.Telling.{told_from}
 
 -- ---- slots
@@ -34,21 +34,24 @@ slot-owner pages now n less = subst (λ (b : Bool). (cond b (shown (owner_at now
 
 -- ---- a page that is held
 -- it is the page now, of a store whose disk tells its bytes
-pub held-now : (want : Wanted) (s : Slots) (p : Parts) (has : HasPages want s p) (n : ℕ) (h : Held) → n < p.store.pool.geometry.pages → held p.store.pool n ≡ Some h → h.bytes ≡ has.now n
-held-now want s p has n h less is = by_told p.told has.stands.tells has.stands.store.2.pages
+pub held-stands : (want now : ℕ → List ℕ) (p : Parts) → Stands want now p → (n : ℕ) (h : Held) → n < p.store.pool.geometry.pages → held p.store.pool n ≡ Some h → h.bytes ≡ now n
+held-stands want now p stands n h less is = by_told p.told stands.tells stands.store.2.pages
   where
-    by_told : (told : Option Story) → is_some told ≡ true → ArePagesOn has.now told p.store.journal p.store.pool → h.bytes ≡ has.now n
+    by_told : (told : Option Story) → is_some told ≡ true → ArePagesOn now told p.store.journal p.store.pool → h.bytes ≡ now n
     by_told None tells pages = absurd (false≢true tells)
-    by_told (Some t) tells pages = sym (ap (bytes_or (page_at p.store.pool.geometry n t.now.reads)) is) ∙ pages has.stands.store.2.up n less
+    by_told (Some t) tells pages = sym (ap (bytes_or (page_at p.store.pool.geometry n t.now.reads)) is) ∙ pages stands.store.2.up n less
+
+pub held-now : (want : Wanted) (s : Slots) (p : Parts) (has : HasPages want s p) (n : ℕ) (h : Held) → n < p.store.pool.geometry.pages → held p.store.pool n ≡ Some h → h.bytes ≡ has.now n
+held-now want s p has n h less is = held-stands want has.now p has.stands n h less is
 
 -- ---- reading leaves the pages
 none_of : (us : List Undo) → length us ≤ 0 → us ≡ []
 none_of [] few = refl
 none_of (u ∷ us) few = absurd (omega (arith, few))
 
-pub HasPages-still : {D : Type 0} (told : D → Option Story) (len faults : D → ℕ) (a b : Lent D) (want : Wanted) (s : Slots) → Leads told len faults 0 a b → (b.store.now.book.down ≡ true → a.store.now.book.down ≡ true)
-    → HasPages want s (parts_in told len a) → HasPages want s (parts_in told len b)
-HasPages-still {D = D} told len faults a b want s leads stays has = by_case b.store.now.book.down refl
+pub Stands-still : {D : Type 0} (told : D → Option Story) (len faults : D → ℕ) (a b : Lent D) (want now : ℕ → List ℕ) → Leads told len faults 0 a b → (b.store.now.book.down ≡ true → a.store.now.book.down ≡ true)
+    → Stands want now (parts_in told len a) → Stands want now (parts_in told len b)
+Stands-still {D = D} told len faults a b want now leads stays stands = by_case b.store.now.book.down refl
   where
     old : Parts
     old = parts_in told len a
@@ -56,27 +59,32 @@ HasPages-still {D = D} told len faults a b want s leads stays has = by_case b.st
     new : Parts
     new = parts_in told len b
 
-    by_case : (down : Bool) → b.store.now.book.down ≡ down → HasPages want s new
+    by_case : (down : Bool) → b.store.now.book.down ≡ down → Stands want now new
     by_case true on =
         let still = leads.works.down (stays on) in
-        subst (λ (d : D). HasPages want s (parts told len d b.store.now)) (sym still.0)
-        (subst (λ (x : State). HasPages want s (parts told len a.disk.now x)) (sym still.1) has)
+        subst (λ (d : D). Stands want now (parts told len d b.store.now)) (sym still.0)
+        (subst (λ (x : State). Stands want now (parts told len a.disk.now x)) (sym still.1) stands)
     by_case false off =
         let makes = leads.works.makes off in
-        let turns = makes.pages want has.now has.stands.store in
-        let back = told_from (told a.disk.now) (AreWhole a.store.now.pool.geometry.pages has.now → AreWhole a.store.now.pool.geometry.pages turns.pages × ((p : ℕ) → unwound makes.undos turns.pages p ≡ has.now p)) has.stands.tells turns.back in
-        let same : turns.pages ≡ has.now = λ i p. (sym (ap (λ (us : List Undo). unwound us turns.pages p) (none_of makes.undos makes.few)) ∙ (back has.stands.whole).1 p) i in
-        let sizes = ap (λ (g : Geometry). g.pages) leads.works.geometry in
+        let turns = makes.pages want now stands.store in
+        let back = told_from (told a.disk.now) (AreWhole a.store.now.pool.geometry.pages now → LeadsBack a.store.now.pool.geometry.pages makes.undos now turns.pages) stands.tells turns.back in
+        let same : turns.pages ≡ now = λ i p. (sym (ap (λ (us : List Undo). unwound us turns.pages p) (none_of makes.undos makes.few)) ∙ (back stands.whole).back p) i in
         record {
-          now = has.now;
-          stands = record {
-            tells = sym (leads.works.leaves.each want has.now has.stands.store).tells ∙ has.stands.tells;
-            store = subst (λ (now : ℕ → List ℕ). IsStoreOf want now new) same turns.store;
-            whole = subst (λ (n : ℕ). AreWhole n has.now) (sym sizes) has.stands.whole;
-          };
-          table = subst (λ (n : ℕ). IsTable n has.now) (sym sizes) has.table;
-          slots = has.slots ∙ ap (λ (n : ℕ). slots_in n has.now) (sym sizes);
+          tells = sym (leads.works.leaves.each want now stands.store).tells ∙ stands.tells;
+          store = subst (λ (now : ℕ → List ℕ). IsStoreOf want now new) same turns.store;
+          whole = subst (λ (n : ℕ). AreWhole n now) (sym (ap (λ (g : Geometry). g.pages) leads.works.geometry)) stands.whole;
         }
+
+pub HasPages-still : {D : Type 0} (told : D → Option Story) (len faults : D → ℕ) (a b : Lent D) (want : Wanted) (s : Slots) → Leads told len faults 0 a b → (b.store.now.book.down ≡ true → a.store.now.book.down ≡ true)
+    → HasPages want s (parts_in told len a) → HasPages want s (parts_in told len b)
+HasPages-still told len faults a b want s leads stays has =
+    let sizes = ap (λ (g : Geometry). g.pages) leads.works.geometry in
+    record {
+      now = has.now;
+      stands = Stands-still told len faults a b want has.now leads stays has.stands;
+      table = subst (λ (n : ℕ). IsTable n has.now) (sym sizes) has.table;
+      slots = has.slots ∙ ap (λ (n : ℕ). slots_in n has.now) (sym sizes);
+    }
 
 -- ---- one page
 pub owner-now : (want : Wanted) (s : Slots) (p : Parts) (has : HasPages want s p) (n : ℕ) → n < p.store.pool.geometry.pages → (s n).0 ≡ owner_at has.now n

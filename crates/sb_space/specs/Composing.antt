@@ -1,12 +1,14 @@
 -- Calls one after another.
-use Rattle.std.proofs.Common.{◌≡◌, ⊎_elim, ℕ, ◌+◌, ◌*◌, Bool, true, false, cond, ◌==◌, Option, is_some, List, [], ◌∷◌, ◌++◌, inl, inr, refl, sym, ap, subst, ◌∙◌, arith}
+use Rattle.std.proofs.Common.{◌≡◌, ⊎_elim, ℕ, zero, suc, ◌+◌, ◌*◌, Bool, true, false, cond, ◌==◌, Option, is_some, List, [], ◌∷◌, ◌++◌, length, drop, inl, inr, refl, sym, ap, subst, ◌∙◌, arith}
 use Rattle.std.proofs.lemmas.Bool.{false≢true}
 use Rattle.std.proofs.lemmas.List.{length-append, append_assoc}
+use Rattle.std.proofs.Math.Seq.{drop-length}
 use Rattle.sb_disk.specs.Causes.{Rose}
 use Rattle.sb_disk.proofs.CauseLemmas.{Rose-before, Rose-later}
 use Rattle.sb_disk.specs.Disk.{Story}
 use Rattle.sb_disk.specs.Moments.{LeavesOnly}
 use Rattle.sb_disk.proofs.MomentLemmas.{and_then}
+use Rattle.sb_forms.specs.Pages.{IsWhole}
 use Rattle.sb_images.specs.Images.{Restores}
 use Rattle.sb_log.specs.declared.geometry.Geometry.{Geometry}
 use Rattle.sb_disk.specs.Disk.{splice}
@@ -16,7 +18,7 @@ use Rattle.sb_txn.specs.State.{State}
 use Rattle.sb_txn.proofs.KeepsLemmas.{LeavesWanted-none}
 use Rattle.sb_txn.proofs.RoomLemmas.{Grows-rest, Grows-sum}
 use Rattle.sb_space.specs.Table.{AreWhole}
-use Rattle.sb_space.specs.Works.{Turns, Makes, Works, undos_of}
+use Rattle.sb_space.specs.Works.{LeadsBack, Turns, Makes, Works, undos_of}
 use Rattle.sb_space.specs.Telling.{told_so, told_both, told_as}
 
 -- ---- undos
@@ -27,6 +29,62 @@ unwound-append (u ∷ us) vs pages p = let same = unwound-append us vs pages p i
 pub unwound-same : (us : List Undo) (a b : ℕ → List ℕ) (p : ℕ) → a p ≡ b p → unwound us a p ≡ unwound us b p
 unwound-same [] a b p is = is
 unwound-same (u ∷ us) a b p is = let same = unwound-same us a b p is in λ i. cond (u.page == p) (splice u.offset u.before (same i)) (same i)
+
+-- pages that are the same are whole too
+AreWhole-same : (count : ℕ) (a b : ℕ → List ℕ) → ((p : ℕ) → b p ≡ a p) → AreWhole count a → AreWhole count b
+AreWhole-same count a b same whole p less = subst IsWhole (sym (same p)) (whole p less)
+
+-- a change undone
+pub LeadsBack-one : (count : ℕ) (u : Undo) (was now : ℕ → List ℕ) → AreWhole count was → AreWhole count now → ((p : ℕ) → unwound (u ∷ []) now p ≡ was p) → LeadsBack count (u ∷ []) was now
+LeadsBack-one count u was now before after back = record { each = each; back = back }
+  where
+    each : (n : ℕ) → AreWhole count (unwound (drop n (u ∷ [])) now)
+    each zero = AreWhole-same count was (unwound (u ∷ []) now) back before
+    each (suc zero) = after
+    each (suc (suc n)) = after
+
+pub LeadsBack-none : (count : ℕ) (now : ℕ → List ℕ) → AreWhole count now → LeadsBack count [] now now
+LeadsBack-none count now whole = record { each = each; back = λ p. refl }
+  where
+    each : (n : ℕ) → AreWhole count (unwound (drop n []) now)
+    each zero = whole
+    each (suc n) = whole
+
+-- the pages now are whole
+pub LeadsBack-now : (count : ℕ) (us : List Undo) (was now : ℕ → List ℕ) → LeadsBack count us was now → AreWhole count now
+LeadsBack-now count us was now leads = subst (λ (vs : List Undo). AreWhole count (unwound vs now)) (drop-length us) (leads.each (length us))
+
+-- and so are those that were
+pub LeadsBack-was : (count : ℕ) (us : List Undo) (was now : ℕ → List ℕ) → LeadsBack count us was now → AreWhole count was
+LeadsBack-was count us was now leads = AreWhole-same count (unwound us now) was (λ p. sym (leads.back p)) (leads.each zero)
+
+-- undos before others, at each step
+module _ (count : ℕ) (vs : List Undo) (mid now : ℕ → List ℕ) (two : LeadsBack count vs mid now) where
+  each_of : (us : List Undo) → ((n : ℕ) → AreWhole count (unwound (drop n us) mid)) → (n : ℕ) → AreWhole count (unwound (drop n (us ++ vs)) now)
+  each_of [] one n = two.each n
+  each_of (u ∷ us) one zero =
+      AreWhole-same count (unwound (u ∷ us) mid) (unwound ((u ∷ us) ++ vs) now) (λ p. unwound-append (u ∷ us) vs now p ∙ unwound-same (u ∷ us) (unwound vs now) mid p (two.back p)) (one zero)
+  each_of (u ∷ us) one (suc n) = each_of us (λ m. one (suc m)) n
+
+  pub LeadsBack-then : (us : List Undo) (was : ℕ → List ℕ) → LeadsBack count us was mid → LeadsBack count (us ++ vs) was now
+  LeadsBack-then us was one = record {
+    each = each_of us one.each;
+    back = λ p. unwound-append us vs now p ∙ unwound-same us (unwound vs now) mid p (two.back p) ∙ one.back p;
+  }
+
+-- with the last of them undone, those before lead back still
+module _ (count : ℕ) (vs : List Undo) (now : ℕ → List ℕ) where
+  each_before : (us : List Undo) → ((n : ℕ) → AreWhole count (unwound (drop n (us ++ vs)) now)) → (n : ℕ) → AreWhole count (unwound (drop n us) (unwound vs now))
+  each_before [] all zero = all zero
+  each_before [] all (suc n) = all zero
+  each_before (u ∷ us) all zero = AreWhole-same count (unwound ((u ∷ us) ++ vs) now) (unwound (u ∷ us) (unwound vs now)) (λ p. sym (unwound-append (u ∷ us) vs now p)) (all zero)
+  each_before (u ∷ us) all (suc n) = each_before us (λ m. all (suc m)) n
+
+  pub LeadsBack-before : (us : List Undo) (was : ℕ → List ℕ) → LeadsBack count (us ++ vs) was now → LeadsBack count us was (unwound vs now)
+  LeadsBack-before us was leads = record {
+    each = each_before us leads.each;
+    back = λ p. sym (unwound-append us vs now p) ∙ leads.back p;
+  }
 
 -- ---- nothing
 pub nothing_more : (us : List Undo) → us ≡ us ++ []
@@ -42,7 +100,7 @@ Makes-none tx p = record {
   pages = λ want now store. record {
     pages = now;
     store = store;
-    back = told_so p.told (AreWhole p.store.pool.geometry.pages now → AreWhole p.store.pool.geometry.pages now × ((q : ℕ) → now q ≡ now q)) (λ whole. (whole, λ q. refl));
+    back = told_so p.told (AreWhole p.store.pool.geometry.pages now → LeadsBack p.store.pool.geometry.pages [] now now) (LeadsBack-none p.store.pool.geometry.pages now);
   };
   grows = Grows-rest p.store p.store (inl refl);
 }
@@ -54,16 +112,15 @@ module _ (tx : ℕ) (k l : ℕ) (a b c : Parts) (pages_same : b.store.pool.geome
     pages = two.pages;
     store = two.store;
     back = told_both a.told
-        (AreWhole a.store.pool.geometry.pages now → AreWhole a.store.pool.geometry.pages one.pages × ((p : ℕ) → unwound us one.pages p ≡ now p))
-        (AreWhole b.store.pool.geometry.pages one.pages → AreWhole b.store.pool.geometry.pages two.pages × ((p : ℕ) → unwound vs two.pages p ≡ one.pages p))
-        (AreWhole a.store.pool.geometry.pages now → AreWhole a.store.pool.geometry.pages two.pages × ((p : ℕ) → unwound (us ++ vs) two.pages p ≡ now p))
+        (AreWhole a.store.pool.geometry.pages now → LeadsBack a.store.pool.geometry.pages us now one.pages)
+        (AreWhole b.store.pool.geometry.pages one.pages → LeadsBack b.store.pool.geometry.pages vs one.pages two.pages)
+        (AreWhole a.store.pool.geometry.pages now → LeadsBack a.store.pool.geometry.pages (us ++ vs) now two.pages)
         (λ first second whole.
         let f = first whole in
-        let s = second (subst (λ (n : ℕ). AreWhole n one.pages) (sym pages_same) f.0) in (
-          subst (λ (n : ℕ). AreWhole n two.pages) pages_same s.0,
-          λ p. unwound-append us vs two.pages p ∙ unwound-same us (unwound vs two.pages) one.pages p (s.1 p) ∙ f.1 p,
-        ))
-        one.back (told_as a.told b.told (AreWhole b.store.pool.geometry.pages one.pages → AreWhole b.store.pool.geometry.pages two.pages × ((p : ℕ) → unwound vs two.pages p ≡ one.pages p)) tells two.back);
+        let mid = LeadsBack-now a.store.pool.geometry.pages us now one.pages f in
+        let s = second (subst (λ (n : ℕ). AreWhole n one.pages) (sym pages_same) mid) in
+        LeadsBack-then a.store.pool.geometry.pages vs one.pages two.pages (subst (λ (n : ℕ). LeadsBack n vs one.pages two.pages) pages_same s) us now f)
+        one.back (told_as a.told b.told (AreWhole b.store.pool.geometry.pages one.pages → LeadsBack b.store.pool.geometry.pages vs one.pages two.pages) tells two.back);
   }
 
   pub Makes-then : LeavesWanted a b → Makes tx k a b → Makes tx l b c → Makes tx (k + l) a c

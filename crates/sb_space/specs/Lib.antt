@@ -4,7 +4,10 @@ pub mod Works
 pub mod Durable
 pub mod View
 pub mod Owners
+pub mod Opening
 pub mod Stored
 pub mod Telling
 pub mod Composing
 pub mod SpaceLaws
+pub mod Instances
+pub mod Transactions

@@ -1,5 +1,5 @@
 -- What calls make of a store and its disk within a transaction.
-use Rattle.std.specs.Prelude.{◌≡◌, ◌⊎◌, ℕ, ◌*◌, ◌+◌, ◌<◌, ◌≤◌, true, false, is_some, List, [], ◌++◌, length, Option, Some, None}
+use Rattle.std.specs.Prelude.{◌≡◌, ◌⊎◌, ℕ, ◌*◌, ◌+◌, ◌<◌, ◌≤◌, true, false, is_some, List, [], ◌++◌, length, drop, Option, Some, None}
 use Rattle.sb_disk.specs.Causes.{Rose}
 use Rattle.sb_disk.specs.Disk.{Story}
 use Rattle.sb_images.specs.Store.{IfTold}
@@ -43,12 +43,16 @@ pub record HasPages (want : Wanted) (s : Slots) (p : Parts) : Type 0 where
   pub slots : s ≡ slots_in p.store.pool.geometry.pages now
 
 -- ---- what calls make of it
--- The pages now have become others, which are whole if those were, and which these undos lead back.
+-- These undos, the last of them first, lead the pages back to those that were. The pages are whole at each step.
+pub record LeadsBack (count : ℕ) (undos : List Undo) (was now : ℕ → List ℕ) : Type 0 where
+  pub each : (n : ℕ) → AreWhole count (unwound (drop n undos) now)
+  pub back : (p : ℕ) → unwound undos now p ≡ was p
+
+-- The pages now have become others, which these undos lead back if those were whole.
 pub record Turns (want now : ℕ → List ℕ) (undos : List Undo) (old new : Parts) : Type 0 where
   pub pages : ℕ → List ℕ
   pub store : IsStoreOf want pages new
-  pub back : IfTold old.told (AreWhole old.store.pool.geometry.pages now
-      → AreWhole old.store.pool.geometry.pages pages × ((p : ℕ) → unwound undos pages p ≡ now p))
+  pub back : IfTold old.told (AreWhole old.store.pool.geometry.pages now → LeadsBack old.store.pool.geometry.pages undos now pages)
 
 -- The transaction has so many changes more at most, and the others are as they were. Whatever pages are wanted stay so, and the log grows by what the changes take.
 pub record Makes (tx : ℕ) (changes : ℕ) (old new : Parts) : Type 0 where

@@ -5,6 +5,7 @@ ghost use Rattle.sb_drive.specs.Slots.{Slots, with_slot};
 ghost use Rattle.sb_drive.specs.Spaces.{IsStoreFault, UnlessDown, Wanted};
 ghost use Rattle.sb_pool.specs.Pages.{with_bytes};
 ghost use Rattle.sb_space.specs.Durable.{Calls, parts_in};
+ghost use Rattle.sb_space.specs.Instances.{rewritten};
 ghost use Rattle.sb_space.specs.Stored.{if_ok};
 ghost use Rattle.sb_space.specs.Table.{shown};
 ghost use Rattle.sb_space.specs.View.{lent};
@@ -17,7 +18,7 @@ use sb_disk::Disk;
 use sb_drive::SpaceFault;
 
 /// The owner of the table's own pages.
-const TABLE: u16 = 1;
+pub(crate) const TABLE: u16 = 1;
 
 impl<D: Disk> Durable<'_, D> {
     /// Makes a page this owner's, or nobody's: the table has another entry.
@@ -27,6 +28,9 @@ impl<D: Disk> Durable<'_, D> {
         ensures pages { UnlessDown result ((want : Wanted) (s : Slots) → HasPages want s (parts_in D.told D.len (lent self.old))
             → ((s n).0 ≡ 1 → ⊥) → (owner ≡ 1 → ⊥)
             → (bytes : List ℕ) × HasPages want (if_ok result (with_slot n (shown owner bytes)) s) (parts_in D.told D.len (lent self.new))) }
+        ensures bytes { UnlessDown result ((want : Wanted) (s : Slots) (has : HasPages want s (parts_in D.told D.len (lent self.old)))
+            → ((s n).0 ≡ 1 → ⊥) → (owner ≡ 1 → ⊥)
+            → HasPages want (if_ok result (with_slot n (shown owner (has.now n))) s) (parts_in D.told D.len (lent self.new))) }
         ensures err { IfErr result IsStoreFault }
         ensures calls { Calls D.told D.len D.faults 1 (lent self.old) (lent self.new) result }
     {
@@ -42,6 +46,8 @@ impl<D: Disk> Durable<'_, D> {
         ensures pages { UnlessDown result ((want : Wanted) (s : Slots) → HasPages want s (parts_in D.told D.len (lent self.old))
             → 1 < owner → (s n).0 ≡ owner
             → HasPages want (if_ok result (with_slot n (owner, bytes.now)) s) (parts_in D.told D.len (lent self.new))) }
+        ensures stands { UnlessDown result ((want now : ℕ → List ℕ) → Stands want now (parts_in D.told D.len (lent self.old))
+            → Stands want (if_ok result (rewritten n bytes.now) now) (parts_in D.told D.len (lent self.new))) }
         ensures err { IfErr result IsStoreFault }
         ensures calls { Calls D.told D.len D.faults 1 (lent self.old) (lent self.new) result }
     {

@@ -3,13 +3,23 @@
 
 mod changing;
 mod durable;
+mod entries;
 mod fault;
 mod giving;
+mod instances;
+mod laws;
+mod opening;
 mod owners;
 mod space;
 mod storing;
+mod transactions;
 
 pub use durable::Durable;
+pub use laws::going_back_gives_what_was;
+pub use opening::{catalogue, open_store, owner_of};
+pub use transactions::{Mark, Space, Tx};
 
 #[cfg(test)]
 mod tests;
+#[cfg(test)]
+mod transaction_tests;

@@ -9,7 +9,7 @@ ghost use Rattle.sb_space.specs.View.{lent};
 ghost use Rattle.sb_space.specs.Works.{HasPages, MeansDown, Serves};
 
 use crate::durable::Durable;
-use sb_bytes::get_u16;
+use crate::opening::owner_of;
 use sb_disk::Disk;
 use sb_drive::SpaceFault;
 
@@ -28,9 +28,7 @@ impl<D: Disk> Durable<'_, D> {
         ensures err { IfErr result MeansDown }
         ensures calls { Calls D.told D.len D.faults 0 (lent self.old) (lent self.new) result }
     {
-        self.load(n / ENTRIES)?;
-        let table = self.store.held(n / ENTRIES);
-        Ok(get_u16(table, 2 * (n % ENTRIES) as usize))
+        owner_of(self.store, self.disk, n)
     }
 
     /// Whether a page is this owner's.

@@ -20,7 +20,7 @@ use sb_drive::SpaceFault;
 const MOST_PAGES: u32 = 65536;
 
 /// How many bytes a page has.
-const PAGE_SIZE: usize = 4096;
+pub(crate) const PAGE_SIZE: usize = 4096;
 
 impl<D: Disk> Durable<'_, D> {
     /// Stores the pages that were taken, those that were edited, and those that were freed.

@@ -6,6 +6,8 @@ ghost use Rattle.sb_space.specs.View.{lent};
 ghost use Rattle.sb_txn.specs.Clauses.{parts, IsReady};
 ghost use Rattle.sb_space.specs.Works.{Serves};
 
+mod opening;
+
 use crate::Durable;
 use sb_ctx::Ctx;
 use sb_disk::Disk;
@@ -17,11 +19,11 @@ use std::alloc::Global;
 use std::test::Fail;
 
 /// The smallest store, and the bytes that it takes of a disk.
-const PAGES: u32 = 64;
+pub(crate) const PAGES: u32 = 64;
 
-const LOG: u64 = 2_097_152;
+pub(crate) const LOG: u64 = 2_097_152;
 
-const SIZE: u64 = 2_428_928;
+pub(crate) const SIZE: u64 = 2_428_928;
 
 /// Takes a fresh page for owner 3.
 fn take_one<D: Disk>(alloc: Global, space: &mut Durable<'_, D>) -> Result<(), SpaceFault>
@@ -67,7 +69,7 @@ fn fill_store<D: Disk>(
 }
 
 /// Opens a store of 64 pages.
-fn opened<D: Disk>(alloc: Global, disk: &mut D) -> Option<Store>
+pub(crate) fn opened<D: Disk>(alloc: Global, disk: &mut D) -> Option<Store>
     ensures ready { IfSome result (λ s. IsReady (parts D.told D.len disk.new s)) }
     ensures none { IfSome result (λ s. s.book.out ≡ []) }
     ensures pages { IfSome result (λ s. s.pool.geometry.pages ≡ 64) }

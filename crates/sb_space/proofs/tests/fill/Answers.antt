@@ -1,4 +1,4 @@
-use Rattle.std.proofs.Common.{ℕ, Option, subst, ◌∙◌}
+use Rattle.std.proofs.Common.{ℕ, subst, ◌∙◌}
 use Rattle.sb_space.specs.Durable.{parts_in}
 use Rattle.sb_space.specs.View.{lent}
 use Rattle.sb_space.specs.Works.{Serves}

@@ -1,19 +1,26 @@
-use Rattle.std.proofs.Common.{ap, sym, ◌∙◌, ◌*◌, ◌/◌, ◌%◌, ℕ, List, arith}
-use Rattle.sb_bytes.specs.Field.{number_at}
+use Rattle.std.proofs.Common.{refl}
 use Rattle.sb_space.specs.Durable.{parts_in}
 use Rattle.sb_space.specs.View.{lent}
-use Rattle.sb_space.proofs.Looking.{HasPages-still, held-now, owner-now}
+use Rattle.sb_space.proofs.Lookups.{owner-looked, Works-looked, Serves-looked, up-looked, Fails-looked}
 use Rattle.sb_space.proofs.durable.Durable.owner_of.Goals as goal
 
 pub returns-clause-owner : goal.returns-clause-owner
-returns-clause-owner g c = λ want s has.
+returns-clause-owner g c = owner-looked (parts_in g.D.Disk.told g.D.Disk.len (lent c.args.self.now)) c.args.n c.owner_of.result c.requires.page c.owner_of.ensures.owner
+
+pub returns-clause-calls : goal.returns-clause-calls
+returns-clause-calls g c =
     let told = g.D.Disk.told in
     let len = g.D.Disk.len in
-    let n = c.args.n in
-    let calls = c.in_ok-load.ensures.calls in
-    let after = lent c.load.new.self in
-    let still = HasPages-still told len g.D.Disk.faults (lent c.args.self.now) after want s calls.leads calls.up has in
-    let sizes = ap (λ x. x.pages) calls.leads.works.geometry in
-    let within = c.requires.page in
-    let table = held-now want s (parts_in told len after) still (n / 2048) _ (omega (arith, sizes, within)) c.held-table.ensures.bytes in
-    c.get_u16.ensures ∙ ap (λ (bytes : List ℕ). number_at 2 bytes (2 * (n % 2048))) table ∙ sym (owner-now want s (parts_in told len after) still n (omega (arith, sizes, within)))
+    let faults = g.D.Disk.faults in
+    let tx = c.args.self.now.tx.now.number in
+    let d = c.args.self.now.disk.now in
+    let s = c.args.self.now.store.now in
+    let r = c.owner_of.result in
+    let means = c.owner_of.ensures.err in
+    let looks = c.owner_of.ensures.looks in
+    record {
+      leads = record { store = refl; disk = refl; tx = refl; works = Works-looked told len faults tx d c.owner_of.new.disk s c.owner_of.new.store r means looks };
+      ready = Serves-looked told len faults tx d c.owner_of.new.disk s c.owner_of.new.store r means looks c.requires.ready;
+      up = up-looked told len faults tx d c.owner_of.new.disk s c.owner_of.new.store r means looks;
+      fails = Fails-looked told len faults tx d c.owner_of.new.disk s c.owner_of.new.store r means looks;
+    }

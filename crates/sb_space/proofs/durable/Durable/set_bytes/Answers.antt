@@ -1,11 +1,13 @@
-use Rattle.std.proofs.Common.{◌<◌, refl, sym, ap, ◌∙◌, arith}
+use Rattle.std.proofs.Common.{ℕ, ◌<◌, List, refl, sym, ap, subst, ◌∙◌, arith}
 use Rattle.sb_disk.specs.Disk.{splice}
 use Rattle.sb_space.specs.Durable.{parts_in}
 use Rattle.sb_space.specs.View.{lent}
+use Rattle.sb_space.specs.Works.{Stands}
 use Rattle.sb_space.proofs.Calling.{Calls-then, UnlessDown-map}
-use Rattle.sb_space.proofs.Looking.{HasPages-still, held-now}
+use Rattle.sb_space.proofs.Looking.{HasPages-still, Stands-still, held-now, held-stands}
 use Rattle.sb_space.proofs.Owning.{written-result, written-same, HasPages-written}
 use Rattle.sb_space.proofs.Ranges.{splice-differing, same-wholly}
+use Rattle.sb_space.proofs.Rewriting.{rewritten-same, rewritten-result}
 use Rattle.sb_space.proofs.durable.Durable.set_bytes.Goals as goal
 
 pub returns-then-from-to-clause-pages : goal.returns-then-from-to-clause-pages
@@ -46,6 +48,41 @@ returns-clause-pages g c =
     UnlessDown-map c.change.result _ _ (λ made want s has. made want s (HasPages-still told len g.D.Disk.faults a b want s calls.leads calls.up has))
     (written-result (parts_in told len b) (parts_in told len d) n c.args.owner from c.args.bytes.now _ c.change.result (ap (λ x. x.pages) c.change.ensures.calls.leads.works.geometry) less
     (λ want s has. ap (splice from _) (sym (held-now want s (parts_in told len b) has n _ less c.held-page.ensures.bytes)) ∙ differ) c.change.ensures.pages)
+
+pub returns-then-from-to-clause-stands : goal.returns-then-from-to-clause-stands
+returns-then-from-to-clause-stands g c = λ want now stands.
+    let told = g.D.Disk.told in
+    let len = g.D.Disk.len in
+    let n = c.args.n in
+    let calls = c.in_ok-load.ensures.calls in
+    let b = lent c.load.new.self in
+    let still = Stands-still told len g.D.Disk.faults (lent c.args.self.now) b want now calls.leads calls.up stands in
+    let sizes = ap (λ x. x.pages) calls.leads.works.geometry in
+    let within = c.requires.page in
+    let page = held-stands want now (parts_in told len b) still n _ (omega (arith, sizes, within)) c.held-page.ensures.bytes in
+    let same = same-wholly c.held-page.result.now c.args.bytes.now c.first_difference-from.result c.behind_differences-to.result c.if-from-to.true c.first_difference-from.ensures.same c.behind_differences-to.ensures.same in
+    subst (λ (then : ℕ → List ℕ). Stands want then (parts_in told len b)) (sym (rewritten-same n c.args.bytes.now now (sym page ∙ same))) still
+
+pub returns-clause-stands : goal.returns-clause-stands
+returns-clause-stands g c =
+    let told = g.D.Disk.told in
+    let len = g.D.Disk.len in
+    let n = c.args.n in
+    let calls = c.in_ok-load.ensures.calls in
+    let a = lent c.args.self.now in
+    let b = lent c.load.new.self in
+    let sizes = ap (λ x. x.pages) calls.leads.works.geometry in
+    let within = c.requires.page in
+    let less : n < b.store.now.pool.geometry.pages = omega (arith, sizes, within) in
+    let from = c.first_difference-from.result in
+    let to = c.behind_differences-to.result in
+    let under = c.if-from-to.false in
+    let long = c.requires.long in
+    let full = c.held-page.ensures.long in
+    let differ = splice-differing c.held-page.result.now c.args.bytes.now from to (omega (arith, under)) c.behind_differences-to.ensures.within (full ∙ sym long) c.first_difference-from.ensures.same c.behind_differences-to.ensures.same in
+    rewritten-result (parts_in told len a) (parts_in told len b) (parts_in told len (lent c.change.new.self)) n from c.args.bytes.now _ c.change.result
+    (λ want now stands. Stands-still told len g.D.Disk.faults a b want now calls.leads calls.up stands)
+    (λ want now stands. ap (splice from _) (sym (held-stands want now (parts_in told len b) stands n _ less c.held-page.ensures.bytes)) ∙ differ) c.change.ensures.pages
 
 pub returns-clause-calls : goal.returns-clause-calls
 returns-clause-calls g c =
