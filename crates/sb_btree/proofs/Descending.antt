@@ -1,5 +1,5 @@
 -- One step of a walk down, from a held page of a level.
-use Rattle.std.proofs.Common.{◌≡◌, ℕ, zero, suc, Bool, true, false, cond, not, ◌&&◌, List, [], ◌∷◌, map, Option, Some, None, refl, ap, sym, ◌∙◌, subst, arith, true≢false, ◌<◌, length}
+use Rattle.std.proofs.Common.{◌≡◌, ℕ, zero, suc, Bool, true, false, cond, not, ◌&&◌, List, [], ◌∷◌, map, Option, Some, None, option_map, refl, ap, sym, ◌∙◌, subst, arith, true≢false, ◌<◌, length}
 use Rattle.std.specs.Prelude.{nat_eq, ◌||◌, Err}
 use Rattle.std.specs.FinMap.Entries.{find}
 use Rattle.std.proofs.lemmas.Bool.Decides.{nat_tests}
@@ -13,6 +13,8 @@ use Rattle.sb_forms.specs.Tree.{Nodes, Child, child_of, children_of, entries_of,
 use Rattle.sb_forms.specs.Read.{all_by, is_small, is_bound, has}
 use Rattle.sb_btree.specs.Broken.{held_node, is_of_level, are_of_level, is_page, is_narrow, is_amiss, children_at, any_by, breaks_below}
 use Rattle.sb_btree.specs.Held.{IsTreePage, Lacks, passed, nth_child}
+use Rattle.sb_btree.specs.Leaves.{entry_at, entry_in, in_leaf}
+use Rattle.sb_btree.specs.declared.lookup.LeafEntry.{LeafEntry}
 use Rattle.sb_btree.specs.Ways.{child_on, way}
 use Rattle.sb_btree.specs.Walks.{as_walk, Breaks, Leads, Shows}
 use Rattle.sb_btree.specs.declared.walk.Stop.{Stop}
@@ -123,13 +125,18 @@ any_nth t low a [] i e = or_left _ _ e
 any_nth t low a (x ∷ es) zero e = or_left _ _ e
 any_nth t low a (x ∷ es) (suc i) e = or_right _ _ (any_nth t x.0 (number_at 4 x.1 0) es i e)
 
-breaks_child : (m : ℕ) (held : HeldPages) (p : ℕ) (bytes : List ℕ) (head : Head) (i n : ℕ) → IsTreePage (held p) (suc m) bytes head → breaks_below m held (nth_child head.a (node_in bytes).entries i) n ≡ true → breaks_below (suc m) held p n ≡ true
-breaks_child m held p bytes head i n page b =
+-- a test that the child at a place passes
+pub any_child_at : (t : ℕ → Bool) (m : ℕ) (held : HeldPages) (p : ℕ) (bytes : List ℕ) (head : Head) (i : ℕ) → IsTreePage (held p) (suc m) bytes head → t (nth_child head.a (node_in bytes).entries i) ≡ true
+    → any_by (λ (child : Child). t child.1) (children_at (suc m) (held_node (held p))) ≡ true
+any_child_at t m held p bytes head i page b =
     let here : children_at (suc m) (held_node (held p)) ≡ children_of (Some (node_in bytes)) =
     ap (λ o. children_at (suc m) (held_node o)) page.held_is ∙ ap (children_at (suc m)) (node_of-form bytes page.form)
     ∙ ap (λ t. cond t (children_of (Some (node_in bytes))) []) (ap (is_of_level (suc m)) (sym page.head_is) ∙ page.level_is) in
-    let child : breaks_below m held (nth_child (node_in bytes).head.a (node_in bytes).entries i) n ≡ true = subst (λ (h : Head). breaks_below m held (nth_child h.a (node_in bytes).entries i) n ≡ true) page.head_is b in
-    or_right _ _ (ap (any_by (λ (k : Child). breaks_below m held k.1 n)) here ∙ any_nth (λ k. breaks_below m held k n) [] (node_in bytes).head.a (node_in bytes).entries i child)
+    let child : t (nth_child (node_in bytes).head.a (node_in bytes).entries i) ≡ true = subst (λ (h : Head). t (nth_child h.a (node_in bytes).entries i) ≡ true) page.head_is b in
+    ap (any_by (λ (k : Child). t k.1)) here ∙ any_nth t [] (node_in bytes).head.a (node_in bytes).entries i child
+
+breaks_child : (m : ℕ) (held : HeldPages) (p : ℕ) (bytes : List ℕ) (head : Head) (i n : ℕ) → IsTreePage (held p) (suc m) bytes head → breaks_below m held (nth_child head.a (node_in bytes).entries i) n ≡ true → breaks_below (suc m) held p n ≡ true
+breaks_child m held p bytes head i n page b = or_right _ _ (any_child_at (λ k. breaks_below m held k n) m held p bytes head i page b)
 
 pub breaks_step : {T : Type 0} (l m : ℕ) (held : HeldPages) (p : ℕ) (bytes : List ℕ) (head : Head) (i child : ℕ) (w : Walk T) → l ≡ suc m → IsTreePage (held p) l bytes head → child ≡ nth_child head.a (node_in bytes).entries i
     → Breaks (breaks_below m held child) w → Breaks (breaks_below l held p) w
@@ -183,26 +190,31 @@ find_step m N p key bytes head here is t =
     in_is None = refl
     in_is (Some n) = refl
 
-finds : (m : ℕ) (N : Nodes) (p child : ℕ) (key : List ℕ) (w : Walk (Option (List ℕ))) → FindStep m N p child key
-    → Leads (λ value. value ≡ find key_cmp key (items m N child)) (λ n. has n (way m N (Some key) child)) w
-    → Leads (λ value. value ≡ find key_cmp key (items (suc m) N p)) (λ n. has n (way (suc m) N (Some key) p)) w
-finds m N p child key (Ready r) s g = (g.0 ∙ sym s.items_are, tt)
+-- the entry of a key below a page
+abbrev pub FindLeads : ℕ → Nodes → List ℕ → ℕ → Walk (Option LeafEntry) → Type 0
+FindLeads l N key p w = Leads (λ found. option_map entry_in found ≡ entry_at key (items l N p)) (λ n. has n (way l N (Some key) p)) w
+
+finds : (m : ℕ) (N : Nodes) (p child : ℕ) (key : List ℕ) (w : Walk (Option LeafEntry)) → FindStep m N p child key → FindLeads m N key child w → FindLeads (suc m) N key p w
+finds m N p child key (Ready r) s g = (g.0 ∙ ap (option_map (λ value. (key, value))) (sym s.items_are), tt)
 finds m N p child key (Need n) s g = (tt, ap (has n) s.way_is ∙ or_right _ _ g.1)
 finds m N p child key Fresh s g = (g.0, tt)
 finds m N p child key (Broken n) s g = (g.0, tt)
 finds m N p child key NoMemory s g = (tt, tt)
 
-pub find_leads : (l m : ℕ) (c : View) (p : ℕ) (key bytes : List ℕ) (head : Head) (child : ℕ) (w : Walk (Option (List ℕ))) → l ≡ suc m → IsTreePage (page_of c p) l bytes head
+pub find_leads : (l m : ℕ) (c : View) (p : ℕ) (key bytes : List ℕ) (head : Head) (child : ℕ) (w : Walk (Option LeafEntry)) → l ≡ suc m → IsTreePage (page_of c p) l bytes head
     → child ≡ nth_child head.a (node_in bytes).entries (passed (Some key) (node_in bytes).entries)
-    → (N : Nodes) → Shows c N → IsTree l N p
-    → (IsTree m N child → Leads (λ value. value ≡ find key_cmp key (items m N child)) (λ n. has n (way m N (Some key) child)) w)
-    → Leads (λ value. value ≡ find key_cmp key (items l N p)) (λ n. has n (way l N (Some key) p)) w
+    → (N : Nodes) → Shows c N → IsTree l N p → (IsTree m N child → FindLeads m N key child w) → FindLeads l N key p w
 find_leads l m c p key bytes head child w is page at N shows t below =
     let s = subst (λ k. FindStep m N p k key) (sym at) (find_step m N p key bytes head (shown c N p l bytes head shows page) page.head_is (subst (λ k. IsTree k N p) is t)) in
-    subst (λ k. Leads (λ value. value ≡ find key_cmp key (items k N p)) (λ n. has n (way k N (Some key) p)) w) (sym is) (finds m N p child key w s (below s.tree))
+    subst (λ k. FindLeads k N key p w) (sym is) (finds m N p child key w s (below s.tree))
 
--- a leaf has the value
-pub leaf_finds : (l : ℕ) (c : View) (p : ℕ) (key bytes : List ℕ) (head : Head) (value : Option (List ℕ)) → l ≡ 0 → IsTreePage (page_of c p) l bytes head → (N : Nodes) → Shows c N
-    → value ≡ find key_cmp key (node_in bytes).entries → value ≡ find key_cmp key (items l N p)
-leaf_finds l c p key bytes head value is page N shows v =
-    v ∙ ap (λ o. find key_cmp key (entries_of o)) (sym (shown c N p l bytes head shows page)) ∙ ap (λ k. find key_cmp key (items k N p)) (sym is)
+-- a leaf has the entry
+pub without_leaf : (leaf : ℕ) (o : Option Entry) → option_map entry_in (option_map (in_leaf leaf) o) ≡ o
+without_leaf leaf None = refl
+without_leaf leaf (Some e) = refl
+
+pub leaf_finds : (l : ℕ) (c : View) (p : ℕ) (key bytes : List ℕ) (head : Head) (found : Option LeafEntry) → l ≡ 0 → IsTreePage (page_of c p) l bytes head → (N : Nodes) → Shows c N
+    → found ≡ option_map (in_leaf p) (entry_at key (node_in bytes).entries) → option_map entry_in found ≡ entry_at key (items l N p)
+leaf_finds l c p key bytes head found is page N shows v =
+    ap (option_map entry_in) v ∙ without_leaf p (entry_at key (node_in bytes).entries)
+    ∙ ap (λ o. entry_at key (entries_of o)) (sym (shown c N p l bytes head shows page)) ∙ ap (λ k. entry_at key (items k N p)) (sym is)

@@ -1,5 +1,5 @@
 -- The first entry behind a key: in the child in which the key stands, or in the next one.
-use Rattle.std.proofs.Common.{◌≡◌, ℕ, zero, suc, ◌<◌, true, false, cond, List, [], ◌∷◌, length, map, Option, Some, None, is_some, refl, ap, sym, ◌∙◌, subst, inl, inr, ◌⊎◌, arith, true≢false, length-append}
+use Rattle.std.proofs.Common.{◌≡◌, ℕ, zero, suc, ◌<◌, true, false, cond, List, [], ◌∷◌, length, map, Option, Some, None, option_map, is_some, refl, ap, sym, ◌∙◌, subst, inl, inr, ◌⊎◌, arith, true≢false, length-append}
 use Rattle.std.specs.Prelude.{nat_lt, Err}
 use Rattle.std.specs.List.{find as first}
 use Rattle.std.proofs.lemmas.Bool.Decides.{nat_tests}
@@ -12,11 +12,13 @@ use Rattle.sb_forms.specs.Read.{has}
 use Rattle.sb_btree.specs.Held.{IsTreePage, passed, nth_child}
 use Rattle.sb_btree.specs.Ways.{child_on, way, is_behind, way_to, next_ways}
 use Rattle.sb_btree.specs.Walks.{as_walk, Leads, Shows}
+use Rattle.sb_btree.specs.Leaves.{entry_in, in_leaf}
+use Rattle.sb_btree.specs.declared.lookup.LeafEntry.{LeafEntry}
 use Rattle.sb_btree.specs.declared.walk.Stop.{Stop}
 use Rattle.sb_btree.specs.declared.walk.Stop.TheVariants as stop
 use Rattle.sb_btree.specs.declared.walk.Walk.{Walk}
 use Rattle.sb_btree.specs.declared.walk.Walk.TheVariants.{Ready, Need, Fresh, Broken, NoMemory}
-use Rattle.sb_btree.proofs.Descending.{child_on-passed, shown, way_first}
+use Rattle.sb_btree.proofs.Descending.{child_on-passed, shown, way_first, without_leaf}
 use Rattle.sb_btree.proofs.Members.{has_left, has_right, has_either, has_is, is_has}
 use Rattle.sb_btree.proofs.Passing.{or_else, next_over, nth_is, child_for-entry}
 use Rattle.sb_btree.proofs.Placing.{nth_first, page_count}
@@ -135,11 +137,11 @@ module _ (m : ℕ) (N : Nodes) (p : ℕ) (n : Node) (after : Option (List ℕ)) 
           (subst (λ o. Has x (way_to (suc m) N o p)) (sym all) (subst (λ c. Has x (p ∷ way m N (Some e.0) c)) (sym to) (inr here)))
 
 -- ---- over a held page
-abbrev pub NextLeads : ℕ → Nodes → Option (List ℕ) → ℕ → Walk (Option Entry) → Type 0
-NextLeads l N after p w = Leads (λ next. next ≡ first (is_behind after) (items l N p)) (λ x. has x (next_ways l N after p)) w
+abbrev pub NextLeads : ℕ → Nodes → Option (List ℕ) → ℕ → Walk (Option LeafEntry) → Type 0
+NextLeads l N after p w = Leads (λ next. option_map entry_in next ≡ first (is_behind after) (items l N p)) (λ x. has x (next_ways l N after p)) w
 
 -- an entry was found, or all entries of the page are passed
-abbrev pub Ends : Option (List ℕ) → List Entry → Walk (Option Entry) → Type 0
+abbrev pub Ends : Option (List ℕ) → List Entry → Walk (Option LeafEntry) → Type 0
 Ends after es (Ready next) = (is_some next ≡ true) ⊎ (passed after es ≡ length es)
 Ends after es walk = Unit {0}
 
@@ -149,7 +151,7 @@ stop_ends after es stop.Fresh = tt
 stop_ends after es (stop.Broken n) = tt
 stop_ends after es stop.NoMemory = tt
 
-end_first : (m : ℕ) (N : Nodes) (p : ℕ) (n : Node) (after : Option (List ℕ)) → Inner m N p n → (next : Option Entry) → next ≡ first_in m N after (nth n (passed after n.entries)) → Ends after n.entries (Ready next) → next ≡ first_in (suc m) N after p
+end_first : (m : ℕ) (N : Nodes) (p : ℕ) (n : Node) (after : Option (List ℕ)) → Inner m N p n → (next : Option LeafEntry) → option_map entry_in next ≡ first_in m N after (nth n (passed after n.entries)) → Ends after n.entries (Ready next) → option_map entry_in next ≡ first_in (suc m) N after p
 end_first m N p n after inner (Some e) is ends = sym (next_in m N p n after inner ∙ ap (λ o. or_else o (cond (nat_lt (passed after n.entries) (length n.entries)) (first_in m N None (nth n (suc (passed after n.entries)))) None)) (sym is))
 end_first m N p n after inner None is (inl some) = absurd (true≢false (sym some))
 end_first m N p n after inner None is (inr all) =
@@ -159,14 +161,14 @@ end_first m N p n after inner None is (inr all) =
     not_less : (a b : ℕ) → a ≡ b → nat_lt a b ≡ false
     not_less a b h = grind (arith, nat_tests)
 
-lead_first : (m : ℕ) (N : Nodes) (p : ℕ) (n : Node) (after : Option (List ℕ)) (w : Walk (Option Entry)) → Inner m N p n → NextLeads m N after (nth n (passed after n.entries)) w → Ends after n.entries w → NextLeads (suc m) N after p w
+lead_first : (m : ℕ) (N : Nodes) (p : ℕ) (n : Node) (after : Option (List ℕ)) (w : Walk (Option LeafEntry)) → Inner m N p n → NextLeads m N after (nth n (passed after n.entries)) w → Ends after n.entries w → NextLeads (suc m) N after p w
 lead_first m N p n after (Ready next) inner g ends = (end_first m N p n after inner next g.0 ends, tt)
 lead_first m N p n after (Need x) inner g ends = (tt, is_has x (next_ways (suc m) N after p) (ways_first m N p n after inner x (has_is x (next_ways m N after (nth n (passed after n.entries))) g.1)))
 lead_first m N p n after Fresh inner g ends = (g.0, tt)
 lead_first m N p n after (Broken x) inner g ends = (g.0, tt)
 lead_first m N p n after NoMemory inner g ends = (tt, tt)
 
-lead_next : (m : ℕ) (N : Nodes) (p : ℕ) (n : Node) (after : Option (List ℕ)) (w : Walk (Option Entry)) → Inner m N p n → first_in m N after (nth n (passed after n.entries)) ≡ None → passed after n.entries < length n.entries
+lead_next : (m : ℕ) (N : Nodes) (p : ℕ) (n : Node) (after : Option (List ℕ)) (w : Walk (Option LeafEntry)) → Inner m N p n → first_in m N after (nth n (passed after n.entries)) ≡ None → passed after n.entries < length n.entries
     → NextLeads m N None (nth n (suc (passed after n.entries))) w → NextLeads (suc m) N after p w
 lead_next m N p n after (Ready next) inner none less g = (g.0 ∙ sym (next_first m N p n after inner none less), tt)
 lead_next m N p n after (Need x) inner none less g = (tt, is_has x (next_ways (suc m) N after p) (ways_next m N p n after inner none less x (has_is x (next_ways m N None (nth n (suc (passed after n.entries)))) g.1)))
@@ -191,7 +193,7 @@ pub page_length : (bytes : List ℕ) (head : Head) → head ≡ (node_in bytes).
 page_length bytes head is = ap (λ (h : Head). h.count) is ∙ page_count bytes
 
 -- the walk goes on in the child in which the key stands
-pub next_leads : (l m : ℕ) (c : View) (p : ℕ) (after : Option (List ℕ)) (bytes : List ℕ) (head : Head) (child : ℕ) (w : Walk (Option Entry)) → l ≡ suc m → IsTreePage (page_of c p) l bytes head
+pub next_leads : (l m : ℕ) (c : View) (p : ℕ) (after : Option (List ℕ)) (bytes : List ℕ) (head : Head) (child : ℕ) (w : Walk (Option LeafEntry)) → l ≡ suc m → IsTreePage (page_of c p) l bytes head
     → child ≡ held_child bytes head (passed after (node_in bytes).entries) → Ends after (node_in bytes).entries w
     → (N : Nodes) → Shows c N → IsTree l N p → (IsTree m N child → NextLeads m N after child w) → NextLeads l N after p w
 next_leads l m c p after bytes head child w is page at ends N shows t below =
@@ -207,7 +209,7 @@ pub next_stops : (l m : ℕ) (c : View) (p : ℕ) (after : Option (List ℕ)) (b
 next_stops l m c p after bytes head child s is page at = next_leads l m c p after bytes head child (as_walk (Err s)) is page at (stop_ends after (node_in bytes).entries s)
 
 -- it found nothing there, and goes on in the next child
-pub next_goes_on : (l m : ℕ) (c : View) (p : ℕ) (after : Option (List ℕ)) (bytes : List ℕ) (head : Head) (child next : ℕ) (found : Option Entry) (w : Walk (Option Entry)) → l ≡ suc m → IsTreePage (page_of c p) l bytes head
+pub next_goes_on : (l m : ℕ) (c : View) (p : ℕ) (after : Option (List ℕ)) (bytes : List ℕ) (head : Head) (child next : ℕ) (found : Option LeafEntry) (w : Walk (Option LeafEntry)) → l ≡ suc m → IsTreePage (page_of c p) l bytes head
     → child ≡ held_child bytes head (passed after (node_in bytes).entries) → is_some found ≡ false → passed after (node_in bytes).entries < length (node_in bytes).entries
     → next ≡ held_child bytes head (suc (passed after (node_in bytes).entries))
     → (N : Nodes) → Shows c N → IsTree l N p → (IsTree m N child → NextLeads m N after child (Ready found)) → (IsTree m N next → NextLeads m N None next w) → NextLeads l N after p w
@@ -221,15 +223,16 @@ next_goes_on l m c p after bytes head child next found w is page at not less at_
     (lead_next m N p (node_in bytes) after w inner (ap (λ k. first_in m N after k) (sym same) ∙ none) less
     (subst (λ k. NextLeads m N None k w) same_next (beside (subst (IsTree m N) (sym same_next) (child_is m N p (node_in bytes) (suc i) inner)))))
   where
-    nothing : (o : Option Entry) → is_some o ≡ false → o ≡ None
+    nothing : (o : Option LeafEntry) → is_some o ≡ false → option_map entry_in o ≡ None
     nothing None e = refl
     nothing (Some x) e = absurd (true≢false e)
 
 -- a leaf has the entry
-pub leaf_follows : (l : ℕ) (c : View) (p : ℕ) (after : Option (List ℕ)) (bytes : List ℕ) (head : Head) (next : Option Entry) → l ≡ 0 → IsTreePage (page_of c p) l bytes head → (N : Nodes) → Shows c N
-    → next ≡ first (is_behind after) (node_in bytes).entries → next ≡ first (is_behind after) (items l N p)
+pub leaf_follows : (l : ℕ) (c : View) (p : ℕ) (after : Option (List ℕ)) (bytes : List ℕ) (head : Head) (next : Option LeafEntry) → l ≡ 0 → IsTreePage (page_of c p) l bytes head → (N : Nodes) → Shows c N
+    → next ≡ option_map (in_leaf p) (first (is_behind after) (node_in bytes).entries) → option_map entry_in next ≡ first (is_behind after) (items l N p)
 leaf_follows l c p after bytes head next is page N shows v =
-    v ∙ ap (λ o. first (is_behind after) (entries_of o)) (sym (shown c N p l bytes head shows page)) ∙ ap (λ k. first (is_behind after) (items k N p)) (sym is)
+    ap (option_map entry_in) v ∙ without_leaf p (first (is_behind after) (node_in bytes).entries)
+    ∙ ap (λ o. first (is_behind after) (entries_of o)) (sym (shown c N p l bytes head shows page)) ∙ ap (λ k. first (is_behind after) (items k N p)) (sym is)
 
 pub next_way_first : (l : ℕ) (N : Nodes) (after : Option (List ℕ)) (p : ℕ) → has p (next_ways l N after p) ≡ true
 next_way_first l N after p =

@@ -6,6 +6,7 @@ pub mod Placing
 pub mod Passing
 pub mod Descending
 pub mod Whole
+pub mod Leaves
 pub mod Roots
 pub mod Following
 pub mod Frames

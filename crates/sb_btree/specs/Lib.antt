@@ -1,4 +1,5 @@
 pub mod Broken
+pub mod Leaves
 pub mod Ways
 pub mod Walks
 pub mod Held

@@ -16,8 +16,8 @@ mod removal;
 mod walk;
 
 pub use insertion::{insert, replace};
-pub use laws::{reads_trees, trees_are_small, trees_are_whole, ways_are_short};
-pub use lookup::{find, next};
+pub use laws::{leaves_are_whole, reads_trees, trees_are_small, trees_are_whole, ways_are_short};
+pub use lookup::{LeafEntry, find, next};
 pub use preparing::prepare;
 pub use removal::remove;
 pub use walk::Walk;

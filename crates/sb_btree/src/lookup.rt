@@ -1,12 +1,11 @@
 //! Look-ups: the value of a key, and the entry behind a key.
 
 ghost use Rattle.std.specs.Prelude.{◌≡◌, IfOk, option_map, true, Some};
-ghost use Rattle.std.specs.FinMap.Entries.{find as find_in};
 ghost use Rattle.std.specs.List.{find as first};
-ghost use Rattle.sb_node.specs.Entries.{key_cmp};
 ghost use Rattle.sb_node.specs.Page.{has_form, node_in};
 ghost use Rattle.sb_ctx.specs.View.{page_of};
 ghost use Rattle.sb_btree.specs.Broken.{breaks, breaks_below};
+ghost use Rattle.sb_btree.specs.Leaves.{Finds, IsInLeaf, entry_at, entry_in, in_leaf, leads_below, leads_to};
 ghost use Rattle.sb_forms.specs.Read.{has};
 ghost use Rattle.sb_forms.specs.Tree.{items};
 ghost use Rattle.sb_btree.specs.Walks.{AsksFor, Breaks, Gives, Leads, Needs, OnTree, OverNodes, OverTree, as_walk};
@@ -19,13 +18,22 @@ use sb_node::{entry, place};
 use sb_value::{Bytes, RecKey};
 use std::alloc::{AllocError, Global};
 
-/// The value of a key.
-pub fn find(alloc: Global, ctx: &Ctx, root: u32, key: &[u8]) -> Walk<Option<Bytes>>
+/// An entry, and the page of the leaf that has it.
+#[derive(Drop)]
+pub struct LeafEntry {
+    pub leaf: u32,
+    pub key: RecKey,
+    pub value: Bytes,
+}
+
+/// The entry of a key.
+pub fn find(alloc: Global, ctx: &Ctx, root: u32, key: &[u8]) -> Walk<Option<LeafEntry>>
     ensures asks { AsksFor ctx.now result }
     ensures broken { Breaks (breaks root (page_of ctx.now)) result }
+    ensures stands { Finds (IsInLeaf (leads_to root (page_of ctx.now)) (page_of ctx.now)) result }
 
     // over pages that are a tree
-    ensures gives { OverTree ctx.now root (λ es. Gives (λ value. value ≡ find_in key_cmp key.now es) result) }
+    ensures gives { OverTree ctx.now root (λ es. Gives (λ found. option_map entry_in found ≡ entry_at key.now es) result) }
     ensures way { OnTree ctx.now root (λ P. Needs (is_on_way root P (Some key.now)) result) }
 {
     match root_level(ctx, root) {
@@ -35,17 +43,13 @@ pub fn find(alloc: Global, ctx: &Ctx, root: u32, key: &[u8]) -> Walk<Option<Byte
 }
 
 /// The first entry whose key is above a key, or the first of all.
-pub fn next(
-    alloc: Global,
-    ctx: &Ctx,
-    root: u32,
-    after: Option<&[u8]>,
-) -> Walk<Option<(RecKey, Bytes)>>
+pub fn next(alloc: Global, ctx: &Ctx, root: u32, after: Option<&[u8]>) -> Walk<Option<LeafEntry>>
     ensures asks { AsksFor ctx.now result }
     ensures broken { Breaks (breaks root (page_of ctx.now)) result }
+    ensures stands { Finds (IsInLeaf (leads_to root (page_of ctx.now)) (page_of ctx.now)) result }
 
     // over pages that are a tree
-    ensures gives { OverTree ctx.now root (λ es. Gives (λ next. next ≡ first (is_behind (option_map (λ key. key.now) after.entry)) es) result) }
+    ensures gives { OverTree ctx.now root (λ es. Gives (λ next. option_map entry_in next ≡ first (is_behind (option_map (λ key. key.now) after.entry)) es) result) }
     ensures way { OnTree ctx.now root (λ P. Needs (is_on_next_ways root P (option_map (λ key. key.now) after.entry)) result) }
 {
     match root_level(ctx, root) {
@@ -60,14 +64,15 @@ fn find_below(
     page: u32,
     level: u8,
     key: &[u8],
-) -> Result<Option<Bytes>, Stop>
+) -> Result<Option<LeafEntry>, Stop>
     ensures asks { AsksFor ctx.now (as_walk result) }
     ensures broken { Breaks (breaks_below level (page_of ctx.now) page) (as_walk result) }
-    ensures leads { OverNodes ctx.now level page (λ N. Leads (λ value. value ≡ find_in key_cmp key.now (items level N page)) (λ n. has n (way level N (Some key.now) page)) (as_walk result)) }
+    ensures stands { Finds (IsInLeaf (leads_below level (page_of ctx.now) page) (page_of ctx.now)) (as_walk result) }
+    ensures leads { OverNodes ctx.now level page (λ N. Leads (λ found. option_map entry_in found ≡ entry_at key.now (items level N page)) (λ n. has n (way level N (Some key.now) page)) (as_walk result)) }
 {
     let (bytes, head) = tree_page(ctx, page, level)?;
     if level == 0 {
-        return Ok(leaf_value(alloc, bytes, key)?);
+        return Ok(leaf_value(alloc, page, bytes, key)?);
     }
     match child_at(bytes, head.a, count_upto(bytes, Some(key))) {
         None => Err(Stop::Broken(page)),
@@ -81,14 +86,15 @@ fn next_below(
     page: u32,
     level: u8,
     after: Option<&[u8]>,
-) -> Result<Option<(RecKey, Bytes)>, Stop>
+) -> Result<Option<LeafEntry>, Stop>
     ensures asks { AsksFor ctx.now (as_walk result) }
     ensures broken { Breaks (breaks_below level (page_of ctx.now) page) (as_walk result) }
-    ensures leads { OverNodes ctx.now level page (λ N. Leads (λ next. next ≡ first (is_behind (option_map (λ key. key.now) after.entry)) (items level N page)) (λ n. has n (next_ways level N (option_map (λ key. key.now) after.entry) page)) (as_walk result)) }
+    ensures stands { Finds (IsInLeaf (leads_below level (page_of ctx.now) page) (page_of ctx.now)) (as_walk result) }
+    ensures leads { OverNodes ctx.now level page (λ N. Leads (λ next. option_map entry_in next ≡ first (is_behind (option_map (λ key. key.now) after.entry)) (items level N page)) (λ n. has n (next_ways level N (option_map (λ key. key.now) after.entry) page)) (as_walk result)) }
 {
     let (bytes, head) = tree_page(ctx, page, level)?;
     if level == 0 {
-        return Ok(leaf_next(alloc, bytes, head.count, after)?);
+        return Ok(leaf_next(alloc, page, bytes, head.count, after)?);
     }
     let i = count_upto(bytes, after);
     let Some(child) = child_at(bytes, head.a, i) else {
@@ -104,26 +110,34 @@ fn next_below(
     next_below(alloc, ctx, child, level - 1, None)
 }
 
-fn leaf_value(alloc: Global, page: &[u8], key: &[u8]) -> Result<Option<Bytes>, AllocError>
+fn leaf_value(
+    alloc: Global,
+    leaf: u32,
+    page: &[u8],
+    key: &[u8],
+) -> Result<Option<LeafEntry>, AllocError>
     requires { has_form page.now ≡ true }
-    ensures { IfOk result (λ value. value ≡ find_in key_cmp key.now (node_in page.now).entries) }
+    ensures { IfOk result (λ found. found ≡ option_map (in_leaf leaf) (entry_at key.now (node_in page.now).entries)) }
 {
     let Ok(i) = place(page, key) else {
         return Ok(None);
     };
     let (_, value) = entry(page, i);
-    Ok(Some(Bytes::from_vec(copied(alloc, value)?)))
+    let key = RecKey::from_vec(copied(alloc, key)?);
+    let value = Bytes::from_vec(copied(alloc, value)?);
+    Ok(Some(LeafEntry { leaf, key, value }))
 }
 
 fn leaf_next(
     alloc: Global,
+    leaf: u32,
     page: &[u8],
     count: u16,
     after: Option<&[u8]>,
-) -> Result<Option<(RecKey, Bytes)>, AllocError>
+) -> Result<Option<LeafEntry>, AllocError>
     requires form { has_form page.now ≡ true }
     requires count { count ≡ (node_in page.now).head.count }
-    ensures { IfOk result (λ next. next ≡ first (is_behind (option_map (λ key. key.now) after.entry)) (node_in page.now).entries) }
+    ensures { IfOk result (λ next. next ≡ option_map (in_leaf leaf) (first (is_behind (option_map (λ key. key.now) after.entry)) (node_in page.now).entries)) }
 {
     let i = count_upto(page, after);
     if i == count {
@@ -132,7 +146,7 @@ fn leaf_next(
     let (key, value) = entry(page, i);
     let key = RecKey::from_vec(copied(alloc, key)?);
     let value = Bytes::from_vec(copied(alloc, value)?);
-    Ok(Some((key, value)))
+    Ok(Some(LeafEntry { leaf, key, value }))
 }
 
 /// A copy of bytes.

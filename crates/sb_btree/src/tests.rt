@@ -51,7 +51,7 @@ fn the_child_of_the_key_is_looked_up(rt: HostRuntime) -> Result<(), Fail> {
     assert!(rt; matches!(&find(rt.alloc(), &ctx, 7, b"m"), Walk::Need(9)));
     give(&mut ctx, 8, &LEAF)?;
     assert!(rt;
-        matches!(&find(rt.alloc(), &ctx, 7, b"b"), Walk::Ready(Some(value)) if value.as_slice() == b"two".as_slice())
+        matches!(&find(rt.alloc(), &ctx, 7, b"b"), Walk::Ready(Some(found)) if found.leaf == 8 && found.key.as_slice() == b"b".as_slice() && found.value.as_slice() == b"two".as_slice())
     );
     assert!(rt; matches!(&find(rt.alloc(), &ctx, 7, b"c"), Walk::Ready(None)));
     Ok(())
@@ -63,12 +63,12 @@ fn the_next_entry_may_be_in_the_next_child(rt: HostRuntime) -> Result<(), Fail> 
     give(&mut ctx, 7, &ROOT)?;
     give(&mut ctx, 8, &LEAF)?;
     assert!(rt;
-        matches!(&next(rt.alloc(), &ctx, 7, Some(b"a")), Walk::Ready(Some((key, _))) if key.as_slice() == b"b".as_slice())
+        matches!(&next(rt.alloc(), &ctx, 7, Some(b"a")), Walk::Ready(Some(next)) if next.leaf == 8 && next.key.as_slice() == b"b".as_slice())
     );
     assert!(rt; matches!(&next(rt.alloc(), &ctx, 7, Some(b"b")), Walk::Need(9)));
     give(&mut ctx, 9, &NEXT)?;
     assert!(rt;
-        matches!(&next(rt.alloc(), &ctx, 7, Some(b"b")), Walk::Ready(Some((key, _))) if key.as_slice() == b"n".as_slice())
+        matches!(&next(rt.alloc(), &ctx, 7, Some(b"b")), Walk::Ready(Some(next)) if next.leaf == 9 && next.key.as_slice() == b"n".as_slice())
     );
     assert!(rt; matches!(&next(rt.alloc(), &ctx, 7, Some(b"n")), Walk::Ready(None)));
     Ok(())
@@ -83,6 +83,7 @@ fn a_page_of_another_level_is_broken(rt: HostRuntime) -> Result<(), Fail> {
     assert!(rt; matches!(&find(rt.alloc(), &ctx, 7, b"b"), Walk::Broken(8)));
     assert!(rt; matches!(&next(rt.alloc(), &ctx, 7, Some(b"m")), Walk::Broken(9)));
     assert!(rt; matches!(&find(rt.alloc(), &ctx, 9, b"b"), Walk::Broken(9)));
+    leaves_are_whole();
     reads_trees();
     trees_are_small();
     trees_are_whole();
@@ -98,7 +99,7 @@ fn put(alloc: Global, ctx: &mut Ctx, key: u8) -> Walk<bool> {
 /// Whether that entry is in the tree.
 fn has(alloc: Global, ctx: &Ctx, key: u8) -> bool {
     match find(alloc, ctx, 7, &[key; 602]) {
-        Walk::Ready(Some(value)) => value.as_slice() == [key; 1430].as_slice(),
+        Walk::Ready(Some(found)) => found.value.as_slice() == [key; 1430].as_slice(),
         _ => false,
     }
 }
@@ -126,7 +127,7 @@ fn an_entry_is_put_into_an_empty_leaf(rt: HostRuntime) -> Result<(), Fail> {
         )
     );
     assert!(rt;
-        matches!(&find(rt.alloc(), &ctx, 7, b"b"), Walk::Ready(Some(value)) if value.as_slice() == b"two".as_slice())
+        matches!(&find(rt.alloc(), &ctx, 7, b"b"), Walk::Ready(Some(found)) if found.value.as_slice() == b"two".as_slice())
     );
     assert!(rt;
         matches!(
@@ -156,7 +157,7 @@ fn a_value_is_replaced_below_the_root(rt: HostRuntime) -> Result<(), Fail> {
         )
     );
     assert!(rt;
-        matches!(&find(rt.alloc(), &ctx, 7, b"b"), Walk::Ready(Some(value)) if value.as_slice() == b"six".as_slice())
+        matches!(&find(rt.alloc(), &ctx, 7, b"b"), Walk::Ready(Some(found)) if found.value.as_slice() == b"six".as_slice())
     );
     Ok(())
 }

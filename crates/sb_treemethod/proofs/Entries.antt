@@ -1,5 +1,5 @@
 -- Rows as entries of a tree.
-use Rattle.std.proofs.Common.{◌≡◌, true, ◌&&◌, List, ap, sym, ◌∙◌}
+use Rattle.std.proofs.Common.{◌≡◌, ℕ, Bool, true, false, ◌&&◌, List, None, refl, ap, sym, ◌∙◌, true≢false}
 use Rattle.std.specs.Str.{bytes_eq}
 use Rattle.std.proofs.lemmas.Bool.{and_parts}
 use Rattle.sb_value.specs.declared.schema.Column.{Column}
@@ -10,7 +10,7 @@ use Rattle.sb_relation.specs.Db.{Name, Row, values_in}
 use Rattle.sb_relation.specs.Keys.{is_record_key}
 use Rattle.sb_relation.specs.Lawful.{IsRow}
 use Rattle.sb_node.specs.Entries.{Entry}
-use Rattle.sb_forms.specs.Stored.{row_in, is_row_in}
+use Rattle.sb_forms.specs.Stored.{row_in, is_row_in, IsRowFrom}
 use Rattle.sb_forms.specs.TreePages.{is_row_entry}
 use Rattle.sb_forms.proofs.RowBytes.{row_of_bytes, bytes_of_row}
 use Rattle.sb_forms.proofs.Spelled.{row_in-spelling}
@@ -35,10 +35,30 @@ row_entry schema key e is =
       is_key = three.1;
     }
 
+pub row_read : {schema : List Column} (row : Row) (bytes : List ℕ) → IsRow schema row → bytes ≡ tuple_spelling row → row_in bytes ≡ row
+row_read row bytes is spelled = ap row_in spelled ∙ row_in-spelling row is.tuple
+
 -- a row under its code is one
 pub entry_of_row : (schema : List Column) (key : List Name) (row : Row) (e : Entry) → IsRow schema row → e.0 ≡ ordered_code (values_in schema row key) → e.1 ≡ tuple_spelling row → is_record_key e.0 ≡ true
     → is_row_entry schema key e ≡ true
 entry_of_row schema key row e is key_is value_is short =
-    let read : row_in e.1 ≡ row = ap row_in value_is ∙ row_in-spelling row is.tuple in
+    let read = row_read row e.1 is value_is in
     λ i. bytes_of_row schema row e.1 is value_is i
     && (bytes_same (ordered_code (values_in schema (row_in e.1) key)) e.0).1 (sym (key_is ∙ ap (λ (r : Row). ordered_code (values_in schema r key)) (sym read))) i && short i
+
+-- ---- an entry that is none
+fails : (b : Bool) → (b ≡ true → ⊥) → b ≡ false
+fails true not = absurd (not refl)
+fails false not = refl
+
+-- its value spells no row
+pub misspelled_entry : (schema : List Column) (key : List Name) (e : Entry) → IsRowFrom schema e.1 None → is_row_entry schema key e ≡ false
+misspelled_entry schema key e none = fails (is_row_entry schema key e) (λ is. let row = row_entry schema key e is in none (row_in e.1) row.is_row row.value_is)
+
+-- its row has another key
+pub misplaced_entry : (schema : List Column) (key : List Name) (row : Row) (e : Entry) → IsRow schema row → e.1 ≡ tuple_spelling row → bytes_eq (ordered_code (values_in schema row key)) e.0 ≡ false → is_row_entry schema key e ≡ false
+misplaced_entry schema key row e is value_is other =
+    fails (is_row_entry schema key e)
+    (λ is_entry.
+    let same = (row_entry schema key e is_entry).key_is ∙ ap (λ (r : Row). ordered_code (values_in schema r key)) (row_read row e.1 is value_is) in
+    true≢false (sym ((bytes_same (ordered_code (values_in schema row key)) e.0).1 (sym same)) ∙ other))

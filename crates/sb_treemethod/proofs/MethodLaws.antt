@@ -1,32 +1,38 @@
 -- What the box answers is what the rows say.
-use Rattle.std.proofs.Common.{◌≡◌, ℕ, arith, true, List, Option, Some, None, option_map, refl, ap, sym, ◌∙◌, subst}
+use Rattle.std.proofs.Common.{◌≡◌, ℕ, arith, Bool, true, false, not, ◌&&◌, ◌||◌, List, Option, Some, None, IsSome, option_map, refl, ap, sym, ◌∙◌, subst, true≢false}
+use Rattle.std.specs.List.{list_all}
 use Rattle.std.specs.List.{find as first}
 use Rattle.std.specs.FinMap.Entries.{find}
-use Rattle.sb_value.specs.declared.schema.Column.{Column}
-use Rattle.sb_codec.specs.Tuples.{tuple_spelling}
+use Rattle.std.proofs.lemmas.Bool.{and_from}
+use Rattle.std.proofs.lemmas.Option.{same_Some}
 use Rattle.sb_relation.specs.Db.{Key, Row, Rows, row_at}
 use Rattle.sb_relation.specs.Keys.{is_record_key}
 use Rattle.sb_relation.specs.Lawful.{IsRow}
 use Rattle.sb_node.specs.Entries.{Entry, key_cmp}
 use Rattle.sb_forms.specs.Pages.{Pages}
 use Rattle.sb_forms.specs.Stored.{row_in}
+use Rattle.sb_forms.specs.Tree.{entries_of}
+use Rattle.sb_forms.specs.TreePages.{is_row_entry}
 use Rattle.sb_ctx.specs.declared.instance.Instance.{Instance}
 use Rattle.sb_ctx.specs.declared.calls.MethodCall.{MethodCall}
 use Rattle.sb_ctx.specs.declared.calls.MethodCall.TheVariants as call
 use Rattle.sb_ctx.specs.declared.moves.Move.{Move}
 use Rattle.sb_ctx.specs.declared.moves.Move.TheVariants.{Need, Fresh, NoRecord, Row as Rowed, End, Broken, NoMemory}
-use Rattle.sb_ctx.specs.View.{HeldPage, View, given_at, held_at, page_of, dropped, HoldsPart, stored}
+use Rattle.sb_ctx.specs.View.{HeldPage, HeldPages, View, given_at, held_at, page_of, dropped, HoldsPart, stored}
 use Rattle.sb_ctx.proofs.ViewLaws.{as_it_was}
 use Rattle.sb_ctx.specs.MethodAnswers.{Answers, AsksFor, Changes, Got, Holds, IsOnPath, IsBroken, IsRowOf, Looks, MayEnd, NextIs, NotNew, Reads, row_above}
-use Rattle.sb_btree.specs.Broken.{breaks}
+use Rattle.sb_btree.specs.Broken.{breaks, held_node}
 use Rattle.sb_btree.specs.Inserts.{MayAsk}
+use Rattle.sb_btree.specs.Leaves.{Finds, IsInLeaf, entry_at, entry_in, leads_to}
+use Rattle.sb_btree.specs.declared.lookup.LeafEntry.{LeafEntry}
 use Rattle.sb_btree.specs.Walks.{AsksFor as MayAskFor, Breaks, Gives, OverTree}
 use Rattle.sb_btree.specs.Ways.{is_behind}
 use Rattle.sb_btree.specs.declared.walk.Walk.{Walk}
 use Rattle.sb_btree.specs.declared.walk.Walk.TheVariants as walk
-use Rattle.sb_treemethod.specs.TreeMethod.{tree_method}
+use Rattle.sb_btree.proofs.Leaves.{all_at}
+use Rattle.sb_treemethod.specs.TreeMethod.{tree_method, has_stray}
 use Rattle.sb_treemethod.specs.Answered.{question_of, IsGot, IsNext}
-use Rattle.sb_forms.proofs.Spelled.{row_in-spelling}
+use Rattle.sb_treemethod.proofs.Entries.{row_entry}
 use Rattle.sb_treemethod.proofs.RowsOf.{as_row, row_at-rows_of, row_above-rows_of}
 use Rattle.sb_treemethod.proofs.Counted.{clean_edits}
 use Rattle.sb_treemethod.proofs.TreeRows.{Formed, formed}
@@ -52,8 +58,39 @@ given_now c clean = λ i n. by n (held_at c n) refl i
     by n None there = refl
     by n (Some h) there = ap Some (sym (as_it_was c n h clean there))
 
-broken_given : (inst : Instance) (old : View) (n : ℕ) → dropped old ≡ old → breaks inst.root (page_of old) n ≡ true → breaks inst.root (given_at old) n ≡ true
-broken_given inst old n clean is = ap (λ h. breaks inst.root h n) (given_now old clean) ∙ is
+or_left : (a b : Bool) → a ≡ true → (a || b) ≡ true
+or_left true b e = refl
+or_left false b e = absurd (true≢false (sym e))
+
+or_right : (a b : Bool) → b ≡ true → (a || b) ≡ true
+or_right true b e = refl
+or_right false b e = e
+
+may_given : (inst : Instance) (old : View) (n : ℕ) → dropped old ≡ old → tree_method.may_break inst (page_of old) n ≡ true → tree_method.may_break inst (given_at old) n ≡ true
+may_given inst old n clean is = ap (λ (h : HeldPages). tree_method.may_break inst h n) (given_now old clean) ∙ is
+
+broken_given : (inst : Instance) (old : View) (n : ℕ) → dropped old ≡ old → breaks inst.root (page_of old) n ≡ true → tree_method.may_break inst (given_at old) n ≡ true
+broken_given inst old n clean is = may_given inst old n clean (or_left (breaks inst.root (page_of old) n) (has_stray inst (page_of old) n) is)
+
+-- a leaf with an entry that is none of a row
+stray_given : (inst : Instance) (old : View) (f : LeafEntry) (n : ℕ) → dropped old ≡ old → IsInLeaf (leads_to inst.root (page_of old)) (page_of old) f → n ≡ f.leaf → is_row_entry inst.schema inst.key (entry_in f) ≡ false
+    → tree_method.may_break inst (given_at old) n ≡ true
+stray_given inst old f n clean s is stray =
+    may_given inst old n clean (or_right (breaks inst.root (page_of old) n) (has_stray inst (page_of old) n)
+    (subst (λ m. has_stray inst (page_of old) m ≡ true) (sym is)
+    (and_from (leads_to inst.root (page_of old) f.leaf) (not (list_all (is_row_entry inst.schema inst.key) (entries_of (held_node (page_of old f.leaf))))) s.led
+    (ap (λ o. not (list_all (is_row_entry inst.schema inst.key) (entries_of o))) s.node_is ∙ some_fail (list_all (is_row_entry inst.schema inst.key) s.node.entries) refl))))
+  where
+    some_fail : (b : Bool) → list_all (is_row_entry inst.schema inst.key) s.node.entries ≡ b → not b ≡ true
+    some_fail true all = absurd (true≢false (sym (all_at (is_row_entry inst.schema inst.key) s.node.entries s.place (entry_in f) all s.at) ∙ stray))
+    some_fail false all = refl
+
+stray_held : (inst : Instance) (old : View) (f : LeafEntry) (n : ℕ) → IsInLeaf (leads_to inst.root (page_of old)) (page_of old) f → n ≡ f.leaf → IsSome (page_of old n)
+stray_held inst old f n s is = subst (λ m. IsSome (page_of old m)) (sym is) (by (page_of old f.leaf) s.node_is)
+  where
+    by : (o : Option (List ℕ)) → held_node o ≡ Some s.node → IsSome o
+    by None e = cc
+    by (Some bytes) e = refl
 
 -- a walk that calls a page broken isn't one over a new instance
 abbrev pub OverOld : {T : Type 0} → Instance → MethodCall → View → Walk T → Type 0
@@ -84,62 +121,80 @@ pub Changes-memory : (inst : Instance) (c : MethodCall) (old : View) → dropped
 Changes-memory inst c old clean = changes inst c old old NoMemory clean tt tt tt (λ P part. tt) (idle_within inst c old clean)
 
 -- ---- reading calls
-row_read : (bytes : List ℕ) (schema : List Column) (row : Row) → IsRow schema row → bytes ≡ tuple_spelling row → row_in bytes ≡ row
-row_read bytes schema row is spelled = ap row_in spelled ∙ row_in-spelling row is.tuple
-
 row_of_key : (inst : Instance) (P : Pages) (rows : Rows) (key : Key) (o : Option (List ℕ)) → (f : Formed inst.root inst.schema inst.key P rows) → o ≡ find key_cmp key f.es → row_at rows key ≡ option_map row_in o
 row_of_key inst P rows key o f is = ap (λ (l : Rows). row_at l key) f.same ∙ row_at-rows_of key f.es ∙ ap (option_map row_in) (sym is)
 
-found_row : (inst : Instance) (key k : Key) (row : Row) → k ≡ key → is_record_key key ≡ true → IsRow inst.schema row → IsRowOf inst k row
-found_row inst key k row same is fits = record { is_key = ap is_record_key same ∙ is; is_row = fits }
+found_row : (inst : Instance) (f : LeafEntry) (k : Key) (row : Row) → k ≡ f.key → row ≡ row_in f.value → is_row_entry inst.schema inst.key (entry_in f) ≡ true → IsRowOf inst k row
+found_row inst f k row same read is =
+    let e = row_entry inst.schema inst.key (entry_in f) is in
+    record { is_key = ap is_record_key same ∙ e.is_key; is_row = subst (IsRow inst.schema) (sym read) e.is_row }
 
-pub Looks-got : (inst : Instance) (key : Key) (old : View) (w : Walk (Option (List ℕ))) (move : Move) → dropped old ≡ old → MayAskFor old w → Breaks (breaks inst.root (page_of old)) w
-    → OverTree old inst.root (λ es. Gives (λ value. value ≡ find key_cmp key es) w) → IsGot inst.schema key w move → Bounds inst (call.Get key) old old w → Looks tree_method inst (call.Get key) old old move
-Looks-got inst key old (walk.Ready (Some bytes)) (Rowed k row) clean asks broken gives is b =
-    looks inst (call.Get key) old (Rowed k row) tt tt tt (found_row inst key k row is.0 is.1 is.2)
+-- the entry of a key
+entry_found : (key : Key) (o : Option (List ℕ)) (e : Entry) → Some e ≡ option_map (λ value. (key, value)) o → (e.0 ≡ key) × (o ≡ Some e.1)
+entry_found key None e is = absurd (cc)
+entry_found key (Some v) e is = let same = same_Some e (key, v) is in (ap (λ (x : Entry). x.0) same, ap (λ (x : Entry). Some x.1) (sym same))
+
+pub none_found : (key : Key) (o : Option (List ℕ)) → ◌≡◌ {A = Option Entry} None (option_map (λ value. (key, value)) o) → o ≡ None
+none_found key None is = refl
+none_found key (Some v) is = absurd (cc)
+
+-- a leaf is called broken for an entry that is none of a row
+Looks-stray : (inst : Instance) (c : MethodCall) (old : View) (f : LeafEntry) (n : ℕ) → dropped old ≡ old → OverOld {T = Option LeafEntry} inst c old (walk.Broken n) → MayEnd inst c (Broken n) → IsInLeaf (leads_to inst.root (page_of old)) (page_of old) f → n ≡ f.leaf
+    → is_row_entry inst.schema inst.key (entry_in f) ≡ false → Looks tree_method inst c old old (Broken n)
+Looks-stray inst c old f n clean over ends s is stray =
+    looks inst c old (Broken n) tt (stray_held inst old f n s is) (stray_given inst old f n clean s is stray) ends over (λ P part rows holds. tt)
+
+pub Looks-got : (inst : Instance) (key : Key) (old : View) (w : Walk (Option LeafEntry)) (move : Move) → dropped old ≡ old → MayAskFor old w → Breaks (breaks inst.root (page_of old)) w → Finds (IsInLeaf (leads_to inst.root (page_of old)) (page_of old)) w
+    → OverTree old inst.root (λ es. Gives (λ found. option_map entry_in found ≡ entry_at key es) w) → IsGot inst w move → Bounds inst (call.Get key) old old w → Looks tree_method inst (call.Get key) old old move
+Looks-got inst key old (walk.Ready (Some e)) (Rowed k row) clean asks broken stands gives is b =
+    looks inst (call.Get key) old (Rowed k row) tt tt tt (found_row inst e k row is.0 is.1 is.2)
     (λ P part rows holds.
     let f = formed inst.root inst.schema inst.key P rows holds in
-    let there = row_of_key inst P rows key (Some bytes) f (gives P f.es (reads_still inst old P f.es clean part f.tree)) ∙ ap Some (row_read bytes inst.schema row is.2 is.3) in
-    subst (λ (o : Option Row). Got key o (Rowed k row)) (sym there) (ap (λ (x : Key). Rowed x row) is.0)) (λ P part rows holds. tt)
-Looks-got inst key old (walk.Ready (Some bytes)) NoMemory clean asks broken gives is b = looks inst (call.Get key) old NoMemory tt tt tt tt (λ P part. tt) (λ P part rows holds. tt)
-Looks-got inst key old (walk.Ready (Some bytes)) move clean asks broken gives is b = absurd is
-Looks-got inst key old (walk.Ready None) move clean asks broken gives is b =
+    let found = entry_found key (find key_cmp key f.es) (entry_in e) (gives P f.es (reads_still inst old P f.es clean part f.tree)) in
+    let there = row_of_key inst P rows key (Some e.value) f (sym found.1) ∙ ap Some (sym is.1) in
+    subst (λ (o : Option Row). Got key o (Rowed k row)) (sym there) (ap (λ (x : Key). Rowed x row) (is.0 ∙ found.0))) (λ P part rows holds. tt)
+Looks-got inst key old (walk.Ready (Some e)) (Broken n) clean asks broken stands gives is b = Looks-stray inst (call.Get key) old e n clean (λ P part. tt) tt stands is.0 is.1
+Looks-got inst key old (walk.Ready (Some e)) NoMemory clean asks broken stands gives is b = looks inst (call.Get key) old NoMemory tt tt tt tt (λ P part. tt) (λ P part rows holds. tt)
+Looks-got inst key old (walk.Ready (Some e)) move clean asks broken stands gives is b = absurd is
+Looks-got inst key old (walk.Ready None) move clean asks broken stands gives is b =
     subst (λ (m : Move). Looks tree_method inst (call.Get key) old old m) (sym is) (looks inst (call.Get key) old NoRecord tt tt tt tt
     (λ P part rows holds.
     let f = formed inst.root inst.schema inst.key P rows holds in
-    let none = row_of_key inst P rows key None f (gives P f.es (reads_still inst old P f.es clean part f.tree)) in
+    let none = row_of_key inst P rows key None f (sym (none_found key (find key_cmp key f.es) (gives P f.es (reads_still inst old P f.es clean part f.tree)))) in
     subst (λ (o : Option Row). Got key o NoRecord) (sym none) refl) (λ P part rows holds. tt))
-Looks-got inst key old (walk.Need n) move clean asks broken gives is b =
-    subst (λ (m : Move). Looks tree_method inst (call.Get key) old old m) (sym is) (Looks-question {T = Option (List ℕ)} inst (call.Get key) old (walk.Need n) tt clean asks broken (λ P part rows holds. b.way P part rows (formed inst.root inst.schema inst.key P rows holds)))
-Looks-got inst key old walk.Fresh move clean asks broken gives is b = absurd asks
-Looks-got inst key old (walk.Broken n) move clean asks broken gives is b =
-    subst (λ (m : Move). Looks tree_method inst (call.Get key) old old m) (sym is) (Looks-question {T = Option (List ℕ)} inst (call.Get key) old (walk.Broken n) (λ P part. tt) clean asks broken (λ P part rows holds. tt))
-Looks-got inst key old walk.NoMemory move clean asks broken gives is b =
-    subst (λ (m : Move). Looks tree_method inst (call.Get key) old old m) (sym is) (Looks-question {T = Option (List ℕ)} inst (call.Get key) old walk.NoMemory tt clean asks broken (λ P part rows holds. tt))
+Looks-got inst key old (walk.Need n) move clean asks broken stands gives is b =
+    subst (λ (m : Move). Looks tree_method inst (call.Get key) old old m) (sym is) (Looks-question {T = Option LeafEntry} inst (call.Get key) old (walk.Need n) tt clean asks broken (λ P part rows holds. b.way P part rows (formed inst.root inst.schema inst.key P rows holds)))
+Looks-got inst key old walk.Fresh move clean asks broken stands gives is b = absurd asks
+Looks-got inst key old (walk.Broken n) move clean asks broken stands gives is b =
+    subst (λ (m : Move). Looks tree_method inst (call.Get key) old old m) (sym is) (Looks-question {T = Option LeafEntry} inst (call.Get key) old (walk.Broken n) (λ P part. tt) clean asks broken (λ P part rows holds. tt))
+Looks-got inst key old walk.NoMemory move clean asks broken stands gives is b =
+    subst (λ (m : Move). Looks tree_method inst (call.Get key) old old m) (sym is) (Looks-question {T = Option LeafEntry} inst (call.Get key) old walk.NoMemory tt clean asks broken (λ P part rows holds. tt))
 
 row_behind : (inst : Instance) (P : Pages) (rows : Rows) (low : Option Key) (o : Option Entry) → (f : Formed inst.root inst.schema inst.key P rows) → o ≡ first (is_behind low) f.es → row_above low rows ≡ option_map as_row o
 row_behind inst P rows low o f is = ap (row_above low) f.same ∙ row_above-rows_of low f.es ∙ ap (option_map as_row) (sym is)
 
-pub Looks-next : (inst : Instance) (low : Option Key) (old : View) (w : Walk (Option Entry)) (move : Move) → dropped old ≡ old → MayAskFor old w → Breaks (breaks inst.root (page_of old)) w
-    → OverTree old inst.root (λ es. Gives (λ next. next ≡ first (is_behind low) es) w) → IsNext inst.schema w move → Bounds inst (call.Next low) old old w → Looks tree_method inst (call.Next low) old old move
-Looks-next inst low old (walk.Ready (Some e)) (Rowed k row) clean asks broken gives is b =
-    looks inst (call.Next low) old (Rowed k row) tt tt tt (found_row inst e.0 k row is.0 is.1 is.2)
+pub Looks-next : (inst : Instance) (low : Option Key) (old : View) (w : Walk (Option LeafEntry)) (move : Move) → dropped old ≡ old → MayAskFor old w → Breaks (breaks inst.root (page_of old)) w
+    → Finds (IsInLeaf (leads_to inst.root (page_of old)) (page_of old)) w → OverTree old inst.root (λ es. Gives (λ next. option_map entry_in next ≡ first (is_behind low) es) w) → IsNext inst w move → Bounds inst (call.Next low) old old w
+    → Looks tree_method inst (call.Next low) old old move
+Looks-next inst low old (walk.Ready (Some e)) (Rowed k row) clean asks broken stands gives is b =
+    looks inst (call.Next low) old (Rowed k row) tt tt tt (found_row inst e k row is.0 is.1 is.2)
     (λ P part rows holds.
     let f = formed inst.root inst.schema inst.key P rows holds in
-    let there = row_behind inst P rows low (Some e) f (gives P f.es (reads_still inst old P f.es clean part f.tree)) in
-    subst (λ (o : Option (Key × Row)). NextIs o (Rowed k row)) (sym there) (λ i. Rowed (is.0 i) (sym (row_read e.1 inst.schema row is.2 is.3) i))) (λ P part rows holds. tt)
-Looks-next inst low old (walk.Ready (Some e)) NoMemory clean asks broken gives is b = looks inst (call.Next low) old NoMemory tt tt tt tt (λ P part. tt) (λ P part rows holds. tt)
-Looks-next inst low old (walk.Ready (Some e)) move clean asks broken gives is b = absurd is
-Looks-next inst low old (walk.Ready None) move clean asks broken gives is b =
+    let there = row_behind inst P rows low (Some (entry_in e)) f (gives P f.es (reads_still inst old P f.es clean part f.tree)) in
+    subst (λ (o : Option (Key × Row)). NextIs o (Rowed k row)) (sym there) (λ i. Rowed (is.0 i) (is.1 i))) (λ P part rows holds. tt)
+Looks-next inst low old (walk.Ready (Some e)) (Broken n) clean asks broken stands gives is b = Looks-stray inst (call.Next low) old e n clean (λ P part. tt) tt stands is.0 is.1
+Looks-next inst low old (walk.Ready (Some e)) NoMemory clean asks broken stands gives is b = looks inst (call.Next low) old NoMemory tt tt tt tt (λ P part. tt) (λ P part rows holds. tt)
+Looks-next inst low old (walk.Ready (Some e)) move clean asks broken stands gives is b = absurd is
+Looks-next inst low old (walk.Ready None) move clean asks broken stands gives is b =
     subst (λ (m : Move). Looks tree_method inst (call.Next low) old old m) (sym is) (looks inst (call.Next low) old End tt tt tt tt
     (λ P part rows holds.
     let f = formed inst.root inst.schema inst.key P rows holds in
     let none = row_behind inst P rows low None f (gives P f.es (reads_still inst old P f.es clean part f.tree)) in
     subst (λ (o : Option (Key × Row)). NextIs o End) (sym none) refl) (λ P part rows holds. tt))
-Looks-next inst low old (walk.Need n) move clean asks broken gives is b =
-    subst (λ (m : Move). Looks tree_method inst (call.Next low) old old m) (sym is) (Looks-question {T = Option Entry} inst (call.Next low) old (walk.Need n) tt clean asks broken (λ P part rows holds. b.way P part rows (formed inst.root inst.schema inst.key P rows holds)))
-Looks-next inst low old walk.Fresh move clean asks broken gives is b = absurd asks
-Looks-next inst low old (walk.Broken n) move clean asks broken gives is b =
-    subst (λ (m : Move). Looks tree_method inst (call.Next low) old old m) (sym is) (Looks-question {T = Option Entry} inst (call.Next low) old (walk.Broken n) (λ P part. tt) clean asks broken (λ P part rows holds. tt))
-Looks-next inst low old walk.NoMemory move clean asks broken gives is b =
-    subst (λ (m : Move). Looks tree_method inst (call.Next low) old old m) (sym is) (Looks-question {T = Option Entry} inst (call.Next low) old walk.NoMemory tt clean asks broken (λ P part rows holds. tt))
+Looks-next inst low old (walk.Need n) move clean asks broken stands gives is b =
+    subst (λ (m : Move). Looks tree_method inst (call.Next low) old old m) (sym is) (Looks-question {T = Option LeafEntry} inst (call.Next low) old (walk.Need n) tt clean asks broken (λ P part rows holds. b.way P part rows (formed inst.root inst.schema inst.key P rows holds)))
+Looks-next inst low old walk.Fresh move clean asks broken stands gives is b = absurd asks
+Looks-next inst low old (walk.Broken n) move clean asks broken stands gives is b =
+    subst (λ (m : Move). Looks tree_method inst (call.Next low) old old m) (sym is) (Looks-question {T = Option LeafEntry} inst (call.Next low) old (walk.Broken n) (λ P part. tt) clean asks broken (λ P part rows holds. tt))
+Looks-next inst low old walk.NoMemory move clean asks broken stands gives is b =
+    subst (λ (m : Move). Looks tree_method inst (call.Next low) old old m) (sym is) (Looks-question {T = Option LeafEntry} inst (call.Next low) old walk.NoMemory tt clean asks broken (λ P part rows holds. tt))

@@ -1,34 +1,39 @@
 -- What is answered when a row is added, and when an instance is made.
-use Rattle.std.proofs.Common.{◌≡◌, ◌≢◌, ℕ, ◌+◌, ◌<◌, ◌≤◌, nat_lt, nat_le, length, Bool, true, false, cond, List, [], Option, Some, None, IsSome, is_some, option_map, is_none, refl, ap, sym, ◌∙◌, subst, arith, true≢false, eq-eqb}
+use Rattle.std.proofs.Common.{◌≡◌, ◌≢◌, ℕ, ◌+◌, ◌<◌, ◌≤◌, nat_lt, nat_le, length, Bool, true, false, cond, not, ◌&&◌, ◌||◌, List, [], Option, Some, None, IsSome, is_some, option_map, is_none, refl, ap, sym, ◌∙◌, subst, arith, true≢false, eq-eqb}
+use Rattle.std.specs.List.{list_all}
 use Rattle.std.specs.FinMap.Entries.{find, put}
 use Rattle.std.proofs.lemmas.Bool.{ltb-true, ltb-false}
 use Rattle.std.proofs.lemmas.Bool.Decides.{nat_tests}
 use Rattle.sb_relation.specs.Db.{Key, Row, Rows, row_at, with_row}
 use Rattle.sb_relation.specs.Keys.{NewKeys, Just, Taken, Coded, is_free, new_keys, is_record_key}
-use Rattle.sb_node.specs.Entries.{key_cmp}
+use Rattle.sb_node.specs.Entries.{Entry, key_cmp}
 use Rattle.sb_node.specs.Page.{node_of}
 use Rattle.sb_forms.specs.Pages.{Pages, ArePages, new_pages, zeros}
+use Rattle.sb_forms.specs.Read.{read_tree}
 use Rattle.sb_forms.specs.Stored.{row_in}
+use Rattle.sb_forms.specs.Tree.{entries_of}
 use Rattle.sb_forms.specs.TreePages.{is_row_entry, tree_rows}
 use Rattle.sb_ctx.specs.declared.instance.Instance.{Instance}
 use Rattle.sb_ctx.specs.declared.calls.MethodCall.TheVariants as call
 use Rattle.sb_ctx.specs.declared.moves.Move.TheVariants.{Done, Duplicate, Key as Keyed}
-use Rattle.sb_ctx.specs.View.{View, page_of, room_of, dropped, edits_of, HoldsPart, stored}
+use Rattle.sb_ctx.specs.View.{View, HeldPages, AreSomeOf, page_of, room_of, dropped, edits_of, HoldsPart, stored}
 use Rattle.sb_ctx.proofs.ViewLaws.{given-page, stored-clean, stored-same, stored-other, room_of-page}
 use Rattle.sb_ctx.specs.Laws.{IsMethod}
 use Rattle.sb_ctx.specs.Method.{code_of, MayHold}
 use Rattle.sb_ctx.specs.MethodAnswers.{Changes, Gets, HasRoom, IsOnPath, most_pages}
-use Rattle.sb_btree.specs.Broken.{breaks}
+use Rattle.sb_btree.specs.Broken.{breaks, held_node}
 use Rattle.sb_btree.specs.Inserts.{Inserts, MayAsk, OverTrees, Grew}
+use Rattle.sb_btree.specs.Leaves.{leads_to}
 use Rattle.sb_btree.specs.Prepared.{IsPrepared, Prepares}
 use Rattle.sb_btree.specs.Walks.{Breaks}
 use Rattle.sb_btree.specs.declared.walk.Walk.{Walk}
 use Rattle.sb_btree.specs.declared.walk.Walk.TheVariants as walk
 use Rattle.sb_btree.proofs.Edits.{held_still}
+use Rattle.sb_btree.proofs.Leaves.{leaves_are_whole}
 use Rattle.sb_btree.proofs.Reading.{eq_says}
 use Rattle.sb_btree.proofs.Spending.{trees_are_small}
 use Rattle.sb_btree.proofs.Whole.{trees_are_whole}
-use Rattle.sb_treemethod.specs.TreeMethod.{tree_method, IsEntryOf}
+use Rattle.sb_treemethod.specs.TreeMethod.{tree_method, has_stray, IsEntryOf}
 use Rattle.sb_treemethod.specs.Answered.{prepare_move, put_move}
 use Rattle.sb_forms.proofs.Spelled.{row_in-spelling}
 use Rattle.sb_treemethod.proofs.Entries.{entry_of_row}
@@ -40,6 +45,17 @@ use Rattle.sb_treemethod.proofs.MethodLaws.{changes, Changes-question}
 use Rattle.sb_treemethod.proofs.Within.{AskedBy, Bounds, Within, as_many, reads_still, within}
 
 -- ---- the law of the box
+neither : (a b : Bool) → a ≡ false → b ≡ false → (a || b) ≡ false
+neither true b e f = absurd (true≢false e)
+neither false b e f = f
+
+no_stray : (inst : Instance) (P : Pages) (es : List Entry) → read_tree inst.root P ≡ Some es → list_all (is_row_entry inst.schema inst.key) es ≡ true → (held : HeldPages) (n : ℕ) → AreSomeOf held P → has_stray inst held n ≡ false
+no_stray inst P es read all held n some =
+    elim (leads_to inst.root held n) as (λ b. leads_to inst.root held n ≡ b → (b && not (list_all (is_row_entry inst.schema inst.key) (entries_of (held_node (held n))))) ≡ false) [
+      | true ↦ λ led. ap not (leaves_are_whole P inst.root es read (is_row_entry inst.schema inst.key) all held n some led)
+      | false ↦ λ off. refl
+    ] refl
+
 pub IsMethod-tree_method : IsMethod tree_method
 IsMethod-tree_method = record {
   heap = λ is. cc;
@@ -52,7 +68,7 @@ IsMethod-tree_method = record {
         bound = λ pages.
             let t = tree_of inst.root inst.schema inst.key P rows pages f in
             omega (arith, pages_few inst.root P t.all, trees_are_small P inst.root f.es f.tree, as_many inst.root inst P rows f);
-        whole = λ held n some. trees_are_whole P inst.root f.es f.tree held n some;
+        whole = λ held n some. neither (breaks inst.root held n) (has_stray inst held n) (trees_are_whole P inst.root f.es f.tree held n some) (no_stray inst P f.es f.tree f.entries held n some);
       };
 }
 

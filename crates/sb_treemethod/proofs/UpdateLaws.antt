@@ -24,6 +24,8 @@ use Rattle.sb_ctx.specs.Method.{code_of, MayHold}
 use Rattle.sb_ctx.specs.MethodAnswers.{Changes, Updated}
 use Rattle.sb_btree.specs.Broken.{breaks}
 use Rattle.sb_btree.specs.Inserts.{Inserts, MayAsk, OverTrees, Replaces}
+use Rattle.sb_btree.specs.Leaves.{entry_at, entry_in}
+use Rattle.sb_btree.specs.declared.lookup.LeafEntry.{LeafEntry}
 use Rattle.sb_btree.specs.Removes.{Removes, entries_without, is_on_removal_way}
 use Rattle.sb_btree.specs.Spending.{AsksWithin}
 use Rattle.sb_btree.specs.Walks.{AsksFor as MayAskFor, Breaks, Gives, Needs, OnTree, OverTree}
@@ -36,15 +38,15 @@ use Rattle.sb_btree.proofs.Replacing.{put_over}
 use Rattle.sb_btree.proofs.Whole.{removal_ways_met}
 use Rattle.sb_btree.proofs.Without.{same_bytes}
 use Rattle.sb_treemethod.specs.TreeMethod.{tree_method, IsEntryOf, is_on_call_path}
-use Rattle.sb_treemethod.specs.Answered.{question_of, was_done, was_found, missing_move, move_move, put_move, replace_move}
+use Rattle.sb_treemethod.specs.Answered.{question_of, was_broken, was_done, was_found, missing_move, put_move, replace_move}
 use Rattle.sb_treemethod.proofs.Changing.{TreeOf-grown, TreeOf-shrunk}
 use Rattle.sb_treemethod.proofs.Counted.{clean_edits, grown_few}
-use Rattle.sb_treemethod.proofs.MethodLaws.{OverOld, changes, Changes-question}
+use Rattle.sb_treemethod.proofs.MethodLaws.{OverOld, changes, Changes-question, none_found}
 use Rattle.sb_treemethod.proofs.PutLaws.{asked_put, got_key, got_none, grew_from, row_is_entry, row_under, short_key, some_under, value_read}
 use Rattle.sb_treemethod.proofs.RemoveLaws.{none_there, row_there, rows_still}
 use Rattle.sb_treemethod.proofs.RowsOf.{with_row-rows_of, without_row-rows_of}
 use Rattle.sb_treemethod.proofs.TreeRows.{Formed, TreeOf, formed, rising, rows_from, tree_of}
-use Rattle.sb_treemethod.proofs.Within.{AskedBy, Bounds, Within, reads_still, within}
+use Rattle.sb_treemethod.proofs.Within.{AskedBy, Bounds, Within, reads_still, tree_bounds, within}
 
 -- ---- entries
 other_key : (key code q : Key) → bytes_eq code key ≡ false → is_eq (key_cmp q code) ≡ true → not (bytes_eq q key) ≡ true
@@ -139,7 +141,7 @@ no_row inst key row old new clean given none spends =
     subst (λ (o : Option Row). Updated tree_method inst key row o rows (stored new P) NoRecord) (sym (none_there inst P rows key f gone.0)) (rows_still inst old new P rows clean part gone.1 holds))
     spends
 
-asked_missing : (w : Walk (Option (List ℕ))) → AskedBy w (missing_move w)
+asked_missing : (w : Walk (Option LeafEntry)) → AskedBy w (missing_move w)
 asked_missing (walk.Ready (Some value)) = tt
 asked_missing (walk.Ready None) = tt
 asked_missing (walk.Need n) = refl
@@ -154,15 +156,15 @@ reading_asks old walk.Fresh asks = absurd asks
 reading_asks old (walk.Broken n) asks = asks
 reading_asks old walk.NoMemory asks = tt
 
-pub Changes-missing : (inst : Instance) (key : Key) (row : Row) (old : View) (w : Walk (Option (List ℕ))) → dropped old ≡ old → MayAskFor old w → Breaks (breaks inst.root (page_of old)) w
-    → OverTree old inst.root (λ es. Gives (λ value. value ≡ find key_cmp key es) w) → Bounds inst (call.Update key row) old old w → Changes tree_method inst (call.Update key row) old old (missing_move w)
+pub Changes-missing : (inst : Instance) (key : Key) (row : Row) (old : View) (w : Walk (Option LeafEntry)) → dropped old ≡ old → MayAskFor old w → Breaks (breaks inst.root (page_of old)) w
+    → OverTree old inst.root (λ es. Gives (λ found. option_map entry_in found ≡ entry_at key es) w) → Bounds inst (call.Update key row) old old w → Changes tree_method inst (call.Update key row) old old (missing_move w)
 Changes-missing inst key row old w clean asks broken gives b =
     by w (reading_asks old w asks) broken gives (within inst (call.Update key row) old old w (missing_move w) clean (reading_asks old w asks) (asked_missing w) b)
   where
-    by : (w : Walk (Option (List ℕ))) → MayAsk old w → Breaks (breaks inst.root (page_of old)) w → OverTree old inst.root (λ es. Gives (λ value. value ≡ find key_cmp key es) w) → Within inst (call.Update key row) old old (missing_move w)
+    by : (w : Walk (Option LeafEntry)) → MayAsk old w → Breaks (breaks inst.root (page_of old)) w → OverTree old inst.root (λ es. Gives (λ found. option_map entry_in found ≡ entry_at key es) w) → Within inst (call.Update key row) old old (missing_move w)
         → Changes tree_method inst (call.Update key row) old old (missing_move w)
     by (walk.Ready (Some value)) asks broken gives spends = Changes-asked {T = Bool} inst key row old old walk.NoMemory clean clean tt tt spends
-    by (walk.Ready None) asks broken gives spends = no_row inst key row old old clean clean (λ P es read. (sym (gives P es read), refl)) spends
+    by (walk.Ready None) asks broken gives spends = no_row inst key row old old clean clean (λ P es read. (none_found key (find key_cmp key es) (gives P es read), refl)) spends
     by (walk.Need n) asks broken gives spends = Changes-asked {T = Bool} inst key row old old (walk.Need n) clean clean asks broken spends
     by walk.Fresh asks broken gives spends = Changes-asked {T = Bool} inst key row old old walk.Fresh clean clean asks broken spends
     by (walk.Broken n) asks broken gives spends = Changes-asked {T = Bool} inst key row old old (walk.Broken n) clean clean asks broken spends
@@ -234,8 +236,13 @@ Changes-unput inst key row code value old new w clean given asks broken entry ot
     by (walk.Broken n) asks broken undone inserts spends = Changes-asked {T = Bool} inst key row old new (walk.Broken n) clean given asks broken spends
     by walk.NoMemory asks broken undone inserts spends = Changes-asked {T = Bool} inst key row old new walk.NoMemory clean given tt tt spends
 
-pub was_there : (root : ℕ) (key : Key) (old : View) (w : Walk (Option (List ℕ))) → was_found w ≡ true → OverTree old root (λ es. Gives (λ value. value ≡ find key_cmp key es) w) → OverTree old root (λ es. IsSome (find key_cmp key es))
-was_there root key old (walk.Ready value) is gives = λ P es read. subst (λ (o : Option (List ℕ)). IsSome o) (gives P es read) is
+pub was_there : (root : ℕ) (key : Key) (old : View) (w : Walk (Option LeafEntry)) → was_found w ≡ true → OverTree old root (λ es. Gives (λ found. option_map entry_in found ≡ entry_at key es) w) → OverTree old root (λ es. IsSome (find key_cmp key es))
+was_there root key old (walk.Ready found) is gives = λ P es read. some_entry found (find key_cmp key es) is (gives P es read)
+  where
+    some_entry : (found : Option LeafEntry) (o : Option (List ℕ)) → is_some found ≡ true → option_map entry_in found ≡ option_map (λ value. (key, value)) o → IsSome o
+    some_entry found (Some v) is same = refl
+    some_entry None None is same = absurd (true≢false (sym is))
+    some_entry (Some e) None is same = absurd (cc)
 was_there root key old (walk.Need n) is gives = cc
 was_there root key old walk.Fresh is gives = cc
 was_there root key old (walk.Broken n) is gives = cc
@@ -331,21 +338,40 @@ module _ (inst : Instance) (key : Key) (row : Row) (code value : List ℕ) (old 
       way (walk.Broken n) m P part rows f = tt
       way walk.NoMemory m P part rows f = tt
 
-  asked_move : (w : Walk Bool) → AskedBy w (move_move code w)
-  asked_move (walk.Ready true) = tt
-  asked_move (walk.Ready false) = tt
-  asked_move (walk.Need n) = refl
-  asked_move walk.Fresh = refl
-  asked_move (walk.Broken n) = tt
-  asked_move walk.NoMemory = tt
-
-  pub Changes-moved : (w : Walk Bool) → Moves inst key code value old mid new w → Changes tree_method inst (call.Update key row) old new (move_move code w)
-  Changes-moved w m = by w m (within inst (call.Update key row) old new w (move_move code w) m.new_given m.asks (asked_move w) (moved_bounds w m))
+  pub Changes-moved : (w : Walk Bool) → was_broken w ≡ false → Moves inst key code value old mid new w → Changes tree_method inst (call.Update key row) old new (replace_move code w)
+  Changes-moved w whole m = by w whole m (within inst (call.Update key row) old new w (replace_move code w) m.new_given m.asks (asked_replace code w) (moved_bounds w m))
     where
-      by : (w : Walk Bool) → Moves inst key code value old mid new w → Within inst (call.Update key row) old new (move_move code w) → Changes tree_method inst (call.Update key row) old new (move_move code w)
-      by (walk.Ready true) m spends = moved_row m spends
-      by (walk.Ready false) m spends = lost_row m spends
-      by (walk.Need n) m spends = Changes-asked {T = Bool} inst key row old new (walk.Need n) m.clean m.new_given m.asks tt spends
-      by walk.Fresh m spends = Changes-asked {T = Bool} inst key row old new walk.Fresh m.clean m.new_given m.asks tt spends
-      by (walk.Broken n) m spends = Changes-asked {T = Bool} inst key row old new walk.NoMemory m.clean m.new_given tt tt spends
-      by walk.NoMemory m spends = Changes-asked {T = Bool} inst key row old new walk.NoMemory m.clean m.new_given tt tt spends
+      by : (w : Walk Bool) → was_broken w ≡ false → Moves inst key code value old mid new w → Within inst (call.Update key row) old new (replace_move code w) → Changes tree_method inst (call.Update key row) old new (replace_move code w)
+      by (walk.Ready true) whole m spends = moved_row m spends
+      by (walk.Ready false) whole m spends = lost_row m spends
+      by (walk.Need n) whole m spends = Changes-asked {T = Bool} inst key row old new (walk.Need n) m.clean m.new_given m.asks tt spends
+      by walk.Fresh whole m spends = Changes-asked {T = Bool} inst key row old new walk.Fresh m.clean m.new_given m.asks tt spends
+      by (walk.Broken n) whole m spends = absurd (true≢false whole)
+      by walk.NoMemory whole m spends = Changes-asked {T = Bool} inst key row old new walk.NoMemory m.clean m.new_given tt tt spends
+
+-- ---- a removal that stops at a broken page, from the pages as they were given
+pub record Removal (inst : Instance) (key : Key) (start new : View) (w : Walk Bool) : Type 0 where
+  pub given : dropped new ≡ dropped start
+  pub asks : MayAsk new w
+  pub broken : Breaks (breaks inst.root (page_of start)) w
+  pub way : OnTree start inst.root (λ P. Needs (is_on_removal_way inst.root P key) w)
+  pub edits : OverTrees start inst.root (λ P es. edits_of new < edits_of start + 5 * digits (length es + 1))
+  pub room : OverTrees start inst.root (λ P es. AsksWithin (2 * length es) (length (tree_met inst.root (stored start P))) start new w)
+
+asked_question : (w : Walk Bool) → AskedBy w (question_of w)
+asked_question (walk.Ready end) = tt
+asked_question (walk.Need n) = refl
+asked_question walk.Fresh = refl
+asked_question (walk.Broken n) = tt
+asked_question walk.NoMemory = tt
+
+pub Changes-alone : (inst : Instance) (key : Key) (row : Row) (old start new : View) (w : Walk Bool) → dropped old ≡ old → start ≡ old → Removal inst key start new w → Changes tree_method inst (call.Update key row) old new (question_of w)
+Changes-alone inst key row old start new w clean same made = by (subst (λ (v : View). Removal inst key v new w) same made)
+  where
+    by : Removal inst key old new w → Changes tree_method inst (call.Update key row) old new (question_of w)
+    by r =
+        let given = r.given ∙ clean in
+        Changes-asked {T = Bool} inst key row old new w clean given r.asks r.broken
+        (within inst (call.Update key row) old new w (question_of w) given r.asks (asked_question w)
+        (tree_bounds inst (call.Update key row) old new w (λ P. is_on_removal_way inst.root P key) tree_cost clean (λ P es read n is. removal_ways_met P inst.root es read key n is) (λ n. omega arith) r.way
+        (λ P es read. let few = r.edits P es read in omega (arith, few)) r.room))

@@ -1,13 +1,13 @@
 -- What the walks over a tree are answered with.
-use Rattle.std.specs.Prelude.{◌≡◌, ℕ, Bool, true, false, List, Option, Some, None, is_some}
-use Rattle.sb_value.specs.declared.schema.Column.{Column}
-use Rattle.sb_codec.specs.Tuples.{tuple_spelling}
+use Rattle.std.specs.Prelude.{◌≡◌, Bool, true, false, Option, Some, None, is_some}
 use Rattle.sb_relation.specs.Db.{Key}
-use Rattle.sb_relation.specs.Keys.{is_record_key}
-use Rattle.sb_relation.specs.Lawful.{IsRow}
-use Rattle.sb_node.specs.Entries.{Entry}
+use Rattle.sb_forms.specs.Stored.{row_in}
+use Rattle.sb_forms.specs.TreePages.{is_row_entry}
+use Rattle.sb_btree.specs.Leaves.{entry_in}
+use Rattle.sb_btree.specs.declared.lookup.LeafEntry.{LeafEntry}
 use Rattle.sb_btree.specs.declared.walk.Walk.{Walk}
 use Rattle.sb_btree.specs.declared.walk.Walk.TheVariants as walk
+use Rattle.sb_ctx.specs.declared.instance.Instance.{Instance}
 use Rattle.sb_ctx.specs.declared.moves.Move.{Move}
 use Rattle.sb_ctx.specs.declared.moves.Move.TheVariants.{Done, Need, Fresh, NoRecord, Duplicate, Key as Keyed, Row as Rowed, End, Broken, NoMemory}
 
@@ -33,8 +33,8 @@ abbrev pub was_done : Walk Bool → Bool
 was_done (walk.Ready done) = done
 was_done w = false
 
-abbrev pub was_found : Walk (Option (List ℕ)) → Bool
-was_found (walk.Ready value) = is_some value
+abbrev pub was_found : Walk (Option LeafEntry) → Bool
+was_found (walk.Ready found) = is_some found
 was_found w = false
 
 -- no entry has the key
@@ -52,31 +52,31 @@ abbrev pub replace_move : Key → Walk Bool → Move
 replace_move key (walk.Ready true) = Keyed key
 replace_move key w = lack_move w
 
--- a value isn't there
-abbrev pub missing_move : Walk (Option (List ℕ)) → Move
-missing_move (walk.Ready (Some value)) = NoMemory
+-- an entry isn't there
+abbrev pub missing_move : Walk (Option LeafEntry) → Move
+missing_move (walk.Ready (Some f)) = NoMemory
 missing_move (walk.Ready None) = NoRecord
 missing_move w = question_of w
 
--- A row under its old key is taken out, which is in under this one. A page that was given isn't called broken for what the insert made of the pages.
-abbrev pub move_move : Key → Walk Bool → Move
-move_move key (walk.Broken n) = NoMemory
-move_move key w = replace_move key w
+abbrev pub was_broken : Walk Bool → Bool
+was_broken (walk.Broken n) = true
+was_broken w = false
 
--- the row that the bytes spell, under this key, or want of memory
-abbrev pub IsFound : List Column → Key → List ℕ → Move → Type 0
-IsFound schema key bytes (Rowed k row) = (k ≡ key) × (is_record_key key ≡ true) × IsRow schema row × (bytes ≡ tuple_spelling row)
-IsFound schema key bytes NoMemory = Unit {0}
-IsFound schema key bytes move = ⊥
+-- The row of an entry, under its key, where it is one of a row; its leaf is called broken where it is none. Want of memory is free.
+abbrev pub IsFound : Instance → LeafEntry → Move → Type 0
+IsFound inst f (Rowed key row) = (key ≡ f.key) × (row ≡ row_in f.value) × (is_row_entry inst.schema inst.key (entry_in f) ≡ true)
+IsFound inst f (Broken n) = (n ≡ f.leaf) × (is_row_entry inst.schema inst.key (entry_in f) ≡ false)
+IsFound inst f NoMemory = Unit {0}
+IsFound inst f move = ⊥
 
--- the row of the value of a key
-abbrev pub IsGot : List Column → Key → Walk (Option (List ℕ)) → Move → Type 0
-IsGot schema key (walk.Ready (Some bytes)) move = IsFound schema key bytes move
-IsGot schema key (walk.Ready None) move = move ≡ NoRecord
-IsGot schema key w move = move ≡ question_of w
+-- the row of a key
+abbrev pub IsGot : Instance → Walk (Option LeafEntry) → Move → Type 0
+IsGot inst (walk.Ready (Some f)) move = IsFound inst f move
+IsGot inst (walk.Ready None) move = move ≡ NoRecord
+IsGot inst w move = move ≡ question_of w
 
--- the row of an entry
-abbrev pub IsNext : List Column → Walk (Option Entry) → Move → Type 0
-IsNext schema (walk.Ready (Some e)) move = IsFound schema e.0 e.1 move
-IsNext schema (walk.Ready None) move = move ≡ End
-IsNext schema w move = move ≡ question_of w
+-- the next row
+abbrev pub IsNext : Instance → Walk (Option LeafEntry) → Move → Type 0
+IsNext inst (walk.Ready (Some f)) move = IsFound inst f move
+IsNext inst (walk.Ready None) move = move ≡ End
+IsNext inst w move = move ≡ question_of w

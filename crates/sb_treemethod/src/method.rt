@@ -5,7 +5,8 @@ ghost use Rattle.sb_treemethod.specs.TreeMethod.{tree_method};
 
 use crate::rows::entry_of;
 use crate::walks::{
-    got, inserted, is_done, is_found, missing, moved, prepared, removed, replaced, stepped,
+    got, inserted, is_broken, is_done, is_found, missing, prepared, question, removed, replaced,
+    stepped,
 };
 use sb_btree::{find, insert, next, prepare, remove, replace};
 use sb_ctx::{Ctx, Instance, Move, StorageMethod};
@@ -84,12 +85,18 @@ impl StorageMethod for TreeMethod {
             return inserted(code, put);
         }
         let removal = remove(alloc, ctx, inst.root, key.as_slice());
-        moved(code, removal)
+        if !is_broken(&removal) {
+            return replaced(code, removal);
+        }
+        // a page is called broken for what it was as it was given
+        ctx.drop_edits();
+        let alone = remove(alloc, ctx, inst.root, key.as_slice());
+        question(alone)
     }
 
     fn get(&self, alloc: Global, ctx: &mut Ctx, inst: &Instance, key: &RecKey) -> Move {
         let walk = find(alloc, ctx, inst.root, key.as_slice());
-        got(alloc, inst, key, walk)
+        got(alloc, inst, walk)
     }
 
     fn next(&self, alloc: Global, ctx: &mut Ctx, inst: &Instance, after: Option<&RecKey>) -> Move {

@@ -3,6 +3,7 @@
 ghost use Rattle.std.specs.Prelude.{◌≡◌, IfOk};
 ghost use Rattle.std.specs.Option.{option_copied};
 ghost use Rattle.sb_pred.specs.Columns.{column_value, place_of};
+ghost use Rattle.sb_ctx.specs.Method.{code_of};
 ghost use Rattle.sb_relation.specs.Db.{values_in};
 ghost use Rattle.sb_relation.specs.Lawful.{IsRow};
 ghost use Rattle.sb_treemethod.specs.TreeMethod.{IsEntryOf};
@@ -17,9 +18,16 @@ pub fn entry_of(alloc: Global, inst: &Instance, row: &Tuple) -> Result<(RecKey, 
     requires { IsRow inst.now.schema row.now }
     ensures { IfOk result (λ entry. IsEntryOf inst.now row.now entry.0 entry.1) }
 {
-    let values = values_of(alloc, &inst.schema, row, &inst.key)?;
-    let key = ordered_key(alloc, &values)?;
+    let key = key_of(alloc, inst, row)?;
     Ok((key, encode_tuple(alloc, row)?))
+}
+
+/// The record key of a row.
+pub fn key_of(alloc: Global, inst: &Instance, row: &Tuple) -> Result<RecKey, AllocError>
+    ensures { IfOk result (λ key. key ≡ code_of inst.now row.now) }
+{
+    let values = values_of(alloc, &inst.schema, row, &inst.key)?;
+    ordered_key(alloc, &values)
 }
 
 /// The values of a row in the named columns; a column that isn't there has none.

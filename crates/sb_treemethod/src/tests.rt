@@ -1,7 +1,7 @@
 //! What no clause says: that calls succeed while memory lasts. Each call over one page, which is given again as the call
 //! before left it.
 
-ghost use Rattle.std.specs.Prelude.{◌≡◌, ◌≤◌, ◌∷◌, [], codes, length, IfOk};
+ghost use Rattle.std.specs.Prelude.{◌≡◌, ◌≤◌, ◌∷◌, [], codes, length, IfOk, OnOk};
 ghost use Rattle.sb_ctx.specs.View.{IsClean};
 ghost use Rattle.sb_ctx.specs.Method.{IsInstance, MayHold};
 ghost use Rattle.sb_treemethod.specs.Examples.{IsExample, MayBeHeld};
@@ -313,5 +313,142 @@ fn a_row_may_not_move_to_a_key_that_stands(rt: HostRuntime) -> Result<(), Fail> 
         &row(alloc, 9, "d")?,
     );
     assert!(rt; matches!(taken, Move::Duplicate));
+    Ok(())
+}
+
+/// Over the pages 4 and 5, which has the keys from 20 on.
+const TOP: [u8; 40] = [
+    3, 2, 0, 1, 0, 16, 0, 0, 0, 4, 0, 0, 0, 0, 0, 0, 0, 0, 0, 0, 0, 0, 0, 0, 0, 8, 0, 4, 128, 0, 0,
+    0, 0, 0, 0, 20, 0, 0, 0, 5,
+];
+
+/// Over the pages 8 and 9, which has the keys from 5 on.
+const INNER: [u8; 40] = [
+    3, 1, 0, 1, 0, 16, 0, 0, 0, 8, 0, 0, 0, 0, 0, 0, 0, 0, 0, 0, 0, 0, 0, 0, 0, 8, 0, 4, 128, 0, 0,
+    0, 0, 0, 0, 5, 0, 0, 0, 9,
+];
+
+/// A leaf with the row 2.
+const LEAF: [u8; 49] = [
+    2, 0, 0, 1, 0, 25, 0, 0, 0, 0, 0, 0, 0, 0, 0, 0, 0, 0, 0, 0, 0, 0, 0, 0, 0, 8, 0, 13, 128, 0,
+    0, 0, 0, 0, 0, 2, 2, 1, 0, 0, 0, 0, 0, 0, 0, 2, 2, 1, b'a',
+];
+
+/// A leaf with the row 7, under the key of 9 a value that spells none, and under the key of 10 the row 7 again.
+const DAMAGED: [u8; 87] = [
+    2, 0, 0, 3, 0, 63, 0, 0, 0, 0, 0, 0, 0, 0, 0, 0, 0, 0, 0, 0, 0, 0, 0, 0, 0, 8, 0, 13, 128, 0,
+    0, 0, 0, 0, 0, 7, 2, 1, 0, 0, 0, 0, 0, 0, 0, 7, 2, 1, b'b', 0, 8, 0, 1, 128, 0, 0, 0, 0, 0, 0,
+    9, b'x', 0, 8, 0, 13, 128, 0, 0, 0, 0, 0, 0, 10, 2, 1, 0, 0, 0, 0, 0, 0, 0, 7, 2, 1, b'b',
+];
+
+/// Gives a page that begins with these bytes.
+fn give(ctx: &mut Ctx, n: u32, front: &[u8]) -> Result<(), AllocError>
+    requires size { length front.now ≤ 4096 }
+    requires clean { IsClean ctx.old }
+    ensures { OnOk result (IsClean ctx.new) }
+{
+    let mut page = [0; 4096];
+    page[..front.len()].copy_from_slice(front);
+    ctx.give_page(n, &page)?;
+    Ok(())
+}
+
+/// A Ctx that holds nothing.
+fn no_pages(alloc: Global) -> Ctx
+    ensures { IsClean result }
+{
+    Ctx::new(alloc)
+}
+
+/// A tree of two levels of inner pages, whose page 5 is a leaf, and whose page 9 has entries that are none of rows.
+fn damaged(alloc: Global) -> Result<Ctx, AllocError>
+    ensures { IfOk result IsClean }
+{
+    let mut ctx = no_pages(alloc);
+    give(&mut ctx, 3, &TOP)?;
+    give(&mut ctx, 4, &INNER)?;
+    give(&mut ctx, 5, &LEAF)?;
+    give(&mut ctx, 8, &LEAF)?;
+    give(&mut ctx, 9, &DAMAGED)?;
+    Ok(ctx)
+}
+
+/// The page that is called broken.
+fn broken_page(answer: &Move) -> Option<u32> {
+    match answer {
+        Move::Broken(n) => Some(*n),
+        _ => None,
+    }
+}
+
+/// Keys, and the number of their row, or the page that is called broken.
+const GOT: [(u8, Option<i64>, Option<u32>); 5] = [
+    (2, Some(2), None),
+    (7, Some(7), None),
+    (9, None, Some(9)),
+    (10, None, Some(9)),
+    (21, None, Some(5)),
+];
+
+#[test]
+fn a_leaf_with_an_entry_of_no_row_is_broken(rt: HostRuntime) -> Result<(), Fail> {
+    let alloc = rt.alloc();
+    let inst = instance(alloc)?;
+    for (wanted, number, page) in GOT {
+        let wanted = key(alloc, wanted)?;
+        let answer = get(
+            &TreeMethod::new(),
+            alloc,
+            &mut damaged(alloc)?,
+            &inst,
+            &wanted,
+        );
+        assert_eq!(rt; number_of(&answer), number);
+        assert_eq!(rt; broken_page(&answer), page);
+    }
+    Ok(())
+}
+
+/// Keys, and the number of the next row, or the page that is called broken.
+const STEPPED: [(u8, Option<i64>, Option<u32>); 5] = [
+    (0, Some(2), None),
+    (2, Some(7), None),
+    (7, None, Some(9)),
+    (9, None, Some(9)),
+    (10, None, Some(5)),
+];
+
+#[test]
+fn a_scan_names_the_broken_leaf(rt: HostRuntime) -> Result<(), Fail> {
+    let alloc = rt.alloc();
+    let inst = instance(alloc)?;
+    for (low, number, page) in STEPPED {
+        let low = key(alloc, low)?;
+        let answer = next(
+            &TreeMethod::new(),
+            alloc,
+            &mut damaged(alloc)?,
+            &inst,
+            Some(&low),
+        );
+        assert_eq!(rt; number_of(&answer), number);
+        assert_eq!(rt; broken_page(&answer), page);
+    }
+    Ok(())
+}
+
+#[test]
+fn a_row_that_moves_names_the_page_that_stops_its_removal(rt: HostRuntime) -> Result<(), Fail> {
+    let alloc = rt.alloc();
+    let inst = instance(alloc)?;
+    let answer = update(
+        &TreeMethod::new(),
+        alloc,
+        &mut damaged(alloc)?,
+        &inst,
+        &key(alloc, 2)?,
+        &row(alloc, 8, "d")?,
+    );
+    assert_eq!(rt; broken_page(&answer), Some(5));
     Ok(())
 }

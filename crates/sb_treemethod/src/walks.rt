@@ -1,12 +1,16 @@
 //! Answers to walks over the tree.
 
-ghost use Rattle.std.specs.Prelude.{◌≡◌};
-ghost use Rattle.sb_treemethod.specs.Answered.{IsFound, IsGot, IsNext, lack_move, missing_move, move_move, prepare_move, put_move, question_of, remove_move, replace_move, was_done, was_found};
+ghost use Rattle.std.specs.Prelude.{◌≡◌, true};
+ghost use Rattle.sb_codec.specs.Tuples.{tuple_spelling};
+ghost use Rattle.sb_relation.specs.Keys.{is_record_key};
+ghost use Rattle.sb_relation.specs.Lawful.{IsRow};
+ghost use Rattle.sb_treemethod.specs.Answered.{IsFound, IsGot, IsNext, lack_move, missing_move, prepare_move, put_move, question_of, remove_move, replace_move, was_broken, was_done, was_found};
 
-use sb_btree::Walk;
+use crate::rows::key_of;
+use sb_btree::{LeafEntry, Walk};
 use sb_ctx::{Instance, Move};
 use sb_forms::row_from;
-use sb_value::{Bytes, RecKey};
+use sb_value::{RecKey, Tuple};
 use std::alloc::Global;
 
 /// The bytes that a record key has at most.
@@ -65,12 +69,12 @@ pub fn is_done(walk: &Walk<bool>) -> bool
     }
 }
 
-/// Whether a value was found.
-pub fn is_found(walk: &Walk<Option<Bytes>>) -> bool
+/// Whether an entry was found.
+pub fn is_found(walk: &Walk<Option<LeafEntry>>) -> bool
     ensures { result ≡ was_found walk.now }
 {
     match walk {
-        Walk::Ready(value) => value.is_some(),
+        Walk::Ready(found) => found.is_some(),
         _ => false,
     }
 }
@@ -96,7 +100,7 @@ pub fn replaced(key: RecKey, walk: Walk<bool>) -> Move
 }
 
 /// The answer to a look-up of a row that isn't there.
-pub fn missing(walk: Walk<Option<Bytes>>) -> Move
+pub fn missing(walk: Walk<Option<LeafEntry>>) -> Move
     ensures { result ≡ missing_move walk }
 {
     match walk {
@@ -105,51 +109,59 @@ pub fn missing(walk: Walk<Option<Bytes>>) -> Move
     }
 }
 
-/// The answer to the removal of a row that was put in under another key. A page that was given isn't called broken for
-/// what the insert made of the pages.
-pub fn moved(key: RecKey, walk: Walk<bool>) -> Move
-    ensures { result ≡ move_move key walk }
+/// Whether a page was called broken.
+pub fn is_broken(walk: &Walk<bool>) -> bool
+    ensures { result ≡ was_broken walk.now }
 {
-    match walk {
-        Walk::Broken(_) => Move::NoMemory,
-        walk => replaced(key, walk),
-    }
+    matches!(walk, Walk::Broken(_))
 }
 
 /// The answer to a look-up of a key.
-pub fn got(alloc: Global, inst: &Instance, key: &RecKey, walk: Walk<Option<Bytes>>) -> Move
-    ensures { IsGot inst.now.schema key.now walk result }
+pub fn got(alloc: Global, inst: &Instance, walk: Walk<Option<LeafEntry>>) -> Move
+    ensures { IsGot inst.now walk result }
 {
     match walk {
-        Walk::Ready(Some(value)) => match key.copy() {
-            Ok(key) => found(alloc, inst, key, &value),
-            Err(_) => Move::NoMemory,
-        },
+        Walk::Ready(Some(entry)) => found(alloc, inst, entry),
         Walk::Ready(None) => Move::NoRecord,
         walk => question(walk),
     }
 }
 
 /// The answer to a step of a scan.
-pub fn stepped(alloc: Global, inst: &Instance, walk: Walk<Option<(RecKey, Bytes)>>) -> Move
-    ensures { IsNext inst.now.schema walk result }
+pub fn stepped(alloc: Global, inst: &Instance, walk: Walk<Option<LeafEntry>>) -> Move
+    ensures { IsNext inst.now walk result }
 {
     match walk {
-        Walk::Ready(Some((key, value))) => found(alloc, inst, key, &value),
+        Walk::Ready(Some(entry)) => found(alloc, inst, entry),
         Walk::Ready(None) => Move::End,
         walk => question(walk),
     }
 }
 
-/// Answers with the row of a key, where the bytes spell one.
-fn found(alloc: Global, inst: &Instance, key: RecKey, value: &Bytes) -> Move
-    ensures { IsFound inst.now.schema key value.now result }
+/// Answers with the row of an entry, or calls its leaf broken where the entry is none of a row.
+fn found(alloc: Global, inst: &Instance, entry: LeafEntry) -> Move
+    ensures { IsFound inst.now entry result }
 {
-    if key.len() > MOST_KEY {
-        return Move::NoMemory;
+    if entry.key.len() > MOST_KEY {
+        return Move::Broken(entry.leaf);
     }
-    match row_from(alloc, &inst.schema, value.as_slice()) {
-        Ok(Some(row)) => Move::Row(key, row),
-        _ => Move::NoMemory,
+    match row_from(alloc, &inst.schema, entry.value.as_slice()) {
+        Ok(Some(row)) => found_row(alloc, inst, entry, row),
+        Ok(None) => Move::Broken(entry.leaf),
+        Err(_) => Move::NoMemory,
+    }
+}
+
+/// Answers with the row that an entry spells, or calls its leaf broken where the row has another key.
+fn found_row(alloc: Global, inst: &Instance, entry: LeafEntry, row: Tuple) -> Move
+    requires short { is_record_key entry.key ≡ true }
+    requires row { IsRow inst.now.schema row }
+    requires spelled { entry.value ≡ tuple_spelling row }
+    ensures { IsFound inst.now entry result }
+{
+    match key_of(alloc, inst, &row) {
+        Ok(key) if key == entry.key => Move::Row(key, row),
+        Ok(_) => Move::Broken(entry.leaf),
+        Err(_) => Move::NoMemory,
     }
 }

@@ -1,4 +1,4 @@
-use Rattle.std.proofs.Common.{◌≡◌, ℕ, Bool, true, false, List, Some, IsSome, sym, subst, ◌∙◌, arith}
+use Rattle.std.proofs.Common.{◌≡◌, ℕ, Bool, true, false, List, Some, IsSome, option_map, sym, subst, ◌∙◌, arith}
 use Rattle.std.specs.FinMap.Entries.{find}
 use Rattle.std.specs.Str.{bytes_eq}
 use Rattle.sb_value.specs.Equal.{bytes_same}
@@ -7,6 +7,7 @@ use Rattle.sb_node.specs.Entries.{key_cmp}
 use Rattle.sb_ctx.specs.declared.calls.MethodCall.TheVariants.{Update}
 use Rattle.sb_ctx.specs.MethodAnswers.{Changes}
 use Rattle.sb_btree.specs.Inserts.{Inserts, OverTrees, Replaces}
+use Rattle.sb_btree.specs.Leaves.{entry_at, entry_in}
 use Rattle.sb_btree.specs.Removes.{Removes, is_on_removal_way}
 use Rattle.sb_btree.specs.Walks.{Gives, Needs, OnTree, OverTree}
 use Rattle.sb_btree.specs.Ways.{is_on_way}
@@ -15,7 +16,7 @@ use Rattle.sb_btree.specs.declared.walk.Walk.TheVariants.{Ready}
 use Rattle.sb_btree.proofs.Whole.{ways_are_short}
 use Rattle.sb_treemethod.specs.TreeMethod.{tree_method}
 use Rattle.sb_treemethod.proofs.MethodLaws.{Changes-memory}
-use Rattle.sb_treemethod.proofs.UpdateLaws.{Changes-missing, Changes-moved, Changes-replaced, Changes-unput, was_ready, was_there}
+use Rattle.sb_treemethod.proofs.UpdateLaws.{Changes-alone, Changes-missing, Changes-moved, Changes-replaced, Changes-unput, was_ready, was_there}
 use Rattle.sb_treemethod.proofs.Within.{look_bounds, tree_bounds}
 use Rattle.sb_treemethod.proofs.method.TreeMethodStorageMethod.update.Goals as goal
 
@@ -55,7 +56,7 @@ returns-then-not-is_found c =
     let clean = c.requires.clean.unchanged in
     subst (Changes tree_method inst (Update key row) old old) (sym c.missing.ensures)
     (Changes-missing inst key row old c.find-found.result clean found.asks found.broken
-    (subst (λ (k : List ℕ). OverTree old root (λ es. Gives (λ value. value ≡ find key_cmp k es) c.find-found.result)) c.as_slice-2.ensures found.gives)
+    (subst (λ (k : List ℕ). OverTree old root (λ es. Gives (λ found. option_map entry_in found ≡ entry_at k es) c.find-found.result)) c.as_slice-2.ensures found.gives)
     (look_bounds inst (Update key row) old c.find-found.result (λ P. is_on_way root P (Some key)) clean found.asks (λ P es read n is. (ways_are_short P root es read (Some key)).1 n is)
     (subst (λ (k : List ℕ). OnTree old root (λ P. Needs (is_on_way root P (Some k)) c.find-found.result)) c.as_slice-2.ensures found.way)))
 
@@ -71,7 +72,7 @@ returns-then-not-is_done c =
     let made = c.insert-put.ensures in
     let clean = c.requires.clean.unchanged in
     let other : bytes_eq code key ≡ false = sym c.eq.ensures ∙ c.if-eq.false in
-    let gives = subst (λ (k : List ℕ). OverTree old root (λ es. Gives (λ value. value ≡ find key_cmp k es) c.find-found.result)) c.as_slice-2.ensures c.find-found.ensures.gives in
+    let gives = subst (λ (k : List ℕ). OverTree old root (λ es. Gives (λ found. option_map entry_in found ≡ entry_at k es) c.find-found.result)) c.as_slice-2.ensures c.find-found.ensures.gives in
     let there : OverTree old root (λ es. IsSome (find key_cmp key es)) = was_there root key old c.find-found.result (sym c.if-not-is_found.ensures) gives in
     subst (Changes tree_method inst (Update key row) old new) (sym c.inserted.ensures)
     (Changes-unput inst key row code c.in-Ok.value old new c.insert-put.result clean (made.given ∙ clean) made.asks made.broken c.in-Ok.ensures other (sym c.if-not-is_done.ensures) there
@@ -80,8 +81,8 @@ returns-then-not-is_done c =
     (tree_bounds inst (Update key row) old new c.insert-put.result (λ P. is_on_way root P (Some code)) tree_cost clean (λ P es read n is. (ways_are_short P root es read (Some code)).1 n is) (λ n. omega arith)
     (subst (λ (k : List ℕ). OnTree old root (λ P. Needs (is_on_way root P (Some k)) c.insert-put.result)) c.as_slice-3.ensures made.way) made.edits made.room))
 
-pub returns : goal.returns
-returns c =
+pub returns-then-not-is_broken : goal.returns-then-not-is_broken
+returns-then-not-is_broken c =
     let old = c.args.ctx.now in
     let mid = c.insert-put.new.ctx in
     let new = c.remove-removal.new.ctx in
@@ -95,11 +96,11 @@ returns c =
     let removed = c.remove-removal.ensures in
     let clean = c.requires.clean.unchanged in
     let other : bytes_eq code key ≡ false = sym c.eq.ensures ∙ c.if-eq.false in
-    let gives = subst (λ (k : List ℕ). OverTree old root (λ es. Gives (λ value. value ≡ find key_cmp k es) c.find-found.result)) c.as_slice-2.ensures c.find-found.ensures.gives in
+    let gives = subst (λ (k : List ℕ). OverTree old root (λ es. Gives (λ found. option_map entry_in found ≡ entry_at k es) c.find-found.result)) c.as_slice-2.ensures c.find-found.ensures.gives in
     let there : OverTree old root (λ es. IsSome (find key_cmp key es)) = was_there root key old c.find-found.result (sym c.if-not-is_found.ensures) gives in
     let done : c.insert-put.result ≡ Ready true = was_ready c.insert-put.result (sym c.if-not-is_done.ensures) in
-    subst (Changes tree_method inst (Update key row) old new) (sym c.moved.ensures)
-    (Changes-moved inst key row code value old mid new c.requires.row c.in-Ok.ensures c.remove-removal.result (record {
+    subst (Changes tree_method inst (Update key row) old new) (sym c.replaced-then-not-is_broken.ensures)
+    (Changes-moved inst key row code value old mid new c.requires.row c.in-Ok.ensures c.remove-removal.result (sym c.if-not-is_broken.ensures) (record {
       clean = clean;
       given = put.given ∙ clean;
       new_given = removed.given ∙ put.given ∙ clean;
@@ -114,4 +115,26 @@ returns c =
       way = subst (λ (k : List ℕ). OnTree mid root (λ P. Needs (is_on_removal_way root P k) c.remove-removal.result)) c.as_slice-5.ensures removed.way;
       edits = removed.edits;
       room = removed.room;
+    }))
+
+-- the removal stopped at a broken page
+pub returns : goal.returns
+returns c =
+    let old = c.args.ctx.now in
+    let start = c.drop_edits.new.self in
+    let new = c.remove-alone.new.ctx in
+    let inst = c.args.inst.now in
+    let root = inst.root in
+    let key = c.args.key.now in
+    let row = c.args.tuple.now in
+    let alone = c.remove-alone.ensures in
+    let clean = c.requires.clean.unchanged in
+    subst (Changes tree_method inst (Update key row) old new) (sym c.question.ensures)
+    (Changes-alone inst key row old start new c.remove-alone.result clean (c.drop_edits.ensures ∙ c.remove-removal.ensures.given ∙ c.insert-put.ensures.given ∙ clean) (record {
+      given = alone.given;
+      asks = alone.asks;
+      broken = alone.broken;
+      way = subst (λ (k : List ℕ). OnTree start root (λ P. Needs (is_on_removal_way root P k) c.remove-alone.result)) c.as_slice-6.ensures alone.way;
+      edits = alone.edits;
+      room = alone.room;
     }))
