@@ -1,0 +1,4 @@
+pub mod Descriptors
+pub mod Writing
+pub mod Reading
+pub mod Laws
