@@ -1,0 +1,9 @@
+pub mod Acting
+pub mod Asking
+pub mod Breaking
+pub mod Draining
+pub mod Forward
+pub mod Leading
+pub mod Levels
+pub mod Refusing
+pub mod Stopping
