@@ -1,0 +1,9 @@
+pub mod FirstPlaces
+pub mod Repeats
+pub mod Alike
+pub mod Walks
+pub mod Users
+pub mod Kinded
+pub mod Growing
+pub mod Seeing
+pub mod InOrder
