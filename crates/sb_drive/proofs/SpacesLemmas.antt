@@ -54,6 +54,12 @@ UnlessDown-err T U Fault A B then left = tt
 UnlessDown-err T U Down A B then left = tt
 UnlessDown-err T U e A B then left = then left
 
+pub UnlessDown-so : {T : Type 0} (r : Result T SpaceFault) (A : Type 0) → A → UnlessDown r A
+UnlessDown-so (Ok done) A so = so
+UnlessDown-so (Err Fault) A so = tt
+UnlessDown-so (Err Down) A so = tt
+UnlessDown-so (Err e) A so = so
+
 -- the same fault is passed on
 pub UnlessDown-passed : (T U : Type 0) (r : Result U SpaceFault) (e : SpaceFault) (A B : Type 0) → IsErrAnd r (λ x. x ≡ e) → (A → B) → UnlessDown {T = T} (Err e) A → UnlessDown r B
 UnlessDown-passed T U (Err x) e A B is then left = UnlessDown-err T U x A B then (subst (λ y. UnlessDown {T = T} (Err y) A) (sym is) left)

@@ -2,12 +2,16 @@
 use Rattle.std.proofs.Common.{◌≡◌, subst}
 use Rattle.sb_ctx.specs.declared.moves.Move.{Move}
 use Rattle.sb_ctx.specs.declared.moves.Move.TheVariants.{Need, Fresh, After, Find, Broken, NoMemory}
-use Rattle.sb_ctx.specs.MethodAnswers.{AsksFor}
-use Rattle.sb_ctx.specs.AttachAnswers.{AsksFor as AttachAsksFor}
+use Rattle.sb_ctx.specs.declared.calls.AttachCall.{AttachCall}
+use Rattle.sb_ctx.specs.MethodAnswers.{AsksFor, Reads}
+use Rattle.sb_ctx.specs.AttachAnswers.{AsksFor as AttachAsksFor, Reads as AttachReads}
 use Rattle.sb_ctx.specs.View.{View}
 use Rattle.sb_drive.specs.declared.turns.Ask.{Ask}
 use Rattle.sb_drive.specs.declared.turns.Ask.TheVariants as ask
-use Rattle.sb_drive.specs.declared.turns.Turn.TheVariants.{Give, End as Ends}
+use Rattle.sb_drive.specs.declared.turns.Turn.TheVariants.{Give, Stop, End as Ends}
+use Rattle.sb_drive.specs.declared.space.SpaceFault.{SpaceFault}
+use Rattle.sb_drive.specs.declared.space.SpaceFault.TheVariants as fault
+use Rattle.sb_drive.specs.Spaces.{IsAskFault, IsReadFault}
 use Rattle.sb_drive.specs.Turns.{turn_of, IsEnd}
 use Rattle.sb_drive.proofs.AsksLemmas.{IsAsked}
 
@@ -38,3 +42,24 @@ IsEnd-end (After low) end is = cc
 IsEnd-end (Broken n) end is = cc
 IsEnd-end NoMemory end is = cc
 IsEnd-end move end is = let same : move ≡ end = cc in subst IsEnd same tt
+
+-- ---- calls that only read
+-- what they ask for is refused as to a call that only reads
+pub IsReadFault-asked : (move : Move) (a : Ask) (e : SpaceFault) → Reads move → turn_of move ≡ Give a → IsAskFault a e → IsReadFault e
+IsReadFault-asked (Need n) a e reads is asked = let same : a ≡ ask.Page n = cc in subst (λ (x : Ask). IsAskFault x e) same asked
+IsReadFault-asked Fresh a e reads is asked = absurd reads
+IsReadFault-asked (After low) a e reads is asked = let same : a ≡ ask.After low = cc in subst (λ (x : Ask). IsAskFault x e) same asked
+IsReadFault-asked move a e reads is asked = cc
+
+pub Reads-attachment : (call : AttachCall) (move : Move) → AttachReads call move → Reads move
+Reads-attachment call Fresh reads = absurd reads
+Reads-attachment call move reads = tt
+
+-- a box that stops wants neither a page nor room
+pub IsReadFault-stop : (move : Move) (e : SpaceFault) → turn_of move ≡ Stop e → IsReadFault e
+IsReadFault-stop (Need n) e is = cc
+IsReadFault-stop Fresh e is = cc
+IsReadFault-stop (After low) e is = cc
+IsReadFault-stop (Broken n) e is = let same : fault.Damaged n ≡ e = cc in subst IsReadFault same tt
+IsReadFault-stop NoMemory e is = let same : fault.NoMemory ≡ e = cc in subst IsReadFault same tt
+IsReadFault-stop move e is = cc

@@ -60,6 +60,20 @@ IsStoreFault (TempFull used total) = ⊥
 IsStoreFault (Damaged page) = ⊥
 IsStoreFault e = Unit {0}
 
+-- the refusals of a call that only reads: neither a page nor room is wanting
+abbrev pub IsReadFault : SpaceFault → Type 0
+IsReadFault (DataFull used total) = ⊥
+IsReadFault (TempFull used total) = ⊥
+IsReadFault (LogFull used need total) = ⊥
+IsReadFault (GatesFull used total) = ⊥
+IsReadFault e = Unit {0}
+
+-- the refusals of a question: one that asks for no fresh page only reads
+abbrev pub IsAskFault : Ask → SpaceFault → Type 0
+IsAskFault Fresh e = Unit {0}
+IsAskFault (Page n) e = IsReadFault e
+IsAskFault (After low) e = IsReadFault e
+
 -- a fact that is left, unless a call on the disk has failed
 abbrev pub UnlessDown : {T : Type 0} → Result T SpaceFault → Type 0 → Type 0
 UnlessDown (Ok done) IsSo = IsSo

@@ -3,7 +3,7 @@
 ghost use Rattle.std.specs.Prelude.{◌≡◌, ℕ, ◌<◌, false, OnOk, OnErr, IfErr, IfSome, IfNone, IsSome};
 ghost use Rattle.sb_ctx.specs.View.{dropped, page_of};
 ghost use Rattle.sb_drive.specs.Slots.{slots};
-ghost use Rattle.sb_drive.specs.Spaces.{IsAnswerFault, IsFreshIn, IsFull, IsGift, IsGivenIn};
+ghost use Rattle.sb_drive.specs.Spaces.{IsAnswerFault, IsAskFault, IsFreshIn, IsFull, IsGift, IsGivenIn};
 
 use crate::memory::{MOST_PAGES, Memory};
 use crate::space::SpaceFault;
@@ -22,6 +22,7 @@ pub fn answer(memory: &Memory, owner: u16, ctx: &mut Ctx, ask: Ask) -> Result<()
     ensures gift { OnOk result (IsGift (dropped ctx.old) ask ctx.new) }
     ensures kept { OnErr result (ctx.new ≡ dropped ctx.old) }
     ensures undamaged { IfErr result IsAnswerFault }
+    ensures looks { IfErr result (IsAskFault ask) }
     ensures full { IfErr result (IsFull false 65536 (slots memory.now.now) (dropped ctx.old) ask) }
 {
     memory.are_pages();

@@ -1,15 +1,15 @@
 //! The driver of attachments.
 
-ghost use Rattle.std.specs.Prelude.{◌≡◌, IfOk, IfErr};
+ghost use Rattle.std.specs.Prelude.{◌≡◌, IsTrue, ◌↔◌, IfOk, IfErr};
 ghost use Rattle.sb_ctx.specs.Attachment.{IsInstance};
-ghost use Rattle.sb_ctx.specs.AttachAnswers.{Answers, Changes, MayEnd};
+ghost use Rattle.sb_ctx.specs.AttachAnswers.{Answers, Changes, MayEnd, Reads};
 ghost use Rattle.sb_ctx.specs.View.{IsClean, HoldsPart};
 ghost use Rattle.sb_drive.specs.AttachCalls.{CostsIn, Fits, IsReading, HandsUpIn, HasSpaceCause};
 ghost use Rattle.sb_drive.specs.Slots.{Slots, owned};
-ghost use Rattle.sb_drive.specs.Spaces.{IsFullFor, IsRefused, Leaves, LeadsOn, UnlessDown, Wanted};
+ghost use Rattle.sb_drive.specs.Spaces.{IsFullFor, IsReadFault, IsRefused, Leaves, LeadsOn, UnlessDown, Wanted};
 ghost use Rattle.sb_drive.specs.Turns.{IsEnd, OnFind};
 
-use crate::space::{PageSpace, SpaceFault};
+use crate::space::{PageSpace, SpaceFault, store_edits};
 use crate::turns::{Turn, is_find, turn_of};
 use sb_ctx::{AttachCall, Attachment, Ctx, Instance, Move};
 use std::alloc::Global;
@@ -39,6 +39,8 @@ pub fn run_attachment<S: PageSpace>(
     ensures found { ctx.new.found ≡ ctx.old.found }
     ensures others { UnlessDown result ((want : Wanted) (s : Slots) → S.has want s space.old
         → Leaves S.has inst.now.owner want s space.new (λ after. Unit {0})) }
+    ensures same { IsReading call.now → UnlessDown result ((want : Wanted) (s : Slots) → S.has want s space.old
+        → S.has want s space.new) }
     ensures damaged { IfErr result (λ e. (want : Wanted) (s : Slots) → S.has want s space.old
         → HasSpaceCause (attachment boxed.now) inst.now call.now (owned s inst.now.owner) e) }
     ensures full { IfErr result (λ e. (want : Wanted) (s : Slots) → S.has want s space.old
@@ -47,6 +49,7 @@ pub fn run_attachment<S: PageSpace>(
     ensures leads { LeadsOn S.leads space.old space.new }
     ensures costs { CostsIn S.has S.leads (attachment boxed.now) inst.now call.now space.old space.new ctx.old }
     ensures reads { IsReading call.now → S.leads 0 space.old space.new }
+    ensures looks { IsReading call.now → IfErr result IsReadFault }
     ensures refused { IfErr result (λ e. IsRefused (S.leads 0 space.old space.new) (S.fails e space.old space.new) e) }
     ensures ready { S.is_ready space.new }
 {
@@ -61,11 +64,21 @@ pub fn run_attachment<S: PageSpace>(
                     ctx.drop_edits();
                     return Ok(end);
                 }
-                space.store(alloc, inst.owner, ctx)?;
+                store_edits(space, alloc, inst.owner, ctx, is_reading(call))?;
                 return Ok(end);
             }
         }
     }
+}
+
+/// Whether the call makes nothing of the pages.
+fn is_reading(call: &AttachCall) -> bool
+    ensures { IsTrue result ↔ IsReading call.now }
+{
+    matches!(
+        call,
+        AttachCall::Late(_) | AttachCall::NextEntry(_, _) | AttachCall::Sums
+    )
 }
 
 /// Makes the call once.
@@ -81,6 +94,7 @@ fn make_call(
     requires fits { Fits (attachment boxed.now) inst.now call.now }
     ensures changes { Changes (attachment boxed.now) inst.now call.now ctx.old ctx.new result }
     ensures reads { IsReading call.now → ctx.new ≡ ctx.old }
+    ensures looks { IsReading call.now → Reads call.now result }
 {
     match call {
         AttachCall::Prepare => boxed.prepare(alloc, ctx, inst),

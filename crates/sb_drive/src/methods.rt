@@ -1,16 +1,16 @@
 //! The driver of storage methods.
 
-ghost use Rattle.std.specs.Prelude.{◌≡◌, IfOk, IfErr};
+ghost use Rattle.std.specs.Prelude.{◌≡◌, IsTrue, ◌↔◌, IfOk, IfErr};
 ghost use Rattle.sb_relation.specs.Db.{Rows};
 ghost use Rattle.sb_ctx.specs.Method.{IsInstance};
-ghost use Rattle.sb_ctx.specs.MethodAnswers.{Answers, Before, Changes, MayEnd};
+ghost use Rattle.sb_ctx.specs.MethodAnswers.{Answers, Before, Changes, MayEnd, Reads};
 ghost use Rattle.sb_ctx.specs.View.{IsClean};
 ghost use Rattle.sb_drive.specs.MethodCalls.{Fits, IsReading, HasSpaceCause};
 ghost use Rattle.sb_drive.specs.Slots.{Slots, owned};
-ghost use Rattle.sb_drive.specs.Spaces.{IsFullFor, IsRefused, Leaves, LeadsOn, LeadsWithin, UnlessDown, Wanted};
+ghost use Rattle.sb_drive.specs.Spaces.{IsFullFor, IsReadFault, IsRefused, Leaves, LeadsOn, LeadsWithin, UnlessDown, Wanted};
 ghost use Rattle.sb_drive.specs.Turns.{IsEnd};
 
-use crate::space::{PageSpace, SpaceFault};
+use crate::space::{PageSpace, SpaceFault, store_edits};
 use crate::turns::{Turn, turn_of};
 use sb_ctx::{Ctx, Instance, MethodCall, Move, StorageMethod};
 use std::alloc::Global;
@@ -35,6 +35,8 @@ pub fn run_method<S: PageSpace>(
     ensures ends { IfOk result IsEnd }
     ensures others { UnlessDown result ((want : Wanted) (s : Slots) → S.has want s space.old
         → Leaves S.has inst.now.owner want s space.new (λ after. Unit {0})) }
+    ensures same { IsReading call.now → UnlessDown result ((want : Wanted) (s : Slots) → S.has want s space.old
+        → S.has want s space.new) }
     ensures damaged { IfErr result (λ e. (want : Wanted) (s : Slots) → S.has want s space.old
         → HasSpaceCause (method boxed.now) inst.now call.now (owned s inst.now.owner) e) }
     ensures full { IfErr result (λ e. (want : Wanted) (s : Slots) → S.has want s space.old
@@ -45,6 +47,7 @@ pub fn run_method<S: PageSpace>(
         → Before (method boxed.now) inst.now call.now (owned s inst.now.owner) rows
         → LeadsWithin S.leads ((method boxed.now).cost call.now rows) space.old space.new }
     ensures reads { IsReading call.now → S.leads 0 space.old space.new }
+    ensures looks { IsReading call.now → IfErr result IsReadFault }
     ensures refused { IfErr result (λ e. IsRefused (S.leads 0 space.old space.new) (S.fails e space.old space.new) e) }
     ensures ready { S.is_ready space.new }
 {
@@ -56,11 +59,18 @@ pub fn run_method<S: PageSpace>(
             Turn::Give(ask) => space.answer(inst.owner, &mut ctx, ask)?,
             Turn::Stop(fault) => return Err(fault),
             Turn::End(end) => {
-                space.store(alloc, inst.owner, &ctx)?;
+                store_edits(space, alloc, inst.owner, &ctx, is_reading(call))?;
                 return Ok(end);
             }
         }
     }
+}
+
+/// Whether the call makes nothing of the pages.
+fn is_reading(call: &MethodCall) -> bool
+    ensures { IsTrue result ↔ IsReading call.now }
+{
+    matches!(call, MethodCall::Get(_) | MethodCall::Next(_))
 }
 
 /// Makes the call once.
@@ -76,6 +86,7 @@ fn make_call(
     requires fits { Fits (method boxed.now) inst.now call.now }
     ensures changes { Changes (method boxed.now) inst.now call.now ctx.old ctx.new result }
     ensures reads { IsReading call.now → ctx.new ≡ ctx.old }
+    ensures looks { IsReading call.now → Reads result }
 {
     match call {
         MethodCall::Prepare => boxed.prepare(alloc, ctx, inst),

@@ -1,9 +1,9 @@
 //! Spaces of pages: what a driver stands on, wherever the pages are.
 
-ghost use Rattle.std.specs.Prelude.{◌≡◌, ◌+◌, ◌≤◌, ℕ, Bool, List, OnOk, OnErr, IfErr};
+ghost use Rattle.std.specs.Prelude.{◌≡◌, ◌+◌, ◌≤◌, ℕ, Bool, IsTrue, List, IsOk, OnOk, OnErr, IfErr};
 ghost use Rattle.sb_ctx.specs.View.{HoldsPart, dropped, edits_of, stored};
 ghost use Rattle.sb_drive.specs.Slots.{AreWhole, Slots, owned};
-ghost use Rattle.sb_drive.specs.Spaces.{IsAnswerFault, IsStoreFault, IsFull, IsGift, IsGivenIn, Leaves, LeadsWithin, UnlessDown, Wanted};
+ghost use Rattle.sb_drive.specs.Spaces.{IsAnswerFault, IsAskFault, IsStoreFault, IsFull, IsGift, IsGivenIn, Leaves, LeadsWithin, UnlessDown, Wanted};
 ghost use Rattle.sb_drive.specs.declared.space.SpaceFault.TheVariants.{NoMemory};
 
 use crate::turns::Ask;
@@ -73,6 +73,7 @@ pub trait PageSpace {
         ensures kept { OnErr result (ctx.new ≡ dropped ctx.old) }
         ensures pages { UnlessDown result ((want : Wanted) (s : Slots) → has want s self.old → has want s self.new) }
         ensures undamaged { IfErr result IsAnswerFault }
+        ensures looks { IfErr result (IsAskFault ask) }
         ensures full { IfErr result (λ e. (want : Wanted) (s : Slots) → has want s self.old
             → IsFull (durable self.old) (total self.old) s (dropped ctx.old) ask e) }
         ensures leads { leads 0 self.old self.new }
@@ -102,4 +103,30 @@ pub trait PageSpace {
 
     /// There are at most 65,536 pages.
     ghost few: { (want : Wanted) (s : Slots) (a : Self) → has want s a → (n : ℕ) → 65536 ≤ n → (s n).0 ≡ 0 };
+}
+
+/// Stores the edits of the Ctx. A call that only reads has none, and nothing is stored.
+pub(crate) fn store_edits<S: PageSpace>(
+    space: &mut S,
+    alloc: Global,
+    owner: u16,
+    ctx: &Ctx,
+    reading: bool,
+) -> Result<(), SpaceFault>
+    requires ready { S.is_ready space.old }
+    requires clean { IsTrue reading → dropped ctx.now ≡ ctx.now }
+
+    ensures same { IsTrue reading → space.new ≡ space.old }
+    ensures never { IsTrue reading → IsOk result }
+    ensures pages { UnlessDown result ((want : Wanted) (s : Slots) → S.has want s space.old → HoldsPart ctx.now (owned s owner)
+        → Leaves S.has owner want s space.new (λ after. OnOk result (after ≡ stored ctx.now (owned s owner)))) }
+    ensures undamaged { IfErr result IsStoreFault }
+    ensures leads { LeadsWithin S.leads (edits_of ctx.now) space.old space.new }
+    ensures fails { IfErr result (λ e. S.fails e space.old space.new) }
+    ensures ready { S.is_ready space.new }
+{
+    if reading {
+        return Ok(());
+    }
+    space.store(alloc, owner, ctx)
 }

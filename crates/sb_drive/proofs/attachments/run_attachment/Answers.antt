@@ -1,17 +1,17 @@
-use Rattle.std.proofs.Common.{◌≡◌, ◌<◌, ◌∙◌, ap, sym, subst}
+use Rattle.std.proofs.Common.{◌≡◌, ◌<◌, ◌∙◌, Err, true≢false, ap, sym, subst}
 use Rattle.sb_ctx.proofs.ViewLaws.{HoldsPart-from_dropped}
 use Rattle.sb_ctx.specs.declared.moves.Move.{Move}
 use Rattle.sb_ctx.specs.AttachAnswers.{Answers}
 use Rattle.sb_ctx.specs.View.{View, HoldsPart, IsClean, dropped, edits_of, stored}
 use Rattle.sb_drive.specs.Slots.{Slots, owned}
-use Rattle.sb_drive.specs.Spaces.{Leaves, Wanted}
+use Rattle.sb_drive.specs.Spaces.{IsReadFault, Leaves, Wanted}
 use Rattle.sb_drive.specs.Turns.{AsksNumbered}
 use Rattle.sb_drive.proofs.AsksLemmas.{IsAsked-dropped, IsClean-IsGift, HoldsPart-IsGivenIn, found-IsGift, to_ask-IsGift}
 use Rattle.sb_drive.proofs.AttachLemmas.{HasSpaceCause-stop, Answers-end, Answers-found, Spends-found}
 use Rattle.sb_drive.proofs.MeasureLemmas.{to_ask}
-use Rattle.sb_drive.proofs.SpacesLemmas.{LeadsWithin-none, LeadsWithin-on, LeadsWithin-zero, Leaves-so, UnlessDown-passed}
+use Rattle.sb_drive.proofs.SpacesLemmas.{LeadsWithin-none, LeadsWithin-on, LeadsWithin-zero, Leaves-so, IfErr-passed, UnlessDown-passed, UnlessDown-so}
 use Rattle.sb_drive.proofs.StoresLemmas.{edits_of-clean}
-use Rattle.sb_drive.proofs.TurnsLemmas.{IsAsked-attachment, end-is}
+use Rattle.sb_drive.proofs.TurnsLemmas.{IsAsked-attachment, IsReadFault-asked, IsReadFault-stop, Reads-attachment, end-is}
 use Rattle.sb_drive.proofs.attachments.run_attachment.Goals as goal
 
 pub loop-ask-smaller : goal.loop-ask-smaller
@@ -102,42 +102,42 @@ returns-then-is_find-clause-costs g c =
     }
 
 -- ---- the edits are refused
-pub returns-in_err-store-in-End-clause-others : goal.returns-in_err-store-in-End-clause-others
-returns-in_err-store-in-End-clause-others g c =
+pub returns-in_err-store_edits-in-End-clause-others : goal.returns-in_err-store_edits-in-End-clause-others
+returns-in_err-store_edits-in-End-clause-others g c =
     let owner = c.args.inst.now.owner in
     let ctx = c.make_call-made.new.ctx in
-    UnlessDown-passed (Unit {0}) Move c.from_residual-in_err-store-in-End.result c.in_err-store-in-End.field-0.0
-    ((want : Wanted) (s : Slots) → g.S.PageSpace.has want s c.loop-ask.space → HoldsPart ctx (owned s owner) → Leaves g.S.PageSpace.has owner want s c.store.new.self (λ after. Unit {0}))
-    ((want : Wanted) (s : Slots) → g.S.PageSpace.has want s c.args.space.now → Leaves g.S.PageSpace.has owner want s c.store.new.self (λ after. Unit {0}))
-    c.from_residual-in_err-store-in-End.ensures.1
+    UnlessDown-passed (Unit {0}) Move c.from_residual-in_err-store_edits-in-End.result c.in_err-store_edits-in-End.field-0.0
+    ((want : Wanted) (s : Slots) → g.S.PageSpace.has want s c.loop-ask.space → HoldsPart ctx (owned s owner) → Leaves g.S.PageSpace.has owner want s c.store_edits.new.space (λ after. Unit {0}))
+    ((want : Wanted) (s : Slots) → g.S.PageSpace.has want s c.args.space.now → Leaves g.S.PageSpace.has owner want s c.store_edits.new.space (λ after. Unit {0}))
+    c.from_residual-in_err-store_edits-in-End.ensures.1
     (λ left want s has. left want s (c.loop-ask.invariant.has want s has)
     (HoldsPart-from_dropped ctx c.loop-ask.ctx (owned s owner) c.make_call-made.ensures.changes.given (c.loop-ask.invariant.part want s has)))
-    c.in_err-store-in-End.ensures.pages
+    c.in_err-store_edits-in-End.ensures.pages
 
-pub returns-in_err-store-in-End-clause-leads : goal.returns-in_err-store-in-End-clause-leads
-returns-in_err-store-in-End-clause-leads g c =
-    let within = LeadsWithin-on g.S.PageSpace.leads (edits_of c.make_call-made.new.ctx) c.args.space.now c.loop-ask.space c.store.new.self g.met.S.PageSpace.goes_on c.loop-ask.invariant.leads c.in_err-store-in-End.ensures.leads in
+pub returns-in_err-store_edits-in-End-clause-leads : goal.returns-in_err-store_edits-in-End-clause-leads
+returns-in_err-store_edits-in-End-clause-leads g c =
+    let within = LeadsWithin-on g.S.PageSpace.leads (edits_of c.make_call-made.new.ctx) c.args.space.now c.loop-ask.space c.store_edits.new.space g.met.S.PageSpace.goes_on c.loop-ask.invariant.leads c.in_err-store_edits-in-End.ensures.leads in
     (within.changes, within.leads)
 
-pub returns-in_err-store-in-End-clause-costs : goal.returns-in_err-store-in-End-clause-costs
-returns-in_err-store-in-End-clause-costs g c =
+pub returns-in_err-store_edits-in-End-clause-costs : goal.returns-in_err-store_edits-in-End-clause-costs
+returns-in_err-store_edits-in-End-clause-costs g c =
     let a = (goal.Attachment-dyn g c.args.boxed.now).attachment c.args.boxed.now.1 in
     let inst = c.args.inst.now in
     let ctx = c.make_call-made.new.ctx in
     record {
       ctx = ctx;
       move = c.make_call-made.result;
-      leads = LeadsWithin-on g.S.PageSpace.leads (edits_of ctx) c.args.space.now c.loop-ask.space c.store.new.self g.met.S.PageSpace.goes_on c.loop-ask.invariant.leads c.in_err-store-in-End.ensures.leads;
+      leads = LeadsWithin-on g.S.PageSpace.leads (edits_of ctx) c.args.space.now c.loop-ask.space c.store_edits.new.space g.met.S.PageSpace.goes_on c.loop-ask.invariant.leads c.in_err-store_edits-in-End.ensures.leads;
       spends = λ want s has. Spends-found a inst c.args.call.now c.loop-ask.ctx c.args.ctx.now (owned s inst.owner) ctx c.make_call-made.result c.loop-ask.invariant.found
           (c.make_call-made.ensures.changes.spends c.is_ctx.ensures (owned s inst.owner) (c.loop-ask.invariant.part want s has));
     }
 
-pub returns-in_err-store-in-End-clause-reads : goal.returns-in_err-store-in-End-clause-reads
-returns-in_err-store-in-End-clause-reads g c = λ reads.
+pub returns-in_err-store_edits-in-End-clause-reads : goal.returns-in_err-store_edits-in-End-clause-reads
+returns-in_err-store_edits-in-End-clause-reads g c = λ reads.
     let ctx = c.make_call-made.new.ctx in
     let none = edits_of-clean ctx c.is_ctx.ensures.sound (c.make_call-made.ensures.changes.given ∙ sym (c.make_call-made.ensures.reads reads)) in
-    LeadsWithin-zero g.S.PageSpace.leads (edits_of ctx) c.args.space.now c.store.new.self none
-    (LeadsWithin-on g.S.PageSpace.leads (edits_of ctx) c.args.space.now c.loop-ask.space c.store.new.self g.met.S.PageSpace.goes_on c.loop-ask.invariant.leads c.in_err-store-in-End.ensures.leads)
+    LeadsWithin-zero g.S.PageSpace.leads (edits_of ctx) c.args.space.now c.store_edits.new.space none
+    (LeadsWithin-on g.S.PageSpace.leads (edits_of ctx) c.args.space.now c.loop-ask.space c.store_edits.new.space g.met.S.PageSpace.goes_on c.loop-ask.invariant.leads c.in_err-store_edits-in-End.ensures.leads)
 
 -- ---- the end
 pub returns-in-End-clause-answers : goal.returns-in-End-clause-answers
@@ -150,21 +150,21 @@ returns-in-End-clause-answers g c = λ want s has.
     let changes = c.make_call-made.ensures.changes in
     let part = c.loop-ask.invariant.part want s has in
     let answers = Answers-found a inst call c.loop-ask.ctx c.args.ctx.now P (stored ctx P) c.make_call-made.result c.loop-ask.invariant.found (changes.answers P part) in
-    Leaves-so g.S.PageSpace.has inst.owner want s c.store.new.self (λ after. after ≡ stored ctx P) (λ after. Answers a inst call c.args.ctx.now P after c.in-End.end)
+    Leaves-so g.S.PageSpace.has inst.owner want s c.store_edits.new.space (λ after. after ≡ stored ctx P) (λ after. Answers a inst call c.args.ctx.now P after c.in-End.end)
     (λ after same. Answers-end a inst call c.args.ctx.now P (stored ctx P) after c.make_call-made.result c.in-End.end (end-is c.make_call-made.result c.in-End.end (sym c.turn_of.ensures.turn ∙ c.in-End.is)) same answers)
-    (c.in_ok-store-in-End.ensures.pages want s (c.loop-ask.invariant.has want s has) (HoldsPart-from_dropped ctx c.loop-ask.ctx P changes.given part))
+    (c.in_ok-store_edits-in-End.ensures.pages want s (c.loop-ask.invariant.has want s has) (HoldsPart-from_dropped ctx c.loop-ask.ctx P changes.given part))
 
 pub returns-in-End-clause-others : goal.returns-in-End-clause-others
 returns-in-End-clause-others g c = λ want s has.
     let P = owned s c.args.inst.now.owner in
     let ctx = c.make_call-made.new.ctx in
     let part = HoldsPart-from_dropped ctx c.loop-ask.ctx P c.make_call-made.ensures.changes.given (c.loop-ask.invariant.part want s has) in
-    Leaves-so g.S.PageSpace.has c.args.inst.now.owner want s c.store.new.self (λ after. after ≡ stored ctx P) (λ after. Unit {0}) (λ after so. tt)
-    (c.in_ok-store-in-End.ensures.pages want s (c.loop-ask.invariant.has want s has) part)
+    Leaves-so g.S.PageSpace.has c.args.inst.now.owner want s c.store_edits.new.space (λ after. after ≡ stored ctx P) (λ after. Unit {0}) (λ after so. tt)
+    (c.in_ok-store_edits-in-End.ensures.pages want s (c.loop-ask.invariant.has want s has) part)
 
 pub returns-in-End-clause-leads : goal.returns-in-End-clause-leads
 returns-in-End-clause-leads g c =
-    let within = LeadsWithin-on g.S.PageSpace.leads (edits_of c.make_call-made.new.ctx) c.args.space.now c.loop-ask.space c.store.new.self g.met.S.PageSpace.goes_on c.loop-ask.invariant.leads c.in_ok-store-in-End.ensures.leads in
+    let within = LeadsWithin-on g.S.PageSpace.leads (edits_of c.make_call-made.new.ctx) c.args.space.now c.loop-ask.space c.store_edits.new.space g.met.S.PageSpace.goes_on c.loop-ask.invariant.leads c.in_ok-store_edits-in-End.ensures.leads in
     (within.changes, within.leads)
 
 pub returns-in-End-clause-costs : goal.returns-in-End-clause-costs
@@ -175,7 +175,7 @@ returns-in-End-clause-costs g c =
     record {
       ctx = ctx;
       move = c.make_call-made.result;
-      leads = LeadsWithin-on g.S.PageSpace.leads (edits_of ctx) c.args.space.now c.loop-ask.space c.store.new.self g.met.S.PageSpace.goes_on c.loop-ask.invariant.leads c.in_ok-store-in-End.ensures.leads;
+      leads = LeadsWithin-on g.S.PageSpace.leads (edits_of ctx) c.args.space.now c.loop-ask.space c.store_edits.new.space g.met.S.PageSpace.goes_on c.loop-ask.invariant.leads c.in_ok-store_edits-in-End.ensures.leads;
       spends = λ want s has. Spends-found a inst c.args.call.now c.loop-ask.ctx c.args.ctx.now (owned s inst.owner) ctx c.make_call-made.result c.loop-ask.invariant.found
           (c.make_call-made.ensures.changes.spends c.is_ctx.ensures (owned s inst.owner) (c.loop-ask.invariant.part want s has));
     }
@@ -184,5 +184,39 @@ pub returns-in-End-clause-reads : goal.returns-in-End-clause-reads
 returns-in-End-clause-reads g c = λ reads.
     let ctx = c.make_call-made.new.ctx in
     let none = edits_of-clean ctx c.is_ctx.ensures.sound (c.make_call-made.ensures.changes.given ∙ sym (c.make_call-made.ensures.reads reads)) in
-    LeadsWithin-zero g.S.PageSpace.leads (edits_of ctx) c.args.space.now c.store.new.self none
-    (LeadsWithin-on g.S.PageSpace.leads (edits_of ctx) c.args.space.now c.loop-ask.space c.store.new.self g.met.S.PageSpace.goes_on c.loop-ask.invariant.leads c.in_ok-store-in-End.ensures.leads)
+    LeadsWithin-zero g.S.PageSpace.leads (edits_of ctx) c.args.space.now c.store_edits.new.space none
+    (LeadsWithin-on g.S.PageSpace.leads (edits_of ctx) c.args.space.now c.loop-ask.space c.store_edits.new.space g.met.S.PageSpace.goes_on c.loop-ask.invariant.leads c.in_ok-store_edits-in-End.ensures.leads)
+
+-- ---- a call that only reads
+pub store_edits-requires-clause-clean : goal.store_edits-requires-clause-clean
+store_edits-requires-clause-clean g c = λ is. c.make_call-made.ensures.changes.given ∙ sym (c.make_call-made.ensures.reads (c.is_reading.ensures.0 is))
+
+pub returns-in_err-answer-in-Give-clause-same : goal.returns-in_err-answer-in-Give-clause-same
+returns-in_err-answer-in-Give-clause-same g c = λ reading.
+    UnlessDown-passed (Unit {0}) Move c.from_residual.result c.in_err-answer-in-Give.field-0.0
+    ((want : Wanted) (s : Slots) → g.S.PageSpace.has want s c.loop-ask.space → g.S.PageSpace.has want s c.answer.new.self)
+    ((want : Wanted) (s : Slots) → g.S.PageSpace.has want s c.args.space.now → g.S.PageSpace.has want s c.answer.new.self)
+    c.from_residual.ensures.1 (λ left want s has. left want s (c.loop-ask.invariant.has want s has)) c.in_err-answer-in-Give.ensures.pages
+
+pub returns-in_err-answer-in-Give-clause-looks : goal.returns-in_err-answer-in-Give-clause-looks
+returns-in_err-answer-in-Give-clause-looks g c = λ reading.
+    let fault = c.in_err-answer-in-Give.field-0.0 in
+    IfErr-passed c.from_residual.result fault IsReadFault c.from_residual.ensures.1
+    (IsReadFault-asked c.make_call-made.result c.in-Give.ask fault (Reads-attachment c.args.call.now c.make_call-made.result (c.make_call-made.ensures.looks reading)) (sym c.turn_of.ensures.turn ∙ c.in-Give.is) c.in_err-answer-in-Give.ensures.looks)
+
+pub returns-in-Stop-clause-same : goal.returns-in-Stop-clause-same
+returns-in-Stop-clause-same g c = λ reading. UnlessDown-so {T = Move} (Err c.in-Stop.fault) _ (λ want s has. c.loop-ask.invariant.has want s has)
+
+pub returns-in-Stop-clause-looks : goal.returns-in-Stop-clause-looks
+returns-in-Stop-clause-looks g c = λ reading. IsReadFault-stop c.make_call-made.result c.in-Stop.fault (sym c.turn_of.ensures.turn ∙ c.in-Stop.is)
+
+pub returns-in_err-store_edits-in-End-clause-same : goal.returns-in_err-store_edits-in-End-clause-same
+returns-in_err-store_edits-in-End-clause-same g c = λ reading. absurd (true≢false (sym (c.in_err-store_edits-in-End.ensures.never (c.is_reading.ensures.1 reading))))
+
+pub returns-in_err-store_edits-in-End-clause-looks : goal.returns-in_err-store_edits-in-End-clause-looks
+returns-in_err-store_edits-in-End-clause-looks g c = λ reading. absurd (true≢false (sym (c.in_err-store_edits-in-End.ensures.never (c.is_reading.ensures.1 reading))))
+
+pub returns-in-End-clause-same : goal.returns-in-End-clause-same
+returns-in-End-clause-same g c = λ reading want s has.
+    let same = c.in_ok-store_edits-in-End.ensures.same (c.is_reading.ensures.1 reading) in
+    subst (λ x. g.S.PageSpace.has want s x) (sym same) (c.loop-ask.invariant.has want s has)
