@@ -1,3 +1,4 @@
 pub mod BoxesLemmas
 pub mod CodesLemmas
+pub mod RunsLemmas
 pub mod TestLemmas

@@ -1,2 +1,4 @@
-pub mod Codes
 pub mod Boxes
+pub mod Codes
+pub mod Live
+pub mod Runs

@@ -2,10 +2,13 @@
 #![tactic(auto)]
 
 mod boxes;
+mod calls;
 mod coded;
+mod columns;
 mod extensions;
 mod registry;
 
+pub use calls::Boxes;
 pub use extensions::{Extensions, Meant};
 pub use registry::Registry;
 

@@ -5,10 +5,11 @@ ghost use Rattle.sb_relation.specs.Images.{no_image};
 ghost use Rattle.sb_ctx.specs.Attachment.{plain_attachment};
 ghost use Rattle.sb_ctx.specs.Method.{plain_method};
 
-use crate::{Extensions, Registry};
-use sb_ctx::{Attachment, Ctx, Instance, Move, StorageMethod};
+use crate::{Boxes, Extensions, Registry};
+use sb_ctx::{Attachment, Ctx, Instance, MethodCall, Move, StorageMethod};
+use sb_drive::{Memory, SpaceFault};
 use sb_relation::Change;
-use sb_value::{Bytes, Names, RecKey, Schema, Tuple};
+use sb_value::{Bytes, Names, RecKey, Schema, Str, Tuple};
 use std::alloc::{AllocError, Global};
 use std::test::*;
 
@@ -292,5 +293,60 @@ fn method_moved(rt: HostRuntime) -> Result<(), Fail> {
     let exts = registry.give_back();
     assert!(rt; first == Some(1001) && moved && second == Some(1002));
     assert!(rt; exts.methods.len() == 1 && exts.spare_methods.len() == 1);
+    Ok(())
+}
+
+/// An instance of a storage method's code, with no columns.
+fn instance(alloc: Global, code: u16, durable: bool) -> Instance {
+    Instance {
+        relation: Str::from_string(String::new(alloc)),
+        owner: 1,
+        root: 0,
+        durable,
+        code,
+        desc: Bytes::new(alloc),
+        schema: Schema::from_vec(Vec::new(alloc)),
+        key: Names::from_vec(Vec::new(alloc)),
+    }
+}
+
+/// Whether it is kept by a live box, which is called then and wants memory.
+fn is_called<B: Boxes>(boxes: &B, alloc: Global, inst: &Instance) -> bool {
+    if !boxes.keeps(inst) {
+        return false;
+    }
+    let mut memory = Memory::new(alloc);
+    let made = boxes.run_method(&mut memory, alloc, inst, &MethodCall::Prepare);
+    matches!(made, Err(SpaceFault::NoMemory))
+}
+
+/// A live box keeps the instances of its code that are as durable as it is.
+#[test]
+fn live_method_called(rt: HostRuntime) -> Result<(), Fail> {
+    let alloc = rt.alloc();
+    let mut methods: Vec<Box<dyn StorageMethod>> = Vec::new(alloc);
+    methods.push(Box::new(alloc, Numbered { number: 1 })?)?;
+    let mut spare_methods: Vec<Box<dyn StorageMethod>> = Vec::new(alloc);
+    spare_methods.push(Box::new(alloc, Numbered { number: 2 })?)?;
+    let exts = Extensions {
+        methods,
+        attachments: Vec::new(alloc),
+        spare_methods,
+        spare_attachments: Vec::new(alloc),
+    };
+    let registry = Registry::take(exts).map_err(|_| Refused)?;
+    for (code, durable, called) in [
+        (1001, true, true),
+        (1001, false, false),
+        (1002, true, false),
+    ] {
+        let inst = instance(alloc, code, durable);
+        assert!(rt;
+            is_called(&registry, alloc, &inst) == called,
+            "{code} {durable}"
+        );
+    }
+    assert!(rt; registry.is_durable(1001) == Some(true) && registry.is_durable(1002).is_none());
+    assert!(rt; !registry.has_rule(1001));
     Ok(())
 }

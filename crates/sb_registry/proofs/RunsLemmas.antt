@@ -1,0 +1,68 @@
+-- Calls of live boxes over a space.
+use Rattle.std.proofs.Common.{◌≡◌, Result, Ok, Err, IfErr, Some, sym, subst, ◌∙◌, true≢false}
+use Rattle.sb_relation.specs.Content.{Content}
+use Rattle.sb_relation.specs.Db.{Rows}
+use Rattle.sb_forms.specs.Pages.{Pages}
+use Rattle.sb_ctx.specs.declared.instance.Instance.{Instance}
+use Rattle.sb_ctx.specs.declared.calls.MethodCall.{MethodCall}
+use Rattle.sb_ctx.specs.declared.calls.MethodCall.TheVariants as calls
+use Rattle.sb_ctx.specs.declared.calls.AttachCall.{AttachCall}
+use Rattle.sb_ctx.specs.declared.calls.AttachCall.TheVariants as attach
+use Rattle.sb_ctx.specs.declared.moves.Move.{Move}
+use Rattle.sb_ctx.specs.Method.{Method}
+use Rattle.sb_ctx.specs.MethodAnswers.{Before}
+use Rattle.sb_ctx.specs.Attachment.{Attachment}
+use Rattle.sb_ctx.specs.AttachAnswers.{Holds}
+use Rattle.sb_ctx.specs.Laws.{IsMethod, IsAttachment}
+use Rattle.sb_drive.specs.declared.space.SpaceFault.{SpaceFault}
+use Rattle.sb_drive.specs.declared.space.SpaceFault.TheVariants.{Damaged}
+use Rattle.sb_drive.specs.AttachCalls.{Fits, HasSpaceCause as HasSpaceCauseFor}
+use Rattle.sb_drive.specs.MethodCalls.{HasSpaceCause}
+use Rattle.sb_drive.specs.Slots.{Slots, owned}
+use Rattle.sb_drive.specs.Spaces.{Wanted}
+use Rattle.sb_registry.specs.Boxes.{Meanings, attachment_of}
+use Rattle.sb_registry.specs.Live.{IsLiveRule}
+use Rattle.sb_registry.specs.Runs.{IsNewFor, IsSound}
+
+-- ---- no page is called damaged
+-- over pages with rows, or of a new instance that is prepared
+IsSound-Before : (m : Method) (inst : Instance) (call : MethodCall) (P : Pages) (rows : Rows) (e : SpaceFault) → IsMethod m → Before m inst call P rows → HasSpaceCause m inst call P e → IsSound e
+IsSound-Before m inst calls.Prepare P rows (Damaged n) law before cause = cause.not_new before.0
+IsSound-Before m inst call P rows (Damaged n) law before cause = true≢false (sym cause.may ∙ (law.formed inst P rows before).whole cause.held n cause.given)
+IsSound-Before m inst call P rows e law before cause = tt
+
+pub sound-Before : {S : Type 0} (Has : Wanted → Slots → S → Type 0) (m : Method) (inst : Instance) (call : MethodCall) (old : S) (result : Result Move SpaceFault) → IsMethod m
+    → IfErr result (λ e. (want : Wanted) (s : Slots) → Has want s old → HasSpaceCause m inst call (owned s inst.owner) e)
+    → IfErr result (λ e. (want : Wanted) (s : Slots) (rows : Rows) → Has want s old → Before m inst call (owned s inst.owner) rows → IsSound e)
+sound-Before Has m inst call old (Ok move) law cause = tt
+sound-Before Has m inst call old (Err e) law cause = λ want s rows has before. IsSound-Before m inst call (owned s inst.owner) rows e law before (cause want s has)
+
+-- the same of an attachment
+IsSound-Holds : (a : Attachment) (inst : Instance) (call : AttachCall) (P : Pages) (content : Content) (e : SpaceFault) → IsAttachment a → Holds a inst P content → HasSpaceCauseFor a inst call P e → IsSound e
+IsSound-Holds a inst call P content (Damaged n) law holds cause = true≢false (sym cause.may ∙ (law.formed inst P content holds).whole cause.held n cause.given)
+IsSound-Holds a inst call P content e law holds cause = tt
+
+pub sound-Holds : {S : Type 0} (Has : Wanted → Slots → S → Type 0) (a : Attachment) (inst : Instance) (call : AttachCall) (old : S) (result : Result Move SpaceFault) → IsAttachment a
+    → IfErr result (λ e. (want : Wanted) (s : Slots) → Has want s old → HasSpaceCauseFor a inst call (owned s inst.owner) e)
+    → IfErr result (λ e. (want : Wanted) (s : Slots) (content : Content) → Has want s old → Holds a inst (owned s inst.owner) content → IsSound e)
+sound-Holds Has a inst call old (Ok move) law cause = tt
+sound-Holds Has a inst call old (Err e) law cause = λ want s content has holds. IsSound-Holds a inst call (owned s inst.owner) content e law holds (cause want s has)
+
+IsSound-new : (a : Attachment) (inst : Instance) (call : AttachCall) (P : Pages) (e : SpaceFault) → IsNewFor a inst call P → HasSpaceCauseFor a inst call P e → IsSound e
+IsSound-new a inst attach.Prepare P (Damaged n) new cause = cause.not_new new
+IsSound-new a inst call P (Damaged n) new cause = absurd new
+IsSound-new a inst call P e new cause = tt
+
+pub sound-new : {S : Type 0} (Has : Wanted → Slots → S → Type 0) (a : Attachment) (inst : Instance) (call : AttachCall) (old : S) (result : Result Move SpaceFault)
+    → IfErr result (λ e. (want : Wanted) (s : Slots) → Has want s old → HasSpaceCauseFor a inst call (owned s inst.owner) e)
+    → IfErr result (λ e. (want : Wanted) (s : Slots) → Has want s old → IsNewFor a inst call (owned s inst.owner) → IsSound e)
+sound-new Has a inst call old (Ok move) cause = tt
+sound-new Has a inst call old (Err e) cause = λ want s has new. IsSound-new a inst call (owned s inst.owner) e new (cause want s has)
+
+-- ---- the live attachment of a code is the one that is found
+pub Fits-live : (m : Meanings) (inst : Instance) (call : AttachCall) (a : Attachment) → Some a ≡ attachment_of inst.code m.attachments → IsLiveRule m inst
+    → ((live : IsLiveRule m inst) → Fits live.box inst call) → Fits a inst call
+Fits-live m inst call a is live fits =
+    let both : Some live.box ≡ Some a = sym live.live ∙ sym is in
+    let same : live.box ≡ a = cc in
+    subst (λ (box : Attachment). Fits box inst call) same (fits live)
