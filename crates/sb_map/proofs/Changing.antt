@@ -1,0 +1,46 @@
+-- What a walk made that changes a tree.
+use Rattle.std.proofs.Common.{◌≡◌, ℕ, ◌+◌, ◌≤◌, Bool, false, true≢false, cond, List, [], ◌∷◌, length, Option, Some, None, is_some, Less, Equal, Greater, Ordering, refl, ap, subst, ◌∙◌, arith}
+use Rattle.std.specs.FinMap.Entries.{find}
+use Rattle.std.specs.Ordering.{is_eq}
+use Rattle.sb_fold.specs.Costs.{tree_cost}
+use Rattle.sb_node.specs.Entries.{Entry, key_cmp}
+use Rattle.sb_forms.specs.Pages.{Pages}
+use Rattle.sb_forms.specs.Read.{read_tree}
+use Rattle.sb_ctx.specs.View.{View, HoldsPart, dropped, edits_of}
+use Rattle.sb_ctx.specs.Sound.{IsSound}
+use Rattle.sb_btree.specs.Inserts.{OverTrees}
+use Rattle.sb_btree.specs.Removes.{entries_without}
+use Rattle.sb_btree.specs.declared.walk.Walk.{Walk}
+use Rattle.sb_btree.specs.declared.walk.Walk.TheVariants.{Ready}
+use Rattle.sb_btree.proofs.Without.{apart_less, apart_more}
+use Rattle.sb_drive.proofs.StoresLemmas.{edits_of-clean}
+use Rattle.sb_map.specs.Changes.{IsMade, Makes, changed, is_change}
+use Rattle.sb_map.proofs.Finding.{reads_still}
+
+-- ---- entries without a key that they haven't
+without_none : (key : List ℕ) (es : List Entry) → find key_cmp key es ≡ None → entries_without key es ≡ es
+without_none key [] none = refl
+without_none key (e ∷ es) none = by (key_cmp key e.0) refl none (without_none key es)
+  where
+    by : (o : Ordering) → key_cmp key e.0 ≡ o → cond (is_eq o) (Some e.1) (find key_cmp key es) ≡ None → (find key_cmp key es ≡ None → entries_without key es ≡ es) → entries_without key (e ∷ es) ≡ e ∷ es
+    by Less is none rest = ap (λ b. cond b (e ∷ entries_without key es) (entries_without key es)) (apart_more key e.0 is) ∙ ap (λ r. e ∷ r) (rest none)
+    by Equal is none rest = cc
+    by Greater is none rest = ap (λ b. cond b (e ∷ entries_without key es) (entries_without key es)) (apart_less key e.0 is) ∙ ap (λ r. e ∷ r) (rest none)
+
+-- where there is nothing to change, nothing is changed
+pub changed-none : (key : List ℕ) (value : Option (List ℕ)) (es : List Entry) → is_change key value es ≡ false → changed key value es ≡ es
+changed-none key (Some value) es none = absurd (true≢false none)
+changed-none key None es none = without_none key es (by (find key_cmp key es) none)
+  where
+    by : (o : Option (List ℕ)) → is_some o ≡ false → o ≡ None
+    by None is = refl
+    by (Some v) is = absurd (true≢false is)
+
+-- ---- the end of a walk over a Ctx of which nothing was made
+pub IsMade-ended : (key : List ℕ) (value : Option (List ℕ)) (root : ℕ) (P : Pages) (es : List Entry) (c walked : View) (w : Walk Bool) (done : Bool) → IsSound c → dropped c ≡ c → HoldsPart c P
+    → OverTrees c root (λ P es. Makes key value root P es walked w) → OverTrees c root (λ P es. edits_of walked ≤ edits_of c + tree_cost (length es)) → w ≡ Ready done → read_tree root P ≡ Some es
+    → IsMade key value root P es walked done
+IsMade-ended key value root P es c walked w done sound clean part makes edits is read =
+    let still = reads_still root c P es clean part read in
+    let made = subst (λ (v : Walk Bool). Makes key value root P es walked v) is (makes P es still) in
+    record { is = made.0; tree = made.1; edits = omega (arith, edits P es still, edits_of-clean c sound clean) }

@@ -1,0 +1,7 @@
+pub mod Walking
+pub mod Turning
+pub mod Stopping
+pub mod Finding
+pub mod Changing
+pub mod Storing
+pub mod Emptying

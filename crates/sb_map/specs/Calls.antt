@@ -1,0 +1,24 @@
+-- What calls on a map leave of the space.
+use Rattle.std.specs.Prelude.{ℕ, Bool, length, Result, IfErr}
+use Rattle.sb_fold.specs.Costs.{tree_cost}
+use Rattle.sb_drive.specs.declared.space.SpaceFault.{SpaceFault}
+use Rattle.sb_drive.specs.Slots.{Slots}
+use Rattle.sb_drive.specs.Spaces.{IsFullFor, IsRefused, Leaves, LeadsOn, LeadsWithin, UnlessDown, Wanted}
+use Rattle.sb_map.specs.declared.place.Place.{Place}
+use Rattle.sb_map.specs.Maps.{OverMap}
+
+-- a reading call leaves all pages as they are, and no change leads there
+pub record Looks {S T : Type 0} (Has : Wanted → Slots → S → Type 0) (Leads : ℕ → S → S → Type 0) (Fails : SpaceFault → S → S → Type 0)
+    (old new : S) (result : Result T SpaceFault) : Type 0 where
+  pub same : UnlessDown result ((want : Wanted) (s : Slots) → Has want s old → Has want s new)
+  pub leads : Leads 0 old new
+  pub refused : IfErr result (λ e. IsRefused (Leads 0 old new) (Fails e old new) e)
+
+-- A changing call leaves the pages of all other owners as they are, and makes no more changes than an operation on a tree costs. A page is wanting only where none was left before any change.
+pub record Works {S T : Type 0} (Has : Wanted → Slots → S → Type 0) (Leads : ℕ → S → S → Type 0) (Fails : SpaceFault → S → S → Type 0)
+    (durable : S → Bool) (total : S → ℕ) (place : Place) (old new : S) (result : Result T SpaceFault) : Type 0 where
+  pub others : UnlessDown result ((want : Wanted) (s : Slots) → Has want s old → Leaves Has place.owner want s new (λ after. Unit {0}))
+  pub full : IfErr result (λ e. (want : Wanted) (s : Slots) → Has want s old → IsFullFor Leads durable total old s e)
+  pub leads : LeadsOn Leads old new
+  pub costs : OverMap Has place old (λ es. LeadsWithin Leads (tree_cost (length es)) old new)
+  pub refused : IfErr result (λ e. IsRefused (Leads 0 old new) (Fails e old new) e)

@@ -1,0 +1,6 @@
+pub mod Maps
+pub mod Refusals
+pub mod Calls
+pub mod Turns
+pub mod Changes
+pub mod Making

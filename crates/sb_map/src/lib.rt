@@ -1,0 +1,16 @@
+//! A map from keys to values in the pages of one owner, over any space of pages: the walks over its tree, driven to their end.
+#![tactic(auto)]
+
+mod changes;
+mod lookups;
+mod making;
+mod place;
+mod turns;
+
+pub use changes::{put, remove};
+pub use lookups::{get, next};
+pub use making::make;
+pub use place::Place;
+
+#[cfg(test)]
+mod tests;
