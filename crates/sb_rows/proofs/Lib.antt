@@ -1,0 +1,4 @@
+pub mod CallsLemmas
+pub mod ScansLemmas
+pub mod PlacingsLemmas
+pub mod ExampleLaws

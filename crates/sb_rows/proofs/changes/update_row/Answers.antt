@@ -1,0 +1,39 @@
+use Rattle.std.proofs.Common.{◌≡◌, true, Option, IfSome, sym, subst}
+use Rattle.sb_relation.specs.Keys.{is_record_key}
+use Rattle.sb_rows.specs.declared.changes.Placing.{Placing}
+use Rattle.sb_rows.specs.Placings.{OfKey}
+use Rattle.sb_rows.proofs.PlacingsLemmas.{IsReplaced-left, IsReplacing-ended, OfKey-replaced}
+use Rattle.sb_drive.proofs.SpacesLemmas.{IfErr-passed}
+use Rattle.sb_rows.proofs.CallsLemmas.{Works-made, Works-passed}
+use Rattle.sb_rows.proofs.changes.update_row.Goals as goal
+
+pub replacing_in-requires : goal.replacing_in-requires
+replacing_in-requires g c = IsReplacing-ended c.args.inst.now c.args.key c.args.row c.in_ok-made.made c.in_ok-made.ensures.may c.in_ok-made.ensures.ends
+
+pub returns-in_err-made-clause-costs : goal.returns-in_err-made-clause-costs
+returns-in_err-made-clause-costs g c = λ want s rows has h. (c.in_err-made.ensures.runs h.live).costs want s rows has h.holds
+
+pub returns-in_err-made-clause-works : goal.returns-in_err-made-clause-works
+returns-in_err-made-clause-works g c =
+    Works-passed g.S.PageSpace.has g.S.PageSpace.leads g.S.PageSpace.fails g.S.PageSpace.durable g.S.PageSpace.total c.args.inst.now.owner c.args.space.now c.run_method.new.space c.from_residual.result c.in_err-made.field-0.0 c.from_residual.ensures.1 c.in_err-made.ensures.works
+
+pub returns-in_err-made-clause-undamaged : goal.returns-in_err-made-clause-undamaged
+returns-in_err-made-clause-undamaged g c =
+    IfErr-passed c.from_residual.result c.in_err-made.field-0.0 _ c.from_residual.ensures.1 (λ want s rows has h. (c.in_err-made.ensures.runs h.live).sound want s rows has h.holds)
+
+pub returns-clause-placed : goal.returns-clause-placed
+returns-clause-placed g c = λ want s rows has h.
+    let is = IsReplacing-ended c.args.inst.now c.args.key c.args.row c.in_ok-made.made c.in_ok-made.ensures.may c.in_ok-made.ensures.ends in
+    IsReplaced-left g.S.PageSpace.has _ c.args.inst.now c.args.key c.args.row want s c.run_method.new.space rows c.in_ok-made.made c.replacing_in.result h c.replacing_in.ensures is
+    ((c.in_ok-made.ensures.runs h.live).answers want s has)
+
+pub returns-clause-is_key : goal.returns-clause-is_key
+returns-clause-is_key g c =
+    subst (λ (p : Option Placing). IfSome p (λ new. OfKey new (λ k. is_record_key k ≡ true))) (sym c.replacing_in.ensures)
+    (OfKey-replaced c.args.inst.now c.args.key c.args.row c.in_ok-made.made c.in_ok-made.ensures.may)
+
+pub returns-clause-costs : goal.returns-clause-costs
+returns-clause-costs g c = λ want s rows has h. (c.in_ok-made.ensures.runs h.live).costs want s rows has h.holds
+
+pub returns-clause-works : goal.returns-clause-works
+returns-clause-works g c = Works-made g.S.PageSpace.has g.S.PageSpace.leads g.S.PageSpace.fails g.S.PageSpace.durable g.S.PageSpace.total c.args.inst.now.owner c.args.space.now c.run_method.new.space c.in_ok-made.made c.replacing_in.result c.in_ok-made.ensures.works

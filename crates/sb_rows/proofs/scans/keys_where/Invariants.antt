@@ -1,0 +1,19 @@
+use Rattle.std.proofs.Common.{◌≡◌, true, All, None}
+use Rattle.sb_relation.specs.Db.{Rows}
+use Rattle.sb_relation.specs.Keys.{is_record_key}
+use Rattle.sb_drive.specs.Slots.{Slots}
+use Rattle.sb_drive.specs.Spaces.{Wanted}
+use Rattle.sb_rows.specs.Live.{HasRows}
+use Rattle.sb_rows.proofs.ScansLemmas.{IsMade}
+use Rattle.sb_rows.proofs.scans.keys_where.Given as goal
+
+abbrev pub invariant-rows : goal.invariant-rows
+invariant-rows g l =
+    record {
+      ready : g.S.PageSpace.is_ready l.space;
+      leads : g.S.PageSpace.leads 0 l.fn.space l.space;
+      has : (want : Wanted) (s : Slots) → g.S.PageSpace.has want s l.fn.space → g.S.PageSpace.has want s l.space;
+      each : All (λ key. is_record_key key ≡ true) l.keys.items;
+      made : (want : Wanted) (s : Slots) (rows : Rows) → g.S.PageSpace.has want s l.fn.space → HasRows (g.B.Boxes.meanings l.boxes) s l.inst rows
+          → IsMade (λ row. row.0) (g.T.RowTest.passes l.test) rows None l.last l.counter l.keys.items;
+    }

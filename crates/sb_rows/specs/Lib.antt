@@ -1,0 +1,4 @@
+pub mod Live
+pub mod Placings
+pub mod Scans
+pub mod Examples

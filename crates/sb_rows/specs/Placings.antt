@@ -1,0 +1,68 @@
+-- What becomes of a row that wants a record key.
+use Rattle.std.specs.Prelude.{◌≡◌, Bool, true, false, Option, Some, None}
+use Rattle.sb_relation.specs.Db.{Key, Row}
+use Rattle.sb_relation.specs.Keys.{NewKeys, AnyOf, Just, Taken, NoGreater}
+use Rattle.sb_ctx.specs.declared.moves.Move.{Move}
+use Rattle.sb_ctx.specs.declared.moves.Move.TheVariants as move
+use Rattle.sb_rows.specs.declared.changes.Placing.{Placing}
+use Rattle.sb_rows.specs.declared.changes.Placing.TheVariants as placing
+
+-- It gets one of these keys, and this is left with it; or none, and this is left without.
+abbrev pub IsPlaced : NewKeys → Placing → (Key → Type 0) → Type 0 → Type 0
+IsPlaced (AnyOf may) (placing.Key key) LeavesWith Leaves = (may key ≡ true) × LeavesWith key
+IsPlaced (Just given) (placing.Key key) LeavesWith Leaves = (key ≡ given) × LeavesWith key
+IsPlaced Taken placing.Duplicate LeavesWith Leaves = Leaves
+IsPlaced NoGreater placing.Range LeavesWith Leaves = Leaves
+IsPlaced keys placed LeavesWith Leaves = ⊥
+
+-- The row of a key gets other values and one of these keys; or there is no row of the key, and this is left without.
+abbrev pub IsReplaced : Option Row → NewKeys → Option Placing → (Key → Type 0) → Type 0 → Type 0
+IsReplaced None keys None LeavesWith Leaves = Leaves
+IsReplaced (Some old) keys (Some placed) LeavesWith Leaves = IsPlaced keys placed LeavesWith Leaves
+IsReplaced old keys placed LeavesWith Leaves = ⊥
+
+-- The row of a key goes, and this is left without it; or there is none, and this is left as it was.
+abbrev pub IsGone : Option Row → Bool → Type 0 → Type 0 → Type 0
+IsGone (Some old) true LeavesWithout Leaves = LeavesWithout
+IsGone None false LeavesWithout Leaves = Leaves
+IsGone old gone LeavesWithout Leaves = ⊥
+
+-- what is so of the key that a row got
+abbrev pub OfKey : Placing → (Key → Type 0) → Type 0
+OfKey (placing.Key key) IsSo = IsSo key
+OfKey placed IsSo = Unit {0}
+
+-- ---- the ends of the calls
+abbrev pub IsPlacing : Move → Type 0
+IsPlacing (move.Key key) = Unit {0}
+IsPlacing move.Duplicate = Unit {0}
+IsPlacing move.Range = Unit {0}
+IsPlacing _ = ⊥
+
+-- what an insert's end says
+abbrev pub placing_in : Move → Placing
+placing_in (move.Key key) = placing.Key key
+placing_in move.Duplicate = placing.Duplicate
+placing_in _ = placing.Range
+
+abbrev pub IsReplacing : Move → Type 0
+IsReplacing (move.Key key) = Unit {0}
+IsReplacing move.Duplicate = Unit {0}
+IsReplacing move.NoRecord = Unit {0}
+IsReplacing _ = ⊥
+
+-- what an update's end says
+abbrev pub replacing_in : Move → Option Placing
+replacing_in (move.Key key) = Some (placing.Key key)
+replacing_in move.Duplicate = Some placing.Duplicate
+replacing_in _ = None
+
+abbrev pub IsDoneOrNone : Move → Type 0
+IsDoneOrNone move.Done = Unit {0}
+IsDoneOrNone move.NoRecord = Unit {0}
+IsDoneOrNone _ = ⊥
+
+-- whether a delete ended with a row that went
+abbrev pub is_gone : Move → Bool
+is_gone move.Done = true
+is_gone _ = false
