@@ -1,3 +1,5 @@
 pub mod Entries
 pub mod Waiting
 pub mod Laws
+pub mod Complete
+pub mod CompleteLaws
