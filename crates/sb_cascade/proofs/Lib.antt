@@ -1,9 +1,19 @@
 pub mod Acting
 pub mod Asking
+pub mod Attaching
 pub mod Breaking
+pub mod Commanding
 pub mod Draining
+pub mod FittingColumns
+pub mod FittingRows
+pub mod FittingTerms
+pub mod FittingWork
+pub mod Following
 pub mod Forward
 pub mod Leading
 pub mod Levels
 pub mod Refusing
+pub mod Staying
 pub mod Stopping
+pub mod Wishing
+mod WorkedFitting

@@ -3,6 +3,7 @@
 
 mod changes;
 mod finishing;
+pub mod laws;
 mod layer;
 mod wish;
 
