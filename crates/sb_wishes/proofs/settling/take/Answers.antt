@@ -1,0 +1,19 @@
+use Rattle.std.proofs.Common.{sym, subst, ap, ◌∙◌}
+use Rattle.sb_wishes.proofs.WorksLemmas.{Works-no_memory}
+use Rattle.sb_wishes.proofs.SettledLemmas.{Comes-take}
+use Rattle.sb_wishes.proofs.settling.take.Goals as goal
+
+pub returns-in_err-relation-clause-works : goal.returns-in_err-relation-clause-works
+returns-in_err-relation-clause-works g c =
+    Works-no_memory g.S.PageSpace.has g.S.PageSpace.leads g.S.PageSpace.fails g.S.PageSpace.durable g.S.PageSpace.total c.args.table.now.owner c.args.space.now c.args.space.now c.from_residual.result c.from_residual.ensures.1
+    (g.met.S.PageSpace.stays c.args.space.now) (g.met.S.PageSpace.stays c.args.space.now) (λ want s has. has)
+
+pub returns-in_err-at-clause-works : goal.returns-in_err-at-clause-works
+returns-in_err-at-clause-works g c =
+    Works-no_memory g.S.PageSpace.has g.S.PageSpace.leads g.S.PageSpace.fails g.S.PageSpace.durable g.S.PageSpace.total c.args.table.now.owner c.args.space.now c.args.space.now c.from_residual-in_err-at.result c.from_residual-in_err-at.ensures.1
+    (g.met.S.PageSpace.stays c.args.space.now) (g.met.S.PageSpace.stays c.args.space.now) (λ want s has. has)
+
+pub returns-clause-comes : goal.returns-clause-comes
+returns-clause-comes g c = λ want s r has h there.
+    Comes-take g.S.PageSpace.has g.S.PageSpace.leads (g.B.Boxes.meanings c.args.boxes.now) c.args.table.now want s c.args.space.now c.delete_row.new.space r h c.in_ok-relation.relation c.args.key c.in_ok-at.at c.args.old c.in_ok-gone.gone c.taken.result
+    c.in_ok-relation.ensures c.in_ok-at.ensures c.taken.ensures there c.requires.may.0 (c.in_ok-gone.ensures.gone want s r.rows has h) (c.in_ok-gone.ensures.costs want s r.rows has h)

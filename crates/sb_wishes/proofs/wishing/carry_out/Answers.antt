@@ -1,0 +1,59 @@
+use Rattle.std.proofs.Common.{◌≡◌, IfOk, IfErr, Option, Result, sym, subst}
+use Rattle.sb_cascade.specs.Wishes.{wish_of}
+use Rattle.sb_relation.specs.Db.{Relation, Row, Rows}
+use Rattle.sb_fold.specs.Wishes.{edit_of, wished}
+use Rattle.sb_drive.specs.declared.space.SpaceFault.{SpaceFault}
+use Rattle.sb_drive.specs.Slots.{Slots}
+use Rattle.sb_drive.specs.Spaces.{Wanted}
+use Rattle.sb_registry.specs.Runs.{IsSound}
+use Rattle.sb_rows.specs.Live.{HasRows}
+use Rattle.sb_fold.specs.declared.refusal.Refusal.{Refusal}
+use Rattle.sb_wishes.specs.declared.settling.Edit as code
+use Rattle.sb_wishes.specs.declared.settling.Outcome.{Outcome}
+use Rattle.sb_wishes.specs.Wished.{row_wished}
+use Rattle.sb_wishes.specs.Edits.{GivesEdit, IsEditOf, edit_in, settled}
+use Rattle.sb_wishes.proofs.CarriedLemmas.{ComesOf, ComesOfAll}
+use Rattle.sb_wishes.proofs.RaisedLemmas.{IfErr-so, IfOk-so}
+use Rattle.sb_wishes.proofs.SettledLemmas.{Comes-later, Comes-unwished, Comes-wished}
+use Rattle.sb_wishes.proofs.WorksLemmas.{Works-later, Works-looked, Works-no_memory}
+use Rattle.sb_wishes.proofs.wishing.carry_out.Goals as goal
+
+pub returns-in_err-old-clause-works : goal.returns-in_err-old-clause-works
+returns-in_err-old-clause-works g c =
+    Works-looked {T = Option Row} g.S.PageSpace.has g.S.PageSpace.leads g.S.PageSpace.fails g.S.PageSpace.durable g.S.PageSpace.total c.args.table.now.owner c.args.space.now c.find_old.new.space c.from_residual.result c.in_err-old.field-0.0 c.from_residual.ensures.1
+    (g.met.S.PageSpace.stays c.args.space.now) c.in_err-old.ensures.looks
+
+pub returns-in_err-edit-clause-works : goal.returns-in_err-edit-clause-works
+returns-in_err-edit-clause-works g c =
+    Works-no_memory g.S.PageSpace.has g.S.PageSpace.leads g.S.PageSpace.fails g.S.PageSpace.durable g.S.PageSpace.total c.args.table.now.owner c.args.space.now c.find_old.new.space c.from_residual-in_err-edit.result c.from_residual-in_err-edit.ensures.1
+    (g.met.S.PageSpace.stays c.args.space.now) c.in_ok-old.ensures.looks.leads c.in_ok-old.ensures.looks.same
+
+pub returns-in-Ok-clause-comes : goal.returns-in-Ok-clause-comes
+returns-in-Ok-clause-comes g c =
+    IfOk-so {A = Outcome} {E = SpaceFault} c.settle.result
+    (λ out. ComesOf g.S.PageSpace.has g.S.PageSpace.leads (g.B.Boxes.meanings c.args.boxes.now) c.args.table.now c.args.rules.now c.find_old.new.space c.settle.new.space (λ r. IsEditOf r.rows (edit_in c.in-Ok.edit)) (λ r. settled c.args.table.now.relation r (edit_in c.in-Ok.edit)) out)
+    (λ out. ComesOfAll g.S.PageSpace.has g.S.PageSpace.leads (g.B.Boxes.meanings c.args.boxes.now) c.args.table.now c.args.rules.now c.args.space.now c.settle.new.space (λ r. wished c.args.table.now.relation r (wish_of c.args.wish.now)) out)
+    (λ out comes want s r has t h.
+    let there = c.in_ok-old.ensures.looks.same want s has in
+    let old = c.in_ok-old.ensures.old want s r.rows has h in
+    Comes-wished g.S.PageSpace.has g.S.PageSpace.leads (g.B.Boxes.meanings c.args.boxes.now) c.args.table.now want s c.args.space.now c.settle.new.space r h (wish_of c.args.wish.now) (edit_in c.in-Ok.edit) out (subst (λ (x : Result code.Edit Refusal). GivesEdit (edit_of c.args.table.now.relation r (wish_of c.args.wish.now)) x) c.in-Ok.is (c.in_ok-edit.ensures.gives r t.schema old))
+    (Comes-later g.S.PageSpace.has g.S.PageSpace.leads (g.B.Boxes.meanings c.args.boxes.now) c.args.table.now want s c.find_old.new.space c.settle.new.space c.args.space.now r h (settled c.args.table.now.relation r (edit_in c.in-Ok.edit)) out g.met.S.PageSpace.goes_on c.in_ok-old.ensures.looks.leads
+    (comes want s r there t h (subst (λ (x : Result code.Edit Refusal). IfOk x (λ edit. (rows : Rows) → c.in_ok-old.old ≡ row_wished rows (wish_of c.args.wish.now) → IsEditOf rows (edit_in edit))) c.in-Ok.is c.in_ok-edit.ensures.of r.rows old))))
+    c.settle.ensures.comes
+
+pub returns-in-Ok-clause-works : goal.returns-in-Ok-clause-works
+returns-in-Ok-clause-works g c =
+    Works-later g.S.PageSpace.has g.S.PageSpace.leads g.S.PageSpace.fails g.S.PageSpace.durable g.S.PageSpace.total c.args.table.now.owner c.args.space.now c.find_old.new.space c.settle.new.space c.settle.result g.met.S.PageSpace.goes_on g.met.S.PageSpace.fails_on c.in_ok-old.ensures.looks.leads c.in_ok-old.ensures.looks.same c.settle.ensures.works
+
+pub returns-in-Ok-clause-undamaged : goal.returns-in-Ok-clause-undamaged
+returns-in-Ok-clause-undamaged g c =
+    IfErr-so {A = Outcome} {E = SpaceFault} c.settle.result
+    (λ e. (want : Wanted) (s : Slots) (rows : Rows) → g.S.PageSpace.has want s c.find_old.new.space → HasRows (g.B.Boxes.meanings c.args.boxes.now) s c.args.table.now rows → IsSound e)
+    (λ e. (want : Wanted) (s : Slots) (rows : Rows) → g.S.PageSpace.has want s c.args.space.now → HasRows (g.B.Boxes.meanings c.args.boxes.now) s c.args.table.now rows → IsSound e)
+    (λ e is want s rows has h. is want s rows (c.in_ok-old.ensures.looks.same want s has) h)
+    c.settle.ensures.undamaged
+
+pub returns-in-Err-clause-comes : goal.returns-in-Err-clause-comes
+returns-in-Err-clause-comes g c = λ want s r has t h.
+    Comes-unwished g.S.PageSpace.has g.S.PageSpace.leads (g.B.Boxes.meanings c.args.boxes.now) c.args.table.now want s c.args.space.now c.find_old.new.space r h (wish_of c.args.wish.now) c.in-Err.refusal
+    (subst (λ (x : Result code.Edit Refusal). GivesEdit (edit_of c.args.table.now.relation r (wish_of c.args.wish.now)) x) c.in-Err.is (c.in_ok-edit.ensures.gives r t.schema (c.in_ok-old.ensures.old want s r.rows has h))) (c.in_ok-old.ensures.looks.same want s has)

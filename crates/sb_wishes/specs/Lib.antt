@@ -1,0 +1,3 @@
+pub mod Wished
+pub mod Edits
+pub mod Outcomes

@@ -1,0 +1,13 @@
+//! What is wished of one row of a relation, carried out by the relation's storage method over any space of pages.
+#![tactic(auto)]
+
+mod lengths;
+mod raising;
+mod settling;
+mod wishing;
+
+pub use settling::Outcome;
+pub use wishing::carry_out;
+
+#[cfg(test)]
+mod tests;
