@@ -1,31 +1,13 @@
 -- What is well typed, over a database of which the named relations are seen.
-use Rattle.std.proofs.Common.{◌≡◌, ◌&&◌, Bool, false, List, Option, bytes_eq, sym, ap, subst, ◌∙◌}
+use Rattle.std.proofs.Common.{◌≡◌, ◌&&◌, Bool, false, Option, bytes_eq, sym, ap, subst, ◌∙◌}
 use Rattle.std.specs.List.{find}
-use Rattle.sb_value.specs.declared.schema.Column.{Column}
-use Rattle.sb_pred.specs.Tree.{Tree}
-use Rattle.sb_pred.specs.Typing.{term_kind, is_well_typed}
-use Rattle.sb_rule.specs.declared.action.Action.{Action}
-use Rattle.sb_rule.specs.declared.rule.Event.{Event}
-use Rattle.sb_rule.specs.declared.rule.Rule.{Rule}
-use Rattle.sb_rule.specs.declared.rule.Rule.TheVariants.{Trigger}
 use Rattle.sb_relation.specs.Db.{Name, Row, Relation, Db, relation_at}
-use Rattle.sb_relation.specs.Fits.{action_fits, rule_fits, has_old, has_new}
-use Rattle.sb_relation.specs.Foreign.{AttachRules}
 use Rattle.sb_fold.specs.Extensions.{Extensions}
 use Rattle.sb_plain.specs.declared.command.Command.{Command}
 use Rattle.sb_plain.specs.declared.command.Command.TheVariants as command
 use Rattle.sb_plain.specs.Refusing.{is_lookup, is_range, is_well_kinded}
 use Rattle.sb_refusals.specs.declared.seen.Named.{Named}
-use Rattle.sb_refusals.specs.Named.{tied_by}
-use Rattle.sb_refusals.specs.Seen.{IsSeen, AreSeen, attachments_of, columns_of, relation_named}
-
-pub trigger_fits : (box : Option AttachRules) (db : Db) (schema other : List Column) (rule : Rule) (on : Event) (pred : Tree) (act : Action) (deferred : Bool) (b : Bool)
-    → rule ≡ Trigger on pred act deferred → other ≡ columns_of (relation_named db (tied_by rule))
-    → b ≡ (is_well_typed schema (has_old on) (has_new on) pred && action_fits other (term_kind schema (has_old on) (has_new on)) act) → b ≡ rule_fits box db schema rule
-trigger_fits box db schema other rule on pred act deferred b is own e =
-    e ∙ ap (λ (cs : List Column). is_well_typed schema (has_old on) (has_new on) pred && action_fits cs (term_kind schema (has_old on) (has_new on)) act)
-    (own ∙ ap (λ (x : Rule). columns_of (relation_named db (tied_by x))) is)
-    ∙ sym (ap (rule_fits box db schema) is)
+use Rattle.sb_refusals.specs.Seen.{IsSeen, AreSeen, attachments_of, columns_of}
 
 own_seen : (db : Db) (c d : Command) (named : Named) → c ≡ d → AreSeen db c named → AreSeen db d named
 own_seen db c d named is seen = subst (λ (x : Command). AreSeen db x named) is seen

@@ -1,4 +1,4 @@
-pub mod FirstPlaces
+pub mod Beside
 pub mod Repeats
 pub mod Alike
 pub mod Walks

@@ -1,9 +1,8 @@
 -- The relations that a command names.
-use Rattle.std.specs.Prelude.{List, [], ◌∷◌, Option, Some, None}
-use Rattle.sb_rule.specs.declared.rule.Rule.{Rule}
-use Rattle.sb_rule.specs.declared.rule.Rule.TheVariants.{JoinIndex, Refers, Trigger}
+use Rattle.std.specs.Prelude.{Option, Some, None}
 use Rattle.sb_relation.specs.Db.{Name}
 use Rattle.sb_relation.specs.Fits.{relation_of}
+use Rattle.sb_kinds.specs.Others.{tied_by}
 use Rattle.sb_plain.specs.declared.command.Command.{Command}
 use Rattle.sb_plain.specs.declared.command.Command.TheVariants as command
 
@@ -25,18 +24,7 @@ own_of (command.Entries relation name) = Some relation
 own_of (command.Show relation) = Some relation
 own_of _ = None
 
--- the second relation of a rule
-abbrev pub tied_by : Rule → Option Name
-tied_by (JoinIndex side columns other others) = Some other
-tied_by (Refers side columns other others mode deferred) = Some other
-tied_by (Trigger on pred act deferred) = Some (relation_of act)
-tied_by _ = None
-
+-- the second relation that a command names
 abbrev pub other_of : Command → Option Name
 other_of (command.Attach relation name rule) = tied_by rule
 other_of _ = None
-
--- a name that may be
-abbrev pub names_of : Option Name → List Name
-names_of None = []
-names_of (Some name) = name ∷ []

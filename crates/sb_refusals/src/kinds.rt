@@ -1,193 +1,40 @@
-//! Kinds of columns, values and terms.
+//! Kinds of what a command brings, over a catalogue.
 
-ghost use Rattle.std.specs.Prelude.{◌≡◌, ◌&&◌, Option, Some, map};
+ghost use Rattle.std.specs.Prelude.{◌≡◌, ◌&&◌, Option};
 ghost use Rattle.std.specs.List.{find};
 ghost use Rattle.std.specs.Str.{bytes_eq};
-ghost use Rattle.sb_pred.specs.Typing.{term_kind, is_one_kind, is_well_typed};
 ghost use Rattle.sb_relation.specs.Db.{Relation};
-ghost use Rattle.sb_relation.specs.Fits.{are_one_kind, kinds_at, pairs_fit, action_fits, rule_fits, method_fits, is_empty, has_old, has_new};
+ghost use Rattle.sb_relation.specs.Fits.{rule_fits, method_fits};
 ghost use Rattle.sb_fold.specs.Extensions.{box_of, method_of};
+ghost use Rattle.sb_kinds.specs.Others.{tied_by, SaysFits};
 ghost use Rattle.sb_plain.specs.State.{State, view};
-ghost use Rattle.sb_plain.specs.Refusing.{values_fit, is_lookup, is_range, is_well_kinded};
-ghost use Rattle.sb_refusals.specs.Named.{tied_by};
+ghost use Rattle.sb_plain.specs.Refusing.{is_lookup, is_range, is_well_kinded};
 ghost use Rattle.sb_refusals.specs.Seen.{IsSeen, AreSeen, attachments_of, columns_of, relation_named};
 
 use crate::catalogue::Catalogue;
-use crate::columns::{kind_of_column, kind_of_term};
 use crate::seen::{Named, Seen};
+use sb_kinds::{action_fits, values_fit};
 use sb_plain::Command;
-use sb_pred::{Pred, Term, well_typed};
-use sb_rule::{Action, Event, Rule};
-use sb_value::{Column, Kind, Names, Schema, Str, Tuple, Value};
+use sb_rule::Rule;
+use sb_value::{Names, Schema, Str, Tuple};
 
-/// The code of the storage method tree.
-const TREE: u16 = 2;
-
-/// The least code of another's extension.
-const FIRST_FOREIGN: u16 = 1000;
-
-fn is_one_kind(first: Option<Kind>, second: Option<Kind>) -> bool
-    ensures { result ≡ is_one_kind first second }
-{
-    match (first, second) {
-        (Some(first), Some(second)) => first == second,
-        _ => false,
-    }
-}
-
-/// Whether as many columns of two relations have the same kinds.
-pub(crate) fn columns_fit(schema: &Schema, columns: &[Str], other: &Schema, others: &[Str]) -> bool
-    ensures { result ≡ are_one_kind (kinds_at schema.now columns.now) (kinds_at other.now others.now) }
-{
-    let [column, columns @ ..] = columns else {
-        return others.is_empty();
-    };
-    let [second, others @ ..] = others else {
-        return false;
-    };
-    is_one_kind(
-        kind_of_column(schema, column),
-        kind_of_column(other, second),
-    ) && columns_fit(schema, columns, other, others)
-}
-
-/// Whether the columns have the kinds of as many values.
-pub(crate) fn values_fit(schema: &Schema, columns: &[Str], values: &[Value]) -> bool
-    ensures { result ≡ values_fit schema.now columns.now values.now }
-{
-    let [column, columns @ ..] = columns else {
-        return values.is_empty();
-    };
-    let [value, values @ ..] = values else {
-        return false;
-    };
-    is_one_kind(kind_of_column(schema, column), Some(value.kind()))
-        && values_fit(schema, columns, values)
-}
-
-/// Whether the columns have the kinds of as many terms.
-fn terms_fit(own: &[Column], terms: &[Term], schema: &Schema, old: bool, new: bool) -> bool
-    ensures { result ≡ are_one_kind (map (λ c. Some c.kind) own.now) (map (term_kind schema.now old new) terms.now) }
-{
-    let [column, own @ ..] = own else {
-        return terms.is_empty();
-    };
-    let [term, terms @ ..] = terms else {
-        return false;
-    };
-    is_one_kind(Some(column.kind), kind_of_term(term, schema, old, new))
-        && terms_fit(own, terms, schema, old, new)
-}
-
-/// Whether each column has the kind of its term.
-fn pairs_fit(own: &Schema, pairs: &[(Str, Term)], schema: &Schema, old: bool, new: bool) -> bool
-    ensures { result ≡ pairs_fit own.now (term_kind schema.now old new) pairs.now }
-{
-    let [(column, term), pairs @ ..] = pairs else {
-        return true;
-    };
-    is_one_kind(
-        kind_of_column(own, column),
-        kind_of_term(term, schema, old, new),
-    ) && pairs_fit(own, pairs, schema, old, new)
-}
-
-/// Whether an action is well typed: its own columns are those of its relation, and its terms may name columns of the old and the new row or not.
-pub(crate) fn action_fits(
-    own: &Schema,
-    action: &Action,
-    schema: &Schema,
-    old: bool,
-    new: bool,
-) -> bool
-    ensures { result ≡ action_fits own.now (term_kind schema.now old new) action.now }
-{
-    match action {
-        Action::Insert { terms, .. } => {
-            terms_fit(own.as_slice(), terms.as_slice(), schema, old, new)
-        }
-        Action::Delete { pairs, .. } => pairs_fit(own, pairs.as_slice(), schema, old, new),
-        Action::Set {
-            column,
-            term,
-            pairs,
-            ..
-        } => {
-            is_one_kind(
-                kind_of_column(own, column),
-                kind_of_term(term, schema, old, new),
-            ) && pairs_fit(own, pairs.as_slice(), schema, old, new)
-        }
-        Action::Add {
-            column,
-            term,
-            pairs,
-            ..
-        } => {
-            is_one_kind(kind_of_column(own, column), Some(Kind::Int))
-                && is_one_kind(Some(Kind::Int), kind_of_term(term, schema, old, new))
-                && pairs_fit(own, pairs.as_slice(), schema, old, new)
-        }
-    }
-}
-
-fn is_keyless(key: &Names) -> bool
-    ensures { result ≡ is_empty key.now }
-{
-    match key.as_slice() {
-        [] => true,
-        _ => false,
-    }
-}
-
-/// Whether the method keeps relations of these columns and this key: tree wants a key, the others of ours want none, and a foreign one says so itself.
+/// Whether the method keeps relations of these columns and this key.
 fn method_fits<C: Catalogue>(catalogue: &C, method: u16, schema: &Schema, key: &Names) -> bool
     ensures { (s : State) → C.sees s catalogue.now
         → result ≡ method_fits (method_of (C.extensions catalogue.now) method) method schema.now key.now }
 {
-    if method == TREE {
-        !is_keyless(key)
-    } else if method < FIRST_FOREIGN {
-        is_keyless(key)
-    } else {
-        catalogue.method_fits(method, schema, key)
-    }
+    let foreign_fits = catalogue.method_fits(method, schema, key);
+    sb_kinds::method_fits(method, key, foreign_fits)
 }
 
-fn has_old(event: Event) -> bool
-    ensures { result ≡ has_old event }
+/// What the extension of a foreign rule says of these columns.
+fn foreign_fits<C: Catalogue>(catalogue: &C, schema: &Schema, rule: &Rule) -> bool
+    ensures { (s : State) → C.sees s catalogue.now → SaysFits (box_of (C.extensions catalogue.now) rule.now) schema.now rule.now result }
 {
-    match event {
-        Event::Insert => false,
-        Event::Delete => true,
-        Event::Update => true,
+    match rule {
+        Rule::Foreign { code, desc } => catalogue.rule_fits(*code, schema, desc),
+        _ => false,
     }
-}
-
-fn has_new(event: Event) -> bool
-    ensures { result ≡ has_new event }
-{
-    match event {
-        Event::Insert => true,
-        Event::Delete => false,
-        Event::Update => true,
-    }
-}
-
-/// Whether the predicate and the action of a trigger are well typed.
-fn reaction_fits(
-    schema: &Schema,
-    other: &Schema,
-    event: Event,
-    pred: &Pred,
-    action: &Action,
-) -> bool
-    ensures { result ≡ (is_well_typed schema.now (has_old event) (has_new event) pred.now
-        && action_fits other.now (term_kind schema.now (has_old event) (has_new event)) action.now) }
-{
-    let old = has_old(event);
-    let new = has_new(event);
-    well_typed(pred, schema, old, new) && action_fits(other, action, schema, old, new)
 }
 
 /// Whether the rule is well typed on a relation of these columns; the others are those of the second relation that it names.
@@ -195,29 +42,8 @@ fn rule_fits<C: Catalogue>(catalogue: &C, schema: &Schema, other: &Schema, rule:
     ensures { (s : State) → C.sees s catalogue.now → other.now ≡ columns_of (relation_named (view s) (tied_by rule.now))
         → result ≡ rule_fits (box_of (C.extensions catalogue.now) rule.now) (view s) schema.now rule.now }
 {
-    match rule {
-        Rule::TreeIndex { .. } => true,
-        Rule::HashIndex { .. } => true,
-        Rule::JoinIndex {
-            columns,
-            others,
-            ..
-        } => columns_fit(schema, columns.as_slice(), other, others.as_slice()),
-        Rule::Stats { column, .. } => is_one_kind(kind_of_column(schema, column), Some(Kind::Int)),
-        Rule::Check { pred, .. } => well_typed(pred, schema, false, true),
-        Rule::Refers {
-            columns,
-            others,
-            ..
-        } => columns_fit(schema, columns.as_slice(), other, others.as_slice()),
-        Rule::Trigger {
-            event,
-            pred,
-            action,
-            ..
-        } => reaction_fits(schema, other, *event, pred, action),
-        Rule::Foreign { code, desc } => catalogue.rule_fits(*code, schema, desc),
-    }
+    let foreign_fits = foreign_fits(catalogue, schema, rule);
+    sb_kinds::rule_fits(schema, other, rule, foreign_fits)
 }
 
 /// Whether the attachment of this name is an index, and the values are of its columns.

@@ -3,7 +3,6 @@
 
 mod catalogue;
 mod codes;
-mod columns;
 mod kinds;
 mod lengths;
 mod limits;
@@ -13,7 +12,6 @@ mod refusing;
 mod seen;
 mod ties;
 mod twice;
-mod unnamed;
 mod uses;
 
 pub use catalogue::Catalogue;

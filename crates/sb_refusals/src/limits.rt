@@ -7,10 +7,10 @@ ghost use Rattle.sb_pred.specs.Tree.{node_count};
 ghost use Rattle.sb_relation.specs.Build.{with_rule};
 ghost use Rattle.sb_relation.specs.Db.{Db, Relation, relation_at};
 ghost use Rattle.sb_relation.specs.Limits.{is_long_text, has_long_text, has_long_pair, has_long_term, is_large_rule, is_crowded, has_large_descriptor};
+ghost use Rattle.sb_kinds.specs.Others.{tied_by};
 ghost use Rattle.sb_plain.specs.State.{State, view};
 ghost use Rattle.sb_plain.specs.Refusing.{passes_limits};
 ghost use Rattle.sb_refusals.specs.Lengths.{is_over, count_of};
-ghost use Rattle.sb_refusals.specs.Named.{tied_by};
 ghost use Rattle.sb_refusals.specs.Seen.{IsSeen, AreSeen, relation_named};
 
 use crate::catalogue::Catalogue;

@@ -5,21 +5,18 @@ ghost use Rattle.std.specs.List.{find};
 ghost use Rattle.std.specs.Option.{option_or};
 ghost use Rattle.std.specs.Str.{bytes_eq};
 ghost use Rattle.sb_relation.specs.Db.{Relation, Db, relation_at, schema_at};
-ghost use Rattle.sb_relation.specs.Fits.{first_missing, first_unnamed, pred_places, action_places, rule_places};
+ghost use Rattle.sb_relation.specs.Fits.{first_missing, first_unnamed, rule_places};
+ghost use Rattle.sb_kinds.specs.Others.{names_of, tied_by};
 ghost use Rattle.sb_plain.specs.State.{State, view};
 ghost use Rattle.sb_plain.specs.Refusing.{relations_of, first_twice, rule_twice, some_where, first_existing, unnamed, first_absent};
-ghost use Rattle.sb_refusals.specs.Named.{names_of, tied_by};
 ghost use Rattle.sb_refusals.specs.Seen.{IsSeen, AreSeen, attachments_of, columns_of, relation_named};
 
 use crate::catalogue::Catalogue;
 use crate::seen::{Named, Seen, other_relation, own_relation};
 use crate::twice::{first_column_twice, first_twice, rule_twice};
-use crate::unnamed::{
-    unnamed_action, unnamed_column, unnamed_columns, unnamed_in_both, unnamed_pred,
-};
+use sb_kinds::{unnamed_action, unnamed_columns};
 use sb_plain::Command;
-use sb_pred::Pred;
-use sb_rule::{Action, Rule};
+use sb_rule::Rule;
 use sb_value::{Names, Schema, Str};
 
 /// The relation of this name, where one is named and it isn't there.
@@ -108,45 +105,13 @@ pub(crate) fn first_existing<'a, C: Catalogue>(
     }
 }
 
-/// The first column of a predicate and of the action of its trigger that isn't there.
-#[tactic(auto, using(crate::proofs::FirstPlaces::unnamed_in_two))]
-fn unnamed_reaction<'a>(
-    schema: &Schema,
-    other: &Schema,
-    pred: &'a Pred,
-    action: &'a Action,
-) -> Option<&'a Str>
-    ensures { option_copied result ≡ unnamed (first_unnamed (pred_places schema.now pred.now ++ action_places other.now schema.now action.now)) }
-{
-    match unnamed_pred(schema, pred) {
-        Some(name) => Some(name),
-        None => unnamed_action(other, schema, action),
-    }
-}
-
 /// The first column of a rule that isn't among those of its relation or, where it has a second one, among those of the other.
+#[tactic(auto, using(crate::proofs::Beside::beside_named))]
 fn unnamed_rule<'a>(schema: &Schema, other: &Schema, rule: &'a Rule) -> Option<&'a Str>
     ensures { (db : Db) → other.now ≡ columns_of (relation_named db (tied_by rule.now))
         → option_copied result ≡ unnamed (first_unnamed (rule_places db schema.now rule.now)) }
 {
-    match rule {
-        Rule::TreeIndex { columns, .. } => unnamed_columns(schema, columns.as_slice()),
-        Rule::HashIndex { columns } => unnamed_columns(schema, columns.as_slice()),
-        Rule::JoinIndex {
-            columns,
-            others,
-            ..
-        } => unnamed_in_both(schema, columns.as_slice(), other, others.as_slice()),
-        Rule::Stats { column, .. } => unnamed_column(schema, column),
-        Rule::Check { pred, .. } => unnamed_pred(schema, pred),
-        Rule::Refers {
-            columns,
-            others,
-            ..
-        } => unnamed_in_both(schema, columns.as_slice(), other, others.as_slice()),
-        Rule::Trigger { pred, action, .. } => unnamed_reaction(schema, other, pred, action),
-        Rule::Foreign { .. } => None,
-    }
+    sb_kinds::unnamed_rule(schema, other, rule)
 }
 
 fn unattached<'a>(own: &Seen, name: &'a Str) -> Option<&'a Str>

@@ -4,19 +4,19 @@ ghost use Rattle.std.specs.Prelude.{◌≡◌, ◌-◌, ◌^◌, ℕ, min, Some,
 ghost use Rattle.std.specs.List.{find};
 ghost use Rattle.std.specs.Str.{bytes_eq};
 ghost use Rattle.sb_relation.specs.Db.{Relation};
-ghost use Rattle.sb_relation.specs.Fits.{relation_of};
 ghost use Rattle.sb_catalog.specs.Descriptors.{described, standing};
 ghost use Rattle.sb_plain.specs.State.{State, view};
 ghost use Rattle.sb_refusals.specs.Catalogue.{is_free};
 ghost use Rattle.sb_refusals.specs.Lengths.{is_over};
-ghost use Rattle.sb_refusals.specs.Named.{own_of, other_of, tied_by};
+ghost use Rattle.sb_refusals.specs.Named.{own_of, other_of};
 ghost use Rattle.sb_refusals.specs.Seen.{IsSeen, AreSeen, columns_of, attachments_of, relation_named};
 
 use crate::catalogue::Catalogue;
 use sb_catalog::{Attached, Descriptor, descriptor_len};
 use sb_fold::Refusal;
+use sb_kinds::relation_of;
 use sb_plain::Command;
-use sb_rule::{Action, Rule};
+use sb_rule::Rule;
 use sb_value::{Schema, Str};
 use std::alloc::Global;
 
@@ -105,17 +105,6 @@ pub(crate) struct Named {
     pub(crate) other: Seen,
 }
 
-pub(crate) fn relation_of(action: &Action) -> &Str
-    ensures { result.now ≡ relation_of action.now }
-{
-    match action {
-        Action::Insert { relation, .. }
-        | Action::Delete { relation, .. }
-        | Action::Set { relation, .. }
-        | Action::Add { relation, .. } => relation,
-    }
-}
-
 pub(crate) fn own_relation(command: &Command) -> Option<&Str>
     ensures { option_copied result ≡ own_of command.now }
 {
@@ -146,26 +135,11 @@ pub(crate) fn own_relation(command: &Command) -> Option<&Str>
     }
 }
 
-fn tied_relation(rule: &Rule) -> Option<&Str>
-    ensures { option_copied result ≡ tied_by rule.now }
-{
-    match rule {
-        Rule::JoinIndex { other, .. } => Some(other),
-        Rule::Refers { other, .. } => Some(other),
-        Rule::Trigger { action, .. } => Some(relation_of(action)),
-        Rule::TreeIndex { .. } => None,
-        Rule::HashIndex { .. } => None,
-        Rule::Stats { .. } => None,
-        Rule::Check { .. } => None,
-        Rule::Foreign { .. } => None,
-    }
-}
-
 pub(crate) fn other_relation(command: &Command) -> Option<&Str>
     ensures { option_copied result ≡ other_of command.now }
 {
     match command {
-        Command::Attach { rule, .. } => tied_relation(rule),
+        Command::Attach { rule, .. } => sb_kinds::other_relation(rule),
         _ => None,
     }
 }

@@ -11,9 +11,9 @@ ghost use Rattle.sb_refusals.specs.Catalogue.{above, is_free};
 ghost use Rattle.sb_refusals.specs.Uses.{user_at, user_in, IsStep};
 
 use crate::catalogue::Catalogue;
-use crate::seen::relation_of;
 use sb_catalog::{Attached, Descriptor};
 use sb_fold::Refusal;
+use sb_kinds::relation_of;
 use sb_plain::Command;
 use sb_rule::{Rule, Side};
 use sb_value::Str;

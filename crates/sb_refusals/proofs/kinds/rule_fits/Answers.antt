@@ -1,9 +1,9 @@
 use Rattle.sb_fold.specs.Extensions.{box_of}
 use Rattle.sb_plain.specs.State.{view}
-use Rattle.sb_refusals.proofs.Kinded.{trigger_fits}
+use Rattle.sb_refusals.proofs.Beside.{beside_named}
 use Rattle.sb_refusals.proofs.kinds.rule_fits.Goals as goal
 
-pub returns-in-Trigger : goal.returns-in-Trigger
-returns-in-Trigger g c s sees own =
-    trigger_fits (box_of (g.C.Catalogue.extensions c.args.catalogue.now) c.args.rule.now) (view s) c.args.schema.now c.args.other.now c.args.rule.now
-    c.in-Trigger.event c.in-Trigger.pred c.in-Trigger.action c.in-Trigger.deferred c.reaction_fits.result c.in-Trigger.is own c.reaction_fits.ensures
+pub returns : goal.returns
+returns g c s sees own =
+    c.rule_fits.ensures (box_of (g.C.Catalogue.extensions c.args.catalogue.now) c.args.rule.now) (view s) (beside_named (view s) c.args.rule.now c.args.other.now own)
+    (c.foreign_fits-foreign_fits.ensures s sees)

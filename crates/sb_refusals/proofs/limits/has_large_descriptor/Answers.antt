@@ -2,7 +2,7 @@ use Rattle.std.proofs.Common.{◌∙◌, ap, subst, cond, ◌+◌, ◌||◌, Boo
 use Rattle.sb_rule.specs.declared.rule.Rule.{Rule}
 use Rattle.sb_relation.specs.Db.{relation_at}
 use Rattle.sb_refusals.specs.Lengths.{attached_len, mirror_len, is_over}
-use Rattle.sb_refusals.specs.Named.{tied_by}
+use Rattle.sb_kinds.specs.Others.{tied_by}
 use Rattle.sb_refusals.specs.Seen.{IsSeen, relation_named}
 use Rattle.sb_refusals.proofs.Growing.{join_over, reference_over, one_over}
 use Rattle.sb_refusals.proofs.limits.has_large_descriptor.Goals as goal

@@ -2,17 +2,19 @@
 
 ghost use Rattle.std.specs.Prelude.{◌≡◌, ◌∷◌, ◌++◌, [], option_copied};
 ghost use Rattle.std.specs.List.{flat_map};
-ghost use Rattle.sb_relation.specs.Fits.{first_unnamed, places_in, term_places, pred_places, pair_places, action_places};
-ghost use Rattle.sb_plain.specs.Refusing.{unnamed};
+ghost use Rattle.sb_relation.specs.Db.{Db};
+ghost use Rattle.sb_relation.specs.Fits.{places_in, term_places, pred_places, pair_places, action_places, rule_places};
+ghost use Rattle.sb_kinds.specs.Others.{IsBeside};
+ghost use Rattle.sb_kinds.specs.Unnamed.{unnamed_in};
 
 use crate::columns::kind_of_column;
 use sb_pred::{Node, Pred, Term};
-use sb_rule::Action;
+use sb_rule::{Action, Rule};
 use sb_value::{Schema, Str};
 
 /// The column, where it isn't there.
-pub(crate) fn unnamed_column<'a>(schema: &Schema, name: &'a Str) -> Option<&'a Str>
-    ensures { option_copied result ≡ unnamed (first_unnamed ((schema.now, name.now) ∷ [])) }
+fn unnamed_column<'a>(schema: &Schema, name: &'a Str) -> Option<&'a Str>
+    ensures { option_copied result ≡ unnamed_in ((schema.now, name.now) ∷ []) }
 {
     match kind_of_column(schema, name) {
         Some(_) => None,
@@ -21,8 +23,8 @@ pub(crate) fn unnamed_column<'a>(schema: &Schema, name: &'a Str) -> Option<&'a S
 }
 
 /// The first of these columns that isn't there.
-pub(crate) fn unnamed_columns<'a>(schema: &Schema, names: &'a [Str]) -> Option<&'a Str>
-    ensures { option_copied result ≡ unnamed (first_unnamed (places_in schema.now names.now)) }
+pub fn unnamed_columns<'a>(schema: &Schema, names: &'a [Str]) -> Option<&'a Str>
+    ensures { option_copied result ≡ unnamed_in (places_in schema.now names.now) }
 {
     match names {
         [name, names @ ..] => match kind_of_column(schema, name) {
@@ -35,13 +37,13 @@ pub(crate) fn unnamed_columns<'a>(schema: &Schema, names: &'a [Str]) -> Option<&
 
 /// The first of these columns that isn't among those of the one or of the other relation.
 #[tactic(auto, using(crate::proofs::FirstPlaces::unnamed_in_two))]
-pub(crate) fn unnamed_in_both<'a>(
+fn unnamed_in_both<'a>(
     schema: &Schema,
     columns: &'a [Str],
     other: &Schema,
     others: &'a [Str],
 ) -> Option<&'a Str>
-    ensures { option_copied result ≡ unnamed (first_unnamed (places_in schema.now columns.now ++ places_in other.now others.now)) }
+    ensures { option_copied result ≡ unnamed_in (places_in schema.now columns.now ++ places_in other.now others.now) }
 {
     match unnamed_columns(schema, columns) {
         Some(name) => Some(name),
@@ -50,7 +52,7 @@ pub(crate) fn unnamed_in_both<'a>(
 }
 
 fn unnamed_term<'a>(schema: &Schema, term: &'a Term) -> Option<&'a Str>
-    ensures { option_copied result ≡ unnamed (first_unnamed (term_places schema.now term.now)) }
+    ensures { option_copied result ≡ unnamed_in (term_places schema.now term.now) }
 {
     match term {
         Term::Const(_) => None,
@@ -61,7 +63,7 @@ fn unnamed_term<'a>(schema: &Schema, term: &'a Term) -> Option<&'a Str>
 
 #[tactic(auto, using(crate::proofs::FirstPlaces::unnamed_in_two))]
 fn unnamed_terms<'a>(schema: &Schema, terms: &'a [Term]) -> Option<&'a Str>
-    ensures { option_copied result ≡ unnamed (first_unnamed (flat_map (term_places schema.now) terms.now)) }
+    ensures { option_copied result ≡ unnamed_in (flat_map (term_places schema.now) terms.now) }
 {
     match terms {
         [term, terms @ ..] => match unnamed_term(schema, term) {
@@ -74,8 +76,8 @@ fn unnamed_terms<'a>(schema: &Schema, terms: &'a [Term]) -> Option<&'a Str>
 
 /// The first column of the predicate that isn't there.
 #[tactic(auto, using(crate::proofs::FirstPlaces::unnamed_in_two))]
-pub(crate) fn unnamed_pred<'a>(schema: &Schema, pred: &'a Pred) -> Option<&'a Str>
-    ensures { option_copied result ≡ unnamed (first_unnamed (pred_places schema.now pred.now)) }
+fn unnamed_pred<'a>(schema: &Schema, pred: &'a Pred) -> Option<&'a Str>
+    ensures { option_copied result ≡ unnamed_in (pred_places schema.now pred.now) }
 {
     match pred.node() {
         Node::Always => None,
@@ -103,7 +105,7 @@ fn unnamed_pair<'a>(
     column: &'a Str,
     term: &'a Term,
 ) -> Option<&'a Str>
-    ensures { option_copied result ≡ unnamed (first_unnamed ((own.now, column.now) ∷ term_places schema.now term.now)) }
+    ensures { option_copied result ≡ unnamed_in ((own.now, column.now) ∷ term_places schema.now term.now) }
 {
     match unnamed_column(own, column) {
         Some(name) => Some(name),
@@ -113,7 +115,7 @@ fn unnamed_pair<'a>(
 
 #[tactic(auto, using(crate::proofs::FirstPlaces::unnamed_in_two))]
 fn unnamed_pairs<'a>(own: &Schema, schema: &Schema, pairs: &'a [(Str, Term)]) -> Option<&'a Str>
-    ensures { option_copied result ≡ unnamed (first_unnamed (pair_places own.now schema.now pairs.now)) }
+    ensures { option_copied result ≡ unnamed_in (pair_places own.now schema.now pairs.now) }
 {
     match pairs {
         [(column, term), pairs @ ..] => match unnamed_pair(own, schema, column, term) {
@@ -132,7 +134,7 @@ fn unnamed_assignment<'a>(
     term: &'a Term,
     pairs: &'a [(Str, Term)],
 ) -> Option<&'a Str>
-    ensures { option_copied result ≡ unnamed (first_unnamed ((own.now, column.now) ∷ term_places schema.now term.now ++ pair_places own.now schema.now pairs.now)) }
+    ensures { option_copied result ≡ unnamed_in ((own.now, column.now) ∷ term_places schema.now term.now ++ pair_places own.now schema.now pairs.now) }
 {
     match unnamed_pair(own, schema, column, term) {
         Some(name) => Some(name),
@@ -141,12 +143,8 @@ fn unnamed_assignment<'a>(
 }
 
 /// The first column of an action that isn't there. Its own columns are those of its relation, and the others those of the rows that its terms name.
-pub(crate) fn unnamed_action<'a>(
-    own: &Schema,
-    schema: &Schema,
-    action: &'a Action,
-) -> Option<&'a Str>
-    ensures { option_copied result ≡ unnamed (first_unnamed (action_places own.now schema.now action.now)) }
+pub fn unnamed_action<'a>(own: &Schema, schema: &Schema, action: &'a Action) -> Option<&'a Str>
+    ensures { option_copied result ≡ unnamed_in (action_places own.now schema.now action.now) }
 {
     match action {
         Action::Insert { terms, .. } => unnamed_terms(schema, terms.as_slice()),
@@ -163,5 +161,45 @@ pub(crate) fn unnamed_action<'a>(
             pairs,
             ..
         } => unnamed_assignment(own, schema, column, term, pairs.as_slice()),
+    }
+}
+
+/// The first column of a predicate and of the action of its trigger that isn't there.
+#[tactic(auto, using(crate::proofs::FirstPlaces::unnamed_in_two))]
+fn unnamed_reaction<'a>(
+    schema: &Schema,
+    other: &Schema,
+    pred: &'a Pred,
+    action: &'a Action,
+) -> Option<&'a Str>
+    ensures { option_copied result ≡ unnamed_in (pred_places schema.now pred.now ++ action_places other.now schema.now action.now) }
+{
+    match unnamed_pred(schema, pred) {
+        Some(name) => Some(name),
+        None => unnamed_action(other, schema, action),
+    }
+}
+
+/// The first column of a rule that isn't among those of its relation or, where it names a second one, among those of the other.
+pub fn unnamed_rule<'a>(schema: &Schema, other: &Schema, rule: &'a Rule) -> Option<&'a Str>
+    ensures { (db : Db) → IsBeside db rule.now other.now → option_copied result ≡ unnamed_in (rule_places db schema.now rule.now) }
+{
+    match rule {
+        Rule::TreeIndex { columns, .. } => unnamed_columns(schema, columns.as_slice()),
+        Rule::HashIndex { columns } => unnamed_columns(schema, columns.as_slice()),
+        Rule::JoinIndex {
+            columns,
+            others,
+            ..
+        } => unnamed_in_both(schema, columns.as_slice(), other, others.as_slice()),
+        Rule::Stats { column, .. } => unnamed_column(schema, column),
+        Rule::Check { pred, .. } => unnamed_pred(schema, pred),
+        Rule::Refers {
+            columns,
+            others,
+            ..
+        } => unnamed_in_both(schema, columns.as_slice(), other, others.as_slice()),
+        Rule::Trigger { pred, action, .. } => unnamed_reaction(schema, other, pred, action),
+        Rule::Foreign { .. } => None,
     }
 }

@@ -1,5 +1,5 @@
 use Rattle.std.proofs.Common.{length}
-use Rattle.sb_refusals.proofs.kinds.+values_fit.Given as goal
+use Rattle.sb_kinds.proofs.kinds.+values_fit.Given as goal
 
 abbrev pub decreases-values_fit : goal.decreases-values_fit
 decreases-values_fit l = length l.columns.now

@@ -1,0 +1,4 @@
+pub mod FirstPlaces
+pub mod Kinded
+pub mod Tested
+pub mod Bare
