@@ -1,6 +1,6 @@
 ghost use Rattle.std.specs.Prelude.{◌≤◌, IfOk, length};
 ghost use Rattle.sb_pred.specs.Spelling.{IsShortPred, IsShortTerm};
-ghost use Rattle.sb_rule.specs.Spelling.{IsShortName, IsShortList, IsShortPair, IsShortRule};
+ghost use Rattle.sb_rule.specs.Spelling.{IsShortName, IsShortList, IsShortPair, IsShortAction, IsShortRule};
 
 use crate::{Action, Change, Event, Mode, Pairs, Rule, Side, Terms, bind, read_rule, write_rule};
 use sb_pred::{Op, Pred, Term};
@@ -24,15 +24,6 @@ fn is_written(alloc: Global, rule: &Rule, spelling: &[u8]) -> Result<bool, Alloc
     Ok(out.as_slice() == spelling)
 }
 
-/// The bytes are read as a rule of this code that is written as them.
-#[tactic(auto, using(crate::proofs::StorableRules::IsShortRule_from_storable))]
-fn is_read(alloc: Global, code: u16, spelling: &[u8]) -> Result<bool, AllocError> {
-    match read_rule(alloc, code, spelling)? {
-        Some(rule) => is_written(alloc, &rule, spelling),
-        None => Ok(false),
-    }
-}
-
 /// `salary >= 0`
 fn paid(alloc: Global) -> Result<Pred, AllocError>
     ensures { IfOk result IsShortPred }
@@ -43,15 +34,12 @@ fn paid(alloc: Global) -> Result<Pred, AllocError>
 
 const CHECK: &[u8] = b"\x00\x01\x06\x01\x06salary\x00\x01\x00\x00\x00\x00\x00\x00\x00\x00";
 
-#[test]
-fn check_written(rt: HostRuntime) -> Result<(), Fail> {
-    let alloc = rt.alloc();
+fn is_check_written(alloc: Global) -> Result<bool, AllocError> {
     let rule = Rule::Check {
         pred: paid(alloc)?,
         deferred: false,
     };
-    assert!(rt; is_written(alloc, &rule, CHECK)?);
-    Ok(())
+    is_written(alloc, &rule, CHECK)
 }
 
 fn one_name(alloc: Global) -> Result<Names, AllocError>
@@ -61,15 +49,12 @@ fn one_name(alloc: Global) -> Result<Names, AllocError>
     Ok(Names::from_vec(vec![in alloc; name]?))
 }
 
-#[test]
-fn tree_index_written(rt: HostRuntime) -> Result<(), Fail> {
-    let alloc = rt.alloc();
+fn is_index_written(alloc: Global) -> Result<bool, AllocError> {
     let rule = Rule::TreeIndex {
         columns: one_name(alloc)?,
         unique: true,
     };
-    assert!(rt; is_written(alloc, &rule, b"\x01\x01\x01a")?);
-    Ok(())
+    is_written(alloc, &rule, b"\x01\x01\x01a")
 }
 
 /// The column `k` with the column `n` of the old row.
@@ -81,25 +66,31 @@ fn one_pair(alloc: Global) -> Result<Pairs, AllocError>
     Ok(Pairs::from_vec(vec![in alloc; (column, term)]?))
 }
 
-fn deletion(alloc: Global) -> Result<Rule, AllocError>
-    ensures { IfOk result IsShortRule }
+fn deletion(alloc: Global) -> Result<Action, AllocError>
+    ensures { IfOk result IsShortAction }
 {
     let relation = text(alloc, "r")?;
     let pairs = one_pair(alloc)?;
-    Ok(Rule::Trigger {
-        event: Event::Delete,
-        pred: Pred::always(),
-        action: Action::Delete { relation, pairs },
-        deferred: false,
-    })
+    Ok(Action::Delete { relation, pairs })
 }
 
 const DELETION: &[u8] = b"\x02\x00\x00\x02\x01r\x01\x01k\x02\x01n";
 
+fn is_deletion_written(alloc: Global) -> Result<bool, AllocError> {
+    let rule = Rule::Trigger {
+        event: Event::Delete,
+        pred: Pred::always(),
+        action: deletion(alloc)?,
+        deferred: false,
+    };
+    is_written(alloc, &rule, DELETION)
+}
+
 #[test]
-fn trigger_written(rt: HostRuntime) -> Result<(), Fail> {
-    let alloc = rt.alloc();
-    assert!(rt; is_written(alloc, &deletion(alloc)?, DELETION)?);
+fn rules_written(rt: HostRuntime) -> Result<(), Fail> {
+    assert!(rt; is_check_written(rt.alloc())?);
+    assert!(rt; is_index_written(rt.alloc())?);
+    assert!(rt; is_deletion_written(rt.alloc())?);
     Ok(())
 }
 
@@ -130,32 +121,6 @@ const LONGEST: &[u8] = b"\x00\
     \x04\x04\x04\x04\x04\x04\x04\x04\x04\x04\x04\x04\x04\x04\x04\x04\
     \x04\x04\x04\x04\x04\x04\x04\x04\x04\x04\x04\x04\x04\x04\x04\x00";
 
-/// Codes with the bytes of a rule of theirs.
-const RULES: [(u16, &[u8]); 14] = [
-    (1, b"\x01\x01\x01a"),
-    (2, HASH_INDEX),
-    (2, b"\x00"),
-    (3, JOIN_INDEX),
-    (4, STATS),
-    (5, CHECK),
-    (5, LONGEST),
-    (6, REFERS),
-    (7, DELETION),
-    (7, INSERTION),
-    (7, SETTING),
-    (7, ADDITION),
-    (1000, b""),
-    (65535, b"\x07\x08"),
-];
-
-#[test]
-fn rules_read(rt: HostRuntime) -> Result<(), Fail> {
-    for (code, spelling) in RULES {
-        assert!(rt; is_read(rt.alloc(), code, spelling)?, "at {code}");
-    }
-    Ok(())
-}
-
 /// One node more than 32.
 const TOO_LONG: &[u8] = b"\x00\
     \x04\x04\x04\x04\x04\x04\x04\x04\x04\x04\x04\x04\x04\x04\x04\x04\
@@ -167,36 +132,6 @@ const TRAILING: &[u8] = b"\x00\x01\x06\x01\x06salary\x00\x01\x00\x00\x00\x00\x00
 /// Statistics of width 0.
 const NO_WIDTH: &[u8] = b"\x01n\x00\x00\x00\x00\x00\x00\x00\x00\x00\x00\x00\x00\x00\x00\x00\x00";
 
-/// Codes with bytes that spell no rule of theirs.
-const NO_RULES: [(u16, &[u8]); 15] = [
-    (0, b""),
-    (1, b""),
-    (1, b"\x02\x01\x01a"),
-    (1, b"\x00\x02\x01a"),
-    (2, b"\x01\x01\xff"),
-    (2, b"\x01\x01aa"),
-    (3, b"\x02\x00\x01a\x00"),
-    (4, NO_WIDTH),
-    (4, b"\x01n\x00\x00\x00\x00\x00\x00\x00\x00"),
-    (5, TRAILING),
-    (5, TOO_LONG),
-    (6, b"\x00\x02\x00\x00\x01a\x00"),
-    (7, b"\x00\x00\x00\x01\x01r\x00"),
-    (7, b"\x01\x00\x00\x05\x01r\x00"),
-    (999, b""),
-];
-
-#[test]
-fn no_rules_read(rt: HostRuntime) -> Result<(), Fail> {
-    for (code, spelling) in NO_RULES {
-        assert!(rt;
-            read_rule(rt.alloc(), code, spelling)?.is_none(),
-            "at {code}"
-        );
-    }
-    Ok(())
-}
-
 /// The names are these two, or the first alone where the second is empty.
 fn are_named(names: &Names, first: &str, second: &str) -> bool {
     match names.as_slice() {
@@ -206,50 +141,112 @@ fn are_named(names: &Names, first: &str, second: &str) -> bool {
     }
 }
 
-#[test]
-fn hash_index_read(rt: HostRuntime) -> Result<(), Fail> {
-    let rule = read_rule(rt.alloc(), 2, HASH_INDEX)?;
-    let Some(Rule::HashIndex { columns }) = &rule else {
-        panic!(rt; "no hash index");
-    };
-    assert!(rt; are_named(columns, "dept", "id"));
-    Ok(())
+/// The terms are `'ab'` and `new.id`.
+fn are_inserted(terms: &Terms) -> bool {
+    match terms.as_slice() {
+        [Term::Const(Value::Text(text)), Term::New(name)] => {
+            text.as_str() == "ab" && name.as_str() == "id"
+        }
+        _ => false,
+    }
 }
 
-#[test]
-fn join_index_read(rt: HostRuntime) -> Result<(), Fail> {
-    let rule = read_rule(rt.alloc(), 3, JOIN_INDEX)?;
-    let Some(
+/// The one pair is `id` with `new.dept`.
+fn is_id_the_dept(pairs: &Pairs) -> bool {
+    match pairs.as_slice() {
+        [(column, Term::New(name))] => column.as_str() == "id" && name.as_str() == "dept",
+        _ => false,
+    }
+}
+
+/// The term is `new.m`.
+fn is_new_m(term: &Term) -> bool {
+    match term {
+        Term::New(name) => name.as_str() == "m",
+        _ => false,
+    }
+}
+
+/// The relation is `unit` and the column `n`.
+fn is_n_of_unit(relation: &Str, column: &Str) -> bool {
+    relation.as_str() == "unit" && column.as_str() == "n"
+}
+
+/// What the tests call this action.
+fn action_name(action: &Action) -> &'static str {
+    match action {
+        Action::Insert { relation, terms } => {
+            if relation.as_str() == "log" && are_inserted(terms) {
+                "insertion"
+            } else {
+                "other"
+            }
+        }
+        Action::Delete { relation, pairs } => {
+            if relation.as_str() == "r" && pairs.len() == 1 {
+                "deletion"
+            } else {
+                "other"
+            }
+        }
+        Action::Set {
+            relation,
+            column,
+            term,
+            pairs,
+        } => {
+            let is_set = is_n_of_unit(relation, column) && is_new_m(term) && is_id_the_dept(pairs);
+            if is_set { "setting" } else { "other" }
+        }
+        Action::Add {
+            relation,
+            column,
+            term,
+            pairs,
+        } => {
+            let less_one = matches!(term, Term::Const(Value::Int(-1)));
+            let is_added = is_n_of_unit(relation, column) && less_one && pairs.is_empty();
+            if is_added { "addition" } else { "other" }
+        }
+    }
+}
+
+/// What the tests call this rule.
+fn rule_name(rule: &Rule) -> &'static str {
+    match rule {
+        Rule::TreeIndex { columns, unique } => {
+            if are_named(columns, "a", "") && *unique {
+                "tree index"
+            } else {
+                "other"
+            }
+        }
+        Rule::HashIndex { columns } => {
+            if are_named(columns, "dept", "id") {
+                "hash index"
+            } else {
+                "other hash index"
+            }
+        }
         Rule::JoinIndex {
             side,
             columns,
             other,
             others,
-        },
-    ) = &rule
-    else {
-        panic!(rt; "no join index");
-    };
-    assert!(rt; are_named(columns, "dept", "") && are_named(others, "id", ""));
-    assert!(rt; *side == Side::Mirror);
-    assert_eq!(rt; other.as_str(), "emp");
-    Ok(())
-}
-
-#[test]
-fn stats_read(rt: HostRuntime) -> Result<(), Fail> {
-    let rule = read_rule(rt.alloc(), 4, STATS)?;
-    let Some(Rule::Stats { column, low, width }) = &rule else {
-        panic!(rt; "no statistics");
-    };
-    assert!(rt; column.as_str() == "salary" && *low == -1 && *width == 1000);
-    Ok(())
-}
-
-#[test]
-fn refers_read(rt: HostRuntime) -> Result<(), Fail> {
-    let rule = read_rule(rt.alloc(), 6, REFERS)?;
-    let Some(
+        } => {
+            let is_mirror = *side == Side::Mirror && other.as_str() == "emp";
+            let are_columns = are_named(columns, "dept", "") && are_named(others, "id", "");
+            if is_mirror && are_columns {
+                "join index"
+            } else {
+                "other"
+            }
+        }
+        Rule::Stats { column, low, width } => {
+            let is_salary = column.as_str() == "salary" && *low == -1 && *width == 1000;
+            if is_salary { "statistics" } else { "other" }
+        }
+        Rule::Check { .. } => "check",
         Rule::Refers {
             side,
             columns,
@@ -257,71 +254,88 @@ fn refers_read(rt: HostRuntime) -> Result<(), Fail> {
             others,
             mode,
             deferred,
-        },
-    ) = &rule
-    else {
-        panic!(rt; "no reference");
-    };
-    assert!(rt; are_named(columns, "dept", "") && are_named(others, "id", ""));
-    assert!(rt; *side == Side::Main && *mode == Mode::Cascade && *deferred);
-    assert_eq!(rt; other.as_str(), "unit");
-    Ok(())
-}
-
-/// The action of a trigger that is read from these bytes.
-fn action_read(alloc: Global, spelling: &[u8]) -> Result<Action, Fail> {
-    match read_rule(alloc, 7, spelling)? {
-        Some(Rule::Trigger { action, .. }) => Ok(action),
-        _ => Err("no trigger")?,
+        } => {
+            let is_main = *side == Side::Main && *mode == Mode::Cascade && *deferred;
+            let are_columns = are_named(columns, "dept", "") && are_named(others, "id", "");
+            if is_main && are_columns && other.as_str() == "unit" {
+                "reference"
+            } else {
+                "other"
+            }
+        }
+        Rule::Trigger { action, .. } => action_name(action),
+        Rule::Foreign { .. } => "foreign",
     }
 }
 
-#[test]
-fn insertion_read(rt: HostRuntime) -> Result<(), Fail> {
-    let action = action_read(rt.alloc(), INSERTION)?;
-    let Action::Insert { relation, terms } = &action else {
-        panic!(rt; "no insertion");
-    };
-    let [Term::Const(Value::Text(text)), Term::New(name)] = terms.as_slice() else {
-        panic!(rt; "other terms");
-    };
-    assert!(rt; relation.as_str() == "log" && text.as_str() == "ab" && name.as_str() == "id");
-    Ok(())
+/// The rule's name, where it is written as these bytes.
+fn name_written(alloc: Global, rule: &Rule, spelling: &[u8]) -> Result<&'static str, AllocError>
+    requires { IsShortRule rule.now }
+{
+    if is_written(alloc, rule, spelling)? {
+        Ok(rule_name(rule))
+    } else {
+        Ok("other bytes")
+    }
+}
+
+/// The name of the rule of this code that the bytes are read as, and that is written as them.
+#[tactic(auto, using(crate::proofs::StorableRules::IsShortRule_from_storable))]
+fn name_read(alloc: Global, code: u16, spelling: &[u8]) -> Result<&'static str, AllocError> {
+    match read_rule(alloc, code, spelling)? {
+        Some(rule) => name_written(alloc, &rule, spelling),
+        None => Ok("none"),
+    }
+}
+
+/// Codes with bytes, and the name of the rule that they spell.
+const RULES: [(u16, &[u8], &str); 29] = [
+    (1, b"\x01\x01\x01a", "tree index"),
+    (2, HASH_INDEX, "hash index"),
+    (2, b"\x00", "other hash index"),
+    (3, JOIN_INDEX, "join index"),
+    (4, STATS, "statistics"),
+    (5, CHECK, "check"),
+    (5, LONGEST, "check"),
+    (6, REFERS, "reference"),
+    (7, DELETION, "deletion"),
+    (7, INSERTION, "insertion"),
+    (7, SETTING, "setting"),
+    (7, ADDITION, "addition"),
+    (1000, b"", "foreign"),
+    (65535, b"\x07\x08", "foreign"),
+    (0, b"", "none"),
+    (1, b"", "none"),
+    (1, b"\x02\x01\x01a", "none"),
+    (1, b"\x00\x02\x01a", "none"),
+    (2, b"\x01\x01\xff", "none"),
+    (2, b"\x01\x01aa", "none"),
+    (3, b"\x02\x00\x01a\x00", "none"),
+    (4, NO_WIDTH, "none"),
+    (4, b"\x01n\x00\x00\x00\x00\x00\x00\x00\x00", "none"),
+    (5, TRAILING, "none"),
+    (5, TOO_LONG, "none"),
+    (6, b"\x00\x02\x00\x00\x01a\x00", "none"),
+    (7, b"\x00\x00\x00\x01\x01r\x00", "none"),
+    (7, b"\x01\x00\x00\x05\x01r\x00", "none"),
+    (999, b"", "none"),
+];
+
+/// How many rows, from the first one on, have the name that is read.
+fn read(alloc: Global, rows: &[(u16, &[u8], &str)]) -> Result<usize, AllocError> {
+    let mut count = 0usize;
+    for (code, spelling, name) in rows {
+        if name_read(alloc, *code, spelling)? != *name {
+            break;
+        }
+        count = count.saturating_add(1);
+    }
+    Ok(count)
 }
 
 #[test]
-fn setting_read(rt: HostRuntime) -> Result<(), Fail> {
-    let action = action_read(rt.alloc(), SETTING)?;
-    let Action::Set {
-        relation,
-        column,
-        term: Term::New(name),
-        pairs,
-    } = &action
-    else {
-        panic!(rt; "no setting");
-    };
-    assert!(rt; relation.as_str() == "unit" && column.as_str() == "n" && name.as_str() == "m");
-    let [(column, Term::New(name))] = pairs.as_slice() else {
-        panic!(rt; "other pairs");
-    };
-    assert!(rt; column.as_str() == "id" && name.as_str() == "dept");
-    Ok(())
-}
-
-#[test]
-fn addition_read(rt: HostRuntime) -> Result<(), Fail> {
-    let action = action_read(rt.alloc(), ADDITION)?;
-    let Action::Add {
-        relation,
-        column,
-        term: Term::Const(Value::Int(-1)),
-        pairs,
-    } = &action
-    else {
-        panic!(rt; "no addition of -1");
-    };
-    assert!(rt; relation.as_str() == "unit" && column.as_str() == "n" && pairs.is_empty());
+fn rules_read(rt: HostRuntime) -> Result<(), Fail> {
+    assert_eq!(rt; read(rt.alloc(), &RULES)?, 29);
     Ok(())
 }
 
@@ -368,39 +382,61 @@ fn insertion(alloc: Global) -> Result<Action, AllocError> {
     Ok(Action::Insert { relation, terms })
 }
 
-fn bound_insertion(alloc: Global) -> Result<Action, AllocError> {
-    let action = insertion(alloc)?;
+/// What the action is bound to by this change of a row of the column `n`.
+fn bound(alloc: Global, action: &Action, change: &Change) -> Result<Action, AllocError> {
     let schema = schema(alloc)?;
-    let update = update(alloc)?;
-    bind(alloc, &action, &schema, &update)
+    bind(alloc, action, &schema, change)
+}
+
+fn bound_insertion(alloc: Global, change: &Change) -> Result<Action, AllocError> {
+    let action = insertion(alloc)?;
+    bound(alloc, &action, change)
+}
+
+/// The action inserts the row of 7 and 9.
+fn is_bound(action: &Action) -> bool {
+    match action {
+        Action::Insert { terms, .. } => matches!(
+            terms.as_slice(),
+            [Term::Const(Value::Int(7)), Term::Const(Value::Int(9))]
+        ),
+        _ => false,
+    }
+}
+
+fn is_insertion_bound(alloc: Global, change: &Change) -> Result<bool, AllocError> {
+    let action = bound_insertion(alloc, change)?;
+    Ok(is_bound(&action))
+}
+
+fn are_terms_bound(alloc: Global) -> Result<bool, AllocError> {
+    let change = update(alloc)?;
+    is_insertion_bound(alloc, &change)
 }
 
 #[test]
 fn terms_bound(rt: HostRuntime) -> Result<(), Fail> {
-    let Action::Insert { relation: _, terms } = bound_insertion(rt.alloc())? else {
-        panic!(rt; "no insertion");
-    };
-    assert!(rt;
-        matches!(
-            terms.as_slice(),
-            [Term::Const(Value::Int(7)), Term::Const(Value::Int(9))]
-        )
-    );
+    assert!(rt; are_terms_bound(rt.alloc())?);
     Ok(())
 }
 
-#[test]
-fn terms(rt: HostRuntime) -> Result<(), Fail> {
-    let terms = two_terms(rt.alloc())?;
-    assert!(rt; terms.len() == 2 && !terms.is_empty());
-    assert_eq!(rt; terms.into_vec().len(), 2);
-    Ok(())
+/// The terms are so many, as a list and as a vector.
+fn are_terms(alloc: Global, count: usize) -> Result<bool, AllocError> {
+    let terms = two_terms(alloc)?;
+    let are_listed = terms.len() == count && !terms.is_empty();
+    Ok(are_listed && terms.into_vec().len() == count)
+}
+
+/// The pairs are so many, as a list and as a vector.
+fn are_pairs(alloc: Global, count: usize) -> Result<bool, AllocError> {
+    let pairs = one_pair(alloc)?;
+    let are_listed = pairs.len() == count && !pairs.is_empty();
+    Ok(are_listed && pairs.into_vec().len() == count)
 }
 
 #[test]
-fn pairs(rt: HostRuntime) -> Result<(), Fail> {
-    let pairs = one_pair(rt.alloc())?;
-    assert!(rt; pairs.len() == 1 && !pairs.is_empty());
-    assert_eq!(rt; pairs.into_vec().len(), 1);
+fn lists(rt: HostRuntime) -> Result<(), Fail> {
+    assert!(rt; are_terms(rt.alloc(), 2)?);
+    assert!(rt; are_pairs(rt.alloc(), 1)?);
     Ok(())
 }

@@ -15,7 +15,7 @@ use crate::Check;
 use sb_codec::encode_tuple;
 use sb_ctx::{Attachment, Ctx, Instance, Keys, Move};
 use sb_pred::{Op, Pred, Term};
-use sb_relation::{Change, Rule, write_rule};
+use sb_relation::{Action, Change, Rule, write_rule};
 use sb_value::{Bytes, Column, Kind, Names, RecKey, Schema, Str, Tuple, Value};
 use std::alloc::{AllocError, Global};
 use std::test::*;
@@ -78,67 +78,178 @@ fn key(alloc: Global) -> RecKey
     RecKey::from_vec(Vec::new(alloc))
 }
 
+/// What a call answers, in short.
+#[derive(Clone, Copy, PartialEq, Eq)]
+enum Reply {
+    Done,
+    Veto,
+    End,
+    NoSums,
+    /// The rows of `r` whose `k` is -1 are asked for.
+    Find,
+    /// The row of -1 is left for the commit, alone.
+    Entry,
+    /// 150 is added to the total of department 7, and nothing else is to be done.
+    AtOnce,
+    AtTheCommit,
+    Other,
+}
+
+/// Whether the rows of `r` whose `k` is -1 are asked for.
+fn is_find(relation: &Str, columns: &Names, values: &Tuple) -> bool {
+    match (columns.as_slice(), values.as_slice()) {
+        ([column], [Value::Int(number)]) => {
+            relation.as_str() == "r" && column.as_str() == "k" && *number == -1
+        }
+        _ => false,
+    }
+}
+
+/// The bytes of the row of -1.
+const ENTRY: &[u8] = b"\x01\x01\xff\xff\xff\xff\xff\xff\xff\xff";
+
+fn is_entry(checks: &[Bytes]) -> bool {
+    match checks {
+        [entry] => entry.as_slice() == ENTRY,
+        _ => false,
+    }
+}
+
+fn reply_of_acts(now: &[Action], late: &[Action], checks: &[Bytes]) -> Reply {
+    if now.is_empty() && late.is_empty() && is_entry(checks) {
+        Reply::Entry
+    } else if !checks.is_empty() {
+        Reply::Other
+    } else if triggers::is_one_raise(now) && late.is_empty() {
+        Reply::AtOnce
+    } else if triggers::is_one_raise(late) && now.is_empty() {
+        Reply::AtTheCommit
+    } else {
+        Reply::Other
+    }
+}
+
+fn reply_of(made: &Move) -> Reply {
+    match made {
+        Move::Done => Reply::Done,
+        Move::Veto => Reply::Veto,
+        Move::End => Reply::End,
+        Move::Sums(sums) => {
+            if sums.as_slice().is_empty() {
+                Reply::NoSums
+            } else {
+                Reply::Other
+            }
+        }
+        Move::Find {
+            relation,
+            columns,
+            values,
+        } => {
+            if is_find(relation, columns, values) {
+                Reply::Find
+            } else {
+                Reply::Other
+            }
+        }
+        Move::Acts { now, late, checks } => {
+            reply_of_acts(now.as_slice(), late.as_slice(), checks.as_slice())
+        }
+        _ => Reply::Other,
+    }
+}
+
+fn prepared<A: Attachment>(attachment: &A, alloc: Global, inst: &Instance) -> Reply
+    requires { IsInstance (A.attachment attachment.now) inst.now }
+{
+    reply_of(&attachment.prepare(alloc, &mut Ctx::new(alloc), inst))
+}
+
+fn first_entry<A: Attachment>(attachment: &A, alloc: Global, inst: &Instance) -> Reply
+    requires { IsInstance (A.attachment attachment.now) inst.now }
+{
+    let low = key(alloc);
+    reply_of(&attachment.next_entry(alloc, &mut Ctx::new(alloc), inst, &low, None))
+}
+
+fn summed<A: Attachment>(attachment: &A, alloc: Global, inst: &Instance) -> Reply
+    requires { IsInstance (A.attachment attachment.now) inst.now }
+{
+    reply_of(&attachment.sums(alloc, &mut Ctx::new(alloc), inst))
+}
+
+/// Whether it is prepared without a page, and has no entry and no sums.
+fn keeps_nothing<A: Attachment>(attachment: &A, alloc: Global, inst: &Instance) -> bool
+    requires { IsInstance (A.attachment attachment.now) inst.now }
+{
+    prepared(attachment, alloc, inst) == Reply::Done
+        && first_entry(attachment, alloc, inst) == Reply::End
+        && summed(attachment, alloc, inst) == Reply::NoSums
+}
+
+/// Whether it has the code, and fits the instance.
+fn is_of<A: Attachment>(attachment: &A, inst: &Instance, code: u16) -> bool {
+    attachment.code() == code && attachment.fits(&inst.schema, &inst.desc)
+}
+
+fn is_without_pages(alloc: Global) -> Result<bool, AllocError> {
+    let inst = instance(alloc, false)?;
+    let check = Check::new();
+    Ok(is_of(&check, &inst, 5) && keeps_nothing(&check, alloc, &inst))
+}
+
 #[test]
 fn without_pages(rt: HostRuntime) -> Result<(), Fail> {
-    let alloc = rt.alloc();
-    let check = Check::new();
-    let inst = instance(alloc, false)?;
-    assert_eq!(rt; Attachment::code(&check), 5);
-    assert!(rt; Attachment::fits(&check, &inst.schema, &inst.desc));
-    let made = Attachment::prepare(&check, alloc, &mut Ctx::new(alloc), &inst);
-    assert!(rt; matches!(made, Move::Done));
-    let end = Attachment::next_entry(
-        &check,
-        alloc,
-        &mut Ctx::new(alloc),
-        &inst,
-        &key(alloc),
-        None,
-    );
-    assert!(rt; matches!(end, Move::End));
-    match Attachment::sums(&check, alloc, &mut Ctx::new(alloc), &inst) {
-        Move::Sums(sums) => assert!(rt; sums.as_slice().is_empty()),
-        _ => return Err(Fail::from("no sums")),
-    }
+    assert!(rt; is_without_pages(rt.alloc())?);
     Ok(())
 }
 
-/// Numbers, and whether a row of them is admitted.
-const BUILT: [(i64, bool); 4] = [(0, true), (5, true), (-1, false), (i64::MIN, false)];
-
-fn built<A: Attachment>(attachment: &A, alloc: Global, inst: &Instance, row: &Tuple) -> Move
+fn built<A: Attachment>(attachment: &A, alloc: Global, inst: &Instance, row: &Tuple) -> Reply
     requires inst { IsInstance (A.attachment attachment.now) inst.now }
     requires row { MayHold (A.attachment attachment.now) inst.now row.now }
 {
-    attachment.on_build(alloc, &mut Ctx::new(alloc), inst, &key(alloc), row)
+    reply_of(&attachment.on_build(alloc, &mut Ctx::new(alloc), inst, &key(alloc), row))
+}
+
+fn built_number(alloc: Global, inst: &Instance, number: i64) -> Result<Reply, AllocError>
+    requires check { IsInstance check inst.now }
+    requires columns { inst.now.schema ≡ numbers }
+{
+    let row = row(alloc, number)?;
+    Ok(built(&Check::new(), alloc, inst, &row))
+}
+
+/// What the check answers to a row that stands when it is attached.
+fn build(alloc: Global, number: i64) -> Result<Reply, AllocError> {
+    let inst = instance(alloc, true)?;
+    built_number(alloc, &inst, number)
+}
+
+/// Numbers, and whether a row of them is admitted.
+const BUILT: [(i64, Reply); 4] = [
+    (0, Reply::Done),
+    (5, Reply::Done),
+    (-1, Reply::Veto),
+    (i64::MIN, Reply::Veto),
+];
+
+/// How many rows, from the first one on, are answered so.
+fn built_so(alloc: Global, rows: &[(i64, Reply)]) -> Result<usize, AllocError> {
+    let mut count = 0usize;
+    for (number, wanted) in rows {
+        if build(alloc, *number)? != *wanted {
+            break;
+        }
+        count = count.saturating_add(1);
+    }
+    Ok(count)
 }
 
 #[test]
 fn rows_are_built(rt: HostRuntime) -> Result<(), Fail> {
-    let alloc = rt.alloc();
-    let inst = instance(alloc, true)?;
-    for (number, admitted) in BUILT {
-        let answer = built(&Check::new(), alloc, &inst, &row(alloc, number)?);
-        let wanted = match answer {
-            Move::Done => admitted,
-            Move::Veto => !admitted,
-            _ => false,
-        };
-        assert!(rt; wanted, "at {number}");
-    }
+    assert_eq!(rt; built_so(rt.alloc(), &BUILT)?, 4);
     Ok(())
 }
-
-/// The number of the row that goes, that of the row that comes, and whether the change is admitted.
-const CHANGES: [(Option<i64>, Option<i64>, bool); 7] = [
-    (None, Some(0), true),
-    (None, Some(-1), false),
-    (Some(-1), None, true),
-    (Some(7), None, true),
-    (Some(-1), Some(2), true),
-    (Some(2), Some(-1), false),
-    (Some(-2), Some(-1), false),
-];
 
 fn change(alloc: Global, old: Option<i64>, new: Option<i64>) -> Result<Change, AllocError>
     ensures { IfOk result (λ change. (inst : Seen) → inst.schema ≡ numbers → MayMeet check inst change) }
@@ -161,58 +272,73 @@ fn change(alloc: Global, old: Option<i64>, new: Option<i64>) -> Result<Change, A
     }
 }
 
-fn changed<A: Attachment>(attachment: &A, alloc: Global, inst: &Instance, change: &Change) -> Move
+fn changed<A: Attachment>(attachment: &A, alloc: Global, inst: &Instance, change: &Change) -> Reply
     requires inst { IsInstance (A.attachment attachment.now) inst.now }
     requires change { MayMeet (A.attachment attachment.now) inst.now change.now }
 {
-    attachment.on_change(alloc, &mut Ctx::new(alloc), inst, change)
+    reply_of(&attachment.on_change(alloc, &mut Ctx::new(alloc), inst, change))
+}
+
+fn changed_number(
+    alloc: Global,
+    inst: &Instance,
+    old: Option<i64>,
+    new: Option<i64>,
+) -> Result<Reply, AllocError>
+    requires check { IsInstance check inst.now }
+    requires columns { inst.now.schema ≡ numbers }
+{
+    let change = change(alloc, old, new)?;
+    Ok(changed(&Check::new(), alloc, inst, &change))
+}
+
+/// What the check, deferred or not, answers to the change.
+fn test(
+    alloc: Global,
+    deferred: bool,
+    old: Option<i64>,
+    new: Option<i64>,
+) -> Result<Reply, AllocError> {
+    let inst = instance(alloc, deferred)?;
+    changed_number(alloc, &inst, old, new)
+}
+
+/// Whether the check is deferred, the number of the row that goes, that of the row that comes, and the answer.
+const CHANGES: [(bool, Option<i64>, Option<i64>, Reply); 9] = [
+    (false, None, Some(0), Reply::Done),
+    (false, None, Some(-1), Reply::Veto),
+    (false, Some(-1), None, Reply::Done),
+    (false, Some(7), None, Reply::Done),
+    (false, Some(-1), Some(2), Reply::Done),
+    (false, Some(2), Some(-1), Reply::Veto),
+    (false, Some(-2), Some(-1), Reply::Veto),
+    (true, Some(2), Some(-1), Reply::Entry),
+    (true, Some(-1), None, Reply::Done),
+];
+
+/// How many changes, from the first one on, are answered so.
+fn tested_so(
+    alloc: Global,
+    rows: &[(bool, Option<i64>, Option<i64>, Reply)],
+) -> Result<usize, AllocError> {
+    let mut count = 0usize;
+    for (deferred, old, new, wanted) in rows {
+        if test(alloc, *deferred, *old, *new)? != *wanted {
+            break;
+        }
+        count = count.saturating_add(1);
+    }
+    Ok(count)
 }
 
 #[test]
 fn changes_are_tested(rt: HostRuntime) -> Result<(), Fail> {
-    let alloc = rt.alloc();
-    let inst = instance(alloc, false)?;
-    for (old, new, admitted) in CHANGES {
-        let answer = changed(&Check::new(), alloc, &inst, &change(alloc, old, new)?);
-        let wanted = match answer {
-            Move::Done => admitted,
-            Move::Veto => !admitted,
-            _ => false,
-        };
-        assert!(rt; wanted, "from {old:?} to {new:?}");
-    }
-    Ok(())
-}
-
-/// The bytes of the row of -1.
-const ENTRY: &[u8] = b"\x01\x01\xff\xff\xff\xff\xff\xff\xff\xff";
-
-#[test]
-fn rows_are_left_for_the_commit(rt: HostRuntime) -> Result<(), Fail> {
-    let alloc = rt.alloc();
-    let inst = instance(alloc, true)?;
-    match changed(
-        &Check::new(),
-        alloc,
-        &inst,
-        &change(alloc, Some(2), Some(-1))?,
-    ) {
-        Move::Acts { now, late, checks } => {
-            assert!(rt; now.as_slice().is_empty() && late.as_slice().is_empty());
-            let [entry] = checks.as_slice() else {
-                return Err(Fail::from("not one entry"));
-            };
-            assert!(rt; entry.as_slice() == ENTRY);
-        }
-        _ => return Err(Fail::from("no entry")),
-    }
-    let gone = changed(&Check::new(), alloc, &inst, &change(alloc, Some(-1), None)?);
-    assert!(rt; matches!(gone, Move::Done));
+    assert_eq!(rt; tested_so(rt.alloc(), &CHANGES)?, 9);
     Ok(())
 }
 
 /// What a commit knows of the rows of -1.
-#[derive(Clone, Copy, Debug, PartialEq, Eq)]
+#[derive(Clone, Copy)]
 enum Known {
     Nothing,
     NoRow,
@@ -241,55 +367,72 @@ fn late<A: Attachment>(
     ctx: &mut Ctx,
     inst: &Instance,
     entry: &Bytes,
-) -> Move
+) -> Reply
     requires clean { IsClean ctx.old }
     requires inst { IsInstance (A.attachment attachment.now) inst.now }
 {
-    attachment.late_check(alloc, ctx, inst, entry)
+    reply_of(&attachment.late_check(alloc, ctx, inst, entry))
 }
 
-/// Whether this is a find of the rows of `r` whose `k` is -1.
-fn is_find(answer: &Move) -> bool {
-    match answer {
-        Move::Find {
-            relation,
-            columns,
-            values,
-        } => {
-            let [column] = columns.as_slice() else {
-                return false;
-            };
-            let [Value::Int(number)] = values.as_slice() else {
-                return false;
-            };
-            relation.as_str() == "r" && column.as_str() == "k" && *number == -1
-        }
-        _ => false,
-    }
+/// The bytes of a row of the number.
+fn encoded(alloc: Global, number: i64) -> Result<Bytes, AllocError> {
+    let row = row(alloc, number)?;
+    encode_tuple(alloc, &row)
 }
 
-/// The number of the entry, what is known, and the answer: true for Done, false for Veto, None for the find.
-const LATE: [(i64, Known, Option<bool>); 4] = [
-    (3, Known::Nothing, Some(true)),
-    (-1, Known::Nothing, None),
-    (-1, Known::NoRow, Some(true)),
-    (-1, Known::ARow, Some(false)),
+fn late_number(
+    alloc: Global,
+    ctx: &mut Ctx,
+    inst: &Instance,
+    number: i64,
+) -> Result<Reply, AllocError>
+    requires clean { IsClean ctx.old }
+    requires inst { IsInstance check inst.now }
+{
+    let entry = encoded(alloc, number)?;
+    Ok(late(&Check::new(), alloc, ctx, inst, &entry))
+}
+
+fn late_knowing(
+    alloc: Global,
+    inst: &Instance,
+    number: i64,
+    known: Known,
+) -> Result<Reply, AllocError>
+    requires { IsInstance check inst.now }
+{
+    let mut ctx = knowing(alloc, known)?;
+    late_number(alloc, &mut ctx, inst, number)
+}
+
+/// What the check answers at the commit to an entry of the number.
+fn test_late(alloc: Global, number: i64, known: Known) -> Result<Reply, AllocError> {
+    let inst = instance(alloc, true)?;
+    late_knowing(alloc, &inst, number, known)
+}
+
+/// The number of the entry, what is known, and the answer.
+const LATE: [(i64, Known, Reply); 4] = [
+    (3, Known::Nothing, Reply::Done),
+    (-1, Known::Nothing, Reply::Find),
+    (-1, Known::NoRow, Reply::Done),
+    (-1, Known::ARow, Reply::Veto),
 ];
+
+/// How many entries, from the first one on, are answered so.
+fn late_so(alloc: Global, rows: &[(i64, Known, Reply)]) -> Result<usize, AllocError> {
+    let mut count = 0usize;
+    for (number, known, wanted) in rows {
+        if test_late(alloc, *number, *known)? != *wanted {
+            break;
+        }
+        count = count.saturating_add(1);
+    }
+    Ok(count)
+}
 
 #[test]
 fn entries_are_tested(rt: HostRuntime) -> Result<(), Fail> {
-    let alloc = rt.alloc();
-    let inst = instance(alloc, true)?;
-    for (number, known, wanted) in LATE {
-        let entry = encode_tuple(alloc, &row(alloc, number)?)?;
-        let mut ctx = knowing(alloc, known)?;
-        let answer = late(&Check::new(), alloc, &mut ctx, &inst, &entry);
-        let is_wanted = match wanted {
-            Some(true) => matches!(answer, Move::Done),
-            Some(false) => matches!(answer, Move::Veto),
-            None => is_find(&answer),
-        };
-        assert!(rt; is_wanted, "at {number} knowing {known:?}");
-    }
+    assert_eq!(rt; late_so(rt.alloc(), &LATE)?, 4);
     Ok(())
 }

@@ -76,243 +76,188 @@ fn again(alloc: Global, ctx: &Ctx) -> Result<Ctx, AllocError>
     }
 }
 
-fn prepare<M: StorageMethod>(method: &M, alloc: Global, ctx: &mut Ctx, inst: &Instance) -> Move
-    requires clean { IsClean ctx.old }
-    requires inst { IsInstance (M.method method.now) inst.now }
-{
-    method.prepare(alloc, ctx, inst)
+#[derive(Clone, Copy, PartialEq, Eq)]
+enum Answer {
+    Done,
+    Key,
+    /// A row of this number, with its key.
+    Row(i64),
+    End,
+    NoRecord,
+    Duplicate,
+    Broken(u32),
+    Other,
 }
 
-fn insert<M: StorageMethod>(
+fn row_of(key: &RecKey, row: &Tuple) -> Answer {
+    match row.as_slice() {
+        [Value::Int(number), Value::Text(_)] if key.len() == 8 => Answer::Row(*number),
+        _ => Answer::Other,
+    }
+}
+
+fn answer_of(made: &Move) -> Answer {
+    match made {
+        Move::Done => Answer::Done,
+        Move::Key(_) => Answer::Key,
+        Move::Row(key, row) => row_of(key, row),
+        Move::End => Answer::End,
+        Move::NoRecord => Answer::NoRecord,
+        Move::Duplicate => Answer::Duplicate,
+        Move::Broken(n) => Answer::Broken(*n),
+        _ => Answer::Other,
+    }
+}
+
+/// A call with a key and a row, of which some calls make no use.
+#[derive(Clone, Copy)]
+enum Call {
+    Prepare,
+    Insert,
+    Delete,
+    Update,
+    Get,
+    /// The first row.
+    First,
+    /// The row behind the key.
+    Next,
+}
+
+fn made<M: StorageMethod>(
     method: &M,
     alloc: Global,
     ctx: &mut Ctx,
     inst: &Instance,
+    call: Call,
+    key: &RecKey,
     row: &Tuple,
 ) -> Move
     requires clean { IsClean ctx.old }
     requires inst { IsInstance (M.method method.now) inst.now }
     requires row { MayHold (M.method method.now) inst.now row.now }
 {
-    method.insert(alloc, ctx, inst, row)
+    match call {
+        Call::Prepare => method.prepare(alloc, ctx, inst),
+        Call::Insert => method.insert(alloc, ctx, inst, row),
+        Call::Delete => method.delete(alloc, ctx, inst, key),
+        Call::Update => method.update(alloc, ctx, inst, key, row),
+        Call::Get => method.get(alloc, ctx, inst, key),
+        Call::First => method.next(alloc, ctx, inst, None),
+        Call::Next => method.next(alloc, ctx, inst, Some(key)),
+    }
 }
 
-fn delete<M: StorageMethod>(
-    method: &M,
+fn answered(
     alloc: Global,
     ctx: &mut Ctx,
     inst: &Instance,
-    key: &RecKey,
-) -> Move
-    requires clean { IsClean ctx.old }
-    requires inst { IsInstance (M.method method.now) inst.now }
-{
-    method.delete(alloc, ctx, inst, key)
-}
-
-fn update<M: StorageMethod>(
-    method: &M,
-    alloc: Global,
-    ctx: &mut Ctx,
-    inst: &Instance,
+    call: Call,
     key: &RecKey,
     row: &Tuple,
-) -> Move
+) -> Answer
     requires clean { IsClean ctx.old }
-    requires inst { IsInstance (M.method method.now) inst.now }
-    requires row { MayHold (M.method method.now) inst.now row.now }
+    requires inst { IsExample inst.now }
+    requires row { MayBeHeld row.now }
 {
-    method.update(alloc, ctx, inst, key, row)
+    answer_of(&made(&TreeMethod::new(), alloc, ctx, inst, call, key, row))
 }
 
-fn get<M: StorageMethod>(
-    method: &M,
-    alloc: Global,
-    ctx: &mut Ctx,
-    inst: &Instance,
-    key: &RecKey,
-) -> Move
+/// A call, the number of its key, that of its row, and the answer.
+type Step = (Call, u8, i64, Answer);
+
+/// Whether the step is answered so.
+fn is_so(alloc: Global, ctx: &mut Ctx, inst: &Instance, step: &Step) -> Result<bool, AllocError>
     requires clean { IsClean ctx.old }
-    requires inst { IsInstance (M.method method.now) inst.now }
+    requires inst { IsExample inst.now }
 {
-    method.get(alloc, ctx, inst, key)
+    let (call, old, number, wanted) = *step;
+    let key = key(alloc, old)?;
+    let row = row(alloc, number, "a")?;
+    Ok(answered(alloc, ctx, inst, call, &key, &row) == wanted)
 }
 
-fn next<M: StorageMethod>(
-    method: &M,
+/// Whether it is a box of code 2 that lasts, and fits the instance.
+fn is_tree<M: StorageMethod>(method: &M, inst: &Instance) -> bool {
+    method.code() == 2 && method.durable() && method.fits(&inst.schema, &inst.key)
+}
+
+/// The page as the steps leave it, where each of them is answered so.
+fn played(
     alloc: Global,
-    ctx: &mut Ctx,
     inst: &Instance,
-    after: Option<&RecKey>,
-) -> Move
-    requires clean { IsClean ctx.old }
-    requires inst { IsInstance (M.method method.now) inst.now }
+    page: Ctx,
+    steps: &[Step],
+) -> Result<Option<Ctx>, AllocError>
+    requires { IsExample inst.now }
 {
-    method.next(alloc, ctx, inst, after)
+    let mut page = page;
+    for step in steps {
+        let mut ctx = again(alloc, &page)?;
+        if !is_so(alloc, &mut ctx, inst, step)? {
+            return Ok(None);
+        }
+        page = ctx;
+    }
+    Ok(Some(page))
 }
 
 /// A new tree with the rows 7, 2 and 9.
-fn three_rows(alloc: Global, inst: &Instance) -> Result<Ctx, Fail>
+const THREE: [Step; 4] = [
+    (Call::Prepare, 0, 0, Answer::Done),
+    (Call::Insert, 0, 7, Answer::Key),
+    (Call::Insert, 0, 2, Answer::Key),
+    (Call::Insert, 0, 9, Answer::Key),
+];
+
+/// Each step is answered so, after these.
+fn is_played_on(alloc: Global, inst: &Instance, steps: &[Step]) -> Result<bool, AllocError>
     requires { IsExample inst.now }
-    ensures { IfOk result IsClean }
 {
-    let method = TreeMethod::new();
-    let mut ctx = given(alloc, &[0; 4096])?;
-    if !matches!(prepare(&method, alloc, &mut ctx, inst), Move::Done) {
-        return Err(Fail::from("not prepared"));
-    }
-    let mut ctx = again(alloc, &ctx)?;
-    insert(&method, alloc, &mut ctx, inst, &row(alloc, 7, "b")?);
-    let mut ctx = again(alloc, &ctx)?;
-    insert(&method, alloc, &mut ctx, inst, &row(alloc, 2, "a")?);
-    let mut ctx = again(alloc, &ctx)?;
-    insert(&method, alloc, &mut ctx, inst, &row(alloc, 9, "c")?);
-    Ok(again(alloc, &ctx)?)
-}
-
-/// A row's number, where it has the key of that number.
-fn number_of(answer: &Move) -> Option<i64> {
-    match answer {
-        Move::Row(key, row) => match row.as_slice() {
-            [Value::Int(number), Value::Text(_)] if key.len() == 8 => Some(*number),
-            _ => None,
-        },
-        _ => None,
+    match played(alloc, inst, given(alloc, &[0; 4096])?, &THREE)? {
+        Some(page) => Ok(played(alloc, inst, page, steps)?.is_some()),
+        None => Ok(false),
     }
 }
 
+fn is_played(alloc: Global, steps: &[Step]) -> Result<bool, AllocError> {
+    let inst = instance(alloc)?;
+    Ok(is_tree(&TreeMethod::new(), &inst) && is_played_on(alloc, &inst, steps)?)
+}
+
+/// Rows stand in the order of their keys, and each key once. A row is deleted, and replaced under its key.
+const KEPT: [Step; 14] = [
+    (Call::Next, 0, 0, Answer::Row(2)),
+    (Call::Next, 2, 0, Answer::Row(7)),
+    (Call::Next, 7, 0, Answer::Row(9)),
+    (Call::Next, 9, 0, Answer::End),
+    (Call::Get, 2, 0, Answer::Row(2)),
+    (Call::Get, 8, 0, Answer::NoRecord),
+    (Call::Get, 9, 0, Answer::Row(9)),
+    (Call::Insert, 0, 9, Answer::Duplicate),
+    (Call::Update, 2, 9, Answer::Duplicate),
+    (Call::Update, 2, 2, Answer::Key),
+    (Call::Next, 2, 0, Answer::Row(7)),
+    (Call::Delete, 7, 0, Answer::Done),
+    (Call::Next, 2, 0, Answer::Row(9)),
+    (Call::Delete, 7, 0, Answer::NoRecord),
+];
+
 #[test]
-fn a_box_of_code_2(rt: HostRuntime) -> Result<(), Fail> {
-    let inst = instance(rt.alloc())?;
-    let method = TreeMethod::new();
-    assert_eq!(rt; StorageMethod::code(&method), 2);
-    assert!(rt; StorageMethod::durable(&method));
-    assert!(rt; StorageMethod::fits(&method, &inst.schema, &inst.key));
+fn a_tree_is_kept(rt: HostRuntime) -> Result<(), Fail> {
+    assert!(rt; is_played(rt.alloc(), &KEPT)?);
     Ok(())
 }
 
-/// Keys, and the number of the next row; None for the end.
-const NEXT: [(u8, Option<i64>); 4] = [(0, Some(2)), (2, Some(7)), (7, Some(9)), (9, None)];
+/// A row moves to another key.
+const MOVED: [Step; 3] = [
+    (Call::Update, 2, 8, Answer::Key),
+    (Call::First, 0, 0, Answer::Row(7)),
+    (Call::Update, 2, 8, Answer::NoRecord),
+];
 
 #[test]
-fn rows_in_the_order_of_keys(rt: HostRuntime) -> Result<(), Fail> {
-    let alloc = rt.alloc();
-    let inst = instance(alloc)?;
-    for (low, wanted) in NEXT {
-        let low = key(alloc, low)?;
-        let answer = next(
-            &TreeMethod::new(),
-            alloc,
-            &mut three_rows(alloc, &inst)?,
-            &inst,
-            Some(&low),
-        );
-        assert_eq!(rt; number_of(&answer), wanted);
-        assert_eq!(rt; matches!(answer, Move::End), wanted.is_none());
-    }
-    Ok(())
-}
-
-/// Keys, and the number of their row; None where there is none.
-const GET: [(u8, Option<i64>); 3] = [(2, Some(2)), (8, None), (9, Some(9))];
-
-#[test]
-fn rows_by_their_keys(rt: HostRuntime) -> Result<(), Fail> {
-    let alloc = rt.alloc();
-    let inst = instance(alloc)?;
-    for (wanted, number) in GET {
-        let wanted = key(alloc, wanted)?;
-        let answer = get(
-            &TreeMethod::new(),
-            alloc,
-            &mut three_rows(alloc, &inst)?,
-            &inst,
-            &wanted,
-        );
-        assert_eq!(rt; number_of(&answer), number);
-        assert_eq!(rt; matches!(answer, Move::NoRecord), number.is_none());
-    }
-    Ok(())
-}
-
-#[test]
-fn a_key_stands_once(rt: HostRuntime) -> Result<(), Fail> {
-    let alloc = rt.alloc();
-    let inst = instance(alloc)?;
-    let answer = insert(
-        &TreeMethod::new(),
-        alloc,
-        &mut three_rows(alloc, &inst)?,
-        &inst,
-        &row(alloc, 9, "d")?,
-    );
-    assert!(rt; matches!(answer, Move::Duplicate));
-    Ok(())
-}
-
-#[test]
-fn a_row_is_deleted(rt: HostRuntime) -> Result<(), Fail> {
-    let alloc = rt.alloc();
-    let method = TreeMethod::new();
-    let inst = instance(alloc)?;
-    let mut ctx = three_rows(alloc, &inst)?;
-    let done = delete(&method, alloc, &mut ctx, &inst, &key(alloc, 7)?);
-    assert!(rt; matches!(done, Move::Done));
-    let mut ctx = again(alloc, &ctx)?;
-    let behind = next(&method, alloc, &mut ctx, &inst, Some(&key(alloc, 2)?));
-    assert_eq!(rt; number_of(&behind), Some(9));
-    let mut ctx = again(alloc, &ctx)?;
-    let gone = delete(&method, alloc, &mut ctx, &inst, &key(alloc, 7)?);
-    assert!(rt; matches!(gone, Move::NoRecord));
-    Ok(())
-}
-
-#[test]
-fn a_row_is_replaced_under_its_key(rt: HostRuntime) -> Result<(), Fail> {
-    let alloc = rt.alloc();
-    let method = TreeMethod::new();
-    let inst = instance(alloc)?;
-    let mut ctx = three_rows(alloc, &inst)?;
-    let two = key(alloc, 2)?;
-    let done = update(&method, alloc, &mut ctx, &inst, &two, &row(alloc, 2, "d")?);
-    assert!(rt; matches!(done, Move::Key(_)));
-    let mut ctx = again(alloc, &ctx)?;
-    let behind = next(&method, alloc, &mut ctx, &inst, Some(&two));
-    assert_eq!(rt; number_of(&behind), Some(7));
-    Ok(())
-}
-
-#[test]
-fn a_row_moves_to_another_key(rt: HostRuntime) -> Result<(), Fail> {
-    let alloc = rt.alloc();
-    let method = TreeMethod::new();
-    let inst = instance(alloc)?;
-    let mut ctx = three_rows(alloc, &inst)?;
-    let old = key(alloc, 2)?;
-    let moved = update(&method, alloc, &mut ctx, &inst, &old, &row(alloc, 8, "d")?);
-    assert!(rt; matches!(moved, Move::Key(_)));
-    let mut ctx = again(alloc, &ctx)?;
-    let first = next(&method, alloc, &mut ctx, &inst, None);
-    assert_eq!(rt; number_of(&first), Some(7));
-    let mut ctx = again(alloc, &ctx)?;
-    let gone = update(&method, alloc, &mut ctx, &inst, &old, &row(alloc, 8, "d")?);
-    assert!(rt; matches!(gone, Move::NoRecord));
-    Ok(())
-}
-
-#[test]
-fn a_row_may_not_move_to_a_key_that_stands(rt: HostRuntime) -> Result<(), Fail> {
-    let alloc = rt.alloc();
-    let inst = instance(alloc)?;
-    let taken = update(
-        &TreeMethod::new(),
-        alloc,
-        &mut three_rows(alloc, &inst)?,
-        &inst,
-        &key(alloc, 2)?,
-        &row(alloc, 9, "d")?,
-    );
-    assert!(rt; matches!(taken, Move::Duplicate));
+fn a_row_moves(rt: HostRuntime) -> Result<(), Fail> {
+    assert!(rt; is_played(rt.alloc(), &MOVED)?);
     Ok(())
 }
 
@@ -373,82 +318,43 @@ fn damaged(alloc: Global) -> Result<Ctx, AllocError>
     Ok(ctx)
 }
 
-/// The page that is called broken.
-fn broken_page(answer: &Move) -> Option<u32> {
-    match answer {
-        Move::Broken(n) => Some(*n),
-        _ => None,
-    }
-}
-
-/// Keys, and the number of their row, or the page that is called broken.
-const GOT: [(u8, Option<i64>, Option<u32>); 5] = [
-    (2, Some(2), None),
-    (7, Some(7), None),
-    (9, None, Some(9)),
-    (10, None, Some(9)),
-    (21, None, Some(5)),
+/// A leaf with an entry of no row is broken: a look-up and a scan name it, and so does an update that removes a row there.
+const OVER_DAMAGE: [Step; 11] = [
+    (Call::Get, 2, 0, Answer::Row(2)),
+    (Call::Get, 7, 0, Answer::Row(7)),
+    (Call::Get, 9, 0, Answer::Broken(9)),
+    (Call::Get, 10, 0, Answer::Broken(9)),
+    (Call::Get, 21, 0, Answer::Broken(5)),
+    (Call::Next, 0, 0, Answer::Row(2)),
+    (Call::Next, 2, 0, Answer::Row(7)),
+    (Call::Next, 7, 0, Answer::Broken(9)),
+    (Call::Next, 9, 0, Answer::Broken(9)),
+    (Call::Next, 10, 0, Answer::Broken(5)),
+    (Call::Update, 2, 8, Answer::Broken(5)),
 ];
 
-#[test]
-fn a_leaf_with_an_entry_of_no_row_is_broken(rt: HostRuntime) -> Result<(), Fail> {
-    let alloc = rt.alloc();
-    let inst = instance(alloc)?;
-    for (wanted, number, page) in GOT {
-        let wanted = key(alloc, wanted)?;
-        let answer = get(
-            &TreeMethod::new(),
-            alloc,
-            &mut damaged(alloc)?,
-            &inst,
-            &wanted,
-        );
-        assert_eq!(rt; number_of(&answer), number);
-        assert_eq!(rt; broken_page(&answer), page);
+/// How many of the steps, from the first one on, are answered so, each over that tree.
+fn over_damage(alloc: Global, inst: &Instance, steps: &[Step]) -> Result<usize, AllocError>
+    requires { IsExample inst.now }
+{
+    let mut count = 0usize;
+    for step in steps {
+        let mut ctx = damaged(alloc)?;
+        if !is_so(alloc, &mut ctx, inst, step)? {
+            break;
+        }
+        count = count.saturating_add(1);
     }
-    Ok(())
+    Ok(count)
 }
 
-/// Keys, and the number of the next row, or the page that is called broken.
-const STEPPED: [(u8, Option<i64>, Option<u32>); 5] = [
-    (0, Some(2), None),
-    (2, Some(7), None),
-    (7, None, Some(9)),
-    (9, None, Some(9)),
-    (10, None, Some(5)),
-];
-
-#[test]
-fn a_scan_names_the_broken_leaf(rt: HostRuntime) -> Result<(), Fail> {
-    let alloc = rt.alloc();
+fn named(alloc: Global) -> Result<usize, AllocError> {
     let inst = instance(alloc)?;
-    for (low, number, page) in STEPPED {
-        let low = key(alloc, low)?;
-        let answer = next(
-            &TreeMethod::new(),
-            alloc,
-            &mut damaged(alloc)?,
-            &inst,
-            Some(&low),
-        );
-        assert_eq!(rt; number_of(&answer), number);
-        assert_eq!(rt; broken_page(&answer), page);
-    }
-    Ok(())
+    over_damage(alloc, &inst, &OVER_DAMAGE)
 }
 
 #[test]
-fn a_row_that_moves_names_the_page_that_stops_its_removal(rt: HostRuntime) -> Result<(), Fail> {
-    let alloc = rt.alloc();
-    let inst = instance(alloc)?;
-    let answer = update(
-        &TreeMethod::new(),
-        alloc,
-        &mut damaged(alloc)?,
-        &inst,
-        &key(alloc, 2)?,
-        &row(alloc, 8, "d")?,
-    );
-    assert_eq!(rt; broken_page(&answer), Some(5));
+fn damage_is_named(rt: HostRuntime) -> Result<(), Fail> {
+    assert_eq!(rt; named(rt.alloc())?, 11);
     Ok(())
 }

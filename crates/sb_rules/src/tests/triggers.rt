@@ -10,9 +10,9 @@ ghost use Rattle.sb_ctx.specs.Attachment.{IsInstance, MayHold, MayMeet};
 ghost use Rattle.sb_rules.specs.Triggers.{trigger};
 ghost use Rattle.sb_rules.specs.Examples.{staff, well_paid, adds_salary, hires};
 
-use super::{built, changed, key, late};
+use super::{Reply, built, changed, is_of, keeps_nothing, key, late};
 use crate::Trigger;
-use sb_ctx::{Attachment, Ctx, Instance, Move};
+use sb_ctx::{Ctx, Instance};
 use sb_pred::{Op, Pred, Term};
 use sb_relation::{Action, Change, Event, Pairs, Rule, write_rule};
 use sb_value::{Bytes, Column, Kind, Names, Schema, Str, Tuple, Value};
@@ -113,32 +113,34 @@ fn row(alloc: Global, salary: i64) -> Result<Tuple, AllocError>
     Ok(Tuple::from_vec(vec![in alloc; Value::Int(salary), Value::Int(7)]?))
 }
 
+fn built_row(alloc: Global, inst: &Instance, salary: i64) -> Result<Reply, AllocError>
+    requires trigger { IsInstance trigger inst.now }
+    requires columns { inst.now.schema ≡ staff }
+{
+    let row = row(alloc, salary)?;
+    Ok(built(&Trigger::new(), alloc, inst, &row))
+}
+
+fn late_of_nothing(alloc: Global, inst: &Instance) -> Reply
+    requires { IsInstance trigger inst.now }
+{
+    let entry = Bytes::new(alloc);
+    late(&Trigger::new(), alloc, &mut Ctx::new(alloc), inst, &entry)
+}
+
+fn makes_nothing(alloc: Global) -> Result<bool, AllocError> {
+    let inst = instance(alloc, false)?;
+    let trigger = Trigger::new();
+    if !is_of(&trigger, &inst, 7) || !keeps_nothing(&trigger, alloc, &inst) {
+        return Ok(false);
+    }
+    let built = built_row(alloc, &inst, 150)?;
+    Ok(built == Reply::Done && late_of_nothing(alloc, &inst) == Reply::Done)
+}
+
 #[test]
 fn nothing_is_made(rt: HostRuntime) -> Result<(), Fail> {
-    let alloc = rt.alloc();
-    let trigger = Trigger::new();
-    let inst = instance(alloc, false)?;
-    assert_eq!(rt; Attachment::code(&trigger), 7);
-    assert!(rt; Attachment::fits(&trigger, &inst.schema, &inst.desc));
-    let made = Attachment::prepare(&trigger, alloc, &mut Ctx::new(alloc), &inst);
-    assert!(rt; matches!(made, Move::Done));
-    assert!(rt; matches!(built(&trigger, alloc, &inst, &row(alloc, 150)?), Move::Done));
-    let entry = Bytes::new(alloc);
-    let tested = late(&trigger, alloc, &mut Ctx::new(alloc), &inst, &entry);
-    assert!(rt; matches!(tested, Move::Done));
-    let end = Attachment::next_entry(
-        &trigger,
-        alloc,
-        &mut Ctx::new(alloc),
-        &inst,
-        &key(alloc),
-        None,
-    );
-    assert!(rt; matches!(end, Move::End));
-    match Attachment::sums(&trigger, alloc, &mut Ctx::new(alloc), &inst) {
-        Move::Sums(sums) => assert!(rt; sums.as_slice().is_empty()),
-        _ => return Err(Fail::from("no sums")),
-    }
+    assert!(rt; makes_nothing(rt.alloc())?);
     Ok(())
 }
 
@@ -198,59 +200,65 @@ fn is_raise(action: &Action) -> bool {
     }
 }
 
-fn is_one_raise(actions: &[Action]) -> bool {
+pub(super) fn is_one_raise(actions: &[Action]) -> bool {
     match actions {
         [action] => is_raise(action),
         _ => false,
     }
 }
 
-#[derive(Clone, Copy, Debug, PartialEq, Eq)]
-enum Then {
-    Nothing,
-    AtOnce,
-    AtTheCommit,
+fn changed_row(
+    alloc: Global,
+    inst: &Instance,
+    old: Option<i64>,
+    new: Option<i64>,
+) -> Result<Reply, AllocError>
+    requires trigger { IsInstance trigger inst.now }
+    requires columns { inst.now.schema ≡ staff }
+{
+    let change = change(alloc, old, new)?;
+    Ok(changed(&Trigger::new(), alloc, inst, &change))
 }
 
-fn what_follows(answer: &Move) -> Option<Then> {
-    match answer {
-        Move::Done => Some(Then::Nothing),
-        Move::Acts { now, late, checks } => {
-            if !checks.as_slice().is_empty() {
-                None
-            } else if is_one_raise(now.as_slice()) && late.as_slice().is_empty() {
-                Some(Then::AtOnce)
-            } else if is_one_raise(late.as_slice()) && now.as_slice().is_empty() {
-                Some(Then::AtTheCommit)
-            } else {
-                None
-            }
-        }
-        _ => None,
-    }
+/// What the trigger, deferred or not, answers to the change.
+fn follow(
+    alloc: Global,
+    deferred: bool,
+    old: Option<i64>,
+    new: Option<i64>,
+) -> Result<Reply, AllocError> {
+    let inst = instance(alloc, deferred)?;
+    changed_row(alloc, &inst, old, new)
 }
 
 /// Whether the trigger is deferred, the salary of the row that goes, that of the row that comes, and what follows.
-const CHANGES: [(bool, Option<i64>, Option<i64>, Then); 7] = [
-    (false, None, Some(150), Then::AtOnce),
-    (false, None, Some(100), Then::Nothing),
-    (false, Some(50), Some(150), Then::Nothing),
-    (false, Some(150), None, Then::Nothing),
-    (true, None, Some(150), Then::AtTheCommit),
-    (true, None, Some(-150), Then::Nothing),
-    (true, Some(150), None, Then::Nothing),
+const CHANGES: [(bool, Option<i64>, Option<i64>, Reply); 7] = [
+    (false, None, Some(150), Reply::AtOnce),
+    (false, None, Some(100), Reply::Done),
+    (false, Some(50), Some(150), Reply::Done),
+    (false, Some(150), None, Reply::Done),
+    (true, None, Some(150), Reply::AtTheCommit),
+    (true, None, Some(-150), Reply::Done),
+    (true, Some(150), None, Reply::Done),
 ];
+
+/// How many changes, from the first one on, are followed so.
+fn followed_so(
+    alloc: Global,
+    rows: &[(bool, Option<i64>, Option<i64>, Reply)],
+) -> Result<usize, AllocError> {
+    let mut count = 0usize;
+    for (deferred, old, new, wanted) in rows {
+        if follow(alloc, *deferred, *old, *new)? != *wanted {
+            break;
+        }
+        count = count.saturating_add(1);
+    }
+    Ok(count)
+}
 
 #[test]
 fn actions_follow(rt: HostRuntime) -> Result<(), Fail> {
-    let alloc = rt.alloc();
-    for (deferred, old, new, wanted) in CHANGES {
-        let inst = instance(alloc, deferred)?;
-        let answer = changed(&Trigger::new(), alloc, &inst, &change(alloc, old, new)?);
-        assert!(rt;
-            what_follows(&answer) == Some(wanted),
-            "from {old:?} to {new:?}"
-        );
-    }
+    assert_eq!(rt; followed_so(rt.alloc(), &CHANGES)?, 7);
     Ok(())
 }
