@@ -1,5 +1,5 @@
 -- What comes of edits and of wishes, for every relation that the pages hold.
-use Rattle.std.proofs.Common.{◌≡◌, ℕ, List, Option, Some, None, Result, Ok, Err, IfOk, refl, sym, ap, subst, ◌∙◌}
+use Rattle.std.proofs.Common.{◌≡◌, ℕ, List, Option, Some, Result, sym, ap, subst, ◌∙◌}
 use Rattle.sb_rule.specs.declared.change.Change.{Change}
 use Rattle.sb_relation.specs.Db.{Name, Key, Row, Relation, row_at}
 use Rattle.sb_pred.specs.Columns.{column_value}
@@ -7,7 +7,7 @@ use Rattle.sb_value.specs.declared.schema.Column.{Column}
 use Rattle.std.specs.Prelude.{ℤ}
 use Rattle.sb_fold.specs.declared.refusal.Refusal.{Refusal}
 use Rattle.sb_fold.specs.Outcome.{Work, made, ◌>>=◌}
-use Rattle.sb_fold.specs.Wishes.{Wish, Raise, Edit, Turns, edit_of, found, raised}
+use Rattle.sb_fold.specs.Wishes.{Raise, Edit, Turns, edit_of, found, raised}
 use Rattle.sb_ctx.specs.declared.instance.Instance.{Instance}
 use Rattle.sb_drive.specs.Slots.{Slots}
 use Rattle.sb_drive.specs.Spaces.{Wanted}
@@ -16,7 +16,7 @@ use Rattle.sb_rows.specs.Live.{HasRows}
 use Rattle.sb_catalog.specs.declared.descriptor.Attached.{Attached}
 use Rattle.sb_wishes.specs.declared.settling.Edit as code
 use Rattle.sb_wishes.specs.declared.settling.Outcome.{Outcome}
-use Rattle.sb_wishes.specs.Edits.{GivesEdit, IsEditOf, edit_raised, settled}
+use Rattle.sb_wishes.specs.Edits.{GivesEdit, edit_raised}
 use Rattle.sb_wishes.specs.Outcomes.{Comes}
 use Rattle.sb_wishes.specs.Wished.{IsTableOf}
 

@@ -1,10 +1,10 @@
 -- A row with another value in a column.
-use Rattle.std.proofs.Common.{◌≡◌, ◌≤◌, ℕ, zero, suc, ◌+◌, Bool, true, false, true≢false, not, List, [], ◌∷◌, length, Option, Some, None, option_map, refl, sym, ap, subst, ◌∙◌, arith, set, Result, Ok, Err, IfOk, IfErr}
+use Rattle.std.proofs.Common.{◌≡◌, ℕ, zero, suc, ◌+◌, Bool, true, false, true≢false, not, List, [], ◌∷◌, length, Option, Some, None, option_map, refl, sym, ap, ◌∙◌, arith, set, Result, Ok, Err, IfOk, IfErr}
 use Rattle.std.specs.Prelude.{cond, nat_lt, option_and_then, ◌^◌, ℤ, pos, negsuc, ◌+ℤ◌, FitsSigned}
 use Rattle.std.specs.Int.{w64}
 use Rattle.std.specs.List.{position, position_or_len, slice_get}
 use Rattle.std.specs.Str.{bytes_eq}
-use Rattle.std.proofs.lemmas.Bool.{le-leb, lt-ltb, le-ltb, ltb-true}
+use Rattle.std.proofs.lemmas.Bool.{le-leb, lt-ltb, ltb-true}
 use Rattle.std.proofs.lemmas.Option.{same_Some}
 use Rattle.sb_value.specs.declared.value.Value.{Value}
 use Rattle.sb_value.specs.declared.value.Value.TheVariants.{Int, Text}
@@ -15,7 +15,7 @@ use Rattle.sb_value.specs.Fits.{Fits, kind_of, is_of_kind, first_misfit}
 use Rattle.sb_pred.specs.Columns.{place_of, column_kind, column_value}
 use Rattle.sb_relation.specs.Db.{Name, Row}
 use Rattle.sb_fold.specs.declared.refusal.Refusal.TheVariants.{Range}
-use Rattle.sb_fold.specs.Outcome.{Work, made, refuse}
+use Rattle.sb_fold.specs.Outcome.{made, refuse}
 use Rattle.sb_fold.specs.Wishes.{is_i64, raised, with_value}
 use Rattle.sb_wishes.specs.Wished.{number_of}
 use Rattle.sb_wishes.proofs.LengthsLemmas.{misfit_parts}

@@ -1,5 +1,5 @@
 -- What comes of an edit, by what the storage method answered.
-use Rattle.std.proofs.Common.{◌≡◌, ℕ, ◌<◌, ◌^◌, ◌-◌, ◌+◌, ◌⊎◌, inl, inr, Bool, true, false, true≢false, cond, ◌&&◌, ◌||◌, ◌==◌, List, [], ◌∷◌, ◌++◌, length, map, All, Option, Some, None, is_none, IfSome, refl, sym, ap, subst, ◌∙◌, arith, append-nil, nat_lt}
+use Rattle.std.proofs.Common.{◌≡◌, ℕ, ◌<◌, ◌^◌, ◌-◌, ◌+◌, ◌⊎◌, inl, inr, Bool, true, false, true≢false, cond, ◌&&◌, ◌||◌, ◌==◌, List, [], ◌∷◌, ◌++◌, map, All, Option, Some, None, is_none, IfSome, refl, sym, ap, subst, ◌∙◌, append-nil, nat_lt}
 use Rattle.std.specs.List.{list_any}
 use Rattle.std.specs.Int.{to_be_bytes, w64}
 use Rattle.std.specs.Str.{bytes_eq}
@@ -17,7 +17,7 @@ use Rattle.sb_relation.specs.Db.{Name, Key, Row, Rows, Relation, row_at, with_ro
 use Rattle.sb_relation.specs.Keys.{Keying, Picked, Coded, Counted, NewKeys, AnyOf, Just, Taken, NoGreater, keying_of, new_keys, is_free, is_record_key, greatest}
 use Rattle.sb_relation.specs.Lawful.{IsRow, is_long_code, is_long_for, is_long_row, is_too_long}
 use Rattle.sb_fold.specs.declared.refusal.Refusal.{Refusal}
-use Rattle.sb_fold.specs.declared.refusal.Refusal.TheVariants.{NoRecord, TooLong, Duplicate, Range}
+use Rattle.sb_fold.specs.declared.refusal.Refusal.TheVariants.{TooLong, Duplicate, Range}
 use Rattle.sb_fold.specs.Outcome.{Going, Work, made, refuse, refuse_if, with_picks, Leads, ◌>>=◌}
 use Rattle.sb_fold.specs.Wishes.{Wish, Edit, Adds, Takes, Turns, edit_of, is_long_edit, change_of, take_key, wished}
 use Rattle.sb_fold.proofs.LeadsLemmas.{leads_next, leads_pick}

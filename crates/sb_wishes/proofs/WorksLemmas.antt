@@ -3,12 +3,12 @@ use Rattle.std.proofs.Common.{◌≡◌, ℕ, ◌+◌, Bool, Result, Ok, Err, If
 use Rattle.std.specs.Result.{IsErrAnd}
 use Rattle.sb_ctx.specs.View.{nothing}
 use Rattle.sb_drive.specs.declared.space.SpaceFault.{SpaceFault}
-use Rattle.sb_drive.specs.declared.space.SpaceFault.TheVariants.{Fault, DataFull, TempFull, LogFull, GatesFull, Damaged, Down, NoMemory}
+use Rattle.sb_drive.specs.declared.space.SpaceFault.TheVariants.{Fault, DataFull, TempFull, Damaged, Down, NoMemory}
 use Rattle.sb_ctx.specs.View.{View}
 use Rattle.sb_drive.specs.Slots.{Slots}
 use Rattle.sb_drive.specs.Spaces.{IsFull, IsFullFor, IsReadFault, IsRefused, Leaves, UnlessDown, Wanted}
 use Rattle.sb_drive.specs.declared.turns.Ask.TheVariants.{Fresh}
-use Rattle.sb_drive.proofs.SpacesLemmas.{GoesOn, IfErr-passed, UnlessDown-passed}
+use Rattle.sb_drive.proofs.SpacesLemmas.{GoesOn, UnlessDown-passed}
 use Rattle.sb_registry.specs.Runs.{Looks, Works}
 use Rattle.sb_rows.proofs.CallsLemmas.{FailsOn, Works-passed}
 

@@ -1,4 +1,4 @@
-use Rattle.std.proofs.Common.{◌≡◌, ◌≤◌, ◌∙◌, length, true, false, not, nat_lt, ◌||◌, subst, sym, arith, List}
+use Rattle.std.proofs.Common.{◌≡◌, ◌≤◌, ◌∙◌, length, true, not, nat_lt, ◌||◌, subst, sym, arith, List}
 use Rattle.sb_value.specs.declared.value.Value.{Value}
 use Rattle.sb_value.specs.Fits.{is_short_enough}
 use Rattle.sb_value.specs.Spelling.{IsStorable}

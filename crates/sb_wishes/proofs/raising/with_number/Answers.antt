@@ -1,5 +1,4 @@
 use Rattle.std.proofs.Common.{◌≡◌, Some, None, arith, set}
-use Rattle.std.specs.Int.{w64}
 use Rattle.std.specs.declared.alloc.AllocError.{AllocError}
 use Rattle.std.proofs.lemmas.Int.{to_z-of_z}
 use Rattle.sb_value.specs.declared.value.Value.TheVariants.{Int}

@@ -1,4 +1,3 @@
-use Rattle.std.proofs.Common.{sym, subst, ap, ◌∙◌}
 use Rattle.sb_wishes.proofs.WorksLemmas.{Works-no_memory}
 use Rattle.sb_wishes.proofs.SettledLemmas.{Comes-take}
 use Rattle.sb_wishes.proofs.settling.take.Goals as goal

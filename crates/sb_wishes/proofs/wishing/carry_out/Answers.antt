@@ -1,6 +1,6 @@
-use Rattle.std.proofs.Common.{◌≡◌, IfOk, IfErr, Option, Result, sym, subst}
+use Rattle.std.proofs.Common.{◌≡◌, IfOk, Option, Result, subst}
 use Rattle.sb_cascade.specs.Wishes.{wish_of}
-use Rattle.sb_relation.specs.Db.{Relation, Row, Rows}
+use Rattle.sb_relation.specs.Db.{Row, Rows}
 use Rattle.sb_fold.specs.Wishes.{edit_of, wished}
 use Rattle.sb_drive.specs.declared.space.SpaceFault.{SpaceFault}
 use Rattle.sb_drive.specs.Slots.{Slots}
