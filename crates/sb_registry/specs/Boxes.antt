@@ -5,6 +5,7 @@ use Rattle.std.specs.declared.dyn_box.DynBox.{DynBox}
 use Rattle.std.specs.declared.alloc.Global.{Global}
 use Rattle.sb_ctx.specs.Method.{Method}
 use Rattle.sb_ctx.specs.Attachment.{Attachment}
+use Rattle.sb_relation.specs.Foreign.{Boxes}
 use Rattle.sb_registry.specs.declared.extensions.Extensions.{Extensions}
 use Rattle.sb_registry.specs.Codes.{repeated, GoesIf}
 
@@ -28,6 +29,13 @@ meanings of_method of_attachment exts = record {
   attachments = map of_attachment exts.attachments.items;
   spare_methods = map of_method exts.spare_methods.items;
   spare_attachments = map of_attachment exts.spare_attachments.items;
+}
+
+-- the rules of all boxes, the live ones first
+abbrev pub boxes_of : Meanings → Boxes
+boxes_of m = record {
+  methods = map (λ x. x.rules) (m.methods ++ m.spare_methods);
+  attachments = map (λ x. x.rules) (m.attachments ++ m.spare_attachments);
 }
 
 -- the first code that repeats among the storage methods, or else among the attachments, the live ones before the spare ones

@@ -1,7 +1,7 @@
 //! Calls of live boxes by their codes.
 
 ghost use Rattle.std.specs.Prelude.{◌≡◌, ◌↔◌, IsTrue, Some, is_some, option_map, IfOk};
-ghost use Rattle.sb_relation.specs.Fits.{is_empty, method_fits};
+ghost use Rattle.sb_relation.specs.Fits.{foreign_rule_fits, is_empty, method_fits};
 ghost use Rattle.sb_ctx.specs.Attachment.{Attachment as Rule, IsInstance as IsAttached};
 ghost use Rattle.sb_ctx.specs.AttachAnswers.{MayEnd as MayEndFor};
 ghost use Rattle.sb_ctx.specs.Laws.{IsMethod, IsAttachment};
@@ -21,7 +21,7 @@ use crate::Registry;
 use crate::columns::has_columns;
 use sb_ctx::{AttachCall, Attachment, Ctx, Instance, MethodCall, Move, StorageMethod};
 use sb_drive::{PageSpace, SpaceFault, run_attachment, run_method};
-use sb_value::{Names, Schema};
+use sb_value::{Bytes, Names, Schema};
 use std::alloc::Global;
 
 /// The code of the tree, which wants a key.
@@ -47,6 +47,10 @@ pub trait Boxes {
     /// Whether an attachment is live.
     fn has_rule(&self, code: u16) -> bool
         ensures { result ≡ is_some (attachment_of code (meanings self.now).attachments) };
+
+    /// Whether the live attachment of a code says that it may stand on these columns with this desc; asked of foreign rules.
+    fn fits_rule(&self, code: u16, schema: &Schema, desc: &Bytes) -> bool
+        ensures { result ≡ foreign_rule_fits (option_map (λ a. a.rules) (attachment_of code (meanings self.now).attachments)) schema.now desc.now };
 
     /// Nothing is done: what is so of a live storage method is learnt.
     fn learn_method(&self, code: u16)
@@ -124,6 +128,13 @@ impl Boxes for Registry {
 
     fn has_rule(&self, code: u16) -> bool {
         self.attachment(code).is_some()
+    }
+
+    fn fits_rule(&self, code: u16, schema: &Schema, desc: &Bytes) -> bool {
+        match self.attachment(code) {
+            Some(boxed) => boxed.fits(schema, desc),
+            None => false,
+        }
     }
 
     fn learn_method(&self, code: u16) {

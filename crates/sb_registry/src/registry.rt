@@ -54,6 +54,24 @@ impl Registry {
         Some(lend_attachment(&self.exts.attachments[i]))
     }
 
+    /// The spare storage method of this code.
+    pub fn spare_method(&self, code: u16) -> Option<&dyn StorageMethod>
+        ensures { option_map (λ m. (⟦<dyn StorageMethod as StorageMethod>⟧ m.now.0).method m.now.1) result
+            ≡ method_of code (⟦<Registry as Meant>⟧.meant self.now).spare_methods }
+    {
+        let i = place_of(&self.exts.spare_methods, code)?;
+        Some(lend_method(&self.exts.spare_methods[i]))
+    }
+
+    /// The spare attachment of this code.
+    pub fn spare_attachment(&self, code: u16) -> Option<&dyn Attachment>
+        ensures { option_map (λ a. (⟦<dyn Attachment as Attachment>⟧ a.now.0).attachment a.now.1) result
+            ≡ attachment_of code (⟦<Registry as Meant>⟧.meant self.now).spare_attachments }
+    {
+        let i = place_of(&self.exts.spare_attachments, code)?;
+        Some(lend_attachment(&self.exts.spare_attachments[i]))
+    }
+
     /// Moves the spare box of this code to the live ones: a storage method or an attachment. False where none is
     /// spare. Where memory runs out all stays as it was.
     pub fn register(&mut self, method: bool, code: u16) -> Result<bool, AllocError>
