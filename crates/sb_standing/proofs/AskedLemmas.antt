@@ -120,7 +120,7 @@ Tables-first m durable root s t gone kept name k c keeps at of others rows = rec
 
     here : KeepsTable m durable t (change_kept name c k)
     here = subst (KeepsTable m durable t) (sym (change_kept-named name c k (named kept name k at)))
-        (record { is = IsDescriptorOf-changed k c was.is; storable = was.storable; wide = was.wide; rows = rows })
+        (record { is = IsDescriptorOf-changed k c was.is; storable = was.storable; named = was.named; wide = was.wide; rows = rows })
 
     elsewhere : (x : Kept) → IsElsewhere name k.descriptor.owner x → KeepsTable m durable s x → bytes_eq x.name name ≡ false → KeepsTable m durable t (change_kept name c x)
     elsewhere x apart table other = subst (KeepsTable m durable t) (sym (change_kept-other name c x other))

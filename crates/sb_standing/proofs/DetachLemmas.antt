@@ -119,6 +119,7 @@ Reset-detached m durable root s t gone kept k label keeps detaches =
       table = record {
         is = record { method = table.is.method; schema = table.is.schema; key = table.is.key; attachments = described-without label k.descriptor.attachments k.relation.attachments table.is.attachments };
         storable = storable-without label k table.storable;
+        named = table.named;
         wide = table.wide;
         rows = table.rows;
       };

@@ -58,7 +58,7 @@ pub HasRows-same : (m : Meanings) (s t : Slots) (inst : Instance) (rows : Rows) 
 HasRows-same m s t inst rows same has = record { live = has.live; holds = subst (λ (P : Pages). HoldsRows has.live.box inst P rows) (sym same) has.holds }
 
 pub KeepsTable-same : (m : Meanings) (durable : ℕ → Bool) (s t : Slots) (k : Kept) → owned t k.descriptor.owner ≡ owned s k.descriptor.owner → KeepsTable m durable s k → KeepsTable m durable t k
-KeepsTable-same m durable s t k same keeps = record { is = keeps.is; storable = keeps.storable; wide = keeps.wide; rows = HasRows-same m s t (table_of durable k) k.relation.rows same keeps.rows }
+KeepsTable-same m durable s t k same keeps = record { is = keeps.is; storable = keeps.storable; named = keeps.named; wide = keeps.wide; rows = HasRows-same m s t (table_of durable k) k.relation.rows same keeps.rows }
 
 -- the pages of the catalogue and of the storage methods
 pub Tables-same : (m : Meanings) (durable : ℕ → Bool) (root : ℕ) (s t : Slots) (kept : List Kept) → owned t 2 ≡ owned s 2 → All (λ k. owned t k.descriptor.owner ≡ owned s k.descriptor.owner) kept →

@@ -16,3 +16,4 @@ pub mod PagesLemmas
 pub mod LawfulLemmas
 pub mod AskedLemmas
 pub mod AskedLaws
+pub mod StandLemmas

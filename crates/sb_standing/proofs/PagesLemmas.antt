@@ -38,7 +38,7 @@ HasRows-pages m s t inst rows same has = record { live = has.live; holds = subst
 
 pub KeepsTable-pages : (m : Meanings) (durable : ℕ → Bool) (s t : Slots) (k : Kept) → owned t k.descriptor.owner ≡ owned s k.descriptor.owner → KeepsTable m durable s k → KeepsTable m durable t k
 KeepsTable-pages m durable s t k same keeps =
-    record { is = keeps.is; storable = keeps.storable; wide = keeps.wide; rows = HasRows-pages m s t (table_of durable k) k.relation.rows same keeps.rows }
+    record { is = keeps.is; storable = keeps.storable; named = keeps.named; wide = keeps.wide; rows = HasRows-pages m s t (table_of durable k) k.relation.rows same keeps.rows }
 
 pub KeepsRule-pages : (m : Meanings) (s t : Slots) (inst : Instance) (a : Db.Attached) (db : Db.Db) → owned t inst.owner ≡ owned s inst.owner → KeepsRule m s inst a db → KeepsRule m t inst a db
 KeepsRule-pages m s t inst a db same keeps = record {

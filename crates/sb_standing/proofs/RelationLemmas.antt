@@ -115,7 +115,7 @@ Tables-created m durable root s t gone kept k keeps created = record {
   catalogue = created.catalogue ∙ ap Some (sym (entries-put k kept));
   each =
       let IsSame : ℕ → Type 0 = λ o. owned t o ≡ owned s o in
-      All-put (KeepsTable m durable t) k kept (record { is = created.is; storable = created.storable; wide = created.wide; rows = subst (λ (rows : Rows). HasRows m t (table_of durable k) rows) (sym created.rows) created.has })
+      All-put (KeepsTable m durable t) k kept (record { is = created.is; storable = created.storable; named = created.named; wide = created.wide; rows = subst (λ (rows : Rows). HasRows m t (table_of durable k) rows) (sym created.rows) created.has })
       (All-both (λ (o : Kept). All IsSame (owners_of o.descriptor)) (KeepsTable m durable s) (KeepsTable m durable t)
       (λ o same table. KeepsTable-same m durable s t o (All-head IsSame o.descriptor.owner (map (λ a. a.owner) o.descriptor.attachments) same) table) kept
       (same-came m durable root s t gone kept k.descriptor.owner keeps created.comes) keeps.tables.each);

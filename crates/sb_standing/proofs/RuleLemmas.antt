@@ -194,6 +194,7 @@ Reset-attached m durable root s t gone kept k d a keeps attaches =
       table = record {
         is = record { method = table.is.method; schema = table.is.schema; key = table.is.key; attachments = described-with d a k.descriptor.attachments k.relation.attachments attaches.is table.is.attachments };
         storable = attaches.storable;
+        named = table.named;
         wide = table.wide;
         rows = table.rows;
       };

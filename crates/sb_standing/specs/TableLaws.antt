@@ -1,5 +1,5 @@
 -- Relations and rules that come and go, and what stands then.
-use Rattle.std.specs.Prelude.{◌≡◌, ℕ, ◌<◌, Bool, false, not, List, [], ◌∷◌, ◌++◌, map, Some, None, bytes_eq}
+use Rattle.std.specs.Prelude.{◌≡◌, ℕ, ◌<◌, Bool, false, not, List, [], ◌∷◌, ◌++◌, map, Some, None, IsUtf8, bytes_eq}
 use Rattle.std.specs.FinMap.Entries.{put, where_key}
 use Rattle.sb_value.specs.Order.{bytes_cmp}
 use Rattle.sb_node.specs.Entries.{key_cmp}
@@ -32,6 +32,7 @@ pub record Created (m : Meanings) (durable : ℕ → Bool) (root : ℕ) (s t : S
   pub attachments : k.relation.attachments ≡ []
   pub is : IsDescriptorOf k.relation k.descriptor
   pub storable : IsStorableDescriptor k.descriptor
+  pub named : IsUtf8 k.name
   pub wide : IsWide k.descriptor.schema
   pub comes : Comes s t k.descriptor.owner
   pub has : HasRows m t (table_of durable k) []

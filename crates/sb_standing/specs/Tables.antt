@@ -1,5 +1,5 @@
 -- The catalogue of a store, and the rows of its relations.
-use Rattle.std.specs.Prelude.{◌≡◌, ℕ, ◌≤◌, length, Bool, true, not, List, [], ◌∷◌, map, filter, All, Option, Some, None, T, bytes_eq}
+use Rattle.std.specs.Prelude.{◌≡◌, ℕ, ◌≤◌, length, Bool, true, not, List, [], ◌∷◌, map, filter, All, Option, Some, None, T, IsUtf8, bytes_eq}
 use Rattle.std.specs.List.{find}
 use Rattle.std.specs.FinMap.Entries.{by_order, where_key, is_sorted}
 use Rattle.std.specs.Ordering.{is_lt}
@@ -93,10 +93,11 @@ pub record IsWide (schema : List Column) : Type 0 where
   pub some : 1 ≤ length schema
   pub few : length schema ≤ 16
 
--- the descriptor is the relation's and can be stored, and the pages of a live box hold the rows
+-- the name is a text, the descriptor is the relation's and can be stored, and the pages of a live box hold the rows
 pub record KeepsTable (m : Meanings) (durable : ℕ → Bool) (s : Slots) (k : Kept) : Type 0 where
   pub is : IsDescriptorOf k.relation k.descriptor
   pub storable : IsStorableDescriptor k.descriptor
+  pub named : IsUtf8 k.name
   pub wide : IsWide k.descriptor.schema
   pub rows : HasRows m s (table_of durable k) k.relation.rows
 
