@@ -107,7 +107,7 @@ forward_change_of name r (wishes.Adds row) = forward_next _ _ (forward_take name
 forward_change_of name r (wishes.Takes key old) = forward_made _
 forward_change_of name r (wishes.Turns key old new) = forward_next _ _ (forward_take name (new_keys (keying_of r.method) r.rows (Some key) (key_of r new))) (λ to. forward_made _)
 
-forward_wished : (name : Name) (r : Relation) (wish : wishes.Wish) → IsForward (wishes.wished name r wish)
+pub forward_wished : (name : Name) (r : Relation) (wish : wishes.Wish) → IsForward (wishes.wished name r wish)
 forward_wished name r wish =
     forward_next _ _ (forward_edit name r wish) (λ edit.
     forward_next _ _ (forward_refuse_if (wishes.is_long_edit r edit) (TooLong name)) (λ _. forward_change_of name r edit))

@@ -28,12 +28,14 @@ pub fn change<L: Layer>(
     name: &Str,
     wish: &Wish,
 ) -> Result<Option<RecKey>, Refusal>
+    requires ready { L.is_ready layer.old }
     requires may { L.may_wish name.now (wish_of wish.now) layer.old }
     ensures made { IfOk result (λ key. (g : Going) → L.stands g layer.old
         → MadeFrom L.stands (change_within (L.extensions layer.old) levels name.now (wish_of wish.now)) g key layer.new) }
     ensures refused { IfErr result (λ r. (g : Going) → L.stands g layer.old
         → StopsFrom L.stopped (change_within (L.extensions layer.old) levels name.now (wish_of wish.now)) g r layer.new) }
     ensures leads { L.leads layer.old layer.new }
+    ensures ready { L.is_ready layer.new }
 {
     if levels == 0 {
         return Err(Refusal::Depth);
@@ -52,12 +54,14 @@ pub fn act<L: Layer>(
     levels: u8,
     action: &Action,
 ) -> Result<u64, Refusal>
+    requires ready { L.is_ready layer.old }
     requires may { L.may_do action.now layer.old }
     ensures made { IfOk result (λ n. (g : Going) → L.stands g layer.old
         → MadeFrom L.stands (act (change_within (L.extensions layer.old) levels) action.now) g n layer.new) }
     ensures refused { IfErr result (λ r. (g : Going) → L.stands g layer.old
         → StopsFrom L.stopped (act (change_within (L.extensions layer.old) levels) action.now) g r layer.new) }
     ensures leads { L.leads layer.old layer.new }
+    ensures ready { L.is_ready layer.new }
 {
     match action {
         Action::Insert { relation, terms } => {
@@ -81,12 +85,15 @@ fn ask_all<L: Layer>(
     name: &Str,
     change: &Change,
 ) -> Result<Vec<Action>, Refusal>
+    requires ready { L.is_ready layer.old }
+    requires may { L.may_ask name.now change.now layer.old }
     ensures made { IfOk result (λ following. (g : Going) → L.asks name.now change.now 0 g layer.old
         → MadeFrom L.stands (ask_all (L.extensions layer.old) name.now change.now) g following.items layer.new) }
     ensures may { IfOk result (λ following. All (λ a. L.may_do a layer.new) following.items) }
     ensures refused { IfErr result (λ r. (g : Going) → L.asks name.now change.now 0 g layer.old
         → StopsFrom L.stopped (ask_all (L.extensions layer.old) name.now change.now) g r layer.new) }
     ensures leads { L.leads layer.old layer.new }
+    ensures ready { L.is_ready layer.new }
 {
     let mut following = Vec::new(alloc);
     let mut i = 0;
@@ -107,12 +114,14 @@ fn act_all<L: Layer>(
     levels: u8,
     actions: &[Action],
 ) -> Result<(), Refusal>
+    requires ready { L.is_ready layer.old }
     requires may { All (λ a. L.may_do a layer.old) actions.now }
     ensures made { OnOk result ((g : Going) → L.stands g layer.old
         → MadeFrom L.stands (act_all (change_within (L.extensions layer.old) levels) actions.now) g tt layer.new) }
     ensures refused { IfErr result (λ r. (g : Going) → L.stands g layer.old
         → StopsFrom L.stopped (act_all (change_within (L.extensions layer.old) levels) actions.now) g r layer.new) }
     ensures leads { L.leads layer.old layer.new }
+    ensures ready { L.is_ready layer.new }
 {
     for action in actions {
         act(layer, alloc, levels, action)?;
@@ -129,12 +138,14 @@ fn change_each<L: Layer>(
     action: &Action,
     keys: &[RecKey],
 ) -> Result<u64, Refusal>
+    requires ready { L.is_ready layer.old }
     requires may { L.may_do action.now layer.old }
     ensures made { IfOk result (λ n. (g : Going) → L.stands g layer.old
         → MadeFrom L.stands (change_each (change_within (L.extensions layer.old) levels) action.now keys.now) g n layer.new) }
     ensures refused { IfErr result (λ r. (g : Going) → L.stands g layer.old
         → StopsFrom L.stopped (change_each (change_within (L.extensions layer.old) levels) action.now keys.now) g r layer.new) }
     ensures leads { L.leads layer.old layer.new }
+    ensures ready { L.is_ready layer.new }
 {
     let mut count = 0;
     for key in keys {
@@ -152,6 +163,7 @@ fn change_key<L: Layer>(
     action: &Action,
     key: &RecKey,
 ) -> Result<u64, Refusal>
+    requires ready { L.is_ready layer.old }
     requires may { L.may_do action.now layer.old }
     ensures few { IfOk result (λ n. n ≤ 1) }
     ensures made { IfOk result (λ n. (g : Going) → L.stands g layer.old
@@ -159,6 +171,7 @@ fn change_key<L: Layer>(
     ensures refused { IfErr result (λ r. (g : Going) → L.stands g layer.old
         → StopsFrom L.stopped (change_key (change_within (L.extensions layer.old) levels) action.now key.now) g r layer.new) }
     ensures leads { L.leads layer.old layer.new }
+    ensures ready { L.is_ready layer.new }
 {
     match layer.wish_at(alloc, action, key)? {
         None => Ok(0),

@@ -20,10 +20,12 @@ const LEVELS: u8 = 16;
 
 /// Does what waits for the commit: the actions in order, each to its end, and those that they make behind them; then each deferred rule is to hold.
 pub fn finish<L: Layer>(layer: &mut L, alloc: Global) -> Result<(), Refusal>
+    requires ready { L.is_ready layer.old }
     ensures made { OnOk result ((g : Going) → L.stands g layer.old → MadeFrom L.stands (finish (L.extensions layer.old)) g tt layer.new) }
     ensures refused { IfErr result (λ r. (g : Going) → L.stands g layer.old
         → StopsFrom L.stopped (finish (L.extensions layer.old)) g r layer.new) }
     ensures leads { L.leads layer.old layer.new }
+    ensures ready { L.is_ready layer.new }
 {
     drain(layer, alloc, MOST_WAITING)?;
     match layer.first_failing(alloc)? {
@@ -34,10 +36,12 @@ pub fn finish<L: Layer>(layer: &mut L, alloc: Global) -> Result<(), Refusal>
 
 /// The actions that wait, in order, each to its end, and those that they make behind them: at most so many.
 fn drain<L: Layer>(layer: &mut L, alloc: Global, most: u32) -> Result<(), Refusal>
+    requires ready { L.is_ready layer.old }
     ensures made { OnOk result ((g : Going) → L.stands g layer.old → MadeFrom L.stands (drain (L.extensions layer.old) most) g tt layer.new) }
     ensures refused { IfErr result (λ r. (g : Going) → L.stands g layer.old
         → StopsFrom L.stopped (drain (L.extensions layer.old) most) g r layer.new) }
     ensures leads { L.leads layer.old layer.new }
+    ensures ready { L.is_ready layer.new }
 {
     let mut left = most;
     while let Some(action) = layer.next_waiting(alloc)? {
@@ -52,12 +56,14 @@ fn drain<L: Layer>(layer: &mut L, alloc: Global, most: u32) -> Result<(), Refusa
 
 /// An action that waited to its end, as one of a command's own.
 fn act_waiting<L: Layer>(layer: &mut L, alloc: Global, action: Action) -> Result<u64, Refusal>
+    requires ready { L.is_ready layer.old }
     requires may { L.may_do action layer.old }
     ensures made { IfOk result (λ n. (g : Going) → L.stands g layer.old
         → MadeFrom L.stands (act (first_change (L.extensions layer.old)) action) g n layer.new) }
     ensures refused { IfErr result (λ r. (g : Going) → L.stands g layer.old
         → StopsFrom L.stopped (act (first_change (L.extensions layer.old)) action) g r layer.new) }
     ensures leads { L.leads layer.old layer.new }
+    ensures ready { L.is_ready layer.new }
 {
     act(layer, alloc, LEVELS, &action)
 }

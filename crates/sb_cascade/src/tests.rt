@@ -44,6 +44,8 @@ struct Script {
 }
 
 impl Layer for Script {
+    ghost is_ready = { λ s. Unit {0} };
+
     ghost extensions = { λ s. record { boxes = record { methods = []; attachments = [] }; methods = []; attachments = [] } };
 
     ghost stands = { λ g s. ⊥ };
@@ -55,6 +57,8 @@ impl Layer for Script {
     ghost may_do = { λ a s. Unit {0} };
 
     ghost may_wish = { λ name wish s. Unit {0} };
+
+    ghost may_ask = { λ name c s. Unit {0} };
 
     ghost leads = { λ a b. Unit {0} };
 
@@ -122,6 +126,8 @@ impl Layer for Script {
     ghost same = { λ a b leads. refl };
 
     ghost still = { λ x a b leads may. tt };
+
+    ghost still_asks = { λ name c a b leads may. tt };
 
     ghost puts = { λ relation terms a may. tt };
 }

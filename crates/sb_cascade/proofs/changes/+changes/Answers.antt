@@ -130,6 +130,7 @@ act-returns-in_err-keys-in_default g t c =
       refused = rw (p.1, p.2)
           (λ h stands. stops_looking layer.stopped (act (change_within ext levels) a) err.field-0.0 c.matching.new.self h (forward_act (change_within ext levels) (forward_within ext levels) a) (err.ensures.refused h stands));
       leads = err.ensures.leads;
+      ready = err.ensures.ready;
     }
 
 pub act-returns-in_ok-keys-in_default : goal.act-returns-in_ok-keys-in_default
@@ -150,13 +151,14 @@ act-returns-in_ok-keys-in_default g t c =
       refused = not_all_changed layer.stands layer.stopped ext levels a old mid c.deref.result.now (layer.extensions mid) (λ name terms e. c.in_default.not-Insert name terms e) (laws.same old mid keys.leads) matched
           c.change_each.result new c.change_each.ensures.refused;
       leads = laws.goes_on old mid new keys.leads c.change_each.ensures.leads;
+      ready = c.change_each.ensures.ready;
     }
 
 pub act_all-loop-action-init : goal.act_all-loop-action-init
 act_all-loop-action-init g t c =
     let layer = g.L.Layer in
     let old = c.args.layer.now in
-    record { leads = g.met.L.Layer.stays old; acting = acting_none layer.stands layer.stopped (layer.extensions old) c.args.levels c.args.actions.now old }
+    record { leads = g.met.L.Layer.stays old; ready = c.requires.ready; acting = acting_none layer.stands layer.stopped (layer.extensions old) c.args.levels c.args.actions.now old }
 
 pub act_all-returns-in_err-act-clause-refused : goal.act_all-returns-in_err-act-clause-refused
 act_all-returns-in_err-act-clause-refused g t c =
@@ -185,6 +187,7 @@ act_all-loop-action-preserved g t c =
     let same = laws.same old loop.layer loop.invariant.leads in
     record {
       leads = laws.goes_on old loop.layer c.act.new.layer loop.invariant.leads c.in_ok-act.ensures.leads;
+      ready = c.in_ok-act.ensures.ready;
       acting = acting_more layer.stands layer.stopped ext levels actions old loop.action-index c.action-item.result loop.layer (layer.extensions loop.layer) same c.loop-action-test.true c.action-item.is loop.invariant.acting
           c.in_ok-act.field-0 c.act.new.layer c.in_ok-act.ensures.made;
     }
@@ -193,7 +196,7 @@ pub change_each-loop-key-init : goal.change_each-loop-key-init
 change_each-loop-key-init g t c =
     let layer = g.L.Layer in
     let old = c.args.layer.now in
-    record { leads = g.met.L.Layer.stays old; few = omega arith; counting = counting_none layer.stands layer.stopped (layer.extensions old) c.args.levels c.args.action.now c.args.keys.now old }
+    record { leads = g.met.L.Layer.stays old; ready = c.requires.ready; few = omega arith; counting = counting_none layer.stands layer.stopped (layer.extensions old) c.args.levels c.args.action.now c.args.keys.now old }
 
 pub change_each-returns-in_err-count-clause-refused : goal.change_each-returns-in_err-count-clause-refused
 change_each-returns-in_err-count-clause-refused g t c =
@@ -226,6 +229,7 @@ change_each-loop-key-preserved g t c =
     let one = c.in_ok-count.ensures.few in
     record {
       leads = laws.goes_on old loop.layer c.change_key.new.layer loop.invariant.leads c.in_ok-count.ensures.leads;
+      ready = c.in_ok-count.ensures.ready;
       few = omega (arith, few, one);
       counting = counting_more layer.stands layer.stopped ext levels a keys old loop.key-index loop.count c.key-item.result loop.layer (layer.extensions loop.layer) same c.loop-key-test.true c.key-item.is loop.invariant.counting
           c.in_ok-count.field-0 c.change_key.new.layer c.in_ok-count.ensures.made;

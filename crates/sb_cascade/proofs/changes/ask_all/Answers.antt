@@ -47,6 +47,8 @@ loop-following-preserved g c =
     let items : c.append.new.self.items ≡ before ++ now = appended c.append.result before now c.append.new.self.items (sym c.is_err.ensures.value ∙ c.if-is_err.false) c.append.ensures.items in
     record {
       leads = g.met.L.Layer.goes_on c.args.layer.now loop.layer new loop.invariant.leads leads;
+      ready = c.in_ok-actions.ensures.ready;
+      asks = g.met.L.Layer.still_asks name change loop.layer new leads loop.invariant.asks;
       may = subst (λ (xs : List Action). All (λ a. layer.may_do a new) xs) (sym items)
           (All-append (λ a. layer.may_do a new) before now (λ k d lt. g.met.L.Layer.still _ loop.layer new leads (loop.invariant.may k d lt)) (rw c.in-Some.is at c.in_ok-actions.ensures.may));
       asking = λ h asks.

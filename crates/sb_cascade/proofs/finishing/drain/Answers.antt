@@ -11,7 +11,7 @@ pub loop-action-init : goal.loop-action-init
 loop-action-init g c =
     let layer = g.L.Layer in
     let old = c.args.layer.now in
-    record { leads = g.met.L.Layer.stays old; draining = draining_none layer.stands layer.stopped (layer.extensions old) c.args.most old }
+    record { leads = g.met.L.Layer.stays old; ready = c.requires.ready; draining = draining_none layer.stands layer.stopped (layer.extensions old) c.args.most old }
 
 pub returns-in_err-action-clause-refused : goal.returns-in_err-action-clause-refused
 returns-in_err-action-clause-refused g c =
@@ -68,6 +68,7 @@ loop-action-preserved g c =
     let leads = laws.goes_on old loop.layer mid loop.invariant.leads c.in_ok-action.ensures.leads in
     record {
       leads = laws.goes_on old mid c.act_waiting.new.layer leads c.in_ok-act_waiting.ensures.leads;
+      ready = c.in_ok-act_waiting.ensures.ready;
       draining = draining_more layer.stands layer.stopped ext c.args.most old loop.left loop.layer draining (loop.left - 1) a mid (layer.extensions mid) (omega arith) (laws.same old mid leads) more
           c.in_ok-act_waiting.field-0 c.act_waiting.new.layer c.in_ok-act_waiting.ensures.made;
     }

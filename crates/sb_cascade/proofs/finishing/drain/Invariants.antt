@@ -7,5 +7,6 @@ decreases-loop-action g l = l.left
 abbrev pub invariant-loop-action : goal.invariant-loop-action
 invariant-loop-action g l = record {
   leads : g.L.Layer.leads l.fn.layer l.layer;
+  ready : g.L.Layer.is_ready l.layer;
   draining : Draining g.L.Layer.stands (g.L.Layer.extensions l.fn.layer) l.most l.fn.layer l.left l.layer;
 }
