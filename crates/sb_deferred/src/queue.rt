@@ -1,6 +1,6 @@
 //! The queue of a transaction.
 
-ghost use Rattle.std.specs.Prelude.{◌≡◌, ◌<◌, ◌↔◌, [], length, slice_get, IsTrue, IsSome, OnOk, OnErr};
+ghost use Rattle.std.specs.Prelude.{◌≡◌, ◌<◌, ◌^◌, ◌↔◌, [], length, slice_get, IsTrue, IsSome, OnOk, OnErr};
 ghost use Rattle.std.specs.Option.{option_copied, option_map};
 
 use crate::entry::Entry;
@@ -70,6 +70,7 @@ impl Queue {
     pub fn action(&self, i: u64) -> Option<&Action>
         ensures action { option_copied result ≡ slice_get self.now.actions i }
         ensures found { IsSome result ↔ (i < length self.now.actions) }
+        ensures few { length self.now.actions < 2 ^ 64 }
     {
         self.actions.get(i as usize)
     }
@@ -81,6 +82,13 @@ impl Queue {
     {
         let entry = self.entries.get_index(i as usize)?;
         Some((&entry.relation, &entry.name, &entry.entry))
+    }
+
+    /// How many entries wait.
+    pub fn checks(&self) -> usize
+        ensures { result ≡ length self.now.entries }
+    {
+        self.entries.len()
     }
 
     pub fn mark(&self) -> QueueMark

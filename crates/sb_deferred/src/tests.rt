@@ -88,5 +88,6 @@ fn entries_keep_their_order(rt: HostRuntime) -> Result<(), Fail> {
         assert!(rt; is_check(&queue, i as u64, *check), "at {i}");
     }
     assert!(rt; queue.check(5).is_none());
+    assert_eq!(rt; queue.checks(), 5);
     Ok(())
 }
