@@ -52,7 +52,8 @@ fn has_long_code(schema: &Schema, rules: &[Attached], row: &Tuple) -> bool
     }
 }
 
-fn is_long_for(schema: &Schema, row: &Tuple, rule: &Rule) -> bool
+/// Whether an attachment with the rule would keep too long a code of the row.
+pub fn is_long_for(schema: &Schema, row: &Tuple, rule: &Rule) -> bool
     ensures { result ≡ is_long_for schema.now row.now rule.now }
 {
     match rule {

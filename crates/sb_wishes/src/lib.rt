@@ -6,6 +6,7 @@ mod raising;
 mod settling;
 mod wishing;
 
+pub use lengths::is_long_for;
 pub use settling::Outcome;
 pub use wishing::carry_out;
 
