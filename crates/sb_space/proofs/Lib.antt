@@ -10,6 +10,7 @@ pub mod Whole
 pub mod Endings
 pub mod Rewriting
 pub mod Clearing
+pub mod Coming
 pub mod Marking
 pub mod GoingBack
 pub mod Transacting

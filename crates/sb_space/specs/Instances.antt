@@ -5,8 +5,9 @@ use Rattle.sb_forms.specs.Pages.{new_pages, zeros}
 use Rattle.sb_drive.specs.declared.space.SpaceFault.{SpaceFault}
 use Rattle.sb_drive.specs.declared.space.SpaceFault.TheVariants.{TempFull, Damaged}
 use Rattle.sb_drive.specs.Instances.{IsLeastOwner, IsLeastFree}
-use Rattle.sb_drive.specs.Slots.{Slots, nobodys, owned, with_slot}
+use Rattle.sb_drive.specs.Slots.{Slots, owned, with_slot}
 use Rattle.sb_drive.specs.Spaces.{Wanted}
+use Rattle.sb_owners.specs.Instances.{without_owner}
 use Rattle.sb_txn.specs.Clauses.{Parts}
 use Rattle.sb_space.specs.Works.{HasPages}
 
@@ -55,11 +56,7 @@ free_next None owner n = cond (owner == 0) (Some n) None
 free_next (Some found) owner n = Some found
 
 -- ---- the pages of one that has ended
--- the owner's pages are nobody's
-abbrev pub without_owner : ℕ → Slots → Slots
-without_owner owner s n = cond ((s n).0 == owner) nobodys (s n)
-
--- so are those whose entries are in this page of the table
+-- the owner's pages whose entries are in this page of the table are nobody's
 abbrev pub without_in : ℕ → ℕ → Slots → Slots
 without_in owner page s n = cond (page == n / 2048) (without_owner owner s n) (s n)
 

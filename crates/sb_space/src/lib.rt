@@ -10,6 +10,7 @@ mod instances;
 mod laws;
 mod opening;
 mod owners;
+mod ownership;
 mod space;
 mod storing;
 mod transactions;

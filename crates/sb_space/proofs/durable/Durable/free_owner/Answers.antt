@@ -2,8 +2,8 @@ use Rattle.std.proofs.Common.{◌≡◌, ◌+◌, Err, OnOk, Result, sym, subst,
 use Rattle.sb_drive.specs.declared.space.SpaceFault.{SpaceFault}
 use Rattle.sb_drive.specs.Slots.{Slots}
 use Rattle.sb_drive.specs.Spaces.{UnlessDown, Wanted}
+use Rattle.sb_owners.specs.Instances.{without_owner}
 use Rattle.sb_space.specs.Durable.{parts_in}
-use Rattle.sb_space.specs.Instances.{without_owner}
 use Rattle.sb_space.specs.Stored.{Ends}
 use Rattle.sb_space.specs.Table.{table_len}
 use Rattle.sb_space.specs.View.{lent}
