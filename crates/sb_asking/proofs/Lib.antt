@@ -1,0 +1,3 @@
+pub mod FindsLemmas
+pub mod CallsLemmas
+mod VerdictsLemmas

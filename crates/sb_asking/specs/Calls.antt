@@ -1,0 +1,39 @@
+-- What a call of an attachment says, once its finds are answered.
+use Rattle.std.specs.Prelude.{List, [], ◌∷◌}
+use Rattle.sb_relation.specs.Db.{Db}
+use Rattle.sb_forms.specs.Pages.{Pages}
+use Rattle.sb_ctx.specs.declared.held.Found.{Found}
+use Rattle.sb_ctx.specs.declared.instance.Instance.{Instance}
+use Rattle.sb_ctx.specs.declared.calls.AttachCall.{AttachCall}
+use Rattle.sb_ctx.specs.declared.moves.Move.{Move}
+use Rattle.sb_ctx.specs.declared.moves.Move.TheVariants.{Find}
+use Rattle.sb_ctx.specs.View.{View, FoundIn, nothing, with_found}
+use Rattle.sb_ctx.specs.Attachment.{Attachment}
+use Rattle.sb_ctx.specs.AttachAnswers.{Answers, MayEnd}
+use Rattle.sb_drive.specs.Turns.{IsEnd}
+use Rattle.sb_asking.specs.declared.calls.Answer.{Answer}
+
+-- the call says this of these pages, with its finds answered over the database
+pub record IsAsked (a : Attachment) (inst : Instance) (call : AttachCall) (db : Db) (before after : Pages) (move : Move) : Type 0 where
+  pub view : View
+  pub found : FoundIn view db
+  pub answers : Answers a inst call view before after move
+
+-- it asks for nothing more
+abbrev pub IsLast : Move → Type 0
+IsLast (Find relation columns values) = ⊥
+IsLast move = IsEnd move
+
+-- an end of the call, at which it asks for nothing more
+pub record IsFinal (call : AttachCall) (move : Move) : Type 0 where
+  pub may : MayEnd call move
+  pub last : IsLast move
+
+-- ---- answers to finds
+abbrev pub found_of : Answer → Found
+found_of a = record { relation = a.relation; columns = a.columns; values = a.values; keys = a.keys }
+
+-- these answers are known, and no pages
+abbrev pub knowing : List Answer → View
+knowing [] = nothing
+knowing (a ∷ answers) = with_found (found_of a) (knowing answers)
