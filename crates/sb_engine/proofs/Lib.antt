@@ -1,0 +1,14 @@
+pub mod StandLemmas
+pub mod OpenedLemmas
+pub mod PicksLemmas
+pub mod RefusedLemmas
+pub mod LateLemmas
+pub mod RowLemmas
+pub mod AskLemmas
+pub mod ValueLemmas
+pub mod OpeningLemmas
+pub mod StandingLemmas
+pub mod PairedLemmas
+pub mod PlacedLemmas
+pub mod FailingLemmas
+pub mod WalkLemmas

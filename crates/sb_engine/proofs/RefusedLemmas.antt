@@ -1,0 +1,79 @@
+-- How refusals of a space come to those of a layer.
+use Rattle.std.proofs.Common.{◌≡◌, ◌⊎◌, ℕ, Bool, true, false, true≢false, Result, Ok, Err, IfErr, refl, sym, subst, inl, inr}
+use Rattle.sb_drive.specs.declared.space.SpaceFault.{SpaceFault}
+use Rattle.sb_drive.specs.declared.space.SpaceFault.TheVariants as fault
+use Rattle.sb_drive.specs.Spaces.{IsRefused}
+use Rattle.sb_registry.specs.Runs.{IsSound}
+use Rattle.sb_relation.specs.Db.{Name}
+use Rattle.sb_rule.specs.declared.change.Change.{Change}
+use Rattle.sb_fold.specs.Extensions.{Extensions}
+use Rattle.sb_fold.specs.Outcome.{Going, Trail}
+use Rattle.sb_cascade.specs.Runs.{IsVetoed, IsVetoedIf, NotAsked, is_free}
+use Rattle.sb_fold.specs.declared.refusal.Refusal.{Refusal}
+use Rattle.sb_fold.specs.declared.refusal.Refusal.TheVariants as refusal
+use Rattle.sb_engine.specs.Refusals.{HasCause, refusal_of}
+
+-- it is none that a definition gives
+pub free_refusal : (e : SpaceFault) → is_free (refusal_of e) ≡ true
+free_refusal fault.Fault = refl
+free_refusal (fault.DataFull used total) = refl
+free_refusal (fault.TempFull used total) = refl
+free_refusal (fault.LogFull used need total) = refl
+free_refusal (fault.GatesFull used total) = refl
+free_refusal (fault.Damaged page) = refl
+free_refusal fault.Down = refl
+free_refusal fault.NoMemory = refl
+
+-- where no page is called damaged, it has its cause
+pub refused_cause : {S : Type 0} (Fails : SpaceFault → S → S → Type 0) (Same : Type 0) (old new : S) (e : SpaceFault) → IsRefused Same (Fails e old new) e → IsSound e → HasCause Fails (refusal_of e) new
+refused_cause Fails Same old new fault.Fault is sound = record { fault = fault.Fault; is = refl; before = old; fails = is }
+refused_cause Fails Same old new (fault.DataFull used total) is sound = record { fault = fault.DataFull used total; is = refl; before = old; fails = is }
+refused_cause Fails Same old new (fault.TempFull used total) is sound = record { fault = fault.TempFull used total; is = refl; before = old; fails = is }
+refused_cause Fails Same old new (fault.LogFull used need total) is sound = record { fault = fault.LogFull used need total; is = refl; before = old; fails = is }
+refused_cause Fails Same old new (fault.GatesFull used total) is sound = record { fault = fault.GatesFull used total; is = refl; before = old; fails = is }
+refused_cause Fails Same old new (fault.Damaged page) is sound = absurd sound
+refused_cause Fails Same old new fault.Down is sound = record { fault = fault.Down; is = refl; before = old; fails = is }
+refused_cause Fails Same old new fault.NoMemory is sound = tt
+
+-- one that a definition gives wants no cause
+pub definite_cause : {S : Type 0} (Fails : SpaceFault → S → S → Type 0) (r : Refusal) (now : S) → is_free r ≡ false → HasCause Fails r now
+definite_cause Fails (refusal.Syntax column) now is = tt
+definite_cause Fails refusal.Down now is = tt
+definite_cause Fails refusal.State now is = tt
+definite_cause Fails (refusal.NoRelation name) now is = tt
+definite_cause Fails (refusal.Exists name) now is = tt
+definite_cause Fails (refusal.NoName name) now is = tt
+definite_cause Fails (refusal.NoExtension code) now is = tt
+definite_cause Fails (refusal.InUse relation name) now is = tt
+definite_cause Fails refusal.Mistyped now is = tt
+definite_cause Fails (refusal.TooLong relation) now is = tt
+definite_cause Fails refusal.Mixed now is = tt
+definite_cause Fails refusal.Limit now is = tt
+definite_cause Fails (refusal.NoRecord relation) now is = tt
+definite_cause Fails (refusal.Duplicate relation) now is = tt
+definite_cause Fails (refusal.Veto relation name) now is = tt
+definite_cause Fails (refusal.Range relation) now is = tt
+definite_cause Fails refusal.Depth now is = tt
+definite_cause Fails refusal.DeferLimit now is = tt
+definite_cause Fails refusal.NoMemory now is = tt
+definite_cause Fails (refusal.Room room) now is = absurd (true≢false is)
+definite_cause Fails (refusal.Damaged page) now is = absurd (true≢false is)
+definite_cause Fails refusal.Fault now is = absurd (true≢false is)
+
+-- ---- an attachment that was asked
+-- a refusal of the space is no veto
+pub not_asked : {R : Type 0} (Stopped : Refusal → Trail → R → Type 0) (ext : Extensions) (name : Name) (c : Change) (i : ℕ) (g : Going) (e : SpaceFault) (new : R) → Stopped (refusal_of e) g.trail new
+    → NotAsked Stopped ext name c i g (refusal_of e) new
+not_asked Stopped ext name c i g e new stopped = record {
+  vetoed = subst (λ (b : Bool). IsVetoedIf b ext name c i g (refusal_of e)) (sym (free_refusal e)) tt;
+  stopped = stopped;
+}
+
+-- a veto, or want of memory for it
+pub not_admitted : {R : Type 0} (Stopped : Refusal → Trail → R → Type 0) (ext : Extensions) (name : Name) (c : Change) (i : ℕ) (g : Going) (label : Name) (r : Refusal) (new : R)
+    → (r ≡ refusal.Veto name label) ⊎ (r ≡ refusal.NoMemory) → IsVetoed ext name c i g (refusal.Veto name label) → Stopped (refusal.Veto name label) g.trail new → Stopped refusal.NoMemory g.trail new
+    → NotAsked Stopped ext name c i g r new
+not_admitted Stopped ext name c i g label r new (inl is) vetoed stopped wanting =
+    subst (λ (x : Refusal). NotAsked Stopped ext name c i g x new) (sym is) (record { vetoed = vetoed; stopped = stopped })
+not_admitted Stopped ext name c i g label r new (inr is) vetoed stopped wanting =
+    subst (λ (x : Refusal). NotAsked Stopped ext name c i g x new) (sym is) (record { vetoed = tt; stopped = wanting })

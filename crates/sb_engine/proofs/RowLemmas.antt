@@ -1,0 +1,182 @@
+-- A change of one row, as the engine makes it.
+use Rattle.std.proofs.Common.{◌≡◌, ℕ, ◌+◌, Bool, true, false, List, [], ◌∷◌, ◌++◌, map, All, T, Option, Some, None, option_map, refl, sym, ap, ◌∙◌, subst}
+use Rattle.std.proofs.lemmas.List.Elements.{All-weaker}
+use Rattle.std.specs.declared.vec.Vec.{Vec}
+use Rattle.std.specs.declared.alloc.Global.{Global}
+use Rattle.std.specs.FinMap.Entries.{is_sorted}
+use Rattle.sb_value.specs.Order.{bytes_cmp}
+use Rattle.sb_rule.specs.declared.action.Action.{Action}
+use Rattle.sb_rule.specs.declared.change.Change.{Change}
+use Rattle.sb_relation.specs.Changes.{changed, changed_rows}
+use Rattle.sb_relation.specs.Db
+use Rattle.sb_relation.specs.Db.{Name, Key, Relation, Db, relation_at}
+use Rattle.sb_relation.specs.Keys.{Counted, keying_of}
+use Rattle.sb_fold.specs.declared.refusal.Refusal.{Refusal}
+use Rattle.sb_fold.specs.Extensions.{Extensions, box_of}
+use Rattle.sb_fold.specs.Fold.{reach_change}
+use Rattle.sb_fold.specs.Outcome.{Going, Trail, Work, made, refuse, change_to, ◌>>=◌, with_picks, Leads}
+use Rattle.sb_fold.specs.Wishes.{Wish, wished}
+use Rattle.sb_fold.proofs.LeadsLemmas.{leads_change, leads_from, leads_here, leads_on, leads_refused}
+use Rattle.sb_deferred.specs.Complete.{AreMirrored, IsComplete}
+use Rattle.sb_cascade.specs.Fitting.{AllFit, AllMayStand, IsFitting}
+use Rattle.sb_cascade.specs.Runs.{EndsBy, MadeFrom, StopsFrom, is_free, row_change, row_of_relation}
+use Rattle.sb_cascade.proofs.Forward.{IsForward, forward_at, forward_made, forward_next, forward_no_step, forward_reach, forward_wished}
+use Rattle.sb_cascade.proofs.Staying.{actions-stay, rules-stay}
+use Rattle.sb_registry.specs.Boxes.{Meanings}
+use Rattle.sb_drive.specs.Slots.{Slots}
+use Rattle.sb_drive.specs.Spaces.{Wanted}
+use Rattle.sb_ctx.specs.declared.instance.Instance.{Instance}
+use Rattle.sb_rows.specs.Live.{HasRows, LeavesRows}
+use Rattle.sb_catalog.specs.declared.descriptor.Attached.{Attached}
+use Rattle.sb_catalog.specs.declared.descriptor.Descriptor.{Descriptor}
+use Rattle.sb_catalog.specs.Descriptors.{described, standing}
+use Rattle.sb_standing.specs.Tables.{Kept, db_of, kept_at, table_of}
+use Rattle.sb_standing.specs.Asked.{Asks, change_kept, changed_kept}
+use Rattle.sb_standing.specs.AskedLaws.{HasPut}
+use Rattle.sb_standing.proofs.AskedLaws.{Asks-put}
+use Rattle.sb_standing.proofs.FrameLemmas.{All-unmap}
+use Rattle.sb_standing.proofs.KeptChangedLemmas.{change_kept-same, db_of-changed, descriptors-changed, kept_at-changed}
+use Rattle.sb_standing.proofs.KeptLemmas.{kept_at-all}
+use Rattle.sb_standing.proofs.RelationLemmas.{AreLawful-kept}
+use Rattle.sb_opened.specs.declared.relation.OpenRelation.{OpenRelation}
+use Rattle.sb_opened.specs.Opened.{IsDurable}
+use Rattle.sb_wishes.specs.Outcomes.{Makes, Refuses}
+use Rattle.sb_wishes.specs.Wished.{HasCounts, IsTableOf}
+use Rattle.sb_engine.specs.declared.running.Work.{Work as Kept_work}
+use Rattle.sb_engine.specs.Picks.{picks_of}
+use Rattle.sb_engine.specs.Working.{AreLasting, AreOpened, ArePaired, IsLasting, IsOpened, Stands, StandsAsking, extensions_of, left_of, open_at}
+use Rattle.sb_engine.proofs.LateLemmas.{queue_first-none}
+use Rattle.sb_engine.proofs.OpenedLemmas.{HasOpen, has_open}
+use Rattle.sb_engine.proofs.PicksLemmas.{leads-picks, leads-quiet}
+
+-- ---- the change of one row by the definitions
+pub forward_row : (ext : Extensions) (name : Name) (wish : Wish) → IsForward (row_change ext name wish)
+forward_row ext name wish = forward_at (λ g. row_of_relation ext name wish (relation_at g.db name)) (λ g. of_relation (relation_at g.db name))
+  where
+    of_relation : (o : Option Relation) → IsForward (row_of_relation ext name wish o)
+    of_relation None = forward_no_step
+    of_relation (Some r) = forward_next _ _ (forward_wished name r wish) (λ c. forward_next _ _ (forward_reach ext name r c) (λ _. forward_made c))
+
+row_there : (ext : Extensions) (name : Name) (wish : Wish) (g : Going) (r : Relation) → relation_at g.db name ≡ Some r
+    → (left : List Key) → row_change ext name wish (with_picks g left) ≡ row_of_relation ext name wish (Some r) (with_picks g left)
+row_there ext name wish g r there left = ap (λ (o : Option Relation). row_of_relation ext name wish o (with_picks g left)) there
+
+-- what stands after it
+abbrev reached : Extensions → Name → Relation → Change → Going → List Key → Going
+reached ext name r c g picks = reach_change ext name r c (record g { used = g.used ++ picks })
+
+leads_row : (ext : Extensions) (name : Name) (wish : Wish) (g : Going) (r : Relation) (picks : List Key) (c : Change) → relation_at g.db name ≡ Some r
+    → Leads (wished name r wish) g picks (made c) (record g { used = g.used ++ picks })
+    → Leads (row_change ext name wish) g (picks ++ ([] ++ [])) (made c) (reached ext name r c g picks)
+leads_row ext name wish g r picks c there run =
+    let next = λ (d : Change). change_to (reach_change ext name r d) >>= λ _. made d in
+    let mid : Going = record g { used = g.used ++ picks } in
+    leads_from (row_change ext name wish) (row_there ext name wish g r there)
+    (leads_on next run (leads_on (λ _. made c) (leads_change (reach_change ext name r c) mid (λ left. refl)) (leads_here (made c) (reached ext name r c g picks))))
+
+-- ---- the relation as its storage method sees it
+map_of : {A B C : Type 0} (f : B → C) (h : A → B) (xs : List A) → map f (map h xs) ≡ map (λ x. f (h x)) xs
+map_of f h [] = refl
+map_of {C = C} f h (x ∷ xs) = ap (λ (l : List C). f (h x) ∷ l) (map_of f h xs)
+
+rules_same : (ds : List Attached) (others : List Db.Attached) → map described ds ≡ map standing others → map (λ a. a.rule) ds ≡ map (λ a. a.rule) others
+rules_same ds others same = sym (map_of (λ t. t.2) described ds) ∙ ap (map (λ t. t.2)) same ∙ map_of (λ t. t.2) standing others
+
+pub is_table : (m : Meanings) (s : Slots) (kept : List Kept) (name : Name) (one : OpenRelation) → (h : HasOpen m s kept name one) → IsTableOf one.table one.descriptor.attachments h.k.relation
+is_table m s kept name one h = record {
+  method = sym (ap (λ (i : Instance). i.code) h.inst ∙ ap (λ (d : Descriptor). d.method) h.same ∙ h.is.method);
+  schema = sym h.schema;
+  key = sym (ap (λ (i : Instance). i.key) h.inst ∙ ap (λ (d : Descriptor). d.key) h.same ∙ h.is.key);
+  attached = rules_same one.descriptor.attachments h.k.relation.attachments h.is.attachments;
+}
+
+pub table_name : (m : Meanings) (s : Slots) (kept : List Kept) (name : Name) (one : OpenRelation) → (h : HasOpen m s kept name one) → one.table.relation ≡ name
+table_name m s kept name one h = ap (λ (i : Instance). i.relation) h.inst ∙ h.named ∙ h.name_is
+
+-- ---- what stays so with a change of a relation's rows
+pub opened-changed : (m : Meanings) (kept : List Kept) (name : Name) (c : Change) (opened : List OpenRelation) → AreOpened m kept opened → AreOpened m (changed_kept name c kept) opened
+opened-changed m kept name c opened are = All-weaker (IsOpened m kept) (IsOpened m (changed_kept name c kept)) (λ o is. record {
+  is = is.is;
+  one = change_kept name c is.one;
+  at = kept_at-changed name c kept o.name ∙ ap (option_map (change_kept name c)) is.at;
+  same = change_kept-same (λ k. k.descriptor) name c (λ k. refl) is.one ∙ is.same;
+}) opened are
+
+pub lasting-changed : (kept : List Kept) (name : Name) (c : Change) → AreLasting kept → AreLasting (changed_kept name c kept)
+lasting-changed kept name c lasting = subst (λ (ds : List Descriptor). All IsLasting ds) (sym (descriptors-changed name c kept)) lasting
+
+no_counts : (m : Meanings) (s : Slots) (kept : List Kept) (name : Name) (one : OpenRelation) → AreLasting kept → (h : HasOpen m s kept name one) → HasCounts h.k.relation
+no_counts m s kept name one lasting h = λ counted.
+    absurd (kept_at-all (λ (k : Kept). IsLasting k.descriptor) kept name h.k (All-unmap IsLasting (λ (k : Kept). k.descriptor) kept lasting) h.at
+    (ap keying_of (ap (λ (d : Descriptor). d.method) h.same ∙ h.is.method) ∙ counted))
+
+-- ---- a change that was made
+module _ {S : Type 0} (Has : Wanted → Slots → S → Type 0) (Ways : ℕ → S → S → Type 0) (m : Meanings) (root : ℕ) (name : Name) (wish : Wish) (one : OpenRelation) (old new : S) where
+  -- what the storage method makes of it, whatever the pages are
+  abbrev MakesIt : Change → Type 0
+  MakesIt c = (want : Wanted) (s : Slots) (r : Relation) → Has want s old → IsTableOf one.table one.descriptor.attachments r → (has : HasRows m s one.table r.rows)
+      → Makes Has Ways m one.table want s old new r has (wished one.table.relation r wish) c
+
+  abbrev RefusesIt : Refusal → Type 0
+  RefusesIt e = (want : Wanted) (s : Slots) (r : Relation) → Has want s old → IsTableOf one.table one.descriptor.attachments r → (has : HasRows m s one.table r.rows)
+      → Refuses Has m one.table want s new r (wished one.table.relation r wish) e
+
+  pub row_made : (g : Going) (w : Kept_work) (p : Vec Key Global) (c : Change) → Stands Has m root g old w → open_at w.opened.items name ≡ Some one → MakesIt c
+      → p.items ≡ w.picks.items ++ picks_of one.table.code c
+      → MadeFrom (λ h x. StandsAsking Has m root name c 0 h x (record w { picks = p })) (row_change (extensions_of m) name wish) g c new
+  row_made g w p c stands at makes noted =
+      let h = has_open m root stands.slots stands.kept w.opened.items name one stands.keeps.tables stands.opened at in
+      let k = h.k in
+      let table = is_table m stands.slots stands.kept name one h in
+      let it = makes stands.want stands.slots k.relation stands.has table h.rows in
+      let there : relation_at g.db name ≡ Some k.relation = ap (λ (d : Db). relation_at d name) stands.db ∙ h.there in
+      let run : Leads (wished name k.relation wish) g it.picks (made c) (record g { used = g.used ++ it.picks }) =
+      subst (λ (n : Name). Leads (wished n k.relation wish) g it.picks (made c) (record g { used = g.used ++ it.picks })) (table_name m stands.slots stands.kept name one h) (it.wished g) in
+      let leaves : LeavesRows Has m (table_of IsDurable k) stands.want stands.slots new (changed_rows k.relation.rows c) =
+      subst (λ (i : Instance). LeavesRows Has m i stands.want stands.slots new (changed_rows k.relation.rows c)) h.inst it.leaves in
+      let after = reached (extensions_of m) name k.relation c g it.picks in
+      record {
+        picks = it.picks ++ ([] ++ []);
+        after = after;
+        leads = leads_row (extensions_of m) name wish g k.relation it.picks c there run;
+        stands = record {
+          want = stands.want;
+          slots = leaves.slots;
+          before = stands.kept;
+          has = leaves.has;
+          db = ap (λ (d : Db). changed d name c) stands.db ∙ sym (db_of-changed name c stands.kept stands.keeps.tables.rising);
+          asks = Asks-put m IsDurable root stands.slots leaves.slots w.gone.items stands.kept name k c stands.keeps h.at
+              (record { suits = it.suits (no_counts m stands.slots stands.kept name one stands.lasting h); others = leaves.others; rows = leaves.own });
+          lasting = stands.lasting;
+          lawful = AreLawful-kept m IsDurable stands.slots stands.kept stands.keeps.tables.each;
+          mirrored = subst AreMirrored stands.db stands.mirrored;
+          paired = subst ArePaired stands.db stands.paired;
+          complete = subst (λ (d : Db). IsComplete d g.queue) stands.db stands.complete;
+          opened = opened-changed m stands.kept name c w.opened.items stands.opened;
+          waits = stands.waits ∙ sym (queue_first-none name c after);
+          picked = noted ∙ ap (λ (keys : List Key). keys ++ picks_of one.table.code c) stands.picked
+              ∙ ap (λ (method : ℕ). g.used ++ picks_of method c) (sym table.method)
+              ∙ sym (leads-picks name k.relation wish g it.picks c run);
+          rules = (rules-stay (box_of (extensions_of m)) g.db name c).1 stands.rules;
+          fit = All-weaker (IsFitting g.db) (IsFitting (changed g.db name c)) (λ a fits. (actions-stay g.db name c a).1 fits) g.queue.actions stands.fit;
+        };
+      }
+
+  -- ---- or one that was refused
+  pub row_refused : {R : Type 0} (Stopped : Refusal → Trail → R → Type 0) (x : R) (g : Going) (w : Kept_work) (e : Refusal) → Stands Has m root g old w → open_at w.opened.items name ≡ Some one → RefusesIt e
+      → (is_free e ≡ false → Stopped e g.trail x) → StopsFrom Stopped (row_change (extensions_of m) name wish) g e x
+  row_refused Stopped x g w e stands at refuses stopped =
+      let h = has_open m root stands.slots stands.kept w.opened.items name one stands.keeps.tables stands.opened at in
+      let r = h.k.relation in
+      let it = refuses stands.want stands.slots r stands.has (is_table m stands.slots stands.kept name one h) h.rows in
+      let there : relation_at g.db name ≡ Some r = ap (λ (d : Db). relation_at d name) stands.db ∙ h.there in
+      let run : Leads (wished name r wish) g [] (refuse e) g = subst (λ (n : Name). Leads (wished n r wish) g [] (refuse e) g) (table_name m stands.slots stands.kept name one h) (it.refused g) in
+      let quiet = leads-quiet name r wish g [] e g run in
+      let next = λ (d : Change). change_to (reach_change (extensions_of m) name r d) >>= λ _. made d in
+      subst (λ (b : Bool). EndsBy Stopped b (row_change (extensions_of m) name wish) g e x) (sym quiet)
+      (record {
+        picks = [];
+        after = g;
+        leads = leads_from (row_change (extensions_of m) name wish) (row_there (extensions_of m) name wish g r there) (leads_refused next run);
+        stopped = stopped quiet;
+      })

@@ -1,0 +1,9 @@
+use Rattle.std.proofs.Common.{◌≡◌, ◌++◌, List, sym, ap, ◌∙◌, append-nil}
+use Rattle.sb_rule.specs.declared.action.Action.{Action}
+use Rattle.sb_fold.specs.Outcome.{Queue}
+use Rattle.sb_engine.specs.Asking.{with_late}
+use Rattle.sb_engine.specs.Goings.{front_then}
+use Rattle.sb_engine.proofs.asking.put_off.Goals as goal
+
+pub returns-clause-front : goal.returns-clause-front
+returns-clause-front c = front_then c.args.queue.now c.put_actions.new.queue c.put_checks.new.queue c.in_ok-put_actions.ensures.front c.put_checks.ensures.front

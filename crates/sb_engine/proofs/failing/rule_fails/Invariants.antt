@@ -1,0 +1,17 @@
+use Rattle.std.proofs.Common.{◌≡◌, ℕ, ◌<◌, Some, false}
+use Rattle.std.specs.List.{slice_get}
+use Rattle.sb_fold.specs.Outcome.{Entry}
+use Rattle.sb_drive.specs.Slots.{Slots}
+use Rattle.sb_drive.specs.Spaces.{Wanted}
+use Rattle.sb_standing.specs.Tables.{db_of}
+use Rattle.sb_engine.specs.Failing.{OfAttached, OverKept, TellsOwn}
+use Rattle.sb_engine.proofs.failing.rule_fails.Given as goal
+
+abbrev pub invariant-loop-j : goal.invariant-loop-j
+invariant-loop-j g l = record {
+  ready : g.S.PageSpace.is_ready l.space;
+  leads : g.S.PageSpace.leads 0 l.fn.space l.space;
+  has : (want : Wanted) (s : Slots) → g.S.PageSpace.has want s l.fn.space → g.S.PageSpace.has want s l.space;
+  none : OverKept g.S.PageSpace.has (g.B.Boxes.meanings l.boxes) l.place.root l.fn.space (λ kept. (k : ℕ) → k < l.j
+      → OfAttached (g.B.Boxes.meanings l.boxes) kept l.one l.i (λ a. (e : Entry) → slice_get l.queue.entries k ≡ Some e → TellsOwn (db_of kept) l.one.name a e false));
+}

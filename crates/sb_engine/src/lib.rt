@@ -1,0 +1,25 @@
+//! An engine at work on a transaction: relations over a space of pages, as work on relations stands on them.
+#![tactic(auto)]
+
+mod asking;
+mod columns;
+mod copies;
+mod failing;
+mod fitting;
+mod late;
+mod layer;
+mod matching;
+mod opening;
+mod picks;
+mod refusals;
+mod running;
+mod waiting;
+mod wishes;
+
+pub use fitting::prepare;
+pub use opening::{open_at, open_named};
+pub use refusals::refusal_of;
+pub use running::{Running, Work};
+
+#[cfg(test)]
+mod tests;

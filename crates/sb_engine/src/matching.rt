@@ -1,0 +1,108 @@
+//! The rows that an action is of.
+
+ghost use Rattle.std.specs.Prelude.{◌≡◌, ◌∷◌, [], List, All, IfOk, IfErr};
+ghost use Rattle.sb_relation.specs.Rules.{has_values};
+ghost use Rattle.sb_fold.specs.Fold.{matching};
+ghost use Rattle.sb_fold.specs.Wishes.{const_of, is_match, pairs_of};
+ghost use Rattle.sb_drive.specs.Slots.{Slots};
+ghost use Rattle.sb_drive.specs.Spaces.{Wanted};
+ghost use Rattle.sb_registry.specs.Runs.{IsSound, Looks};
+ghost use Rattle.sb_standing.specs.Tables.{Kept, db_of};
+ghost use Rattle.sb_opened.specs.Opened.{IsOpen};
+ghost use Rattle.sb_engine.specs.Opening.{IsKeeping};
+ghost use Rattle.sb_engine.specs.Working.{MayDo};
+
+use crate::columns::value_of;
+use crate::opening::open_at;
+use sb_drive::{PageSpace, SpaceFault};
+use sb_kinds::relation_of;
+use sb_map::Place;
+use sb_opened::OpenRelation;
+use sb_pred::Term;
+use sb_registry::Boxes;
+use sb_rows::{RowTest, keys_where};
+use sb_rule::Action;
+use sb_value::{RecKey, Schema, Str, Tuple};
+use std::alloc::Global;
+
+/// Passes the rows whose columns have these values.
+#[derive(Drop)]
+struct MatchTest<'a> {
+    schema: &'a Schema,
+    pairs: &'a [(Str, Term)],
+}
+
+impl<'a> RowTest for MatchTest<'a> {
+    ghost passes = { λ t row. is_match t.schema.now t.pairs.now row };
+
+    fn passes(&self, row: &Tuple) -> bool {
+        is_match(self.schema, self.pairs, row)
+    }
+}
+
+/// Whether each of these columns of a row has its value.
+pub(crate) fn is_match(schema: &Schema, pairs: &[(Str, Term)], row: &Tuple) -> bool
+    ensures { result ≡ is_match schema.now pairs.now row.now }
+{
+    match pairs {
+        [pair, pairs @ ..] => {
+            has_value(schema, &pair.0, &pair.1, row) && is_match(schema, pairs, row)
+        }
+        [] => true,
+    }
+}
+
+/// Whether the row has the value of a term in a column. What isn't there has the value of a term that is none.
+fn has_value(schema: &Schema, name: &Str, term: &Term, row: &Tuple) -> bool
+    ensures { result ≡ has_values schema.now (name.now ∷ []) (const_of term.now) row.now }
+{
+    match (value_of(schema, row, name), term) {
+        (Some(value), Term::Const(given)) => value == given,
+        (None, Term::Const(_)) => false,
+        (Some(_), _) => false,
+        (None, _) => true,
+    }
+}
+
+/// The columns that the rows of an action have, each with its value.
+pub(crate) fn pairs_of(action: &Action) -> &[(Str, Term)]
+    ensures { result.now ≡ pairs_of action.now }
+{
+    match action {
+        Action::Insert { .. } => &[],
+        Action::Delete { pairs, .. } | Action::Set { pairs, .. } | Action::Add { pairs, .. } => {
+            pairs.as_slice()
+        }
+    }
+}
+
+/// The record keys of the rows that an action is of, in rising order.
+pub(crate) fn keys_matching<S: PageSpace, B: Boxes>(
+    space: &mut S,
+    alloc: Global,
+    boxes: &B,
+    place: Place,
+    opened: &[OpenRelation],
+    action: &Action,
+) -> Result<Vec<RecKey>, SpaceFault>
+    requires ready { S.is_ready space.old }
+    requires are_open { All (IsOpen (B.meanings boxes.now)) opened.now }
+    requires may { MayDo opened.now action.now }
+
+    ensures keys { IfOk result (λ keys. (want : Wanted) (s : Slots) (kept : List Kept) → IsKeeping S.has (B.meanings boxes.now) place.root want s kept space.old opened.now
+        → keys.items ≡ matching (db_of kept) action.now) }
+    ensures undamaged { IfErr result (λ e. (want : Wanted) (s : Slots) (kept : List Kept) → IsKeeping S.has (B.meanings boxes.now) place.root want s kept space.old opened.now
+        → IsSound e) }
+    ensures looks { Looks S.has S.leads S.fails space.old space.new result }
+    ensures ready { S.is_ready space.new }
+{
+    let Some(one) = open_at(opened, relation_of(action)) else {
+        unreachable!()
+    };
+    let test = MatchTest {
+        schema: &one.table.schema,
+        pairs: pairs_of(action),
+    };
+    let keys = keys_where(space, alloc, boxes, &one.table, &test)?;
+    Ok(keys.into_vec())
+}
