@@ -1,0 +1,186 @@
+-- What the pages keep once attachments or a relation have gone.
+use Rattle.std.proofs.Common.{◌≡◌, ℕ, Bool, true, false, not, cond, List, [], ◌∷◌, ◌++◌, map, Option, Some, None, option_map, All, refl, sym, ap, ◌∙◌, subst, bytes_eq}
+use Rattle.std.specs.FinMap.Entries.{put}
+use Rattle.std.proofs.lemmas.List.Elements.{All-map, All-weaker}
+use Rattle.std.proofs.lemmas.Option.{same_Some}
+use Rattle.sb_node.specs.Entries.{key_cmp}
+use Rattle.sb_relation.specs.Db.{Attached, Name, Relation, Db, relation_at}
+use Rattle.sb_relation.specs.Build.{mirror_of}
+use Rattle.sb_relation.specs.Fits.{other_relations}
+use Rattle.sb_forms.specs.Read.{read_tree}
+use Rattle.sb_fold.specs.Building.{without_attached, without_mirror, without_mirrors}
+use Rattle.sb_fold.specs.Fold.{attachments_at}
+use Rattle.sb_drive.specs.Slots.{Slots, owned}
+use Rattle.sb_drive.specs.declared.space.SpaceFault.{SpaceFault}
+use Rattle.sb_drive.specs.Spaces.{IsRefused, Leaves, Wanted}
+use Rattle.sb_map.specs.declared.place.Place.{Place}
+use Rattle.sb_map.specs.Maps.{Becomes}
+use Rattle.sb_btree.specs.Removes.{entries_without}
+use Rattle.sb_registry.specs.Boxes.{Meanings}
+use Rattle.sb_registry.specs.Runs.{IsSound}
+use Rattle.sb_catalog.specs.declared.descriptor.Attached as code
+use Rattle.sb_catalog.specs.declared.descriptor.Descriptor.{Descriptor}
+use Rattle.sb_catalog.specs.Descriptors.{descriptor_spelling, described, standing}
+use Rattle.sb_standing.specs.Instances.{owners_of}
+use Rattle.sb_standing.specs.Standing.{IsApartFrom, StandRules, detached_kept, owners_named, without_described}
+use Rattle.sb_standing.specs.Tables.{Kept, KeepsTable, Tables, db_of, entry_of, kept_at, put_kept, without_kept}
+use Rattle.sb_standing.proofs.DetachLemmas.{Keeps-detached}
+use Rattle.sb_standing.proofs.FrameLemmas.{All-unmap}
+use Rattle.sb_standing.proofs.KeptLemmas.{kept_at-name, kept_at-all, relation_at-none, relation_at-there}
+use Rattle.sb_standing.proofs.PutLemmas.{All-own, All-put, All-without, db_of-put, db_of-without}
+use Rattle.sb_standing.proofs.RelationLemmas.{Keeps-dropped}
+use Rattle.sb_deferred.proofs.RelationLemmas.{attachments_of}
+use Rattle.sb_opened.specs.Opened.{IsDurable}
+use Rattle.sb_engine.specs.Refusals.{HasCause, refusal_of}
+use Rattle.sb_engine.specs.Working.{IsLasting}
+use Rattle.sb_engine.proofs.RefusedLemmas.{refused_cause}
+use Rattle.sb_engine.proofs.StandLemmas.{StandRules-keeps}
+use Rattle.sb_tables.specs.Keeping.{KeepsDb}
+use Rattle.sb_tables.specs.Removal.{IsUnnamedIn, without_mirrors_of, without_name}
+use Rattle.sb_tables.proofs.WithoutLemmas.{without_in}
+
+-- ---- a relation that was opened, or that isn't there
+-- it is kept with this descriptor
+pub record HasKept (kept : List Kept) (name : Name) (d : Descriptor) : Type 0 where
+  pub one : Kept
+  pub at : kept_at kept name ≡ Some one
+  pub same : one.descriptor ≡ d
+
+pub has_kept : (kept : List Kept) (name : Name) (d : Descriptor) → Some d ≡ option_map (λ (k : Kept). k.descriptor) (kept_at kept name) → HasKept kept name d
+has_kept kept name d is = of_kept (kept_at kept name) refl is
+  where
+    of_kept : (o : Option Kept) → kept_at kept name ≡ o → Some d ≡ option_map (λ (k : Kept). k.descriptor) o → HasKept kept name d
+    of_kept None at is = absurd (cc)
+    of_kept (Some k) at is = record { one = k; at = at; same = sym (same_Some d k.descriptor is) }
+
+pub not_kept : (kept : List Kept) (name : Name) → ◌≡◌ {A = Option Descriptor} None (option_map (λ (k : Kept). k.descriptor) (kept_at kept name)) → kept_at kept name ≡ None
+not_kept kept name is = of_kept (kept_at kept name) refl is
+  where
+    of_kept : (o : Option Kept) → kept_at kept name ≡ o → ◌≡◌ {A = Option Descriptor} None (option_map (λ (k : Kept). k.descriptor) o) → kept_at kept name ≡ None
+    of_kept None at is = at
+    of_kept (Some k) at is = absurd (cc)
+
+module _ {S : Type 0} (Has : Wanted → Slots → S → Type 0) (m : Meanings) (root : ℕ) (gone : List ℕ) (db : Db) (old mid new : S) (keeps : KeepsDb Has m root gone db old) where
+  -- a call that looks leaves it
+  pub keeps-later : ((want : Wanted) (s : Slots) → Has want s old → Has want s mid) → KeepsDb Has m root gone db mid
+  keeps-later later =
+      record { want = keeps.want; slots = keeps.slots; kept = keeps.kept; has = later keeps.want keeps.slots keeps.has; is = keeps.is; keeps = keeps.keeps; lasting = keeps.lasting }
+
+  -- ---- attachments of a name
+  pub detached : (relation label : Name) (d : Descriptor) → HasKept keeps.kept relation d
+      → Leaves Has 2 keeps.want keeps.slots new
+      (λ after. read_tree root after ≡ Some (put key_cmp relation (descriptor_spelling (record d { attachments = without_described label d.attachments })) (map entry_of keeps.kept)))
+      → KeepsDb Has m root (gone ++ owners_named label d) (without_attached db relation label) new
+  detached relation label d it left =
+      let k = it.one in
+      let named = kept_at-name keeps.kept relation k it.at in
+      let there : kept_at keeps.kept k.name ≡ Some k = ap (λ (n : Name). kept_at keeps.kept n) named ∙ it.at in
+      let Tree : Name → Descriptor → Type 0 = λ n x.
+      read_tree root (owned left.slots 2) ≡ Some (put key_cmp n (descriptor_spelling (record x { attachments = without_described label x.attachments })) (map entry_of keeps.kept)) in
+      let is : without_attached db relation label ≡ db_of (put_kept (detached_kept label k) keeps.kept) =
+      ap (λ (x : Db). without_attached x relation label) keeps.is
+      ∙ ap (λ (o : Option Relation). without_in (db_of keeps.kept) relation label o) (relation_at-there keeps.kept relation k it.at)
+      ∙ ap (λ (n : Name). without_in (db_of keeps.kept) n label (Some k.relation)) (sym named)
+      ∙ sym (db_of-put (detached_kept label k) keeps.kept) in
+      subst (λ (x : Descriptor). KeepsDb Has m root (gone ++ owners_named label x) (without_attached db relation label) new) it.same (record {
+        want = keeps.want;
+        slots = left.slots;
+        kept = put_kept (detached_kept label k) keeps.kept;
+        has = left.has;
+        is = is;
+        keeps = Keeps-detached m IsDurable root keeps.slots left.slots gone keeps.kept k label keeps.keeps (record {
+          there = there;
+          others = left.others;
+          catalogue = subst (λ (n : Name). Tree n k.descriptor) (sym named) (subst (λ (x : Descriptor). Tree relation x) (sym it.same) left.own);
+        });
+        lasting = All-map IsLasting (λ (x : Kept). x.descriptor) (put_kept (detached_kept label k) keeps.kept)
+            (All-put (λ (x : Kept). IsLasting x.descriptor) (detached_kept label k) keeps.kept
+            (kept_at-all (λ (x : Kept). IsLasting x.descriptor) keeps.kept relation k (All-unmap IsLasting (λ (x : Kept). x.descriptor) keeps.kept keeps.lasting) it.at)
+            (All-unmap IsLasting (λ (x : Kept). x.descriptor) keeps.kept keeps.lasting));
+      })
+
+  -- of a relation that isn't there
+  pub none_detached : (relation label : Name) → kept_at keeps.kept relation ≡ None → without_attached db relation label ≡ db
+  none_detached relation label none =
+      ap (λ (x : Db). without_attached x relation label) keeps.is
+      ∙ ap (λ (o : Option Relation). without_in (db_of keeps.kept) relation label o) (relation_at-none keeps.kept relation none) ∙ sym keeps.is
+
+  pub none_mirrored : (name : Name) → kept_at keeps.kept name ≡ None → without_mirrors name (attachments_at db name) db ≡ db
+  none_mirrored name none =
+      ap (λ (items : List Attached). without_mirrors name items db) (ap attachments_of (ap (λ (x : Db). relation_at x name) keeps.is ∙ relation_at-none keeps.kept name none))
+
+  -- ---- mirrors, as a descriptor has the attachments
+  pub mirrors-kept : (name : Name) (d : Descriptor) → HasKept keeps.kept name d → without_mirrors_of name d.attachments db ≡ without_mirrors name (attachments_at db name) db
+  mirrors-kept name d it =
+      let is = kept_at-all (KeepsTable m IsDurable keeps.slots) keeps.kept name it.one keeps.keeps.tables.each it.at in
+      ap (λ (x : Descriptor). without_mirrors_of name x.attachments db) (sym it.same) ∙ same it.one.descriptor.attachments it.one.relation.attachments db is.is.attachments
+      ∙ ap (λ (items : List Attached). without_mirrors name items db)
+      (sym (ap attachments_of (ap (λ (x : Db). relation_at x name) keeps.is ∙ relation_at-there keeps.kept name it.one it.at)))
+    where
+      same : (ds : List code.Attached) (items : List Attached) (x : Db) → map described ds ≡ map standing items → without_mirrors_of name ds x ≡ without_mirrors name items x
+      same [] [] x is = refl
+      same [] (a ∷ items) x is = absurd (cc)
+      same (d ∷ ds) [] x is = absurd (cc)
+      same (d ∷ ds) (a ∷ items) x is =
+          let one : described d ≡ standing a = cc in
+          let rest : map described ds ≡ map standing items = cc in
+          ap (λ t. without_mirrors_of name ds (without_mirror name t.1 (mirror_of name t.2) x)) one ∙ same ds items _ rest
+
+  -- ---- the relation
+  pub dropped : (place : Place) (name : Name) (d : Descriptor) → place.owner ≡ 2 → place.root ≡ root → HasKept keeps.kept name d → IsUnnamedIn db name
+      → Has keeps.want keeps.slots mid → Becomes Has place mid new (entries_without name)
+      → KeepsDb Has m root (gone ++ owners_of d) (without_name db name) new
+  dropped place name d owner top it unnamed has becomes =
+      let k = it.one in
+      let read : read_tree place.root (owned keeps.slots place.owner) ≡ Some (map entry_of keeps.kept) =
+      ap (λ (o : ℕ). read_tree place.root (owned keeps.slots o)) owner ∙ ap (λ (r : ℕ). read_tree r (owned keeps.slots 2)) top ∙ keeps.keeps.tables.catalogue in
+      let left = becomes keeps.want keeps.slots (map entry_of keeps.kept) has read in
+      subst (λ (x : Descriptor). KeepsDb Has m root (gone ++ owners_of x) (without_name db name) new) it.same (record {
+        want = keeps.want;
+        slots = left.slots;
+        kept = without_kept name keeps.kept;
+        has = left.has;
+        is = ap (λ (x : Db). without_name x name) keeps.is ∙ sym (db_of-without name keeps.kept);
+        keeps = Keeps-dropped m IsDurable root keeps.slots left.slots gone keeps.kept name k keeps.keeps (record {
+          there = it.at;
+          unnamed = All-weaker (λ (x : Kept). kept_at keeps.kept x.name ≡ Some x) (λ (x : Kept). bytes_eq x.name name ≡ false → IsApartFrom name x)
+              (λ x at other. subst (λ (items : List Attached). All (λ a. All (λ n. bytes_eq n name ≡ false) (other_relations a.rule)) items)
+              (ap attachments_of (ap (λ (y : Db). relation_at y x.name) keeps.is ∙ relation_at-there keeps.kept x.name x at)) (unnamed x.name other)) keeps.kept
+              (All-own keeps.kept keeps.keeps.tables.rising);
+          others = λ o two. left.others o (λ same. two (same ∙ owner));
+          catalogue = ap (λ (r : ℕ). read_tree r (owned left.slots 2)) (sym top) ∙ ap (λ (o : ℕ). read_tree place.root (owned left.slots o)) (sym owner) ∙ left.own;
+        });
+        lasting = All-map IsLasting (λ (x : Kept). x.descriptor) (without_kept name keeps.kept)
+            (All-weaker (λ (x : Kept). (bytes_eq x.name name ≡ false) × IsLasting x.descriptor) (λ (x : Kept). IsLasting x.descriptor) (λ x both. both.1) (without_kept name keeps.kept)
+            (All-without (λ (x : Kept). IsLasting x.descriptor) name keeps.kept (All-unmap IsLasting (λ (x : Kept). x.descriptor) keeps.kept keeps.lasting)));
+      })
+
+  -- without a relation that isn't there it is the same
+  pub none_dropped : (name : Name) → kept_at keeps.kept name ≡ None → without_name db name ≡ db
+  none_dropped name none =
+      ap (λ (x : Db). without_name x name) keeps.is ∙ sym (db_of-without name keeps.kept) ∙ ap db_of (all_left keeps.kept none) ∙ sym keeps.is
+    where
+      all_left : (kept : List Kept) → kept_at kept name ≡ None → without_kept name kept ≡ kept
+      all_left [] none = refl
+      all_left (k ∷ kept) none = of_test (bytes_eq k.name name) none (all_left kept)
+        where
+          of_test : (b : Bool) → cond b (Some k) (kept_at kept name) ≡ None → (kept_at kept name ≡ None → without_kept name kept ≡ kept)
+              → cond (not b) (k ∷ without_kept name kept) (without_kept name kept) ≡ k ∷ kept
+          of_test true is rest = absurd (cc)
+          of_test false is rest = ap (λ (l : List Kept). k ∷ l) (rest is)
+
+-- ---- a relation that is opened
+pub open_refused : {S : Type 0} (Has : Wanted → Slots → S → Type 0) (Fails : SpaceFault → S → S → Type 0) (Same : Type 0) (m : Meanings) (root : ℕ) (gone : List ℕ) (db : Db) (old new : S) (e : SpaceFault)
+    → IsRefused Same (Fails e old new) e
+    → ((want : Wanted) (s : Slots) (kept : List Kept) → Has want s old → Tables m IsDurable root s kept → StandRules m IsDurable (db_of kept) kept → IsSound e)
+    → KeepsDb Has m root gone db old → HasCause Fails (refusal_of e) new
+open_refused Has Fails Same m root gone db old new e refused sound keeps =
+    refused_cause Fails Same old new e refused
+    (sound keeps.want keeps.slots keeps.kept keeps.has keeps.keeps.tables (StandRules-keeps m IsDurable root keeps.slots gone keeps.kept keeps.keeps))
+
+-- ---- while mirrors go
+-- the mirrors of these attachments are to go still
+pub record KeepsRest {S : Type 0} (Has : Wanted → Slots → S → Type 0) (m : Meanings) (root : ℕ) (gone : List ℕ) (name : Name) (ds : List code.Attached) (end : Db) (space : S) : Type 0 where
+  pub now : Db
+  pub keeps : KeepsDb Has m root gone now space
+  pub is : without_mirrors_of name ds now ≡ end

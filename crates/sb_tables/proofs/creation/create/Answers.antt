@@ -1,0 +1,46 @@
+use Rattle.std.proofs.Common.{[], refl, sym, append-nil}
+use Rattle.sb_engine.specs.Goings.{front_none}
+use Rattle.sb_engine.specs.Working.{extensions_of}
+use Rattle.sb_engine.proofs.RefusedLemmas.{free_refusal}
+use Rattle.sb_tables.proofs.StandsLemmas.{create_made, create_stops, keeps_of}
+use Rattle.sb_tables.proofs.creation.create.Goals as goal
+
+pub returns-in-Ok-clause-made : goal.returns-in-Ok-clause-made
+returns-in-Ok-clause-made g c = λ h stands may.
+    let a = c.args.running.now in
+    let m = g.B.Boxes.meanings a.boxes.now in
+    let has = g.S.PageSpace.has in
+    let w = a.work.now in
+    create_made has m a.place.root h a.space.now c.create_kept.new.space w (record w { opened = c.clear.new.self }) stands c.clear.ensures.items refl refl _ _ c.args.name.now c.args.method c.args.schema.now
+    c.args.key.now may (c.in-Ok.ensures.made w.gone.items h.db (keeps_of has m a.place.root h a.space.now w stands) may) (λ k s. s)
+
+pub returns-in-Ok-clause-goes : goal.returns-in-Ok-clause-goes
+returns-in-Ok-clause-goes g c = record {
+  same_space = refl;
+  same_work = refl;
+  boxes = refl;
+  place = refl;
+  leads = c.create_kept.ensures.leads;
+  queue = front_none c.args.running.now.work.now.queue;
+  gone = ([], sym (append-nil c.args.running.now.work.now.gone.items));
+}
+
+pub returns-in-Err-clause-refused : goal.returns-in-Err-clause-refused
+returns-in-Err-clause-refused g c = λ h stands may.
+    let a = c.args.running.now in
+    let m = g.B.Boxes.meanings a.boxes.now in
+    let w = a.work.now in
+    rw c.refusal_of.ensures
+    (create_stops _ _ (extensions_of m) c.args.name.now c.args.method c.args.schema.now c.args.key.now _ h (free_refusal c.in-Err.fault)
+    (c.in-Err.ensures.refused w.gone.items h.db (keeps_of g.S.PageSpace.has m a.place.root h a.space.now w stands) may))
+
+pub returns-in-Err-clause-goes : goal.returns-in-Err-clause-goes
+returns-in-Err-clause-goes g c = record {
+  same_space = refl;
+  same_work = refl;
+  boxes = refl;
+  place = refl;
+  leads = c.create_kept.ensures.leads;
+  queue = front_none c.args.running.now.work.now.queue;
+  gone = ([], sym (append-nil c.args.running.now.work.now.gone.items));
+}

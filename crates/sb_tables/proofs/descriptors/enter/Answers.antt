@@ -1,0 +1,35 @@
+use Rattle.std.proofs.Common.{◌≡◌, ℕ, List, Some, sym, ap, subst, ◌∙◌}
+use Rattle.std.specs.FinMap.Entries.{put}
+use Rattle.sb_node.specs.Entries.{key_cmp}
+use Rattle.sb_forms.specs.Read.{read_tree}
+use Rattle.sb_drive.specs.Slots.{owned}
+use Rattle.sb_drive.specs.Spaces.{Leaves}
+use Rattle.sb_drive.proofs.SpacesLemmas.{IfErr-passed, Leaves-so}
+use Rattle.sb_catalog.specs.Descriptors.{descriptor_spelling}
+use Rattle.sb_engine.proofs.RefusedLemmas.{refused_cause}
+use Rattle.sb_tables.proofs.KeepingLemmas.{if_err_both, on_ok, own_cause, sound_undamaged}
+use Rattle.sb_tables.proofs.descriptors.enter.Goals as goal
+
+pub returns-in_err-bytes-clause-refused : goal.returns-in_err-bytes-clause-refused
+returns-in_err-bytes-clause-refused g c =
+    IfErr-passed c.from_residual.result c.in_err-bytes.field-0.0 _ c.from_residual.ensures.1
+    (λ want s es has read small. own_cause g.S.PageSpace.fails c.in_err-bytes.field-0.0 c.args.space.now c.in_err-bytes.ensures.own (c.in_err-bytes.ensures.undamaged small))
+
+pub returns-clause-entered : goal.returns-clause-entered
+returns-clause-entered g c =
+    let top = c.args.place.root in
+    let spelled : c.as_slice.result.now ≡ descriptor_spelling c.args.descriptor.now = c.as_slice.ensures ∙ c.in_ok-bytes.ensures.spelled in
+    on_ok c.put.result (λ becomes want s es has read.
+    let left = becomes want s es has (subst (λ (o : ℕ). read_tree top (owned s o) ≡ Some es) (sym c.requires.owner) read) in
+    Leaves-so g.S.PageSpace.has 2 want s c.put.new.space (λ after. read_tree top after ≡ Some (put key_cmp c.as_bytes.result.now c.as_slice.result.now es))
+    (λ after. read_tree top after ≡ Some (put key_cmp c.args.name.now (descriptor_spelling c.args.descriptor.now) es))
+    (λ after is. is ∙ ap (λ (key : List ℕ). Some (put key_cmp key c.as_slice.result.now es)) c.as_bytes.ensures ∙ ap (λ (value : List ℕ). Some (put key_cmp c.args.name.now value es)) spelled)
+    (subst (λ (o : ℕ). Leaves g.S.PageSpace.has o want s c.put.new.space (λ after. read_tree top after ≡ Some (put key_cmp c.as_bytes.result.now c.as_slice.result.now es))) c.requires.owner left))
+    c.put.ensures.put
+
+pub returns-clause-refused : goal.returns-clause-refused
+returns-clause-refused g c =
+    if_err_both _ _ _ c.put.result (λ e refused whole want s es has read small.
+    refused_cause g.S.PageSpace.fails _ c.args.space.now c.put.new.space e refused
+    (sound_undamaged e (whole want s has es (subst (λ (o : ℕ). read_tree c.args.place.root (owned s o) ≡ Some es) (sym c.requires.owner) read))))
+    c.put.ensures.works.refused c.put.ensures.whole

@@ -1,0 +1,10 @@
+use Rattle.sb_tables.proofs.FreedLemmas.{freed_on, passed}
+use Rattle.sb_tables.proofs.freeing.free_owner.Goals as goal
+
+pub returns-then-owner-gt-CATALOGUE-clause-freed : goal.returns-then-owner-gt-CATALOGUE-clause-freed
+returns-then-owner-gt-CATALOGUE-clause-freed g c =
+    freed_on g.S.PageSpace.has c.args.owner c.args.space.now c.free_owner.new.self c.free_owner.result c.free_owner.ensures.pages
+
+pub returns-else-owner-gt-CATALOGUE-clause-freed : goal.returns-else-owner-gt-CATALOGUE-clause-freed
+returns-else-owner-gt-CATALOGUE-clause-freed g c = λ m root kept want s gone has keeps.
+    passed g.S.PageSpace.has m root kept want s c.args.owner gone c.args.space.now c.args.space.now keeps c.if-owner-gt-CATALOGUE.false has

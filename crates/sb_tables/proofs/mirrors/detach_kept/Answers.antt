@@ -1,0 +1,86 @@
+use Rattle.std.proofs.Common.{◌≡◌, ℕ, ◌+◌, List, ◌++◌, map, Option, Some, option_map, IfSome, sym, ap, subst, ◌∙◌}
+use Rattle.std.specs.FinMap.Entries.{put}
+use Rattle.sb_node.specs.Entries.{key_cmp}
+use Rattle.sb_forms.specs.Read.{read_tree}
+use Rattle.sb_relation.specs.Db.{Db}
+use Rattle.sb_fold.specs.Building.{without_attached}
+use Rattle.sb_drive.proofs.SpacesLemmas.{IfErr-passed, Leaves-so}
+use Rattle.sb_catalog.specs.declared.descriptor.Descriptor.{Descriptor}
+use Rattle.sb_catalog.specs.Descriptors.{IsShortDescriptor, descriptor_spelling}
+use Rattle.sb_catalog.proofs.Storable.{IsShortDescriptor_from_storable}
+use Rattle.sb_map.specs.Changes.{IsSmall}
+use Rattle.sb_standing.specs.Tables.{entry_of}
+use Rattle.sb_standing.specs.Standing.{owners_named}
+use Rattle.sb_opened.specs.declared.relation.OpenRelation.{OpenRelation}
+use Rattle.sb_opened.specs.Opened.{IsOpen}
+use Rattle.sb_tables.specs.Keeping.{KeepsDb}
+use Rattle.sb_tables.proofs.DetachedLemmas.{detached, has_kept, keeps-later, none_detached, not_kept, open_refused}
+use Rattle.sb_tables.proofs.KeepingLemmas.{if_err, on_ok, small-kept, small-without, storable-without}
+use Rattle.sb_tables.proofs.mirrors.detach_kept.Goals as goal
+
+pub returns-in_err-one-clause-refused : goal.returns-in_err-one-clause-refused
+returns-in_err-one-clause-refused g c =
+    IfErr-passed c.from_residual.result c.in_err-one.field-0.0 _ c.from_residual.ensures.1
+    (λ db keeps.
+    open_refused g.S.PageSpace.has g.S.PageSpace.fails _ (g.B.Boxes.meanings c.args.boxes.now) c.args.place.root c.args.gone.now.items db c.args.space.now c.open_relation.new.space c.in_err-one.field-0.0
+    c.in_err-one.ensures.looks.refused c.in_err-one.ensures.undamaged keeps)
+
+pub returns-in_default-clause-detached : goal.returns-in_default-clause-detached
+returns-in_default-clause-detached g c = λ db keeps.
+    let m = g.B.Boxes.meanings c.args.boxes.now in
+    let found = c.in_ok-one.ensures.found keeps.want keeps.slots keeps.kept keeps.has keeps.keeps.tables in
+    let none = not_kept keeps.kept c.args.relation.now (ap (λ (o : Option OpenRelation). option_map (λ (x : OpenRelation). x.descriptor) o) (sym c.in_default.is) ∙ found) in
+    subst (λ (x : Db). KeepsDb g.S.PageSpace.has m c.args.place.root c.args.gone.now.items x c.open_relation.new.space)
+    (sym (none_detached g.S.PageSpace.has m c.args.place.root c.args.gone.now.items db c.args.space.now c.open_relation.new.space c.open_relation.new.space keeps c.args.relation.now c.args.label.now none))
+    (keeps-later g.S.PageSpace.has m c.args.place.root c.args.gone.now.items db c.args.space.now c.open_relation.new.space c.open_relation.new.space keeps c.in_ok-one.ensures.looks.same)
+
+pub enter-requires-clause-short : goal.enter-requires-clause-short
+enter-requires-clause-short g c =
+    let m = g.B.Boxes.meanings c.args.boxes.now in
+    let opened = subst (λ (o : Option OpenRelation). IfSome o (λ x. IsOpen m x × (x.name ≡ c.args.relation.now))) c.in-Some.is c.in_ok-one.ensures.opened in
+    subst IsShortDescriptor (sym c.without_named-descriptor.ensures)
+    (IsShortDescriptor_from_storable _ (storable-without c.args.label.now c.in-Some.one.descriptor opened.0.storable))
+
+pub returns-clause-detached : goal.returns-clause-detached
+returns-clause-detached g c =
+    let m = g.B.Boxes.meanings c.args.boxes.now in
+    let top = c.args.place.root in
+    let gone = c.args.gone.now.items in
+    let d = c.in-Some.one.descriptor in
+    let relation = c.args.relation.now in
+    let label = c.args.label.now in
+    let mid = c.open_relation.new.space in
+    let new = c.enter.new.space in
+    let more : c.extend_from_slice.new.self.items ≡ gone ++ owners_named label d =
+    c.in_ok-extend_from_slice.ensures.items ∙ ap (λ (l : List ℕ). gone ++ l) (c.deref.ensures.value ∙ c.in_ok-owners.ensures) in
+    on_ok c.enter.result (λ entered db keeps.
+    let found = ap (λ (o : Option OpenRelation). option_map (λ (x : OpenRelation). x.descriptor) o) (sym c.in-Some.is)
+    ∙ c.in_ok-one.ensures.found keeps.want keeps.slots keeps.kept keeps.has keeps.keeps.tables in
+    let it = has_kept keeps.kept relation d found in
+    let left = entered keeps.want keeps.slots (map entry_of keeps.kept) (c.in_ok-one.ensures.looks.same keeps.want keeps.slots keeps.has) keeps.keeps.tables.catalogue in
+    subst (λ (l : List ℕ). KeepsDb g.S.PageSpace.has m top l (without_attached db relation label) new) (sym more)
+    (detached g.S.PageSpace.has m top gone db c.args.space.now mid new keeps relation label d it
+    (Leaves-so g.S.PageSpace.has 2 keeps.want keeps.slots new
+    (λ after. read_tree top after ≡ Some (put key_cmp relation (descriptor_spelling c.without_named-descriptor.result) (map entry_of keeps.kept))) _
+    (λ after is. is ∙ ap (λ (x : Descriptor). Some (put key_cmp relation (descriptor_spelling x) (map entry_of keeps.kept))) c.without_named-descriptor.ensures) left)))
+    c.enter.ensures.entered
+
+pub returns-clause-refused : goal.returns-clause-refused
+returns-clause-refused g c =
+    let m = g.B.Boxes.meanings c.args.boxes.now in
+    let d = c.in-Some.one.descriptor in
+    let relation = c.args.relation.now in
+    if_err _ _ c.enter.result (λ e refused db keeps.
+    let found = ap (λ (o : Option OpenRelation). option_map (λ (x : OpenRelation). x.descriptor) o) (sym c.in-Some.is)
+    ∙ c.in_ok-one.ensures.found keeps.want keeps.slots keeps.kept keeps.has keeps.keeps.tables in
+    let it = has_kept keeps.kept relation d found in
+    let small = subst (λ (x : Descriptor). IsSmall relation (descriptor_spelling x)) it.same
+    (small-kept m c.args.place.root keeps.slots keeps.kept relation it.one keeps.keeps.tables it.at) in
+    refused keeps.want keeps.slots (map entry_of keeps.kept) (c.in_ok-one.ensures.looks.same keeps.want keeps.slots keeps.has) keeps.keeps.tables.catalogue
+    (subst (λ (x : Descriptor). IsSmall relation (descriptor_spelling x)) (sym c.without_named-descriptor.ensures) (small-without relation c.args.label.now d small)))
+    c.enter.ensures.refused
+
+pub returns-clause-leads : goal.returns-clause-leads
+returns-clause-leads g c =
+    let later = c.enter.ensures.leads in
+    (0 + later.0, g.met.S.PageSpace.goes_on 0 later.0 c.args.space.now c.open_relation.new.space c.enter.new.space c.in_ok-one.ensures.looks.leads later.1)

@@ -1,0 +1,57 @@
+use Rattle.std.proofs.Common.{◌+◌, List, Option, option_map, sym, ap, subst, ◌∙◌}
+use Rattle.sb_relation.specs.Db.{Db}
+use Rattle.sb_drive.proofs.SpacesLemmas.{IfErr-passed}
+use Rattle.sb_catalog.specs.declared.descriptor.Attached.{Attached}
+use Rattle.sb_opened.specs.declared.relation.OpenRelation.{OpenRelation}
+use Rattle.sb_tables.specs.Keeping.{KeepsDb}
+use Rattle.sb_tables.specs.Removal.{without_mirrors_of}
+use Rattle.sb_tables.proofs.DetachedLemmas.{has_kept, keeps-later, mirrors-kept, none_mirrored, not_kept, open_refused}
+use Rattle.sb_tables.proofs.KeepingLemmas.{if_err, on_ok}
+use Rattle.sb_tables.proofs.mirrors.detach_mirrors.Goals as goal
+
+pub returns-in_err-one-clause-refused : goal.returns-in_err-one-clause-refused
+returns-in_err-one-clause-refused g c =
+    IfErr-passed c.from_residual.result c.in_err-one.field-0.0 _ c.from_residual.ensures.1
+    (λ db keeps.
+    open_refused g.S.PageSpace.has g.S.PageSpace.fails _ (g.B.Boxes.meanings c.args.boxes.now) c.args.place.root c.args.gone.now.items db c.args.space.now c.open_relation.new.space c.in_err-one.field-0.0
+    c.in_err-one.ensures.looks.refused c.in_err-one.ensures.undamaged keeps)
+
+pub returns-in_default-clause-detached : goal.returns-in_default-clause-detached
+returns-in_default-clause-detached g c = λ db keeps.
+    let m = g.B.Boxes.meanings c.args.boxes.now in
+    let found = c.in_ok-one.ensures.found keeps.want keeps.slots keeps.kept keeps.has keeps.keeps.tables in
+    let none = not_kept keeps.kept c.args.name.now (ap (λ (o : Option OpenRelation). option_map (λ (x : OpenRelation). x.descriptor) o) (sym c.in_default.is) ∙ found) in
+    subst (λ (x : Db). KeepsDb g.S.PageSpace.has m c.args.place.root c.args.gone.now.items x c.open_relation.new.space)
+    (sym (none_mirrored g.S.PageSpace.has m c.args.place.root c.args.gone.now.items db c.args.space.now c.open_relation.new.space c.open_relation.new.space keeps c.args.name.now none))
+    (keeps-later g.S.PageSpace.has m c.args.place.root c.args.gone.now.items db c.args.space.now c.open_relation.new.space c.open_relation.new.space keeps c.in_ok-one.ensures.looks.same)
+
+pub returns-clause-detached : goal.returns-clause-detached
+returns-clause-detached g c =
+    let m = g.B.Boxes.meanings c.args.boxes.now in
+    let gone = c.args.gone.now.items in
+    let top = c.args.place.root in
+    let mid = c.open_relation.new.space in
+    let name = c.args.name.now in
+    on_ok c.detach_mirrors_of.result (λ detached db keeps.
+    let found = ap (λ (o : Option OpenRelation). option_map (λ (x : OpenRelation). x.descriptor) o) (sym c.in-Some.is)
+    ∙ c.in_ok-one.ensures.found keeps.want keeps.slots keeps.kept keeps.has keeps.keeps.tables in
+    let it = has_kept keeps.kept name c.in-Some.one.descriptor found in
+    let is = ap (λ (ds : List Attached). without_mirrors_of name ds db) c.as_slice.ensures
+    ∙ mirrors-kept g.S.PageSpace.has m top gone db c.args.space.now mid mid keeps name c.in-Some.one.descriptor it in
+    subst (λ (x : Db). KeepsDb g.S.PageSpace.has m top c.detach_mirrors_of.new.gone.items x c.detach_mirrors_of.new.space) is
+    (detached db (keeps-later g.S.PageSpace.has m top gone db c.args.space.now mid mid keeps c.in_ok-one.ensures.looks.same)))
+    c.detach_mirrors_of.ensures.detached
+
+pub returns-clause-refused : goal.returns-clause-refused
+returns-clause-refused g c =
+    let m = g.B.Boxes.meanings c.args.boxes.now in
+    let mid = c.open_relation.new.space in
+    if_err _ _ c.detach_mirrors_of.result
+    (λ e refused db keeps.
+    refused db (keeps-later g.S.PageSpace.has m c.args.place.root c.args.gone.now.items db c.args.space.now mid mid keeps c.in_ok-one.ensures.looks.same))
+    c.detach_mirrors_of.ensures.refused
+
+pub returns-clause-leads : goal.returns-clause-leads
+returns-clause-leads g c =
+    let later = c.detach_mirrors_of.ensures.leads in
+    (0 + later.0, g.met.S.PageSpace.goes_on 0 later.0 c.args.space.now c.open_relation.new.space c.detach_mirrors_of.new.space c.in_ok-one.ensures.looks.leads later.1)

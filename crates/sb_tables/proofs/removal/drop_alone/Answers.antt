@@ -1,0 +1,69 @@
+use Rattle.std.proofs.Common.{◌≡◌, ℕ, ◌+◌, List, ◌++◌, map, Option, option_map, refl, sym, ap, subst, ◌∙◌}
+use Rattle.sb_relation.specs.Db.{Db}
+use Rattle.sb_btree.specs.Removes.{entries_without}
+use Rattle.sb_drive.proofs.SpacesLemmas.{IfErr-passed}
+use Rattle.sb_map.specs.Maps.{Becomes}
+use Rattle.sb_standing.specs.Instances.{owners_of}
+use Rattle.sb_standing.specs.Tables.{entry_of}
+use Rattle.sb_opened.specs.declared.relation.OpenRelation.{OpenRelation}
+use Rattle.sb_opened.proofs.Faults.{catalogue-at}
+use Rattle.sb_engine.proofs.RefusedLemmas.{refused_cause}
+use Rattle.sb_tables.specs.Keeping.{KeepsDb}
+use Rattle.sb_tables.specs.Removal.{without_name}
+use Rattle.sb_tables.proofs.DetachedLemmas.{dropped, has_kept, keeps-later, none_dropped, not_kept, open_refused}
+use Rattle.sb_tables.proofs.KeepingLemmas.{sound_undamaged}
+use Rattle.sb_tables.proofs.removal.drop_alone.Goals as goal
+
+pub returns-in_err-one-clause-refused : goal.returns-in_err-one-clause-refused
+returns-in_err-one-clause-refused g c =
+    IfErr-passed c.from_residual.result c.in_err-one.field-0.0 _ c.from_residual.ensures.1
+    (λ db keeps.
+    open_refused g.S.PageSpace.has g.S.PageSpace.fails _ (g.B.Boxes.meanings c.args.boxes.now) c.args.place.root c.args.gone.now.items db c.args.space.now c.open_relation.new.space c.in_err-one.field-0.0
+    c.in_err-one.ensures.looks.refused c.in_err-one.ensures.undamaged keeps)
+
+pub returns-in_default-clause-dropped : goal.returns-in_default-clause-dropped
+returns-in_default-clause-dropped g c = λ db keeps unnamed.
+    let m = g.B.Boxes.meanings c.args.boxes.now in
+    let found = c.in_ok-one.ensures.found keeps.want keeps.slots keeps.kept keeps.has keeps.keeps.tables in
+    let none = not_kept keeps.kept c.args.name.now (ap (λ (o : Option OpenRelation). option_map (λ (x : OpenRelation). x.descriptor) o) (sym c.in_default.is) ∙ found) in
+    subst (λ (x : Db). KeepsDb g.S.PageSpace.has m c.args.place.root c.args.gone.now.items x c.open_relation.new.space)
+    (sym (none_dropped g.S.PageSpace.has m c.args.place.root c.args.gone.now.items db c.args.space.now c.open_relation.new.space c.open_relation.new.space keeps c.args.name.now none))
+    (keeps-later g.S.PageSpace.has m c.args.place.root c.args.gone.now.items db c.args.space.now c.open_relation.new.space c.open_relation.new.space keeps c.in_ok-one.ensures.looks.same)
+
+pub returns-in_err-remove-clause-refused : goal.returns-in_err-remove-clause-refused
+returns-in_err-remove-clause-refused g c =
+    let e = c.in_err-remove.field-0.0 in
+    IfErr-passed c.from_residual-in_err-remove.result e _ c.from_residual-in_err-remove.ensures.1
+    (λ db keeps.
+    refused_cause g.S.PageSpace.fails _ c.open_relation.new.space c.remove.new.space e c.in_err-remove.ensures.works.refused
+    (sound_undamaged e (c.in_err-remove.ensures.whole keeps.want keeps.slots (c.in_ok-one.ensures.looks.same keeps.want keeps.slots keeps.has) (map entry_of keeps.kept)
+    (catalogue-at c.args.place keeps.slots keeps.kept c.requires.owner keeps.keeps.tables.catalogue))))
+
+pub returns-in_err-remove-clause-leads : goal.returns-in_err-remove-clause-leads
+returns-in_err-remove-clause-leads g c =
+    let later = c.in_err-remove.ensures.works.leads in
+    (0 + later.0, g.met.S.PageSpace.goes_on 0 later.0 c.args.space.now c.open_relation.new.space c.remove.new.space c.in_ok-one.ensures.looks.leads later.1)
+
+pub returns-clause-dropped : goal.returns-clause-dropped
+returns-clause-dropped g c = λ db keeps unnamed.
+    let m = g.B.Boxes.meanings c.args.boxes.now in
+    let gone = c.args.gone.now.items in
+    let top = c.args.place.root in
+    let d = c.in-Some.one.descriptor in
+    let name = c.args.name.now in
+    let mid = c.open_relation.new.space in
+    let new = c.remove.new.space in
+    let more : c.extend_from_slice.new.self.items ≡ gone ++ owners_of d =
+    c.in_ok-extend_from_slice.ensures.items ∙ ap (λ (l : List ℕ). gone ++ l) (c.deref.ensures.value ∙ c.in_ok-owners.ensures) in
+    let found = ap (λ (o : Option OpenRelation). option_map (λ (x : OpenRelation). x.descriptor) o) (sym c.in-Some.is)
+    ∙ c.in_ok-one.ensures.found keeps.want keeps.slots keeps.kept keeps.has keeps.keeps.tables in
+    let becomes : Becomes g.S.PageSpace.has c.args.place mid new (entries_without name) =
+    subst (λ (key : List ℕ). Becomes g.S.PageSpace.has c.args.place mid new (entries_without key)) c.as_bytes.ensures c.in_ok-remove.ensures.removes.becomes in
+    subst (λ (l : List ℕ). KeepsDb g.S.PageSpace.has m top l (without_name db name) new) (sym more)
+    (dropped g.S.PageSpace.has m top gone db c.args.space.now mid new keeps c.args.place name d c.requires.owner refl (has_kept keeps.kept name d found) unnamed
+    (c.in_ok-one.ensures.looks.same keeps.want keeps.slots keeps.has) becomes)
+
+pub returns-clause-leads : goal.returns-clause-leads
+returns-clause-leads g c =
+    let later = c.in_ok-remove.ensures.works.leads in
+    (0 + later.0, g.met.S.PageSpace.goes_on 0 later.0 c.args.space.now c.open_relation.new.space c.remove.new.space c.in_ok-one.ensures.looks.leads later.1)

@@ -1,0 +1,45 @@
+use Rattle.std.proofs.Common.{refl}
+use Rattle.sb_engine.specs.Goings.{front_none}
+use Rattle.sb_engine.specs.Working.{extensions_of}
+use Rattle.sb_engine.proofs.RefusedLemmas.{free_refusal}
+use Rattle.sb_tables.proofs.StandsLemmas.{drop_made, drop_stops, keeps_of}
+use Rattle.sb_tables.proofs.removal.drop_relation.Goals as goal
+
+pub returns-in-Ok-clause-made : goal.returns-in-Ok-clause-made
+returns-in-Ok-clause-made g c = λ h stands may.
+    let a = c.args.running.now in
+    let m = g.B.Boxes.meanings a.boxes.now in
+    let has = g.S.PageSpace.has in
+    let w = a.work.now in
+    drop_made has m a.place.root h a.space.now c.drop_kept.new.space w (record w { opened = c.clear.new.self; gone = c.drop_kept.new.gone }) stands c.clear.ensures.items refl refl _ _ c.args.name.now may
+    (c.in-Ok.ensures.dropped h.db h.queue (keeps_of has m a.place.root h a.space.now w stands) may stands.mirrored stands.paired) (λ k s. s)
+
+pub returns-in-Ok-clause-goes : goal.returns-in-Ok-clause-goes
+returns-in-Ok-clause-goes g c = record {
+  same_space = refl;
+  same_work = refl;
+  boxes = refl;
+  place = refl;
+  leads = c.drop_kept.ensures.leads;
+  queue = front_none c.args.running.now.work.now.queue;
+  gone = c.drop_kept.ensures.more;
+}
+
+pub returns-in-Err-clause-refused : goal.returns-in-Err-clause-refused
+returns-in-Err-clause-refused g c = λ h stands may.
+    let a = c.args.running.now in
+    let m = g.B.Boxes.meanings a.boxes.now in
+    let w = a.work.now in
+    rw c.refusal_of.ensures
+    (drop_stops _ _ (extensions_of m) c.args.name.now _ h (free_refusal c.in-Err.fault) (c.in-Err.ensures.refused h.db (keeps_of g.S.PageSpace.has m a.place.root h a.space.now w stands)))
+
+pub returns-in-Err-clause-goes : goal.returns-in-Err-clause-goes
+returns-in-Err-clause-goes g c = record {
+  same_space = refl;
+  same_work = refl;
+  boxes = refl;
+  place = refl;
+  leads = c.drop_kept.ensures.leads;
+  queue = front_none c.args.running.now.work.now.queue;
+  gone = c.drop_kept.ensures.more;
+}

@@ -1,0 +1,4 @@
+pub mod Keeping
+pub mod Creation
+pub mod Removal
+pub mod Freeing

@@ -1,0 +1,160 @@
+//! New relations.
+
+ghost use Rattle.std.specs.Prelude.{◌≡◌, ◌<◌, [], ℕ, List, IfOk, IfErr, OnOk, true};
+ghost use Rattle.sb_relation.specs.Db.{Db, with_relation};
+ghost use Rattle.sb_fold.specs.Building as fold;
+ghost use Rattle.sb_fold.specs.Outcome.{Going};
+ghost use Rattle.sb_cascade.specs.Runs.{MadeFrom, StopsFrom};
+ghost use Rattle.sb_drive.specs.Slots.{Slots};
+ghost use Rattle.sb_drive.specs.Spaces.{LeadsOn, Wanted};
+ghost use Rattle.sb_registry.specs.Live.{IsLive};
+ghost use Rattle.sb_rows.specs.Live.{IsNewIn, LeavesRows};
+ghost use Rattle.sb_standing.specs.Instances.{table_instance};
+ghost use Rattle.sb_engine.specs.Refusals.{HasCause, refusal_of};
+ghost use Rattle.sb_engine.specs.Working.{Goes, IsServing, IsStoppedBy, StandsFor, extensions_in};
+ghost use Rattle.sb_tables.specs.Creation.{MayCreate, new_descriptor, new_relation};
+ghost use Rattle.sb_tables.specs.Keeping.{Closes, KeepsDb};
+
+use crate::descriptors::{are_short, enter};
+use sb_catalog::{AttachedList, Descriptor};
+use sb_ctx::Instance;
+use sb_drive::{PageSpace, SpaceFault};
+use sb_engine::{Running, refusal_of};
+use sb_fold::Refusal;
+use sb_map::Place;
+use sb_owners::Owners;
+use sb_registry::Boxes;
+use sb_rows::prepare_rows;
+use sb_value::{Bytes, Names, Schema, Str};
+use std::alloc::{AllocError, Global};
+
+/// Makes a relation without rows and attachments.
+pub fn create<B: Boxes, S: Owners>(
+    running: &mut Running<'_, B, S>,
+    alloc: Global,
+    name: &Str,
+    method: u16,
+    schema: &Schema,
+    key: &Names,
+) -> Result<(), Refusal>
+    requires ready { IsServing S.is_ready B.meanings running.old }
+
+    ensures made { OnOk result ((g : Going) → StandsFor S.has B.meanings g running.old
+        → MayCreate (B.meanings running.old.boxes.now) g.db name.now method schema.now key.now
+        → MadeFrom (StandsFor S.has B.meanings) (fold.create (extensions_in B.meanings running.old) name.now method schema.now key.now) g tt running.new) }
+    ensures refused { IfErr result (λ r. (g : Going) → StandsFor S.has B.meanings g running.old
+        → MayCreate (B.meanings running.old.boxes.now) g.db name.now method schema.now key.now
+        → StopsFrom (IsStoppedBy S.fails) (fold.create (extensions_in B.meanings running.old) name.now method schema.now key.now) g r running.new) }
+    ensures closes { Closes running.old running.new }
+    ensures goes { Goes S.leads running.old running.new }
+    ensures ready { IsServing S.is_ready B.meanings running.new }
+{
+    running.work.opened.clear();
+    match create_kept(
+        running.space,
+        alloc,
+        running.boxes,
+        running.place,
+        name,
+        method,
+        schema,
+        key,
+    ) {
+        Ok(()) => Ok(()),
+        Err(fault) => Err(refusal_of(fault)),
+    }
+}
+
+/// Gives a new relation pages of its own and its entry in the catalogue.
+fn create_kept<S: Owners, B: Boxes>(
+    space: &mut S,
+    alloc: Global,
+    boxes: &B,
+    place: Place,
+    name: &Str,
+    method: u16,
+    schema: &Schema,
+    key: &Names,
+) -> Result<(), SpaceFault>
+    requires ready { S.is_ready space.old }
+    requires owner { place.owner ≡ 2 }
+
+    ensures made { OnOk result ((gone : List ℕ) (db : Db) → KeepsDb S.has (B.meanings boxes.now) place.root gone db space.old
+        → MayCreate (B.meanings boxes.now) db name.now method schema.now key.now
+        → KeepsDb S.has (B.meanings boxes.now) place.root gone (with_relation db name.now (new_relation method schema.now key.now)) space.new) }
+    ensures refused { IfErr result (λ e. (gone : List ℕ) (db : Db) → KeepsDb S.has (B.meanings boxes.now) place.root gone db space.old
+        → MayCreate (B.meanings boxes.now) db name.now method schema.now key.now → HasCause S.fails (refusal_of e) space.new) }
+    ensures leads { LeadsOn S.leads space.old space.new }
+    ensures ready { S.is_ready space.new }
+{
+    if !are_short(schema, key) {
+        return Err(SpaceFault::Damaged { page: place.root });
+    }
+    boxes.learn_method(method);
+    let (owner, root) = space.new_instance(alloc)?;
+    let descriptor = new_descriptor(alloc, method, owner, root, schema, key)?;
+    prepare_table(space, alloc, boxes, place, name, &descriptor)?;
+    enter(space, alloc, place, name, &descriptor)
+}
+
+fn new_descriptor(
+    alloc: Global,
+    method: u16,
+    owner: u16,
+    root: u32,
+    schema: &Schema,
+    key: &Names,
+) -> Result<Descriptor, AllocError>
+    ensures { IfOk result (λ d. d ≡ new_descriptor method owner root schema.now key.now) }
+{
+    Ok(Descriptor {
+        method,
+        owner,
+        root,
+        schema: schema.copy()?,
+        key: key.copy()?,
+        attachments: AttachedList::from_vec(Vec::new(alloc)),
+    })
+}
+
+/// Makes the pages of a new relation those of one without rows. Where no live storage method keeps it, the catalogue's root is called
+/// damaged.
+fn prepare_table<S: PageSpace, B: Boxes>(
+    space: &mut S,
+    alloc: Global,
+    boxes: &B,
+    place: Place,
+    name: &Str,
+    descriptor: &Descriptor,
+) -> Result<(), SpaceFault>
+    requires ready { S.is_ready space.old }
+
+    ensures prepared { OnOk result ((want : Wanted) (s : Slots) → S.has want s space.old → IsNewIn s (table_instance true name.now descriptor.now)
+        → LeavesRows S.has (B.meanings boxes.now) (table_instance true name.now descriptor.now) want s space.new []) }
+    ensures refused { IfErr result (λ e. (want : Wanted) (s : Slots) → S.has want s space.old → IsNewIn s (table_instance true name.now descriptor.now)
+        → IsLive (B.meanings boxes.now) (table_instance true name.now descriptor.now) → HasCause S.fails (refusal_of e) space.new) }
+    ensures leads { LeadsOn S.leads space.old space.new }
+    ensures ready { S.is_ready space.new }
+{
+    let table = table_of(alloc, name, descriptor)?;
+    if boxes.keeps(&table) {
+        prepare_rows(space, alloc, boxes, &table)
+    } else {
+        Err(SpaceFault::Damaged { page: place.root })
+    }
+}
+
+fn table_of(alloc: Global, name: &Str, descriptor: &Descriptor) -> Result<Instance, AllocError>
+    ensures { IfOk result (λ table. table ≡ table_instance true name.now descriptor.now) }
+{
+    Ok(Instance {
+        relation: name.copy()?,
+        owner: descriptor.owner,
+        root: descriptor.root,
+        durable: true,
+        code: descriptor.method,
+        desc: Bytes::new(alloc),
+        schema: descriptor.schema.copy()?,
+        key: descriptor.key.copy()?,
+    })
+}

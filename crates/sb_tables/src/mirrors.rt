@@ -1,0 +1,210 @@
+//! Attachments that go by their names, and mirrors of a relation's attachments.
+
+ghost use Rattle.std.specs.Prelude.{◌≡◌, ◌++◌, ◌∷◌, IfOk, IfErr, OnOk, option_copied, option_map, true};
+ghost use Rattle.sb_relation.specs.Build.{mirror_name, mirror_of};
+ghost use Rattle.sb_relation.specs.Db.{Db, Name as Named};
+ghost use Rattle.sb_fold.specs.Building.{without_attached, without_mirror, without_mirrors};
+ghost use Rattle.sb_fold.specs.Fold.{attachments_at};
+ghost use Rattle.sb_cascade.specs.Runs.{is_free};
+ghost use Rattle.sb_drive.specs.Spaces.{LeadsOn};
+ghost use Rattle.sb_catalog.specs.Descriptors.{IsStorableDescriptor};
+ghost use Rattle.sb_engine.specs.Refusals.{HasCause, refusal_of};
+ghost use Rattle.sb_engine.specs.Working.{Goes, IsServing};
+ghost use Rattle.sb_tables.specs.Keeping.{Closes, HasMore, KeepsDb, KeepsIn};
+ghost use Rattle.sb_tables.specs.Removal.{without_mirrors_of};
+
+use crate::descriptors::{enter, owners_named, without_named};
+use sb_catalog::{Attached, Descriptor};
+use sb_drive::{PageSpace, SpaceFault};
+use sb_engine::{Running, refusal_of};
+use sb_fold::Refusal;
+use sb_map::Place;
+use sb_opened::open_relation;
+use sb_registry::Boxes;
+use sb_rule::{Rule, Side};
+use sb_value::Str;
+use std::alloc::{AllocError, Global};
+
+/// Takes the attachments of a name off a relation, where that is there. Their pages are to go with the owners that are gone. What the
+/// engine stands for may be broken before and after.
+pub fn detach_named<B: Boxes, S: PageSpace>(
+    running: &mut Running<'_, B, S>,
+    alloc: Global,
+    relation: &Str,
+    label: &Str,
+) -> Result<(), Refusal>
+    requires ready { IsServing S.is_ready B.meanings running.old }
+
+    ensures detached { OnOk result ((db : Db) → KeepsIn S.has B.meanings db running.old
+        → KeepsIn S.has B.meanings (without_attached db relation.now label.now) running.new) }
+    ensures refused { IfErr result (λ r. (db : Db) → KeepsIn S.has B.meanings db running.old → HasCause S.fails r running.new.space.now) }
+    ensures free { IfErr result (λ r. is_free r ≡ true) }
+    ensures closes { Closes running.old running.new }
+    ensures goes { Goes S.leads running.old running.new }
+    ensures ready { IsServing S.is_ready B.meanings running.new }
+{
+    running.work.opened.clear();
+    match detach_kept(
+        running.space,
+        alloc,
+        running.boxes,
+        running.place,
+        &mut running.work.gone,
+        relation,
+        label,
+    ) {
+        Ok(()) => Ok(()),
+        Err(fault) => Err(refusal_of(fault)),
+    }
+}
+
+/// The same over the parts of an engine.
+fn detach_kept<S: PageSpace, B: Boxes>(
+    space: &mut S,
+    alloc: Global,
+    boxes: &B,
+    place: Place,
+    gone: &mut Vec<u16>,
+    relation: &Str,
+    label: &Str,
+) -> Result<(), SpaceFault>
+    requires ready { S.is_ready space.old }
+    requires owner { place.owner ≡ 2 }
+
+    ensures detached { OnOk result ((db : Db) → KeepsDb S.has (B.meanings boxes.now) place.root gone.old.items db space.old
+        → KeepsDb S.has (B.meanings boxes.now) place.root gone.new.items (without_attached db relation.now label.now) space.new) }
+    ensures refused { IfErr result (λ e. (db : Db) → KeepsDb S.has (B.meanings boxes.now) place.root gone.old.items db space.old
+        → HasCause S.fails (refusal_of e) space.new) }
+    ensures more { HasMore gone.old.items gone.new.items }
+    ensures leads { LeadsOn S.leads space.old space.new }
+    ensures ready { S.is_ready space.new }
+{
+    let Some(one) = open_relation(space, alloc, boxes, place, relation)? else {
+        return Ok(());
+    };
+    let owners = owners_named(alloc, &one.descriptor, label)?;
+    gone.extend_from_slice(&owners)?;
+    let descriptor = without_named(one.descriptor, label);
+    enter(space, alloc, place, relation, &descriptor)
+}
+
+/// Takes the mirrors of a relation's attachments off their relations, where the relation is there.
+pub(crate) fn detach_mirrors<S: PageSpace, B: Boxes>(
+    space: &mut S,
+    alloc: Global,
+    boxes: &B,
+    place: Place,
+    gone: &mut Vec<u16>,
+    name: &Str,
+) -> Result<(), SpaceFault>
+    requires ready { S.is_ready space.old }
+    requires owner { place.owner ≡ 2 }
+
+    ensures detached { OnOk result ((db : Db) → KeepsDb S.has (B.meanings boxes.now) place.root gone.old.items db space.old
+        → KeepsDb S.has (B.meanings boxes.now) place.root gone.new.items (without_mirrors name.now (attachments_at db name.now) db) space.new) }
+    ensures refused { IfErr result (λ e. (db : Db) → KeepsDb S.has (B.meanings boxes.now) place.root gone.old.items db space.old
+        → HasCause S.fails (refusal_of e) space.new) }
+    ensures more { HasMore gone.old.items gone.new.items }
+    ensures leads { LeadsOn S.leads space.old space.new }
+    ensures ready { S.is_ready space.new }
+{
+    let Some(one) = open_relation(space, alloc, boxes, place, name)? else {
+        return Ok(());
+    };
+    detach_mirrors_of(
+        space,
+        alloc,
+        boxes,
+        place,
+        gone,
+        name,
+        one.descriptor.attachments.as_slice(),
+    )
+}
+
+/// The same of these attachments.
+fn detach_mirrors_of<S: PageSpace, B: Boxes>(
+    space: &mut S,
+    alloc: Global,
+    boxes: &B,
+    place: Place,
+    gone: &mut Vec<u16>,
+    name: &Str,
+    attachments: &[Attached],
+) -> Result<(), SpaceFault>
+    requires ready { S.is_ready space.old }
+    requires owner { place.owner ≡ 2 }
+
+    ensures detached { OnOk result ((db : Db) → KeepsDb S.has (B.meanings boxes.now) place.root gone.old.items db space.old
+        → KeepsDb S.has (B.meanings boxes.now) place.root gone.new.items (without_mirrors_of name.now attachments.now db) space.new) }
+    ensures refused { IfErr result (λ e. (db : Db) → KeepsDb S.has (B.meanings boxes.now) place.root gone.old.items db space.old
+        → HasCause S.fails (refusal_of e) space.new) }
+    ensures more { HasMore gone.old.items gone.new.items }
+    ensures leads { LeadsOn S.leads space.old space.new }
+    ensures ready { S.is_ready space.new }
+{
+    for attached in attachments {
+        detach_mirror(space, alloc, boxes, place, gone, name, attached)?;
+    }
+    Ok(())
+}
+
+/// The same of one attachment.
+fn detach_mirror<S: PageSpace, B: Boxes>(
+    space: &mut S,
+    alloc: Global,
+    boxes: &B,
+    place: Place,
+    gone: &mut Vec<u16>,
+    name: &Str,
+    attached: &Attached,
+) -> Result<(), SpaceFault>
+    requires ready { S.is_ready space.old }
+    requires owner { place.owner ≡ 2 }
+
+    ensures detached { OnOk result ((db : Db) → KeepsDb S.has (B.meanings boxes.now) place.root gone.old.items db space.old
+        → KeepsDb S.has (B.meanings boxes.now) place.root gone.new.items
+        (without_mirror name.now attached.now.name (mirror_of name.now attached.now.rule) db) space.new) }
+    ensures refused { IfErr result (λ e. (db : Db) → KeepsDb S.has (B.meanings boxes.now) place.root gone.old.items db space.old
+        → HasCause S.fails (refusal_of e) space.new) }
+    ensures more { HasMore gone.old.items gone.new.items }
+    ensures leads { LeadsOn S.leads space.old space.new }
+    ensures ready { S.is_ready space.new }
+{
+    match mirrored(&attached.rule) {
+        None => Ok(()),
+        Some(other) => {
+            let label = mirror_name(name, &attached.name)?;
+            detach_kept(space, alloc, boxes, place, gone, other, &label)
+        }
+    }
+}
+
+/// The relation that has the mirror of a rule.
+fn mirrored(rule: &Rule) -> Option<&Str>
+    ensures { (name : Named) → option_copied result ≡ option_map (λ mirror. mirror.0) (mirror_of name rule.now) }
+{
+    match rule {
+        Rule::JoinIndex {
+            side: Side::Main,
+            other,
+            ..
+        } => Some(other),
+        Rule::Refers {
+            side: Side::Main,
+            other,
+            ..
+        } => Some(other),
+        _ => None,
+    }
+}
+
+/// The name of the mirror of a relation's attachment.
+fn mirror_name(relation: &Str, name: &Str) -> Result<Str, AllocError>
+    ensures { IfOk result (λ label. label ≡ mirror_name relation.now name.now) }
+{
+    let mut label = relation.copy()?.into_string();
+    label.push('.')?;
+    label.push_str(name.as_str())?;
+    Ok(Str::from_string(label))
+}
