@@ -1,0 +1,93 @@
+-- What the calls of a space keep, as those of a transaction.
+use Rattle.std.proofs.Common.{◌≡◌, ⊎_elim, ℕ, Bool, true, false, Option, Ok, Err, IsErrOf, refl, sym, ap, ◌∙◌}
+use Rattle.std.proofs.lemmas.Bool.{false≢true}
+use Rattle.sb_disk.specs.Disk.{Story}
+use Rattle.sb_fold.specs.declared.refusal.Refusal.{Refusal}
+use Rattle.sb_fold.specs.declared.refusal.Refusal.TheVariants as refusal
+use Rattle.sb_drive.specs.declared.space.SpaceFault.{SpaceFault}
+use Rattle.sb_drive.specs.declared.space.SpaceFault.TheVariants.{Fault, DataFull, TempFull, LogFull, GatesFull, Damaged, Down, NoMemory}
+use Rattle.sb_txn.specs.State.{State}
+use Rattle.sb_space.specs.Transactions.{Kept}
+use Rattle.sb_space.specs.Works.{Fails, MeansDown}
+use Rattle.sb_engine.specs.Refusals.{HasCause, refusal_of}
+use Rattle.sb_transactions.specs.Calls.{IsOnlyFault, Remains}
+use Rattle.sb_transactions.specs.Commits.{FailsOn}
+
+ok_err : {T E A : Type 0} (x : T) (e : E) → Ok x ≡ Err e → A
+ok_err x e is = absurd (cc)
+
+is_fault : (fault : SpaceFault) → MeansDown fault → refusal_of fault ≡ refusal.Fault
+is_fault Fault means = refl
+is_fault Down means = refl
+is_fault (DataFull used total) means = absurd means
+is_fault (TempFull used total) means = absurd means
+is_fault (LogFull used need total) means = absurd means
+is_fault (GatesFull used total) means = absurd means
+is_fault (Damaged page) means = absurd means
+is_fault NoMemory means = absurd means
+
+module _ {D : Type 0} (told : D → Option Story) (len faults : D → ℕ) (d e : D) (s t : State) where
+  -- a call that was answered found the store up, and left it so
+  pub up_before : {T : Type 0} (x : T) → Kept told len faults d e s t (Ok x) → s.book.down ≡ false
+  up_before x kept = by s.book.down refl
+    where
+      by : (b : Bool) → s.book.down ≡ b → s.book.down ≡ false
+      by false off = off
+      by true on = ok_err x Down (kept.down on).answer
+
+  pub up_behind : {T : Type 0} (x : T) → Kept told len faults d e s t (Ok x) → t.book.down ≡ true → ⊥
+  up_behind x kept on =
+      ⊎_elim
+      (λ (was : s.book.down ≡ true). absurd (false≢true (sym (up_before x kept) ∙ was)))
+      (λ (is : IsErrOf (Ok x) Fault). ok_err x Fault is)
+      (kept.up on)
+
+  pub Remains-ok : {T U : Type 0} (x : T) (y : U) → Kept told len faults d e s t (Ok x) → Remains told len faults d e s t (Ok y)
+  Remains-ok x y kept = record {
+    size = kept.size;
+    later = kept.later;
+    geometry = kept.geometry;
+    ready = kept.ready;
+    down = λ on. ok_err x Down (kept.down on).answer;
+    up = λ on. absurd (up_behind x kept on);
+    fell = kept.fell;
+  }
+
+  -- a fault means that the store is down
+  pub IsOnlyFault-of : {T : Type 0} (fault : SpaceFault) → MeansDown fault → Kept {T = T} told len faults d e s t (Err fault) → IsOnlyFault (refusal_of fault) t
+  IsOnlyFault-of {T} fault means kept = record { is = is_fault fault means; down = falls fault means kept }
+    where
+      falls : (f : SpaceFault) → MeansDown f → Kept {T = T} told len faults d e s t (Err f) → t.book.down ≡ true
+      falls Fault means kept = kept.fails.1
+      falls Down means kept = let was = kept.only refl in ap (λ (x : State). x.book.down) (kept.down was).store ∙ was
+      falls (DataFull used total) means kept = absurd means
+      falls (TempFull used total) means kept = absurd means
+      falls (LogFull used need total) means kept = absurd means
+      falls (GatesFull used total) means kept = absurd means
+      falls (Damaged page) means kept = absurd means
+      falls NoMemory means kept = absurd means
+
+  pub Remains-err : {T U : Type 0} (fault : SpaceFault) → MeansDown fault → Kept {T = T} told len faults d e s t (Err fault) → Remains {T = U} told len faults d e s t (Err (refusal_of fault))
+  Remains-err {T} {U} fault means kept = record {
+    size = kept.size;
+    later = kept.later;
+    geometry = kept.geometry;
+    ready = kept.ready;
+    down = λ on. record { answer = answer; disk = (kept.down on).disk; store = (kept.down on).store };
+    up = λ on. answer;
+    fell = kept.fell;
+  }
+    where
+      answer : IsErrOf {T = U} (Err (refusal_of fault)) refusal.Fault
+      answer = ap (λ (r : Refusal). Err r) (is_fault fault means)
+
+  -- and that the disk failed a call
+  pub HasCause-of : (fault : SpaceFault) → MeansDown fault → Fails faults fault d e s t → HasCause (FailsOn faults) (refusal_of fault) (record { disk = e; store = t })
+  HasCause-of Fault means fails = record { fault = Fault; is = refl; before = record { disk = d; store = s }; fails = fails }
+  HasCause-of Down means fails = record { fault = Down; is = refl; before = record { disk = d; store = s }; fails = fails }
+  HasCause-of (DataFull used total) means fails = absurd means
+  HasCause-of (TempFull used total) means fails = absurd means
+  HasCause-of (LogFull used need total) means fails = absurd means
+  HasCause-of (GatesFull used total) means fails = absurd means
+  HasCause-of (Damaged page) means fails = absurd means
+  HasCause-of NoMemory means fails = absurd means

@@ -1,0 +1,63 @@
+-- What a commit of the pages leaves.
+use Rattle.std.proofs.Common.{◌≡◌, ℕ, List, [], sym, ap, subst}
+use Rattle.std.proofs.lemmas.List.Elements.{All-nil}
+use Rattle.sb_relation.specs.Db.{Db}
+use Rattle.sb_fold.specs.Outcome.{Going}
+use Rattle.sb_deferred.specs.Complete.{IsComplete}
+use Rattle.sb_deferred.specs.Waiting.{nothing}
+use Rattle.sb_deferred.proofs.CommitLemmas.{first-complete}
+use Rattle.sb_cascade.specs.Fitting.{IsFitting}
+use Rattle.sb_disk.specs.Moments.{LeavesOnly}
+use Rattle.sb_images.specs.Images.{IsOldOrNew}
+use Rattle.sb_log.specs.declared.geometry.Geometry.{Geometry}
+use Rattle.sb_registry.specs.Boxes.{Meanings}
+use Rattle.sb_drive.specs.Slots.{Slots}
+use Rattle.sb_drive.specs.Spaces.{Wanted}
+use Rattle.sb_map.specs.declared.place.Place.{Place}
+use Rattle.sb_standing.specs.Tables.{db_of}
+use Rattle.sb_standing.specs.Standing.{Keeps}
+use Rattle.sb_opened.specs.Opened.{IsDurable}
+use Rattle.sb_txn.specs.Clauses.{Parts}
+use Rattle.sb_space.specs.Table.{slots_in}
+use Rattle.sb_space.specs.Works.{HasPages}
+use Rattle.sb_engine.specs.declared.running.Work.{Work}
+use Rattle.sb_engine.specs.Working.{extensions_of}
+use Rattle.sb_transactions.specs.Commits.{IsDone, LeavesEither}
+use Rattle.sb_transactions.specs.Transactions.{IsAt, IsCommitted, IsFinished, IsSettled}
+
+-- work of which nothing is left keeps its database for a commit
+module _ (m : Meanings) (place : Place) (want : Wanted) (tx : ℕ) (g : Going) (p : Parts) (w : Work) (at : IsAt m place want tx g p w) (finished : IsFinished m g w) where
+  settled : IsSettled m at.kept nothing
+  settled = record {
+    lasting = at.settled.lasting;
+    mirrored = at.settled.mirrored;
+    paired = at.settled.paired;
+    complete = subst (λ (db : Db). IsComplete db nothing) at.db (first-complete (extensions_of m) g.db finished.holds);
+    rules = at.settled.rules;
+    fit = All-nil (IsFitting (db_of at.kept));
+  }
+
+  pub IsCommitted-now : IsCommitted m place.root p.store.pool.geometry.pages at.has.now g.db
+  IsCommitted-now = record {
+    formed = record { whole = at.has.stands.whole; table = at.has.table };
+    kept = at.kept;
+    is = at.db;
+    keeps = subst (λ (s : Slots). Keeps m IsDurable place.root s [] at.kept) at.has.slots
+        (subst (λ (gone : List ℕ). Keeps m IsDurable place.root at.slots gone at.kept) finished.gone at.keeps);
+    settled = settled;
+  }
+
+  pub LeavesEither-commit : (q : Parts) → ((want : Wanted) (s : Slots) (has : HasPages want s p) → LeavesOnly p.told q.told (IsOldOrNew p.store.pool.geometry want has.now)) → LeavesEither m place.root want p g q
+  LeavesEither-commit q leaves = record { pages = at.has.now; committed = IsCommitted-now; leaves = leaves want at.slots at.has }
+
+  pub IsDone-commit : (q : Parts) → q.store.pool.geometry ≡ p.store.pool.geometry → ((want : Wanted) (s : Slots) (has : HasPages want s p) → HasPages has.now s q) → IsDone m place.root w.picks.items g q
+  IsDone-commit q sizes commits =
+      let same : p.store.pool.geometry.pages ≡ q.store.pool.geometry.pages = ap (λ (g : Geometry). g.pages) (sym sizes) in
+      record {
+        want = at.has.now;
+        rests = record {
+          has = subst (λ (n : ℕ). HasPages at.has.now (slots_in n at.has.now) q) same (subst (λ (s : Slots). HasPages at.has.now s q) at.has.slots (commits want at.slots at.has));
+          committed = subst (λ (n : ℕ). IsCommitted m place.root n at.has.now g.db) same IsCommitted-now;
+        };
+        picked = at.picked;
+      }

@@ -1,0 +1,219 @@
+-- The end of a transaction, by a commit or an abort, behind the work that finishes it.
+use Rattle.std.proofs.Common.{◌≡◌, ⊎_elim, inl, inr, ℕ, Bool, true, false, Option, None, Result, Ok, Err, IfErr, IfOk, IsErrOf, OnOk, List, [], All, refl, sym, ap, subst, ◌∙◌, arith}
+use Rattle.std.proofs.lemmas.List.Elements.{All-nil}
+use Rattle.sb_disk.specs.Causes.{Rose}
+use Rattle.sb_disk.specs.Disk.{Story}
+use Rattle.sb_disk.specs.Moments.{LeavesOnly}
+use Rattle.sb_disk.proofs.CauseLemmas.{Rose-before, Rose-later}
+use Rattle.sb_disk.proofs.MomentLemmas.{and_then, weaker}
+use Rattle.sb_images.specs.Images.{Restores, IsOldOrNew}
+use Rattle.sb_log.specs.declared.geometry.Geometry.{Geometry}
+use Rattle.sb_relation.specs.Db.{Db, Key}
+use Rattle.sb_fold.specs.Extensions.{Extensions}
+use Rattle.sb_fold.specs.Finish.{finish, first_failing}
+use Rattle.sb_fold.specs.Outcome.{Entry, Going, Queue}
+use Rattle.sb_fold.specs.Fold.{attachments_at}
+use Rattle.sb_fold.specs.declared.refusal.Refusal.{Refusal}
+use Rattle.sb_fold.specs.declared.refusal.Refusal.TheVariants.{Fault}
+use Rattle.sb_deferred.specs.Complete.{IsComplete}
+use Rattle.sb_deferred.specs.Waiting.{nothing}
+use Rattle.sb_deferred.proofs.CommitLemmas.{nothing-fails-at-all}
+use Rattle.sb_relation.specs.Rules.{entry_fails}
+use Rattle.sb_cascade.specs.Runs.{is_free, MadeFrom, StopsFrom}
+use Rattle.sb_registry.specs.Boxes.{Meanings}
+use Rattle.sb_drive.specs.Spaces.{Wanted}
+use Rattle.sb_map.specs.declared.place.Place.{Place}
+use Rattle.sb_txn.specs.Clauses.{Parts, parts, IsStoreOf, LeavesWanted}
+use Rattle.sb_txn.specs.State.{State}
+use Rattle.sb_space.specs.Works.{Works}
+use Rattle.sb_engine.specs.declared.running.Work.{Work}
+use Rattle.sb_engine.specs.Refusals.{HasCause}
+use Rattle.sb_engine.specs.Working.{extensions_of}
+use Rattle.sb_standing.specs.Tables.{db_of}
+use Rattle.sb_transactions.specs.Calls.{IsOnlyFault, Remains}
+use Rattle.sb_transactions.specs.Commits.{ComesTo, FailsOn, Finishes, IsDone, IsLed, LeavesEither, LeavesOldOrFinished, Mounted, StopsAt}
+use Rattle.sb_transactions.specs.Transactions.{HasNothingLeft, IsAt, IsCommitted, IsFinished}
+use Rattle.sb_transactions.proofs.FinishLemmas.{StopsFrom-behind, StopsFrom-else, finish-at_once, finish-map}
+
+ok_err : {T E A : Type 0} (x : T) (e : E) → Ok x ≡ Err e → A
+ok_err x e is = absurd (cc)
+
+fault_free : (r : Refusal) → r ≡ Fault → is_free r ≡ true
+fault_free r is = ap is_free is
+
+-- ---- nothing is left
+module _ (m : Meanings) (place : Place) (want : Wanted) (tx : ℕ) (g : Going) (p : Parts) (w : Work) (at : IsAt m place want tx g p w) (left : HasNothingLeft w) where
+  none_waits : g.queue ≡ nothing
+  none_waits = sym at.waits ∙ left.queue
+
+  pub no_action : g.queue.actions ≡ []
+  no_action = ap (λ (q : Queue). q.actions) none_waits
+
+  pub IsFinished-left : IsFinished m g w
+  IsFinished-left = record {
+    gone = left.gone;
+    holds = subst (λ (db : Db). first_failing (extensions_of m) db db ≡ None) (sym at.db)
+        (nothing-fails-at-all (extensions_of m) (db_of at.kept) nothing at.keeps.tables.rising at.settled.mirrored
+        (subst (λ (q : Queue). IsComplete (db_of at.kept) q) none_waits at.settled.complete)
+        (All-nil (λ (e : Entry). All (λ a. a.name ≡ e.name → entry_fails (db_of at.kept) e.relation a.rule e.entry ≡ false) (attachments_at (db_of at.kept) e.relation))));
+  }
+
+  -- so it is finished at once
+  pub finished-left : {S : Type 0} (P : Going → S → Type 0) (x : S) → P g x → MadeFrom P (finish (extensions_of m)) g tt x
+  finished-left P x is = finish-at_once P (extensions_of m) g x no_action IsFinished-left.holds is
+
+-- ---- by what the commit of the pages answers
+module _ (m : Meanings) (place : Place) (tx : ℕ) (p q : Parts) (w : Work) (left : HasNothingLeft w) where
+  pub done-left : {T : Type 0} (r : Result T Refusal) (items : T → List Key)
+      → IfOk r (λ picks. (m : Meanings) (place : Place) (want : Wanted) (g : Going) → IsAt m place want tx g p w → IsFinished m g w → IsDone m place.root (items picks) g q)
+      → IfOk r (λ picks. (want : Wanted) (g : Going) → IsAt m place want tx g p w → Finishes m g (IsDone m place.root (items picks)) q)
+  done-left (Ok picks) items done = λ want g at.
+      finished-left m place want tx g p w at left (IsDone m place.root (items picks)) q (done m place want g at (IsFinished-left m place want tx g p w at left))
+  done-left (Err e) items done = tt
+
+  pub leaves-left : ((m : Meanings) (place : Place) (want : Wanted) (g : Going) → IsAt m place want tx g p w → IsFinished m g w → LeavesEither m place.root want p g q)
+      → (want : Wanted) (g : Going) → IsAt m place want tx g p w → LeavesOldOrFinished m place.root want g p q
+  leaves-left either want g at = inr (finished-left m place want tx g p w at left (LeavesEither m place.root want p) q (either m place want g at (IsFinished-left m place want tx g p w at left)))
+
+-- a fault of its commit
+pub StopsAt-left : {D : Type 0} (told : D → Option Story) (len faults : D → ℕ) (m : Meanings) (place : Place) (want : Wanted) (tx : ℕ) (g : Going) (p : Parts) (w : Work) (old new : Mounted D) (r : Refusal)
+    → IsAt m place want tx g p w → HasNothingLeft w → IsOnlyFault r new.store → HasCause (FailsOn faults) r new → StopsAt told len faults (extensions_of m) tx g r old
+StopsAt-left told len faults m place want tx g p w old new r at left only cause = record {
+  there = new;
+  led = λ not. absurd (not only.is);
+  stops = StopsFrom-behind (λ h x. Unit {0}) (λ refusal trail x. HasCause (FailsOn faults) refusal x) (finish (extensions_of m)) g tt new r new (fault_free r only.is) (λ trail. cause)
+      (finished-left m place want tx g p w at left (λ h x. Unit {0}) new tt);
+}
+
+pub stops-left : {D T : Type 0} (told : D → Option Story) (len faults : D → ℕ) (m : Meanings) (place : Place) (tx : ℕ) (p : Parts) (w : Work) (old new : Mounted D) (r : Result T Refusal) → HasNothingLeft w
+    → IfErr r (λ e. IsOnlyFault e new.store) → IfErr r (λ e. HasCause (FailsOn faults) e new)
+    → IfErr r (λ e. (want : Wanted) (g : Going) → IsAt m place want tx g p w → StopsAt told len faults (extensions_of m) tx g e old)
+stops-left told len faults m place tx p w old new (Ok x) left only cause = tt
+stops-left told len faults m place tx p w old new (Err e) left only cause = λ want g at. StopsAt-left told len faults m place want tx g p w old new e at left only cause
+
+-- ---- behind the work that finishes it
+module _ {D : Type 0} (told : D → Option Story) (len faults : D → ℕ) (m : Meanings) (place : Place) (tx : ℕ) (d e f : D) (s t u : State) (w : Work)
+    (led : IsLed told len faults tx (record { disk = d; store = s }) (record { disk = e; store = t })) where
+  abbrev old : Parts
+  old = parts told len d s
+
+  abbrev mid : Parts
+  mid = parts told len e t
+
+  abbrev new : Parts
+  new = parts told len f u
+
+  abbrev works : Works told len faults tx led.0 d e s t
+  works = led.1
+
+  -- what is kept of it in the whole
+  pub Remains-behind : {T U : Type 0} (r : Result T Refusal) (q : Result U Refusal) → (IsErrOf r Fault → IsErrOf q Fault) → Remains told len faults e f t u r → Remains told len faults d f s u q
+  Remains-behind r q same remains = record {
+    size = remains.size ∙ works.size;
+    later = let one = works.later in let two = remains.later in omega arith;
+    geometry = remains.geometry ∙ works.geometry;
+    ready = remains.ready;
+    down = λ on.
+        let first = works.down on in
+        let second = remains.down (ap (λ (x : State). x.book.down) first.1 ∙ on) in
+        record { answer = same second.answer; disk = second.disk ∙ first.0; store = second.store ∙ first.1 };
+    up = λ on. same (remains.up on);
+    fell = λ on. ⊎_elim
+        (λ (was : t.book.down ≡ true). ⊎_elim
+        (λ (first : s.book.down ≡ true). inl first)
+        (λ (rose : Rose (faults d) (faults e)). inr (Rose-before (faults d) (faults e) (faults f) rose remains.later))
+        (works.fell was))
+        (λ (rose : Rose (faults e) (faults f)). inr (Rose-later (faults d) (faults e) (faults f) works.later rose))
+        (remains.fell on);
+  }
+
+  -- where the store went down in that work, it is as that left it
+  still_down : {T : Type 0} (r : Result T Refusal) → Remains told len faults e f t u r → t.book.down ≡ true → (want : Wanted) → LeavesOnly (told d) (told e) (Restores s.pool.geometry want)
+      → LeavesOnly (told d) (told f) (Restores s.pool.geometry want)
+  still_down r remains on want leaves = subst (λ (x : D). LeavesOnly (told d) (told x) (Restores s.pool.geometry want)) (sym (remains.down on).disk) leaves
+
+  -- ---- a commit
+  module _ (want : Wanted) (g : Going) (at : (v : Work) × IsAt m place want tx g old v) (finished : Finishes m g (ComesTo m place want tx w) mid) (none : w.gone.items ≡ []) where
+    abbrev ext : Extensions
+    ext = extensions_of m
+
+    store : IsStoreOf want at.1.has.now old
+    store = at.1.has.stands.store
+
+    before : LeavesOnly (told d) (told e) (Restores s.pool.geometry want)
+    before = works.leaves.each want at.1.has.now store
+
+    pub IsDone-behind : (picks : List Key) (tx' : ℕ) → tx' ≡ tx → t.book.down ≡ false
+        → ((m : Meanings) (place : Place) (want : Wanted) (g : Going) → IsAt m place want tx' g mid w → IsFinished m g w → IsDone m place.root picks g new)
+        → Finishes m g (IsDone m place.root picks) new
+    IsDone-behind picks tx' same up done =
+        finish-map (ComesTo m place want tx w) (IsDone m place.root picks) ext g mid new
+        (λ h holds comes. done m place want h (subst (λ (n : ℕ). IsAt m place want n h mid w) (sym same) (comes up)) (record { gone = none; holds = holds })) finished
+
+    wider : (h : Going) → LeavesEither m place.root want mid h new → LeavesEither m place.root want old h new
+    wider h either = record {
+      pages = either.pages;
+      committed = subst (λ (n : ℕ). IsCommitted m place.root n either.pages h.db) (ap (λ (x : Geometry). x.pages) works.geometry) either.committed;
+      leaves = and_then (told d) (told e) (told f) (IsOldOrNew s.pool.geometry want either.pages)
+          (weaker (told d) (told e) (Restores s.pool.geometry want) (IsOldOrNew s.pool.geometry want either.pages) (λ image is. inl is) before)
+          (subst (λ (x : Geometry). LeavesOnly (told e) (told f) (IsOldOrNew x want either.pages)) works.geometry either.leaves);
+    }
+
+    pub LeavesOldOrFinished-commit : {T : Type 0} (r : Result T Refusal) (tx' : ℕ) → tx' ≡ tx → Remains told len faults e f t u r
+        → ((m : Meanings) (place : Place) (want : Wanted) (g : Going) → IsAt m place want tx' g mid w → IsFinished m g w → LeavesEither m place.root want mid g new)
+        → LeavesOldOrFinished m place.root want g old new
+    LeavesOldOrFinished-commit r tx' same remains either = by t.book.down refl
+      where
+        by : (b : Bool) → t.book.down ≡ b → LeavesOldOrFinished m place.root want g old new
+        by true on = inl (still_down r remains on want before)
+        by false off = inr (finish-map (ComesTo m place want tx w) (LeavesEither m place.root want old) ext g mid new
+            (λ h holds comes. wider h (either m place want h (subst (λ (n : ℕ). IsAt m place want n h mid w) (sym same) (comes off)) (record { gone = none; holds = holds }))) finished)
+
+    -- the disk failed in it
+    pub StopsAt-commit : (r : Refusal) → IsOnlyFault r u → HasCause (FailsOn faults) r (record { disk = f; store = u }) → StopsAt told len faults ext tx g r (record { disk = d; store = s })
+    StopsAt-commit r only cause = record {
+      there = record { disk = f; store = u };
+      led = λ not. absurd (not only.is);
+      stops = StopsFrom-behind (ComesTo m place want tx w) (λ refusal trail x. HasCause (FailsOn faults) refusal x) (finish ext) g tt mid r (record { disk = f; store = u }) (fault_free r only.is) (λ trail. cause) finished;
+    }
+
+  -- ---- by what the commit of the pages answers
+  module _ (v : Work) (finished : (want : Wanted) (g : Going) → IsAt m place want tx g old v → Finishes m g (ComesTo m place want tx w) mid) (none : w.gone.items ≡ []) where
+    pub done-commit : {T : Type 0} (r : Result T Refusal) (items : T → List Key) (tx' : ℕ) → tx' ≡ tx → OnOk r (t.book.down ≡ false)
+        → IfOk r (λ picks. (m : Meanings) (place : Place) (want : Wanted) (g : Going) → IsAt m place want tx' g mid w → IsFinished m g w → IsDone m place.root (items picks) g new)
+        → IfOk r (λ picks. (want : Wanted) (g : Going) → IsAt m place want tx g old v → Finishes m g (IsDone m place.root (items picks)) new)
+    done-commit (Ok picks) items tx' same up done = λ want g at. IsDone-behind want g (v, at) (finished want g at) none (items picks) tx' same up done
+    done-commit (Err e) items tx' same up done = tt
+
+    pub stops-commit : {T : Type 0} (r : Result T Refusal) → IfErr r (λ e. IsOnlyFault e u) → IfErr r (λ e. HasCause (FailsOn faults) e (record { disk = f; store = u }))
+        → IfErr r (λ e. (want : Wanted) (g : Going) → IsAt m place want tx g old v → StopsAt told len faults (extensions_of m) tx g e (record { disk = d; store = s }))
+    stops-commit (Ok x) only cause = tt
+    stops-commit (Err e) only cause = λ want g at. StopsAt-commit want g (v, at) (finished want g at) none e only cause
+
+  -- ---- an abort
+  module _ (want : Wanted) (g : Going) (at : (v : Work) × IsAt m place want tx g old v) where
+    first : LeavesOnly (told d) (told e) (Restores s.pool.geometry want)
+    first = works.leaves.each want at.1.has.now at.1.has.stands.store
+
+    pub LeavesOldOrFinished-abort : {T : Type 0} (r : Result T Refusal) → Remains told len faults e f t u r → LeavesWanted mid new → LeavesOldOrFinished m place.root want g old new
+    LeavesOldOrFinished-abort r remains leaves = by t.book.down refl
+      where
+        by : (b : Bool) → t.book.down ≡ b → LeavesOldOrFinished m place.root want g old new
+        by true on = inl (still_down r remains on want first)
+        by false off =
+            let turns = (works.makes off).pages want at.1.has.now at.1.has.stands.store in
+            inl (and_then (told d) (told e) (told f) (Restores s.pool.geometry want) first
+            (subst (λ (x : Geometry). LeavesOnly (told e) (told f) (Restores x want)) works.geometry (leaves.each want turns.pages turns.store)))
+
+  module _ (g : Going) (r : Refusal) (stops : StopsFrom (λ refusal trail x. HasCause (FailsOn faults) refusal x) (finish (extensions_of m)) g r (record { disk = e; store = t })) where
+    pub StopsAt-abort : StopsAt told len faults (extensions_of m) tx g r (record { disk = d; store = s })
+    StopsAt-abort = record { there = record { disk = e; store = t }; led = λ not. led; stops = stops }
+
+    -- the disk failed in it
+    pub StopsAt-fault : (q : Refusal) → IsOnlyFault q u → HasCause (FailsOn faults) q (record { disk = f; store = u }) → StopsAt told len faults (extensions_of m) tx g q (record { disk = d; store = s })
+    StopsAt-fault q only cause = record {
+      there = record { disk = f; store = u };
+      led = λ not. absurd (not only.is);
+      stops = StopsFrom-else (λ refusal trail x. HasCause (FailsOn faults) refusal x) (λ refusal trail x. HasCause (FailsOn faults) refusal x) (finish (extensions_of m)) g r q (record { disk = e; store = t })
+          (record { disk = f; store = u }) (fault_free q only.is) (λ trail. cause) stops;
+    }

@@ -1,0 +1,109 @@
+-- What finishing a transaction gives, and how it is refused.
+use Rattle.std.proofs.Common.{◌≡◌, ℕ, zero, suc, Bool, true, false, Option, Some, None, List, [], ◌++◌, refl, sym, ap, subst, ◌∙◌}
+use Rattle.sb_rule.specs.declared.action.Action.{Action}
+use Rattle.sb_relation.specs.Db.{Name}
+use Rattle.sb_fold.specs.declared.refusal.Refusal.{Refusal}
+use Rattle.sb_fold.specs.declared.refusal.Refusal.TheVariants.{Room, Damaged, Fault}
+use Rattle.sb_fold.specs.Extensions.{Extensions}
+use Rattle.sb_fold.specs.Finish.{drain, drain_next, finish, first_failing, unless_failing, unless_waiting}
+use Rattle.sb_fold.specs.Fold.{first_change}
+use Rattle.sb_fold.specs.Outcome.{Trail, Going, Outcome, Gives, Stopped, NoStep, Work, made, continue, trail_of, with_picks}
+use Rattle.sb_drive.specs.declared.space.SpaceFault.{SpaceFault}
+use Rattle.sb_drive.specs.declared.space.SpaceFault.TheVariants as fault
+use Rattle.sb_cascade.specs.Runs.{is_free, EndsBy, GoesOn, MadeFrom, StopsFrom}
+use Rattle.sb_cascade.proofs.Forward.{goes_here}
+use Rattle.sb_engine.specs.Refusals.{HasCause, IsRefusedBy, refusal_of}
+
+-- ---- nothing waits
+drain-none : (ext : Extensions) (most : ℕ) (g : Going) → g.queue.actions ≡ [] → drain ext most g ≡ made tt g
+drain-none ext zero g none = ap (λ (actions : List Action). unless_waiting actions g) none
+drain-none ext (suc most) g none = ap (λ (actions : List Action). drain_next (first_change ext) (drain ext most) actions g) none
+
+-- the rules that are tested behind the actions
+abbrev tested : Extensions → Unit {0} → Work (Unit {0})
+tested ext _ going = unless_failing (first_failing ext going.db going.db) going
+
+pub finish-none : (ext : Extensions) (g : Going) → g.queue.actions ≡ [] → first_failing ext g.db g.db ≡ None → finish ext g ≡ made tt g
+finish-none ext g none holds =
+    ap (λ (o : Outcome (Unit {0})). continue (tested ext) o) (drain-none ext 1000 g none) ∙ ap (λ (f : Option (Name × Name)). unless_failing f g) holds
+
+-- ---- what was finished has no rule that fails
+last-step : (f : Option (Name × Name)) (h after : Going) → unless_failing f h ≡ Gives tt after → (f ≡ None) × (h ≡ after)
+last-step None h after is = (refl, cc)
+last-step (Some (relation, name)) h after is = absurd (cc)
+
+last-test : (ext : Extensions) (o : Outcome (Unit {0})) (after : Going) → continue (tested ext) o ≡ Gives tt after → first_failing ext after.db after.db ≡ None
+last-test ext (Gives x h) after is =
+    let last = last-step (first_failing ext h.db h.db) h after is in
+    subst (λ (g : Going). first_failing ext g.db g.db ≡ None) last.1 last.0
+last-test ext (Stopped r trail) after is = absurd (cc)
+last-test ext (NoStep trail) after is = absurd (cc)
+
+pub finish-holds : (ext : Extensions) (g after : Going) → finish ext g ≡ made tt after → first_failing ext after.db after.db ≡ None
+finish-holds ext g after is = last-test ext (drain ext 1000 g) after is
+
+pub finish-map : {S T : Type 0} (P : Going → S → Type 0) (Q : Going → T → Type 0) (ext : Extensions) (g : Going) (a : S) (b : T) → ((h : Going) → first_failing ext h.db h.db ≡ None → P h a → Q h b)
+    → MadeFrom P (finish ext) g tt a → MadeFrom Q (finish ext) g tt b
+finish-map P Q ext g a b gives from = record {
+  picks = from.picks;
+  after = from.after;
+  leads = from.leads;
+  stands = gives from.after (finish-holds ext (with_picks g (from.picks ++ [])) (with_picks from.after []) (from.leads.leads [])) from.stands;
+}
+
+pub finish-at_once : {S : Type 0} (P : Going → S → Type 0) (ext : Extensions) (g : Going) (a : S) → g.queue.actions ≡ [] → first_failing ext g.db g.db ≡ None → P g a → MadeFrom P (finish ext) g tt a
+finish-at_once P ext g a none holds is = record { picks = []; after = g; leads = record { leads = λ more. finish-none ext (with_picks g more) none holds }; stands = is }
+
+-- ---- stops
+pub StopsFrom-map : {S T A : Type 0} (P : Refusal → Trail → S → Type 0) (Q : Refusal → Trail → T → Type 0) (work : Work A) (g : Going) (r : Refusal) (a : S) (b : T) → ((trail : Trail) → P r trail a → Q r trail b)
+    → StopsFrom P work g r a → StopsFrom Q work g r b
+StopsFrom-map P Q work g r a b gives stops = by (is_free r) stops
+  where
+    by : (free : Bool) → EndsBy P free work g r a → EndsBy Q free work g r b
+    by true broken = record { picks = broken.picks; trail = broken.trail; comes = broken.comes; stopped = gives broken.trail broken.stopped }
+    by false refused = record { picks = refused.picks; after = refused.after; leads = refused.leads; stopped = gives refused.after.trail refused.stopped }
+
+-- a refusal of what comes behind the work
+pub StopsFrom-behind : {S T A : Type 0} (P : Going → S → Type 0) (Q : Refusal → Trail → T → Type 0) (work : Work A) (g : Going) (x : A) (a : S) (r : Refusal) (b : T) → is_free r ≡ true → ((trail : Trail) → Q r trail b)
+    → MadeFrom P work g x a → StopsFrom Q work g r b
+StopsFrom-behind {A = A} P Q work g x a r b free is from = subst (λ (t : Bool). EndsBy Q t work g r b) (sym free) (record {
+  picks = from.picks;
+  trail = from.after.trail;
+  comes = λ more. subst (λ (o : Outcome A). GoesOn from.after.trail (trail_of o)) (sym (from.leads.leads more)) (goes_here from.after.trail);
+  stopped = is from.after.trail;
+})
+
+-- another refusal where the work was refused
+pub StopsFrom-else : {S T A : Type 0} (P : Refusal → Trail → S → Type 0) (Q : Refusal → Trail → T → Type 0) (work : Work A) (g : Going) (r q : Refusal) (a : S) (b : T) → is_free q ≡ true → ((trail : Trail) → Q q trail b)
+    → StopsFrom P work g r a → StopsFrom Q work g q b
+StopsFrom-else {A = A} P Q work g r q a b free is stops = subst (λ (t : Bool). EndsBy Q t work g q b) (sym free) (by (is_free r) stops)
+  where
+    by : (t : Bool) → EndsBy P t work g r a → EndsBy Q true work g q b
+    by true broken = record { picks = broken.picks; trail = broken.trail; comes = broken.comes; stopped = is broken.trail }
+    by false refused = record {
+      picks = refused.picks;
+      trail = refused.after.trail;
+      comes = λ more. subst (λ (o : Outcome A). GoesOn refused.after.trail (trail_of o)) (sym (refused.leads.leads more)) (goes_here refused.after.trail);
+      stopped = is refused.after.trail;
+    }
+
+-- ---- causes
+refused-map : {S T : Type 0} (P : SpaceFault → S → S → Type 0) (Q : SpaceFault → T → T → Type 0) (f : S → T) → ((e : SpaceFault) (a b : S) → P e a b → Q e (f a) (f b)) → (r : Refusal) (a : S) → IsRefusedBy P r a → IsRefusedBy Q r (f a)
+refused-map P Q f gives r a by = record { fault = by.fault; is = by.is; before = f by.before; fails = gives by.fault by.before a by.fails }
+
+pub HasCause-map : {S T : Type 0} (P : SpaceFault → S → S → Type 0) (Q : SpaceFault → T → T → Type 0) (f : S → T) → ((e : SpaceFault) (a b : S) → P e a b → Q e (f a) (f b)) → (r : Refusal) (a : S) → HasCause P r a → HasCause Q r (f a)
+HasCause-map P Q f gives (Room room) a cause = refused-map P Q f gives (Room room) a cause
+HasCause-map P Q f gives Fault a cause = refused-map P Q f gives Fault a cause
+HasCause-map P Q f gives (Damaged page) a cause = absurd cause
+HasCause-map P Q f gives r a cause = tt
+
+-- the refusals of a space are free
+pub refusal-free : (e : SpaceFault) → is_free (refusal_of e) ≡ true
+refusal-free fault.Fault = refl
+refusal-free (fault.DataFull used total) = refl
+refusal-free (fault.TempFull used total) = refl
+refusal-free (fault.LogFull used need total) = refl
+refusal-free (fault.GatesFull used total) = refl
+refusal-free (fault.Damaged page) = refl
+refusal-free fault.Down = refl
+refusal-free fault.NoMemory = refl

@@ -1,0 +1,85 @@
+-- A transaction that is finished over its store, which is lent.
+use Rattle.std.proofs.Common.{◌≡◌, ℕ, false, Option, Result, Ok, Err, IfErr, OnOk, sym, subst}
+use Rattle.sb_disk.specs.Disk.{Story}
+use Rattle.sb_relation.specs.Db.{Db}
+use Rattle.sb_fold.specs.Finish.{finish}
+use Rattle.sb_fold.specs.Outcome.{Going}
+use Rattle.sb_fold.specs.declared.refusal.Refusal.{Refusal}
+use Rattle.sb_cascade.specs.Runs.{MadeFrom, StopsFrom}
+use Rattle.sb_registry.specs.Boxes.{Meanings}
+use Rattle.sb_drive.specs.Spaces.{LeadsOn, Wanted}
+use Rattle.sb_drive.specs.declared.space.SpaceFault.{SpaceFault}
+use Rattle.sb_map.specs.declared.place.Place.{Place}
+use Rattle.sb_txn.specs.Clauses.{Parts, parts}
+use Rattle.sb_txn.specs.State.{State}
+use Rattle.sb_space.specs.declared.durable.Durable.{Durable}
+use Rattle.sb_space.specs.Durable.{parts_in}
+use Rattle.sb_space.specs.View.{lent}
+use Rattle.sb_space.specs.Works.{Fails}
+use Rattle.sb_engine.specs.declared.running.Work.{Work}
+use Rattle.sb_engine.specs.Refusals.{HasCause}
+use Rattle.sb_engine.specs.Working.{extensions_of}
+use Rattle.sb_engine.specs.Working as engine
+use Rattle.sb_transactions.specs.Commits.{ComesTo, FailsOn, Finishes, Mounted}
+use Rattle.sb_transactions.specs.Driven.{HasLent, IsServed, LeadsLent}
+use Rattle.sb_transactions.specs.Transactions.{IsAt, WasBegun}
+use Rattle.sb_transactions.proofs.DrivenLemmas.{Stands-at, driven-begun, driven-stands}
+use Rattle.sb_transactions.proofs.FinishLemmas.{HasCause-map, StopsFrom-map, finish-map}
+
+-- what is lent
+pub record IsStoreLent {D : Type 0} (disk : D) (store : State) (tx : ℕ) (a : Durable D) : Type 0 where
+  pub store_is : a.store.now ≡ store
+  pub disk_is : a.disk.now ≡ disk
+  pub tx_is : (lent a).tx ≡ tx
+
+abbrev pub FailsLent : {D : Type 0} → (D → ℕ) → SpaceFault → Durable D → Durable D → Type 0
+FailsLent faults e a b = Fails faults e a.disk.now b.disk.now a.store.now b.store.now
+
+module _ {D : Type 0} (told : D → Option Story) (len faults : D → ℕ) (m : Meanings) (place : Place) (disk : D) (store : State) (tx : ℕ) (a b : Durable D) (v w : Work) (is : IsStoreLent disk store tx a)
+    (leads : LeadsOn (LeadsLent told len faults) a b) (serves : engine.Serves (IsServed told len) m place b w) (e : D) (same : e ≡ b.disk.now) where
+  abbrev end : Parts
+  end = parts told len e b.store.now
+
+  to_end : (P : Parts → Type 0) → P (parts_in told len (lent b)) → P end
+  to_end P so = subst (λ (d : D). P (parts told len d b.store.now)) (sym same) so
+
+  to_lent : (P : ℕ → Parts → Type 0) → P tx (parts told len disk store) → P (lent a).tx (parts_in told len (lent a))
+  to_lent P so =
+      subst (λ (n : ℕ). P n (parts_in told len (lent a))) (sym is.tx_is)
+      (subst (λ (d : D). P tx (parts told len d a.store.now)) (sym is.disk_is)
+      (subst (λ (s : State). P tx (parts told len disk s)) (sym is.store_is) so))
+
+  module _ (want : Wanted) (g : Going) (at : IsAt m place want tx g (parts told len disk store) v) where
+    at_lent : IsAt m place want (lent a).tx g (parts_in told len (lent a)) v
+    at_lent = to_lent (λ n p. IsAt m place want n g p v) at
+
+    stands_lent : engine.Stands (HasLent told len) m place.root g a v
+    stands_lent = Stands-at told len faults m place want g a v at_lent
+
+    came : (h : Going) → engine.Stands (HasLent told len) m place.root h b w → ComesTo m place want tx w h end
+    came h stands = to_end (λ p. ComesTo m place want tx w h p) (λ up. subst (λ (n : ℕ). IsAt m place want n h (parts_in told len (lent b)) w) is.tx_is (driven-stands told len faults m place want g h a b v w at_lent leads serves stands up))
+
+  pub finished-lent : {T : Type 0} (r : Result T Refusal)
+      → OnOk r ((g : Going) → engine.Stands (HasLent told len) m place.root g a v → MadeFrom (λ h x. engine.Stands (HasLent told len) m place.root h x w) (finish (extensions_of m)) g tt b)
+      → OnOk r ((want : Wanted) (g : Going) → IsAt m place want tx g (parts told len disk store) v → Finishes m g (ComesTo m place want tx w) end)
+  finished-lent (Ok x) made = λ want g at.
+      finish-map (λ h y. engine.Stands (HasLent told len) m place.root h y w) (ComesTo m place want tx w) (extensions_of m) g b end (λ h holds stands. came want g at h stands) (made g (stands_lent want g at))
+  finished-lent (Err r) made = tt
+
+  abbrev mount : Durable D → Mounted D
+  mount d = record { disk = d.disk.now; store = d.store.now }
+
+  pub refused-lent : {T : Type 0} (r : Result T Refusal)
+      → IfErr r (λ r'. (g : Going) → engine.Stands (HasLent told len) m place.root g a v → StopsFrom (λ refusal trail x. HasCause (FailsLent faults) refusal x) (finish (extensions_of m)) g r' b)
+      → IfErr r (λ r'. (want : Wanted) (g : Going) → IsAt m place want tx g (parts told len disk store) v
+      → StopsFrom (λ refusal trail x. HasCause (FailsOn faults) refusal x) (finish (extensions_of m)) g r' (record { disk = e; store = b.store.now }))
+  refused-lent (Ok x) stops = tt
+  refused-lent (Err r) stops = λ want g at.
+      StopsFrom-map (λ refusal trail x. HasCause (FailsLent faults) refusal x) (λ refusal trail x. HasCause (FailsOn faults) refusal x) (finish (extensions_of m)) g r b (record { disk = e; store = b.store.now })
+      (λ trail cause. subst (λ (d : D). HasCause (FailsOn faults) r (record { disk = d; store = b.store.now })) (sym same) (HasCause-map (FailsLent faults) (FailsOn faults) mount (λ fault x y fails. fails) r b cause))
+      (stops g (stands_lent want g at))
+
+  pub begun-lent : b.store.now.book.down ≡ false → (m : Meanings) (root : ℕ) (want : Wanted) (db : Db) → WasBegun m root want db tx (parts told len disk store) → WasBegun m root want db tx end
+  begun-lent up m root want db begun =
+      to_end (λ p. WasBegun m root want db tx p) (subst (λ (n : ℕ). WasBegun m root want db n (parts_in told len (lent b))) is.tx_is
+      (driven-begun told len faults m root want db a b (to_lent (λ n p. WasBegun m root want db n p) begun) leads up))

@@ -1,0 +1,10 @@
+pub mod PageLemmas
+pub mod WorkLemmas
+pub mod CallLemmas
+pub mod PointLemmas
+pub mod CommitLemmas
+pub mod FinishLemmas
+pub mod DrivenLemmas
+pub mod EndLemmas
+pub mod RunLemmas
+pub mod LentLemmas

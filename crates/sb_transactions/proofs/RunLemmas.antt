@@ -1,0 +1,77 @@
+-- An engine at work that is lent a space and work, and finishes them.
+use Rattle.std.proofs.Common.{◌≡◌, ℕ, true, Result, Ok, Err, IfErr, IsErrAnd, sym, subst}
+use Rattle.sb_fold.specs.Finish.{finish}
+use Rattle.sb_fold.specs.Outcome.{Going}
+use Rattle.sb_fold.specs.declared.refusal.Refusal.{Refusal}
+use Rattle.sb_cascade.specs.Runs.{is_free, MadeFrom, StopsFrom}
+use Rattle.sb_registry.specs.Boxes.{Meanings}
+use Rattle.sb_drive.specs.Slots.{Slots}
+use Rattle.sb_drive.specs.Spaces.{LeadsOn, Wanted}
+use Rattle.sb_drive.specs.declared.space.SpaceFault.{SpaceFault}
+use Rattle.sb_map.specs.declared.place.Place.{Place}
+use Rattle.sb_engine.specs.declared.running.Running.{Running}
+use Rattle.sb_engine.specs.declared.running.Work.{Work}
+use Rattle.sb_engine.specs.Refusals.{HasCause, IsRefusedBy}
+use Rattle.sb_engine.specs.Working.{IsStoppedBy, Stands, StandsFor, extensions_in, extensions_of}
+use Rattle.sb_transactions.proofs.FinishLemmas.{StopsFrom-behind, StopsFrom-map, refusal-free}
+
+-- a refusal that is passed on
+pub passed : {U : Type 0} (r : Result U Refusal) (e : Refusal) (P : Refusal → Type 0) → IsErrAnd r (λ x. x ≡ e) → P e → IfErr r P
+passed (Err x) e P is so = subst P (sym is) so
+passed (Ok x) e P is so = tt
+
+-- calls from one state to another, by names of their own
+pub led_between : {S : Type 0} (Leads : ℕ → S → S → Type 0) (x y a b : S) → a ≡ x → b ≡ y → LeadsOn Leads a b → LeadsOn Leads x y
+led_between {S} Leads x y a b first last led = subst (λ (z : S). LeadsOn Leads z y) first (subst (λ (z : S). LeadsOn Leads a z) last led)
+
+-- what is lent
+pub record IsLent {B S : Type 0} (boxes : B) (place : Place) (x : S) (w : Work) (a : Running B S) : Type 0 where
+  pub boxes_are : a.boxes.now ≡ boxes
+  pub place_is : a.place ≡ place
+  pub space_is : a.space.now ≡ x
+  pub work_is : a.work.now ≡ w
+
+module _ {B S : Type 0} (meanings : B → Meanings) (boxes : B) (place : Place) (x : S) (w : Work) (a : Running B S) (lent : IsLent boxes place x w a) where
+  -- what is so of the parts is so of it, and the other way round
+  pub parts-to : (P : Meanings → Place → S → Work → Type 0) → P (meanings boxes) place x w → P (meanings a.boxes.now) a.place a.space.now a.work.now
+  parts-to P is =
+      subst (λ (b : B). P (meanings b) a.place a.space.now a.work.now) (sym lent.boxes_are)
+      (subst (λ (q : Place). P (meanings boxes) q a.space.now a.work.now) (sym lent.place_is)
+      (subst (λ (y : S). P (meanings boxes) place y a.work.now) (sym lent.space_is)
+      (subst (λ (v : Work). P (meanings boxes) place x v) (sym lent.work_is) is)))
+
+  pub parts-from : (P : Meanings → Place → S → Work → Type 0) → P (meanings a.boxes.now) a.place a.space.now a.work.now → P (meanings boxes) place x w
+  parts-from P is =
+      subst (λ (v : Work). P (meanings boxes) place x v) lent.work_is
+      (subst (λ (y : S). P (meanings boxes) place y a.work.now) lent.space_is
+      (subst (λ (q : Place). P (meanings boxes) q a.space.now a.work.now) lent.place_is
+      (subst (λ (b : B). P (meanings b) a.place a.space.now a.work.now) lent.boxes_are is)))
+
+-- ---- finished, and then freed
+module _ {B S : Type 0} (Has : Wanted → Slots → S → Type 0) (Fails : SpaceFault → S → S → Type 0) (meanings : B → Meanings) (boxes : B) (place : Place) (x y : S) (w v : Work) (a b : Running B S)
+    (lent : IsLent boxes place x w a) where
+  abbrev IsSo : Going → Meanings → Place → S → Work → Type 0
+  IsSo g m q z u = Stands Has m q.root g z u
+
+  pub finish-stopped : (r : Refusal) → ((g : Going) → StandsFor Has meanings g a → StopsFrom (IsStoppedBy Fails) (finish (extensions_in meanings a)) g r b) → b.space.now ≡ y
+      → (g : Going) → Stands Has (meanings boxes) place.root g x w → StopsFrom (λ refusal trail z. HasCause Fails refusal z) (finish (extensions_of (meanings boxes))) g r y
+  finish-stopped r stopped same g stands =
+      subst (λ (c : B). StopsFrom (λ refusal trail z. HasCause Fails refusal z) (finish (extensions_of (meanings c))) g r y) lent.boxes_are
+      (StopsFrom-map (IsStoppedBy Fails) (λ refusal trail z. HasCause Fails refusal z) (finish (extensions_in meanings a)) g r b y
+      (λ trail is. subst (λ (z : S). HasCause Fails r z) same is) (stopped g (parts-to meanings boxes place x w a lent (IsSo g) stands)))
+
+  module _ (made : (g : Going) → StandsFor Has meanings g a → MadeFrom (StandsFor Has meanings) (finish (extensions_in meanings a)) g tt b) where
+    pub finish-freed : (c : Running B S) → ((g : Going) → StandsFor Has meanings g b → StandsFor Has meanings g c) → IsLent boxes place y v c
+        → (g : Going) → Stands Has (meanings boxes) place.root g x w → MadeFrom (λ h z. Stands Has (meanings boxes) place.root h z v) (finish (extensions_of (meanings boxes))) g tt y
+    finish-freed c freed end g stands =
+        let from = made g (parts-to meanings boxes place x w a lent (IsSo g) stands) in
+        subst (λ (d : B). MadeFrom (λ h z. Stands Has (meanings boxes) place.root h z v) (finish (extensions_of (meanings d))) g tt y) lent.boxes_are
+        (record { picks = from.picks; after = from.after; leads = from.leads; stands = parts-from meanings boxes place y v c end (IsSo from.after) (freed from.after from.stands) })
+
+    pub finish-refused : (r : Refusal) → IsRefusedBy Fails r y → HasCause Fails r y
+        → (g : Going) → Stands Has (meanings boxes) place.root g x w → StopsFrom (λ refusal trail z. HasCause Fails refusal z) (finish (extensions_of (meanings boxes))) g r y
+    finish-refused r refused cause g stands =
+        subst (λ (d : B). StopsFrom (λ refusal trail z. HasCause Fails refusal z) (finish (extensions_of (meanings d))) g r y) lent.boxes_are
+        (StopsFrom-behind (StandsFor Has meanings) (λ refusal trail z. HasCause Fails refusal z) (finish (extensions_in meanings a)) g tt b r y
+        (subst (λ (q : Refusal). is_free q ≡ true) refused.is (refusal-free refused.fault)) (λ trail. cause)
+        (made g (parts-to meanings boxes place x w a lent (IsSo g) stands)))

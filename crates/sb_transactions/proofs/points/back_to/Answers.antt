@@ -1,0 +1,18 @@
+use Rattle.sb_txn.specs.Clauses.{parts}
+use Rattle.sb_transactions.proofs.PointLemmas.{IsAt-back, WasSo-back}
+use Rattle.sb_transactions.proofs.points.back_to.Goals as goal
+
+pub returns-in-Ok-clause-back : goal.returns-in-Ok-clause-back
+returns-in-Ok-clause-back g c =
+    let told = g.D.Disk.told in
+    let len = g.D.Disk.len in
+    IsAt-back c.args.transaction.now.tx.store.number c.args.point (parts told len c.args.disk.now c.args.space.now.store) (parts told len c.back_to.new.disk c.back_to.new.self.store)
+    c.args.transaction.now.work c.cut_work.new.work c.requires.point c.cut_work.ensures c.in-Ok.ensures.back c.back_to.ensures.serves
+
+pub returns-in-Ok-clause-earlier : goal.returns-in-Ok-clause-earlier
+returns-in-Ok-clause-earlier g c =
+    let told = g.D.Disk.told in
+    let len = g.D.Disk.len in
+    λ m place want h one less was.
+    WasSo-back c.args.transaction.now.tx.store.number c.args.point (parts told len c.args.disk.now c.args.space.now.store) (parts told len c.back_to.new.disk c.back_to.new.self.store)
+    c.args.transaction.now.work c.cut_work.new.work c.requires.point c.cut_work.ensures c.in-Ok.ensures.standing one less c.in-Ok.ensures.earlier m place want h was

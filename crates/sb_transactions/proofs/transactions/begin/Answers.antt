@@ -1,0 +1,19 @@
+use Rattle.sb_txn.specs.Clauses.{parts}
+use Rattle.sb_transactions.proofs.PointLemmas.{IsAt-first, Rests-stays, WasBegun-first}
+use Rattle.sb_transactions.proofs.transactions.begin.Goals as goal
+
+pub returns-in-Ok-clause-begun : goal.returns-in-Ok-clause-begun
+returns-in-Ok-clause-begun g c = λ m root want db rests.
+    let told = g.D.Disk.told in
+    let len = g.D.Disk.len in
+    WasBegun-first m root want db c.in-Ok.tx.store.number (parts told len c.args.disk.now c.args.space.now.store) (parts told len c.begin.new.disk c.begin.new.self.store)
+    c.in-Ok.ensures.keeps.geometry c.in-Ok.ensures.pages rests c.in-Ok.ensures.begun.1
+
+pub returns-in-Ok-clause-at : goal.returns-in-Ok-clause-at
+returns-in-Ok-clause-at g c = λ m place want h owner first rests.
+    let told = g.D.Disk.told in
+    let len = g.D.Disk.len in
+    let q = parts told len c.begin.new.disk c.begin.new.self.store in
+    IsAt-first m place want c.in-Ok.tx.store.number h q c.new_work.result c.in-Ok.ensures.begun.0 owner first
+    (Rests-stays m place.root want h.db c.in-Ok.tx.store.number (parts told len c.args.disk.now c.args.space.now.store) q c.in-Ok.ensures.keeps.geometry c.in-Ok.ensures.pages rests)
+    c.new_work.ensures.queue c.new_work.ensures.done c.new_work.ensures.gone c.new_work.ensures.opened c.new_work.ensures.picks

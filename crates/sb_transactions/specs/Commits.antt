@@ -1,0 +1,68 @@
+-- What a commit makes of the work of a transaction.
+use Rattle.std.specs.Prelude.{◌≡◌, ◌⊎◌, ℕ, false, List, Option}
+use Rattle.sb_disk.specs.Disk.{Story}
+use Rattle.sb_disk.specs.Moments.{LeavesOnly}
+use Rattle.sb_images.specs.Images.{Restores, IsOldOrNew}
+use Rattle.sb_relation.specs.Db.{Key}
+use Rattle.sb_fold.specs.Extensions.{Extensions}
+use Rattle.sb_fold.specs.Finish.{finish}
+use Rattle.sb_fold.specs.Outcome.{Going}
+use Rattle.sb_map.specs.declared.place.Place.{Place}
+use Rattle.sb_fold.specs.declared.refusal.Refusal.{Refusal}
+use Rattle.sb_fold.specs.declared.refusal.Refusal.TheVariants.{Fault}
+use Rattle.sb_cascade.specs.Runs.{MadeFrom, StopsFrom}
+use Rattle.sb_registry.specs.Boxes.{Meanings}
+use Rattle.sb_drive.specs.Spaces.{Wanted}
+use Rattle.sb_drive.specs.declared.space.SpaceFault.{SpaceFault}
+use Rattle.sb_txn.specs.Clauses.{Parts}
+use Rattle.sb_txn.specs.State.{State}
+use Rattle.sb_space.specs.Works.{Fails, Works}
+use Rattle.sb_engine.specs.Refusals.{HasCause}
+use Rattle.sb_engine.specs.Working.{extensions_of}
+use Rattle.sb_engine.specs.declared.running.Work.{Work}
+use Rattle.sb_transactions.specs.Transactions.{IsAt, IsCommitted, Rests}
+
+-- ---- what is committed
+-- the work's database is committed, and these are the picks that it used
+pub record IsDone (m : Meanings) (root : ℕ) (picks : List Key) (g : Going) (p : Parts) : Type 0 where
+  pub want : Wanted
+  pub rests : Rests m root want g.db p
+  pub picked : picks ≡ g.used
+
+-- at each moment a crash leaves the pages that were wanted, or those that keep the work's database
+pub record LeavesEither (m : Meanings) (root : ℕ) (want : Wanted) (old : Parts) (g : Going) (new : Parts) : Type 0 where
+  pub pages : ℕ → List ℕ
+  pub committed : IsCommitted m root old.store.pool.geometry.pages pages g.db
+  pub leaves : LeavesOnly old.told new.told (IsOldOrNew old.store.pool.geometry want pages)
+
+-- with some picks the work that finishes the transaction gives such work
+abbrev pub Finishes : Meanings → Going → (Going → Parts → Type 0) → Parts → Type 0
+Finishes m g IsSo p = MadeFrom IsSo (finish (extensions_of m)) g tt p
+
+-- unless the store went down, work in the transaction has come so far
+abbrev pub ComesTo : Meanings → Place → Wanted → ℕ → Work → Going → Parts → Type 0
+ComesTo m place want tx w g p = p.store.book.down ≡ false → IsAt m place want tx g p w
+
+-- At each moment a crash leaves the pages that were wanted, or, once the transaction is finished, those of the database that this leads to.
+abbrev pub LeavesOldOrFinished : Meanings → ℕ → Wanted → Going → Parts → Parts → Type 0
+LeavesOldOrFinished m root want g old new =
+    LeavesOnly old.told new.told (Restores old.store.pool.geometry want) ⊎ Finishes m g (LeavesEither m root want old) new
+
+-- ---- what is refused
+-- a disk with a store
+pub record Mounted (D : Type 0) : Type 0 where
+  pub disk : D
+  pub store : State
+
+abbrev pub FailsOn : {D : Type 0} → (D → ℕ) → SpaceFault → Mounted D → Mounted D → Type 0
+FailsOn faults fault old new = Fails faults fault old.disk new.disk old.store new.store
+
+-- calls of the transaction lead from one to the other
+abbrev pub IsLed : {D : Type 0} → (D → Option Story) → (D → ℕ) → (D → ℕ) → ℕ → Mounted D → Mounted D → Type 0
+IsLed told len faults tx old new = (k : ℕ) × Works told len faults tx k old.disk new.disk old.store new.store
+
+-- Finishing the transaction is refused: as the definition says; or the disk has failed; or room or memory is wanting at a moment behind calls of it.
+pub record StopsAt {D : Type 0} (told : D → Option Story) (len faults : D → ℕ) (ext : Extensions) (tx : ℕ) (g : Going) (r : Refusal) (old : Mounted D) : Type 0 where
+  pub there : Mounted D
+  pub led : (r ≡ Fault → ⊥) → IsLed told len faults tx old there
+  pub stops : StopsFrom (λ refusal trail x. HasCause (FailsOn faults) refusal x) (finish ext) g r there

@@ -1,0 +1,4 @@
+pub mod Transactions
+pub mod Calls
+pub mod Commits
+pub mod Driven

@@ -1,0 +1,139 @@
+-- Where work in a transaction has come, and where going back to a point comes.
+use Rattle.std.specs.Prelude.{◌≡◌, ℕ, ◌≤◌, false, List, [], length, take, drop, None}
+use Rattle.sb_relation.specs.Db.{Db}
+use Rattle.sb_fold.specs.Extensions.{box_of}
+use Rattle.sb_fold.specs.Finish.{first_failing}
+use Rattle.sb_fold.specs.Outcome.{Going, Queue}
+use Rattle.sb_deferred.specs.Complete.{AreMirrored, IsComplete}
+use Rattle.sb_deferred.specs.Waiting.{IsWithin, nothing}
+use Rattle.sb_cascade.specs.Fitting.{AllFit, AllMayStand}
+use Rattle.sb_registry.specs.Boxes.{Meanings}
+use Rattle.sb_drive.specs.Slots.{Slots}
+use Rattle.sb_drive.specs.Spaces.{Wanted}
+use Rattle.sb_map.specs.declared.place.Place.{Place}
+use Rattle.sb_standing.specs.Tables.{Kept, db_of}
+use Rattle.sb_standing.specs.Standing.{Keeps}
+use Rattle.sb_opened.specs.Opened.{IsDurable}
+use Rattle.sb_txn.specs.Book.{standing_of}
+use Rattle.sb_txn.specs.Clauses.{Parts}
+use Rattle.sb_space.specs.Table.{slots_in}
+use Rattle.sb_space.specs.Transactions.{AreFormed, WasAt}
+use Rattle.sb_space.specs.Works.{HasPages}
+use Rattle.sb_space.specs.Works as space
+use Rattle.sb_engine.specs.declared.running.Work.{Work}
+use Rattle.sb_engine.specs.Working.{AreLasting, AreOpened, ArePaired, extensions_of, left_of}
+use Rattle.sb_engine.specs.Working as engine
+use Rattle.sb_transactions.specs.declared.transactions.Point.{Point}
+
+-- ---- databases
+-- What is so of the relations that pages keep, beside what waits: they outlive the run, their mirrors stand in pairs, what waits tells which deferred
+-- rules may fail, each rule may stand, and the actions that wait fit.
+pub record IsSettled (m : Meanings) (kept : List Kept) (queue : Queue) : Type 0 where
+  pub lasting : AreLasting kept
+  pub mirrored : AreMirrored (db_of kept)
+  pub paired : ArePaired (db_of kept)
+  pub complete : IsComplete (db_of kept) queue
+  pub rules : AllMayStand (box_of (extensions_of m)) (db_of kept)
+  pub fit : AllFit (db_of kept) queue.actions
+
+-- so many pages, which a commit left on the disk, keep the database
+pub record IsCommitted (m : Meanings) (root pages : ℕ) (want : Wanted) (db : Db) : Type 0 where
+  pub formed : AreFormed pages want
+  pub kept : List Kept
+  pub is : db ≡ db_of kept
+  pub keeps : Keeps m IsDurable root (slots_in pages want) [] kept
+  pub settled : IsSettled m kept nothing
+
+-- between transactions: the pages now are those wanted, which keep the database
+pub record Rests (m : Meanings) (root : ℕ) (want : Wanted) (db : Db) (p : Parts) : Type 0 where
+  pub has : HasPages want (slots_in p.store.pool.geometry.pages want) p
+  pub committed : IsCommitted m root p.store.pool.geometry.pages want db
+
+-- Within a transaction that was begun over the database: to take all its changes out again gives the pages wanted, which keep it.
+pub record WasBegun (m : Meanings) (root : ℕ) (want : Wanted) (db : Db) (tx : ℕ) (p : Parts) : Type 0 where
+  pub was : WasAt tx want (slots_in p.store.pool.geometry.pages want) 0 p
+  pub committed : IsCommitted m root p.store.pool.geometry.pages want db
+
+-- ---- work
+-- the engine can be called
+abbrev pub IsUsable : Meanings → Place → ℕ → Parts → Work → Type 0
+IsUsable m place tx p w = engine.Serves (λ q. space.Serves tx q) m place p w
+
+-- Work in the transaction has come so far, over these pages wanted.
+pub record IsAt (m : Meanings) (place : Place) (want : Wanted) (tx : ℕ) (g : Going) (p : Parts) (w : Work) : Type 0 where
+  pub usable : IsUsable m place tx p w
+  pub slots : Slots
+  pub kept : List Kept
+  pub has : HasPages want slots p
+  pub db : g.db ≡ db_of kept
+  pub keeps : Keeps m IsDurable place.root slots w.gone.items kept
+  pub settled : IsSettled m kept g.queue
+  pub opened : AreOpened m kept w.opened.items
+  pub waits : left_of w ≡ g.queue
+  pub picked : w.picks.items ≡ g.used
+
+-- the same work, of which no picks are told
+abbrev pub unused : Going → Going
+unused g = record g { used = [] }
+
+-- what work begins with: nothing waits, and no picks were used
+pub record IsFirst (g : Going) : Type 0 where
+  pub queue : g.queue ≡ nothing
+  pub used : g.used ≡ []
+
+-- no owner is to go, no action waits, and each deferred rule holds
+pub record IsFinished (m : Meanings) (g : Going) (w : Work) : Type 0 where
+  pub gone : w.gone.items ≡ []
+  pub holds : first_failing (extensions_of m) g.db g.db ≡ None
+
+-- nothing waits, and no owner is to go
+pub record HasNothingLeft (w : Work) : Type 0 where
+  pub queue : left_of w ≡ nothing
+  pub gone : w.gone.items ≡ []
+
+-- ---- points
+-- as much stands still as stood at the point
+pub record IsPointOf (tx : ℕ) (point : Point) (p : Parts) (w : Work) : Type 0 where
+  pub changes : p.store.book.down ≡ false → point.space.store.changes ≤ standing_of tx p.store.book.out
+  pub queue : IsWithin point.queue w.queue
+  pub done : point.done ≤ point.queue.actions
+  pub gone : point.gone ≤ length w.gone.items
+
+-- what waited at the point
+abbrev pub waited_at : Point → Queue → Queue
+waited_at point q = record { actions = drop point.done (take point.queue.actions q.actions); entries = take point.queue.entries q.entries }
+
+-- To go back to the point gives work that had come so far, over these pages wanted.
+pub record WasSo (m : Meanings) (place : Place) (want : Wanted) (tx : ℕ) (g : Going) (point : Point) (p : Parts) (w : Work) : Type 0 where
+  pub of : IsPointOf tx point p w
+  pub slots : Slots
+  pub kept : List Kept
+  pub was : WasAt tx want slots point.space.store.changes p
+  pub db : g.db ≡ db_of kept
+  pub keeps : Keeps m IsDurable place.root slots (take point.gone w.gone.items) kept
+  pub settled : IsSettled m kept g.queue
+  pub waited : waited_at point w.queue ≡ g.queue
+
+-- no more stood at the one than at the other
+pub record IsNotBehind (one other : Point) : Type 0 where
+  pub changes : one.space.store.changes ≤ other.space.store.changes
+  pub actions : one.queue.actions ≤ other.queue.actions
+  pub entries : one.queue.entries ≤ other.queue.entries
+  pub gone : one.gone ≤ other.gone
+
+-- what is kept beside the pages once it was cut to the point: nothing is open, and no pick is noted
+pub record IsCutTo (point : Point) (old new : Work) : Type 0 where
+  pub actions : new.queue.actions ≡ take point.queue.actions old.queue.actions
+  pub entries : new.queue.entries ≡ take point.queue.entries old.queue.entries
+  pub done : new.done ≡ point.done
+  pub gone : new.gone.items ≡ take point.gone old.gone.items
+  pub opened : new.opened.items ≡ []
+  pub picks : new.picks.items ≡ []
+
+-- nothing is open, and no pick is noted; the rest is as it was
+pub record IsCleared (old new : Work) : Type 0 where
+  pub queue : new.queue ≡ old.queue
+  pub done : new.done ≡ old.done
+  pub gone : new.gone.items ≡ old.gone.items
+  pub opened : new.opened.items ≡ []
+  pub picks : new.picks.items ≡ []

@@ -1,0 +1,104 @@
+//! Commits.
+
+ghost use Rattle.std.specs.Prelude.{◌≡◌, [], false, ℕ, Some, IfErr, IfOk, OnOk};
+ghost use Rattle.sb_relation.specs.Db.{Db};
+ghost use Rattle.sb_fold.specs.Outcome.{Going};
+ghost use Rattle.sb_registry.specs.Boxes.{Meanings};
+ghost use Rattle.sb_drive.specs.Spaces.{Wanted};
+ghost use Rattle.sb_map.specs.declared.place.Place.{Place};
+ghost use Rattle.sb_txn.specs.Book.{Out, out_with};
+ghost use Rattle.sb_txn.specs.Clauses.{parts, IsIdle};
+ghost use Rattle.sb_space.specs.Works.{Serves};
+ghost use Rattle.sb_engine.specs.Refusals.{HasCause};
+ghost use Rattle.sb_engine.specs.Working.{extensions_of};
+ghost use Rattle.sb_transactions.specs.Calls.{IsOnlyFault, Remains};
+ghost use Rattle.sb_transactions.specs.Commits.{FailsOn, Finishes, IsDone, LeavesEither, LeavesOldOrFinished, StopsAt};
+ghost use Rattle.sb_transactions.specs.Transactions.{HasNothingLeft, IsAt, IsFinished, IsUsable, Rests, WasBegun};
+
+use crate::finishing::{finish_work, is_idle};
+use crate::transactions::{Transaction, abort};
+use sb_disk::Disk;
+use sb_engine::refusal_of;
+use sb_fold::Refusal;
+use sb_map::Place;
+use sb_registry::Boxes;
+use sb_space::Space;
+use sb_value::RecKey;
+use std::alloc::Global;
+
+/// Commits the transaction: does what waits for it, gives back the pages of owners that are to go, and commits the pages. It gives the record keys that the work picked.
+///
+/// Where any step is refused the transaction is aborted, and the refusal answered; or `Fault`, where the disk fails then.
+pub fn commit<B: Boxes, D: Disk>(
+    boxes: &B,
+    space: &mut Space,
+    disk: &mut D,
+    place: Place,
+    mut transaction: Transaction,
+    alloc: Global,
+) -> Result<Vec<RecKey>, Refusal>
+    requires usable { IsUsable (B.meanings boxes.now) place transaction.tx.store.number (parts D.told D.len disk.old space.old.store) transaction.work }
+
+    ensures done { IfOk result (λ picks. (want : Wanted) (g : Going)
+        → IsAt (B.meanings boxes.now) place want transaction.tx.store.number g (parts D.told D.len disk.old space.old.store) transaction.work
+        → Finishes (B.meanings boxes.now) g (IsDone (B.meanings boxes.now) place.root picks.items) (parts D.told D.len disk.new space.new.store)) }
+    ensures refused { IfErr result (λ r. (want : Wanted) (g : Going)
+        → IsAt (B.meanings boxes.now) place want transaction.tx.store.number g (parts D.told D.len disk.old space.old.store) transaction.work
+        → StopsAt D.told D.len D.faults (extensions_of (B.meanings boxes.now)) transaction.tx.store.number g r
+        (record { disk = disk.old; store = space.old.store })) }
+    ensures aborted { IfErr result (λ r. space.new.store.book.down ≡ false → (m : Meanings) (root : ℕ) (want : Wanted) (db : Db)
+        → WasBegun m root want db transaction.tx.store.number (parts D.told D.len disk.old space.old.store)
+        → Rests m root want db (parts D.told D.len disk.new space.new.store)) }
+    ensures any_moment { (want : Wanted) (g : Going)
+        → IsAt (B.meanings boxes.now) place want transaction.tx.store.number g (parts D.told D.len disk.old space.old.store) transaction.work
+        → LeavesOldOrFinished (B.meanings boxes.now) place.root want g (parts D.told D.len disk.old space.old.store) (parts D.told D.len disk.new space.new.store) }
+    ensures none { space.new.store.book.down ≡ false → space.new.store.book.out ≡ [] }
+
+    // Where nothing waits and no owner is to go it takes no memory, and makes no call on the disk where no page was changed.
+    ensures quiet { HasNothingLeft transaction.work → IfErr result (λ r. IsOnlyFault r space.new.store) }
+    ensures idle { HasNothingLeft transaction.work → (o : Out) → out_with transaction.tx.store.number space.old.store.book.out ≡ Some o
+        → IsIdle o disk.old disk.new space.old.store space.new.store }
+
+    ensures remains { Remains D.told D.len D.faults disk.old disk.new space.old.store space.new.store result }
+{
+    if is_idle(&transaction.work) {
+        return commit_pages(space, disk, transaction);
+    }
+    match finish_work(boxes, space, disk, place, &mut transaction, alloc) {
+        Ok(()) => commit_pages(space, disk, transaction),
+        Err(refusal) => match abort(space, disk, transaction) {
+            Ok(()) => Err(refusal),
+            Err(fault) => Err(fault),
+        },
+    }
+}
+
+/// Commits a transaction of which nothing is left to be done, and gives the record keys that its work picked. One that made no change makes no call on the disk. It takes no memory.
+pub fn commit_pages<D: Disk>(
+    space: &mut Space,
+    disk: &mut D,
+    transaction: Transaction,
+) -> Result<Vec<RecKey>, Refusal>
+    requires serves { Serves transaction.tx.store.number (parts D.told D.len disk.old space.old.store) }
+
+    ensures done { IfOk result (λ picks. (m : Meanings) (place : Place) (want : Wanted) (g : Going)
+        → IsAt m place want transaction.tx.store.number g (parts D.told D.len disk.old space.old.store) transaction.work
+        → IsFinished m g transaction.work → IsDone m place.root picks.items g (parts D.told D.len disk.new space.new.store)) }
+    ensures any_moment { (m : Meanings) (place : Place) (want : Wanted) (g : Going)
+        → IsAt m place want transaction.tx.store.number g (parts D.told D.len disk.old space.old.store) transaction.work
+        → IsFinished m g transaction.work
+        → LeavesEither m place.root want (parts D.told D.len disk.old space.old.store) g (parts D.told D.len disk.new space.new.store) }
+    ensures up { OnOk result (space.old.store.book.down ≡ false) }
+    ensures none { OnOk result (space.new.store.book.out ≡ []) }
+    ensures idle { (o : Out) → out_with transaction.tx.store.number space.old.store.book.out ≡ Some o
+        → IsIdle o disk.old disk.new space.old.store space.new.store }
+    ensures err { IfErr result (λ r. IsOnlyFault r space.new.store) }
+    ensures cause { IfErr result (λ r. HasCause (FailsOn D.faults) r (record { disk = disk.new; store = space.new.store })) }
+    ensures remains { Remains D.told D.len D.faults disk.old disk.new space.old.store space.new.store result }
+{
+    let Transaction { tx, work } = transaction;
+    match space.commit(disk, tx) {
+        Ok(()) => Ok(work.picks),
+        Err(fault) => Err(refusal_of(fault)),
+    }
+}

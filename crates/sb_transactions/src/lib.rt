@@ -1,0 +1,15 @@
+//! Transactions of an engine over a store: what work keeps beside its pages, points to go back to, and commits.
+#![tactic(auto)]
+
+mod commits;
+mod finishing;
+pub mod laws;
+mod points;
+mod transactions;
+
+pub use commits::{commit, commit_pages};
+pub use points::{back_to, mark};
+pub use transactions::{Point, Transaction, abort, begin, settle};
+
+#[cfg(test)]
+mod tests;
