@@ -1,0 +1,13 @@
+//! What commands answer that only read, over a store's relations as any space has their pages.
+#![tactic(auto)]
+
+mod entries;
+mod indexes;
+mod names;
+mod reading;
+mod rows;
+
+pub use reading::read;
+
+#[cfg(test)]
+mod tests;
