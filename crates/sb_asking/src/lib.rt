@@ -9,6 +9,3 @@ mod verdicts;
 pub use calls::ask;
 pub use finds::{ValueTest, find_keys};
 pub use verdicts::{Verdict, ask_rule};
-
-#[cfg(test)]
-mod tests;

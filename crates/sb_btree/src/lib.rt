@@ -21,6 +21,3 @@ pub use lookup::{LeafEntry, find, next};
 pub use preparing::prepare;
 pub use removal::remove;
 pub use walk::Walk;
-
-#[cfg(test)]
-mod tests;

@@ -11,6 +11,3 @@ pub use changes::{act, change};
 pub use finishing::finish;
 pub use layer::Layer;
 pub use wish::Wish;
-
-#[cfg(test)]
-mod tests;

@@ -7,8 +7,6 @@ pub mod laws;
 mod lengths;
 mod reading;
 mod rules;
-#[cfg(test)]
-mod tests;
 mod writing;
 
 pub use cache::Cache;

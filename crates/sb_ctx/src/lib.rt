@@ -17,6 +17,3 @@ pub use instance::Instance;
 pub use lists::{Actions, Checks, Keys};
 pub use method::StorageMethod;
 pub use moves::Move;
-
-#[cfg(test)]
-mod tests;

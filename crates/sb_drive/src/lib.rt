@@ -20,6 +20,3 @@ pub use slots::{Slot, Write};
 pub use space::{PageSpace, SpaceFault};
 pub use stores::store;
 pub use turns::{Ask, DriveFault, Turn, is_find, turn_of};
-
-#[cfg(test)]
-mod tests;

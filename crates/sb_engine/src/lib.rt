@@ -20,6 +20,3 @@ pub use fitting::prepare;
 pub use opening::{open_at, open_named};
 pub use refusals::refusal_of;
 pub use running::{Running, Work};
-
-#[cfg(test)]
-mod tests;

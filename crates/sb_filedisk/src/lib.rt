@@ -5,8 +5,6 @@ mod disk;
 mod faults;
 mod opening;
 mod streams;
-#[cfg(test)]
-mod tests;
 
 pub use disk::FileDisk;
 pub use streams::{ReadSource, WriteSink};

@@ -17,6 +17,3 @@ mod stop;
 mod update;
 
 pub use method::Heap;
-
-#[cfg(test)]
-mod tests;

@@ -8,8 +8,6 @@ mod laws;
 mod opening;
 mod reading;
 mod sealing;
-#[cfg(test)]
-mod tests;
 
 pub use fault::JournalFault;
 pub use journal::{Journal, Region};

@@ -5,8 +5,6 @@ mod disk;
 mod pace;
 mod past;
 mod streams;
-#[cfg(test)]
-mod tests;
 
 pub use disk::MemDisk;
 pub use streams::{MemSink, MemSource};

@@ -12,6 +12,3 @@ pub use opening::{next_relation, open_relation};
 pub use reading::{descriptor_at, next_descriptor};
 pub use relation::OpenRelation;
 pub use rules::check_rule;
-
-#[cfg(test)]
-mod tests;

@@ -5,8 +5,6 @@ mod fault;
 mod flushing;
 mod frame;
 mod pool;
-#[cfg(test)]
-mod tests;
 
 pub use fault::PoolFault;
 pub use pool::Pool;

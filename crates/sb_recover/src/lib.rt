@@ -15,8 +15,6 @@ mod restored;
 mod sizes;
 mod store;
 mod super_page;
-#[cfg(test)]
-mod tests;
 mod writing;
 
 pub use fault::OpenFault;

@@ -11,6 +11,3 @@ mod registry;
 pub use calls::Boxes;
 pub use extensions::{Extensions, Meant};
 pub use registry::Registry;
-
-#[cfg(test)]
-mod tests;

@@ -15,6 +15,3 @@ pub use change::Change;
 pub use reading::read_rule;
 pub use rule::{Event, Mode, Rule, Side};
 pub use writing::write_rule;
-
-#[cfg(test)]
-mod tests;

@@ -11,6 +11,3 @@ mod trigger;
 
 pub use check::Check;
 pub use trigger::Trigger;
-
-#[cfg(test)]
-mod tests;

@@ -11,6 +11,3 @@ mod token;
 
 pub use scanner::{Row, has_one_row, scan};
 pub use token::{Ending, Placed, Sign, Token};
-
-#[cfg(test)]
-mod tests;

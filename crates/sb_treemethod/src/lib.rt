@@ -6,6 +6,3 @@ mod rows;
 mod walks;
 
 pub use method::TreeMethod;
-
-#[cfg(test)]
-mod tests;

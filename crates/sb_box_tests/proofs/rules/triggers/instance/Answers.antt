@@ -1,0 +1,6 @@
+use Rattle.std.proofs.Common.{refl, ◌∙◌}
+use Rattle.sb_rules.proofs.Examples.{IsInstance-staff}
+use Rattle.sb_box_tests.proofs.rules.triggers.instance.Goals as goal
+
+pub returns-clause-trigger : goal.returns-clause-trigger
+returns-clause-trigger c = IsInstance-staff _ c.args.deferred c.in_ok-employees.ensures refl (c.from_vec.ensures ∙ c.new.ensures.items) refl c.in_ok-columns.ensures c.in_ok-desc.ensures.spelled c.in_ok-desc.ensures.storable

@@ -1,0 +1,411 @@
+//! What no clause says: that calls succeed while memory lasts, and pages of which the boxes here say nothing.
+
+ghost use Rattle.std.specs.Prelude.{◌≡◌, ◌≢◌, true, is_some, None, IfOk, IfSome};
+ghost use Rattle.sb_ctx.specs.AttachAnswers.{AsksFor as AsksForAttached};
+ghost use Rattle.sb_ctx.specs.Attachment.{plain_attachment};
+ghost use Rattle.sb_ctx.specs.Method.{plain_method};
+ghost use Rattle.sb_ctx.specs.MethodAnswers.{AsksFor};
+ghost use Rattle.sb_ctx.specs.View.{HoldsPart, IsClean, dropped};
+ghost use Rattle.sb_drive.specs.Examples.{IsPlain, IsMade, IsFindOrNoMemory};
+ghost use Rattle.sb_drive.specs.Slots.{pages_of};
+ghost use Rattle.sb_relation.specs.Images.{no_image};
+
+use sb_ctx::{AttachCall, Attachment, Ctx, Instance, Keys, MethodCall, Move, StorageMethod};
+use sb_drive::{DriveFault, Memory, drive_attachment, drive_method};
+use sb_relation::Change;
+use sb_value::{Bytes, Names, RecKey, Schema, Str, Tuple, Value};
+use std::alloc::{AllocError, Global};
+use std::test::*;
+
+/// A storage method of code 1000 whose pages are never formed: a delete does with them what its key says.
+#[derive(Drop)]
+struct Scribe {}
+
+impl StorageMethod for Scribe {
+    ghost method = { λ _. record (plain_method (record { code = 1000; durable = true; fits = λ schema key. true }) (λ inst P. None)) {
+      may_break = λ inst held n. is_some (held n);
+    } };
+
+    fn code(&self) -> u16 {
+        1000
+    }
+
+    fn durable(&self) -> bool {
+        true
+    }
+
+    fn fits(&self, _schema: &Schema, _key: &Names) -> bool {
+        true
+    }
+
+    fn prepare(&self, _alloc: Global, _ctx: &mut Ctx, _inst: &Instance) -> Move {
+        Move::NoMemory
+    }
+
+    fn insert(&self, _alloc: Global, _ctx: &mut Ctx, _inst: &Instance, _tuple: &Tuple) -> Move {
+        Move::NoMemory
+    }
+
+    fn delete(&self, _alloc: Global, ctx: &mut Ctx, inst: &Instance, key: &RecKey) -> Move {
+        match key.as_slice() {
+            b"take" => take(ctx),
+            b"free" => free(ctx, inst.root),
+            b"behind" => write(ctx, 1, 7),
+            _ => write(ctx, inst.root, 7),
+        }
+    }
+
+    fn update(
+        &self,
+        _alloc: Global,
+        _ctx: &mut Ctx,
+        _inst: &Instance,
+        _key: &RecKey,
+        _tuple: &Tuple,
+    ) -> Move {
+        Move::NoMemory
+    }
+
+    /// NoRecord where the instance has a second page, else NoMemory.
+    fn get(&self, _alloc: Global, ctx: &mut Ctx, inst: &Instance, _key: &RecKey) -> Move {
+        match ctx.after(Some(inst.root)) {
+            None => Move::After(Some(inst.root)),
+            Some(Some(_)) => Move::NoRecord,
+            Some(None) => Move::NoMemory,
+        }
+    }
+
+    fn next(
+        &self,
+        _alloc: Global,
+        _ctx: &mut Ctx,
+        _inst: &Instance,
+        _after: Option<&RecKey>,
+    ) -> Move {
+        Move::NoMemory
+    }
+}
+
+fn take(ctx: &mut Ctx) -> Move
+    requires { IsClean ctx.old }
+    ensures given { dropped ctx.new ≡ ctx.old }
+    ensures asks { AsksFor ctx.new result }
+    ensures made { IsMade ctx.old result }
+{
+    match ctx.fresh() {
+        Some(_) => Move::Done,
+        None => Move::Fresh,
+    }
+}
+
+fn free(ctx: &mut Ctx, n: u32) -> Move
+    requires { IsClean ctx.old }
+    ensures given { dropped ctx.new ≡ ctx.old }
+    ensures asks { AsksFor ctx.new result }
+    ensures made { IsMade ctx.old result }
+{
+    match ctx.page(n) {
+        None => return Move::Need(n),
+        Some([]) => return Move::Broken(n),
+        Some(_) => {}
+    }
+    match ctx.free(n) {
+        Ok(()) => Move::Done,
+        Err(_) => Move::NoMemory,
+    }
+}
+
+fn write(ctx: &mut Ctx, n: u32, byte: u8) -> Move
+    requires { IsClean ctx.old }
+    ensures given { dropped ctx.new ≡ ctx.old }
+    ensures asks { AsksFor ctx.new result }
+    ensures made { IsMade ctx.old result }
+{
+    match ctx.page(n) {
+        None => return Move::Need(n),
+        Some([]) => return Move::Broken(n),
+        Some(_) => {}
+    }
+    match ctx.edit(n, 0, &[byte]) {
+        Ok(()) => Move::Done,
+        Err(_) => Move::NoMemory,
+    }
+}
+
+/// An attachment of code 1000 whose content is never formed: it marks its root at each change.
+#[derive(Drop)]
+struct Marker {}
+
+impl Attachment for Marker {
+    ghost attachment = { λ _. record (plain_attachment (record {
+      code = 1000;
+      fits = λ schema desc. true;
+      admits = λ desc db name change. true;
+      image = λ desc schema rows. no_image;
+    }) (λ inst P. None)) {
+      may_break = λ inst held n. is_some (held n);
+    } };
+
+    fn code(&self) -> u16 {
+        1000
+    }
+
+    fn fits(&self, _schema: &Schema, _desc: &Bytes) -> bool {
+        true
+    }
+
+    fn prepare(&self, _alloc: Global, _ctx: &mut Ctx, _inst: &Instance) -> Move {
+        Move::NoMemory
+    }
+
+    fn on_build(
+        &self,
+        _alloc: Global,
+        _ctx: &mut Ctx,
+        _inst: &Instance,
+        _key: &RecKey,
+        _tuple: &Tuple,
+    ) -> Move {
+        Move::NoMemory
+    }
+
+    fn on_change(&self, _alloc: Global, ctx: &mut Ctx, inst: &Instance, _change: &Change) -> Move {
+        write(ctx, inst.root, 5)
+    }
+
+    /// Asks for the rows of eight numbers, one after another.
+    fn late_check(&self, alloc: Global, ctx: &mut Ctx, _inst: &Instance, _entry: &Bytes) -> Move {
+        for number in 0..8 {
+            if let Some(made) = find(alloc, ctx, number) {
+                return made;
+            }
+        }
+        Move::Done
+    }
+
+    fn next_entry(
+        &self,
+        _alloc: Global,
+        _ctx: &mut Ctx,
+        _inst: &Instance,
+        _low: &RecKey,
+        _after: Option<&(RecKey, RecKey)>,
+    ) -> Move {
+        Move::NoMemory
+    }
+
+    fn sums(&self, _alloc: Global, _ctx: &mut Ctx, _inst: &Instance) -> Move {
+        Move::NoMemory
+    }
+}
+
+/// The find of this number's rows, where it isn't answered yet.
+fn find(alloc: Global, ctx: &Ctx, number: i64) -> Option<Move>
+    ensures asks { IfSome result (AsksForAttached ctx.now) }
+    ensures ends { IfSome result IsFindOrNoMemory }
+{
+    let (Ok(relation), Ok(columns), Ok(values)) = (
+        text(alloc, "r"),
+        names(alloc, "a"),
+        tuple(alloc, number),
+    ) else {
+        return Some(Move::NoMemory);
+    };
+    if ctx.found(&relation, &columns, &values).is_some() {
+        return None;
+    }
+    if ctx.finds() < 8 {
+        Some(Move::Find {
+            relation,
+            columns,
+            values,
+        })
+    } else {
+        Some(Move::NoMemory)
+    }
+}
+
+fn text(alloc: Global, text: &str) -> Result<Str, AllocError> {
+    Ok(Str::from_string(String::from_str(alloc, text)?))
+}
+
+fn names(alloc: Global, name: &str) -> Result<Names, AllocError> {
+    Ok(Names::from_vec(vec![in alloc; text(alloc, name)?]?))
+}
+
+fn tuple(alloc: Global, number: i64) -> Result<Tuple, AllocError> {
+    Ok(Tuple::from_vec(vec![in alloc; Value::Int(number)]?))
+}
+
+/// An instance on a relation without columns.
+fn instance(alloc: Global, owner: u16, root: u32) -> Result<Instance, AllocError>
+    requires { owner ≢ 0 }
+    ensures { IfOk result IsPlain }
+{
+    Ok(Instance {
+        relation: Str::from_string(String::from_str(alloc, "r")?),
+        owner,
+        root,
+        durable: true,
+        code: 1000,
+        desc: Bytes::new(alloc),
+        schema: Schema::from_vec(Vec::new(alloc)),
+        key: Names::from_vec(Vec::new(alloc)),
+    })
+}
+
+fn key(alloc: Global, bytes: &[u8]) -> Result<RecKey, AllocError>
+    ensures { IfOk result (λ k. k ≡ bytes.now) }
+{
+    Ok(RecKey::from_vec(bytes.to_vec(alloc)?))
+}
+
+/// A delete of the scribe.
+fn delete(
+    memory: &mut Memory,
+    alloc: Global,
+    inst: &Instance,
+    bytes: &[u8],
+) -> Result<Move, DriveFault>
+    requires { IsPlain inst.now }
+{
+    let call = MethodCall::Delete(key(alloc, bytes)?);
+    drive_method(memory, alloc, &Scribe {}, inst, &call)
+}
+
+/// Whether the instance has a page behind its root.
+fn has_second(memory: &mut Memory, alloc: Global, inst: &Instance) -> Result<bool, AllocError>
+    requires { IsPlain inst.now }
+{
+    let call = MethodCall::Get(key(alloc, b"")?);
+    let end = drive_method(memory, alloc, &Scribe {}, inst, &call);
+    Ok(matches!(end, Ok(Move::NoRecord)))
+}
+
+#[derive(Debug, Drop)]
+struct Stopped;
+
+#[test]
+fn a_page_is_taken_and_undone(rt: HostRuntime) -> Result<(), Fail> {
+    let alloc = rt.alloc();
+    let mut memory = Memory::new(alloc);
+    let (owner, root) = memory.new_instance(&[])?;
+    assert!(rt; owner == 3 && root == 0);
+    memory.keep();
+    let inst = instance(alloc, owner, root)?;
+    let end = delete(&mut memory, alloc, &inst, b"take").map_err(|_| Stopped)?;
+    assert!(rt; matches!(end, Move::Done) && memory.owner_of(1) == 3);
+    assert_eq!(rt; memory.page(3, 1), [0; 4096].as_slice());
+    assert!(rt; has_second(&mut memory, alloc, &inst)?);
+    memory.undo();
+    assert!(rt; memory.owner_of(1) == 0 && memory.page(3, 0).len() == 4096);
+    assert!(rt; !has_second(&mut memory, alloc, &inst)?);
+    Ok(())
+}
+
+/// The first byte of page 0 as its owner sees it, after a delete with this key.
+const WRITES: [(&'static [u8], Option<u8>); 3] = [
+    (b"write", Some(7)),
+    (b"take", Some(7)),
+    (b"free", None),
+];
+
+#[test]
+fn pages_are_written_and_freed(rt: HostRuntime) -> Result<(), Fail> {
+    let alloc = rt.alloc();
+    let mut memory = Memory::new(alloc);
+    let (owner, root) = memory.new_instance(&[])?;
+    memory.keep();
+    let inst = instance(alloc, owner, root)?;
+    for (bytes, first) in WRITES {
+        let end = delete(&mut memory, alloc, &inst, bytes).map_err(|_| Stopped)?;
+        assert!(rt; matches!(end, Move::Done));
+        assert_eq!(rt; memory.page(3, 0).first().copied(), first);
+    }
+    memory.undo();
+    assert_eq!(rt; memory.page(3, 0), [0; 4096].as_slice());
+    Ok(())
+}
+
+/// The box gets no bytes of a page that another owner has, and calls it broken.
+#[test]
+fn another_owners_page_is_not_given(rt: HostRuntime) -> Result<(), Fail> {
+    let alloc = rt.alloc();
+    let mut memory = Memory::new(alloc);
+    memory.new_instance(&[])?;
+    let (owner, root) = memory.new_instance(&[])?;
+    assert!(rt; owner == 4 && root == 1);
+    let inst = instance(alloc, 4, 0)?;
+    let end = delete(&mut memory, alloc, &inst, b"write");
+    assert!(rt; matches!(end, Err(DriveFault::Damaged { page: 0 })));
+    Ok(())
+}
+
+/// The page that the box names is the one that is called damaged: not its root, which is whole.
+#[test]
+fn the_damaged_page_is_named(rt: HostRuntime) -> Result<(), Fail> {
+    let alloc = rt.alloc();
+    let mut memory = Memory::new(alloc);
+    let (owner, root) = memory.new_instance(&[])?;
+    let inst = instance(alloc, owner, root)?;
+    let end = delete(&mut memory, alloc, &inst, b"behind");
+    assert!(rt; root == 0 && matches!(end, Err(DriveFault::Damaged { page: 1 })));
+    Ok(())
+}
+
+#[test]
+fn an_attachment_is_driven(rt: HostRuntime) -> Result<(), Fail> {
+    let alloc = rt.alloc();
+    let mut memory = Memory::new(alloc);
+    let (owner, root) = memory.new_instance(&[])?;
+    let inst = instance(alloc, owner, root)?;
+    let mut ctx = Ctx::new(alloc);
+    memory.are_pages();
+    let call = AttachCall::Changed(Change::Delete {
+        key: key(alloc, b"k")?,
+        old: Tuple::from_vec(Vec::new(alloc)),
+    });
+    let end = drive_attachment(&mut memory, alloc, &Marker {}, &inst, &call, &mut ctx);
+    assert!(rt; matches!(end, Ok(Move::Done)));
+    assert_eq!(rt; memory.page(3, 0).first().copied(), Some(5));
+    Ok(())
+}
+
+/// How many finds a late check asks, each of which is answered with no rows.
+fn finds(
+    memory: &mut Memory,
+    alloc: Global,
+    inst: &Instance,
+    ctx: &mut Ctx,
+) -> Result<u32, DriveFault>
+    requires inst { IsPlain inst.now }
+    requires clean { IsClean ctx.old }
+    requires part { HoldsPart ctx.old (pages_of memory.old.now inst.now.owner) }
+{
+    for answered in 0..9 {
+        let call = AttachCall::Late(Bytes::new(alloc));
+        match drive_attachment(memory, alloc, &Marker {}, inst, &call, ctx)? {
+            Move::Find {
+                relation,
+                columns,
+                values,
+            } => ctx.give_found(&relation, &columns, &values, &Keys::new(alloc))?,
+            _ => return Ok(answered),
+        }
+    }
+    Ok(9)
+}
+
+#[test]
+fn eight_finds_are_answered(rt: HostRuntime) -> Result<(), Fail> {
+    let alloc = rt.alloc();
+    let mut memory = Memory::new(alloc);
+    let (owner, root) = memory.new_instance(&[])?;
+    let inst = instance(alloc, owner, root)?;
+    let mut ctx = Ctx::new(alloc);
+    memory.are_pages();
+    let asked = finds(&mut memory, alloc, &inst, &mut ctx).map_err(|_| Stopped)?;
+    assert_eq!(rt; asked, 8);
+    assert_eq!(rt; ctx.finds(), 8);
+    Ok(())
+}

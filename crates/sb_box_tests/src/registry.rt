@@ -1,0 +1,352 @@
+//! What no clause says: that calls succeed while memory lasts. And which boxes are refused, with codes from outside.
+
+ghost use Rattle.std.specs.Prelude.{◌≡◌, ◌+◌, true, Some, None};
+ghost use Rattle.sb_relation.specs.Images.{no_image};
+ghost use Rattle.sb_ctx.specs.Attachment.{plain_attachment};
+ghost use Rattle.sb_ctx.specs.Method.{plain_method};
+
+use sb_ctx::{Attachment, Ctx, Instance, MethodCall, Move, StorageMethod};
+use sb_drive::{Memory, SpaceFault};
+use sb_registry::{Boxes, Extensions, Registry};
+use sb_relation::Change;
+use sb_value::{Bytes, Names, RecKey, Schema, Str, Tuple};
+use std::alloc::{AllocError, Global};
+use std::test::*;
+
+/// A storage method of code 1000 and this number more, whose calls all want memory.
+#[derive(Drop)]
+struct Numbered {
+    number: u8,
+}
+
+impl StorageMethod for Numbered {
+    ghost method = { λ m. plain_method (record { code = 1000 + m.number; durable = true; fits = λ schema key. true }) (λ inst P. None) };
+
+    fn code(&self) -> u16 {
+        1000 + u16::from(self.number)
+    }
+
+    fn durable(&self) -> bool {
+        true
+    }
+
+    fn fits(&self, _schema: &Schema, _key: &Names) -> bool {
+        true
+    }
+
+    fn prepare(&self, _alloc: Global, _ctx: &mut Ctx, _inst: &Instance) -> Move {
+        Move::NoMemory
+    }
+
+    fn insert(&self, _alloc: Global, _ctx: &mut Ctx, _inst: &Instance, _tuple: &Tuple) -> Move {
+        Move::NoMemory
+    }
+
+    fn delete(&self, _alloc: Global, _ctx: &mut Ctx, _inst: &Instance, _key: &RecKey) -> Move {
+        Move::NoMemory
+    }
+
+    fn update(
+        &self,
+        _alloc: Global,
+        _ctx: &mut Ctx,
+        _inst: &Instance,
+        _key: &RecKey,
+        _tuple: &Tuple,
+    ) -> Move {
+        Move::NoMemory
+    }
+
+    fn get(&self, _alloc: Global, _ctx: &mut Ctx, _inst: &Instance, _key: &RecKey) -> Move {
+        Move::NoMemory
+    }
+
+    fn next(
+        &self,
+        _alloc: Global,
+        _ctx: &mut Ctx,
+        _inst: &Instance,
+        _after: Option<&RecKey>,
+    ) -> Move {
+        Move::NoMemory
+    }
+}
+
+/// An attachment of code 1000 and this number more, whose calls all want memory.
+#[derive(Drop)]
+struct Plain {
+    number: u8,
+}
+
+impl Attachment for Plain {
+    ghost attachment = { λ a. plain_attachment (record {
+      code = 1000 + a.number;
+      fits = λ schema desc. true;
+      admits = λ desc db name change. true;
+      image = λ desc schema rows. no_image;
+    }) (λ inst P. None) };
+
+    fn code(&self) -> u16 {
+        1000 + u16::from(self.number)
+    }
+
+    fn fits(&self, _schema: &Schema, _desc: &Bytes) -> bool {
+        true
+    }
+
+    fn prepare(&self, _alloc: Global, _ctx: &mut Ctx, _inst: &Instance) -> Move {
+        Move::NoMemory
+    }
+
+    fn on_build(
+        &self,
+        _alloc: Global,
+        _ctx: &mut Ctx,
+        _inst: &Instance,
+        _key: &RecKey,
+        _tuple: &Tuple,
+    ) -> Move {
+        Move::NoMemory
+    }
+
+    fn on_change(
+        &self,
+        _alloc: Global,
+        _ctx: &mut Ctx,
+        _inst: &Instance,
+        _change: &Change,
+    ) -> Move {
+        Move::NoMemory
+    }
+
+    fn late_check(&self, _alloc: Global, _ctx: &mut Ctx, _inst: &Instance, _entry: &Bytes) -> Move {
+        Move::NoMemory
+    }
+
+    fn next_entry(
+        &self,
+        _alloc: Global,
+        _ctx: &mut Ctx,
+        _inst: &Instance,
+        _low: &RecKey,
+        _after: Option<&(RecKey, RecKey)>,
+    ) -> Move {
+        Move::NoMemory
+    }
+
+    fn sums(&self, _alloc: Global, _ctx: &mut Ctx, _inst: &Instance) -> Move {
+        Move::NoMemory
+    }
+}
+
+/// Boxes to be taken, by their numbers, and the code that is refused.
+struct Row {
+    methods: &'static [u8],
+    spare_methods: &'static [u8],
+    attachments: &'static [u8],
+    spare_attachments: &'static [u8],
+    refused: Option<u16>,
+}
+
+const NONE: Row = Row {
+    methods: &[],
+    spare_methods: &[],
+    attachments: &[],
+    spare_attachments: &[],
+    refused: None,
+};
+
+const ROWS: [Row; 7] = [
+    NONE,
+    Row {
+        attachments: &[5, 5],
+        refused: Some(1005),
+        ..NONE
+    },
+    Row {
+        attachments: &[5, 7],
+        spare_attachments: &[6, 7, 5],
+        refused: Some(1007),
+        ..NONE
+    },
+    Row {
+        methods: &[1, 2],
+        spare_methods: &[3, 2, 1],
+        refused: Some(1002),
+        ..NONE
+    },
+    Row {
+        spare_methods: &[4, 4],
+        attachments: &[5, 5],
+        refused: Some(1004),
+        ..NONE
+    },
+    Row {
+        methods: &[1],
+        spare_methods: &[2],
+        attachments: &[1],
+        spare_attachments: &[2],
+        ..NONE
+    },
+    Row {
+        methods: &[1, 2, 3],
+        attachments: &[5],
+        spare_attachments: &[0],
+        ..NONE
+    },
+];
+
+/// The code with which they are refused, where all boxes come back.
+fn refusal(alloc: Global, row: &Row) -> Result<Option<u16>, AllocError> {
+    let mut methods: Vec<Box<dyn StorageMethod>> = Vec::new(alloc);
+    for number in row.methods {
+        methods.push(Box::new(alloc, Numbered { number: *number })?)?;
+    }
+    let mut spare_methods: Vec<Box<dyn StorageMethod>> = Vec::new(alloc);
+    for number in row.spare_methods {
+        spare_methods.push(Box::new(alloc, Numbered { number: *number })?)?;
+    }
+    let mut attachments: Vec<Box<dyn Attachment>> = Vec::new(alloc);
+    for number in row.attachments {
+        attachments.push(Box::new(alloc, Plain { number: *number })?)?;
+    }
+    let mut spare_attachments: Vec<Box<dyn Attachment>> = Vec::new(alloc);
+    for number in row.spare_attachments {
+        spare_attachments.push(Box::new(alloc, Plain { number: *number })?)?;
+    }
+    let exts = Extensions {
+        methods,
+        attachments,
+        spare_methods,
+        spare_attachments,
+    };
+    Ok(code_of(Registry::take(exts), row))
+}
+
+fn code_of(taken: Result<Registry, (u16, Extensions)>, row: &Row) -> Option<u16> {
+    let (code, back) = taken.err()?;
+    if has_as_many(&back, row) {
+        Some(code)
+    } else {
+        Some(0)
+    }
+}
+
+fn has_as_many(exts: &Extensions, row: &Row) -> bool {
+    exts.methods.len() == row.methods.len()
+        && exts.spare_methods.len() == row.spare_methods.len()
+        && exts.attachments.len() == row.attachments.len()
+        && exts.spare_attachments.len() == row.spare_attachments.len()
+}
+
+#[test]
+fn one_code_twice_is_refused(rt: HostRuntime) -> Result<(), Fail> {
+    for row in &ROWS {
+        assert_eq!(rt; refusal(rt.alloc(), row)?, row.refused);
+    }
+    Ok(())
+}
+
+#[derive(Debug, Drop)]
+struct Refused;
+
+/// An attachment goes and comes back.
+#[test]
+fn attachment_moved(rt: HostRuntime) -> Result<(), Fail> {
+    let alloc = rt.alloc();
+    let mut attachments: Vec<Box<dyn Attachment>> = Vec::new(alloc);
+    attachments.push(Box::new(alloc, Plain { number: 5 })?)?;
+    let exts = Extensions {
+        methods: Vec::new(alloc),
+        attachments,
+        spare_methods: Vec::new(alloc),
+        spare_attachments: Vec::new(alloc),
+    };
+    let mut registry = Registry::take(exts).map_err(|_| Refused)?;
+    let before = registry.register(false, 1005)?;
+    let gone = registry.retire(false, 1005)?;
+    let none = registry.attachment(1005).is_none();
+    let back = registry.register(false, 1005)?;
+    let there = registry.attachment(1005).is_some();
+    assert!(rt; !before && gone && none && back && there);
+    Ok(())
+}
+
+/// A spare storage method takes the place of the live one.
+#[test]
+fn method_moved(rt: HostRuntime) -> Result<(), Fail> {
+    let alloc = rt.alloc();
+    let mut methods: Vec<Box<dyn StorageMethod>> = Vec::new(alloc);
+    methods.push(Box::new(alloc, Numbered { number: 1 })?)?;
+    let mut spare_methods: Vec<Box<dyn StorageMethod>> = Vec::new(alloc);
+    spare_methods.push(Box::new(alloc, Numbered { number: 2 })?)?;
+    let exts = Extensions {
+        methods,
+        attachments: Vec::new(alloc),
+        spare_methods,
+        spare_attachments: Vec::new(alloc),
+    };
+    let mut registry = Registry::take(exts).map_err(|_| Refused)?;
+    let first = registry.method(1001).map(|m| m.code());
+    let moved = registry.retire(true, 1001)? && registry.register(true, 1002)?;
+    let second = registry.method(1002).map(|m| m.code());
+    let exts = registry.give_back();
+    assert!(rt; first == Some(1001) && moved && second == Some(1002));
+    assert!(rt; exts.methods.len() == 1 && exts.spare_methods.len() == 1);
+    Ok(())
+}
+
+/// An instance of a storage method's code, with no columns.
+fn instance(alloc: Global, code: u16, durable: bool) -> Instance {
+    Instance {
+        relation: Str::from_string(String::new(alloc)),
+        owner: 1,
+        root: 0,
+        durable,
+        code,
+        desc: Bytes::new(alloc),
+        schema: Schema::from_vec(Vec::new(alloc)),
+        key: Names::from_vec(Vec::new(alloc)),
+    }
+}
+
+/// Whether it is kept by a live box, which is called then and wants memory.
+fn is_called<B: Boxes>(boxes: &B, alloc: Global, inst: &Instance) -> bool {
+    if !boxes.keeps(inst) {
+        return false;
+    }
+    let mut memory = Memory::new(alloc);
+    let made = boxes.run_method(&mut memory, alloc, inst, &MethodCall::Prepare);
+    matches!(made, Err(SpaceFault::NoMemory))
+}
+
+/// A live box keeps the instances of its code that are as durable as it is.
+#[test]
+fn live_method_called(rt: HostRuntime) -> Result<(), Fail> {
+    let alloc = rt.alloc();
+    let mut methods: Vec<Box<dyn StorageMethod>> = Vec::new(alloc);
+    methods.push(Box::new(alloc, Numbered { number: 1 })?)?;
+    let mut spare_methods: Vec<Box<dyn StorageMethod>> = Vec::new(alloc);
+    spare_methods.push(Box::new(alloc, Numbered { number: 2 })?)?;
+    let exts = Extensions {
+        methods,
+        attachments: Vec::new(alloc),
+        spare_methods,
+        spare_attachments: Vec::new(alloc),
+    };
+    let registry = Registry::take(exts).map_err(|_| Refused)?;
+    for (code, durable, called) in [
+        (1001, true, true),
+        (1001, false, false),
+        (1002, true, false),
+    ] {
+        let inst = instance(alloc, code, durable);
+        assert!(rt;
+            is_called(&registry, alloc, &inst) == called,
+            "{code} {durable}"
+        );
+    }
+    assert!(rt; registry.is_durable(1001) == Some(true) && registry.is_durable(1002).is_none());
+    assert!(rt; !registry.has_rule(1001));
+    Ok(())
+}

@@ -1,4 +1,0 @@
-use Rattle.sb_catalog.proofs.tests.is_copied.Goals as goal
-
-pub write_rule-requires : goal.write_rule-requires
-write_rule-requires c = rw c.in_ok-copy.ensures c.requires

@@ -1,0 +1,205 @@
+//! What no clause says: that calls succeed while memory lasts. And rows with their numbers, through the traits.
+
+use sb_disk::{Disk, Failed, Sink, Source};
+use sb_memdisk::{MemDisk, MemSink, MemSource};
+use std::test::Fail;
+
+/// What a disk of 16 zeros does with one write of 1, 2, 3, 4 at 0, and holds then.
+struct Row {
+    fails: &'static [u64],
+    stop: Option<(u64, u32)>,
+    synced_before: bool,
+    synced_after: bool,
+    written: bool,
+    image: [u8; 4],
+    synced: [u8; 4],
+    faults: u64,
+    clock: u64,
+}
+
+const PLAIN: Row = Row {
+    fails: &[],
+    stop: None,
+    synced_before: false,
+    synced_after: false,
+    written: true,
+    image: [1, 2, 3, 4],
+    synced: [0; 4],
+    faults: 0,
+    clock: 1,
+};
+
+const ROWS: [Row; 9] = [
+    PLAIN,
+    Row {
+        synced_after: true,
+        synced: [1, 2, 3, 4],
+        clock: 2,
+        ..PLAIN
+    },
+    Row {
+        fails: &[0],
+        written: false,
+        image: [0; 4],
+        faults: 1,
+        ..PLAIN
+    },
+    Row {
+        fails: &[1],
+        synced_after: true,
+        faults: 1,
+        clock: 2,
+        ..PLAIN
+    },
+    Row {
+        fails: &[0],
+        synced_before: true,
+        synced_after: true,
+        synced: [1, 2, 3, 4],
+        faults: 1,
+        clock: 3,
+        ..PLAIN
+    },
+    Row {
+        stop: Some((0, 2)),
+        written: false,
+        image: [1, 2, 0, 0],
+        faults: 1,
+        ..PLAIN
+    },
+    Row {
+        stop: Some((0, 9)),
+        synced_after: true,
+        written: false,
+        faults: 2,
+        clock: 2,
+        ..PLAIN
+    },
+    Row {
+        stop: Some((0, 2)),
+        synced_before: true,
+        written: false,
+        image: [0; 4],
+        faults: 2,
+        clock: 2,
+        ..PLAIN
+    },
+    Row {
+        stop: Some((1, 2)),
+        synced_after: true,
+        faults: 1,
+        clock: 2,
+        ..PLAIN
+    },
+];
+
+fn write_some<D: Disk>(disk: &mut D, row: &Row) -> bool {
+    if disk.mount(b"any", Some(99)).is_err() || disk.len() < 4 {
+        return false;
+    }
+    if row.synced_before {
+        let _done = disk.sync().is_ok();
+    }
+    let written = disk.write_at(0, &[1, 2, 3, 4]).is_ok();
+    if row.synced_after {
+        let _done = disk.sync().is_ok();
+    }
+    written
+}
+
+#[test]
+fn writes_are_stored_torn_and_lost(rt: HostRuntime) -> Result<(), Fail> {
+    let alloc = rt.alloc();
+    for (number, row) in ROWS.iter().enumerate() {
+        let mut disk = MemDisk::new(alloc, 16)?;
+        disk.fail_at(row.fails)?;
+        if let Some((call, torn)) = row.stop {
+            disk.stop_at(call, torn);
+        }
+        assert_eq!(rt; write_some(&mut disk, row), row.written, "row {number}");
+        assert!(rt;
+            disk.image()?.as_slice().starts_with(&row.image),
+            "row {number}"
+        );
+        assert!(rt;
+            disk.synced()?.as_slice().starts_with(&row.synced),
+            "row {number}"
+        );
+        assert_eq!(rt; disk.faults(), row.faults, "row {number}");
+        assert_eq!(rt; disk.clock(), row.clock, "row {number}");
+        assert_eq!(rt; disk.calls(), row.clock, "row {number}");
+        assert_eq!(rt; disk.len(), 16, "row {number}");
+    }
+    Ok(())
+}
+
+fn read_back<D: Disk>(disk: &mut D, buffer: &mut [u8; 2]) -> bool {
+    if disk.len() < 3 {
+        return false;
+    }
+    disk.read_at(1, buffer.as_mut_slice()).is_ok()
+}
+
+#[test]
+fn an_image_is_read(rt: HostRuntime) -> Result<(), Fail> {
+    let alloc = rt.alloc();
+    let mut disk = MemDisk::from_image(alloc, &[7, 8, 9])?;
+    disk.fail_at(&[1])?;
+    let mut buffer = [0; 2];
+    assert!(rt; read_back(&mut disk, &mut buffer));
+    assert_eq!(rt; buffer, [8, 9]);
+    assert!(rt; !read_back(&mut disk, &mut buffer));
+    assert!(rt; read_back(&mut disk, &mut buffer));
+    assert_eq!(rt; disk.calls(), 3);
+    assert_eq!(rt; disk.clock(), 0);
+    assert_eq!(rt; disk.faults(), 1);
+    Ok(())
+}
+
+fn read_once<S: Source>(source: &mut S, buffer: &mut [u8; 4]) -> Result<usize, Failed> {
+    source.read(buffer.as_mut_slice())
+}
+
+#[test]
+fn reads_fail_behind_the_stop(rt: HostRuntime) -> Result<(), Fail> {
+    let alloc = rt.alloc();
+    let mut disk = MemDisk::from_image(alloc, &[7, 8, 9])?;
+    disk.stop_at(0, 0);
+    let mut buffer = [0; 2];
+    assert!(rt; read_back(&mut disk, &mut buffer));
+    assert!(rt; disk.sync().is_err());
+    assert!(rt; !read_back(&mut disk, &mut buffer));
+    assert_eq!(rt; disk.faults(), 2);
+    Ok(())
+}
+
+#[test]
+fn a_source_gives_its_bytes_piece_by_piece(rt: HostRuntime) -> Result<(), Fail> {
+    let alloc = rt.alloc();
+    let mut source = MemSource::new(alloc, b"abcde", 3, Some(1))?;
+    let mut buffer = [0; 4];
+    assert_eq!(rt; read_once(&mut source, &mut buffer), Ok(3));
+    assert_eq!(rt; &buffer[..3], b"abc".as_slice());
+    assert_eq!(rt; read_once(&mut source, &mut buffer), Err(Failed));
+    assert_eq!(rt; read_once(&mut source, &mut buffer), Ok(2));
+    assert_eq!(rt; &buffer[..2], b"de".as_slice());
+    assert_eq!(rt; read_once(&mut source, &mut buffer), Ok(0));
+    assert_eq!(rt; source.faults(), 1);
+    Ok(())
+}
+
+fn write_once<S: Sink>(sink: &mut S, piece: &[u8]) -> Result<usize, Failed> {
+    sink.write(piece)
+}
+
+#[test]
+fn a_sink_takes_piece_by_piece(rt: HostRuntime) -> Result<(), Fail> {
+    let alloc = rt.alloc();
+    let mut sink = MemSink::new(alloc, 3, Some(1));
+    assert_eq!(rt; write_once(&mut sink, b"abcd"), Ok(3));
+    assert_eq!(rt; write_once(&mut sink, b"d"), Err(Failed));
+    assert_eq!(rt; write_once(&mut sink, b"de"), Ok(2));
+    assert_eq!(rt; sink.held(), b"abcde".as_slice());
+    assert_eq!(rt; sink.faults(), 1);
+    Ok(())
+}

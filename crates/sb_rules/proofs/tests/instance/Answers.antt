@@ -1,6 +1,0 @@
-use Rattle.std.proofs.Common.{refl, ◌∙◌}
-use Rattle.sb_rules.proofs.Examples.{IsInstance-numbers}
-use Rattle.sb_rules.proofs.tests.instance.Goals as goal
-
-pub returns-clause-check : goal.returns-clause-check
-returns-clause-check c = IsInstance-numbers _ c.args.deferred refl (c.from_vec.ensures ∙ c.new.ensures.items) refl c.in_ok-columns.ensures c.in_ok-desc.ensures.spelled c.in_ok-desc.ensures.storable
