@@ -216,7 +216,7 @@ module _ {D : Type 0} (told : D → Option Story) (len faults : D → ℕ) (tx :
 
   pub Fails-err : (f : StoreFault) → Keeps {T = Unit {0}} told len faults d e s t (Err f) → ((o : Out) → out_with tx s.book.out ≡ Some o → ChangeErr (parts told len d s) (parts told len e t) o page count f) → Fails faults (fault_of f) d e s t
   Fails-err Fault keeps err = keeps.fault refl
-  Fails-err Down keeps err = (keeps.later, inl (keeps.only refl))
+  Fails-err Down keeps err = let on = keeps.only refl in (keeps.later, inl on, ap (λ (x : State). x.book.down) (keeps.down on).store ∙ on)
   Fails-err NoMemory keeps err = tt
   Fails-err (LogFull used need total) keeps err =
       let up = was_up told len faults tx d e s t {T = Unit {0}} (Err (LogFull used need total)) keeps (λ x. cc) in

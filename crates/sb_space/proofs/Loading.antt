@@ -116,7 +116,7 @@ module _ {D T : Type 0} (told : D → Option Story) (len faults : D → ℕ) (tx
     where
       by_kind : (g : StoreFault) → IsFaultOrDown g → g ≡ f → Fails faults (fault_of g) d e s t
       by_kind Fault is same = keeps.fault (ap Err (sym same))
-      by_kind Down is same = (keeps.later, inl (keeps.only (ap Err (sym same))))
+      by_kind Down is same = let on = keeps.only (ap Err (sym same)) in (keeps.later, inl on, ap (λ (x : State). x.book.down) (keeps.down on).store ∙ on)
       by_kind (LogFull used need total) is same = absurd is
       by_kind (GatesFull used total) is same = absurd is
       by_kind NoMemory is same = absurd is

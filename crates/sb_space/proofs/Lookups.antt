@@ -139,7 +139,7 @@ module _ {D T : Type 0} (told : D → Option Story) (len faults : D → ℕ) (tx
   pub Fails-looked : (r : Result T SpaceFault) → IfErr r MeansDown → Looks told len faults d e s t r → IfErr r (λ f. Fails faults f d e s t)
   Fails-looked (Ok x) means looks = tt
   Fails-looked (Err Fault) means looks = looks.fault refl
-  Fails-looked (Err Down) means looks = (looks.later, inl (looks.only refl))
+  Fails-looked (Err Down) means looks = (looks.later, inl (looks.only refl), went_down Down means looks)
   Fails-looked (Err (DataFull used of)) means looks = absurd means
   Fails-looked (Err (TempFull used of)) means looks = absurd means
   Fails-looked (Err (LogFull used need of)) means looks = absurd means

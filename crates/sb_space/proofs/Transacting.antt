@@ -62,7 +62,7 @@ module _ {D : Type 0} (told : D → Option Story) (len faults : D → ℕ) (d e 
     only = λ is. keeps.only refl;
     up = λ on. inl (keeps.only refl);
     fell = λ on. inl (keeps.only refl);
-    fails = (keeps.later, inl (keeps.only refl));
+    fails = let on = keeps.only refl in (keeps.later, inl on, ap (λ (x : State). x.book.down) (keeps.down on).store ∙ on);
   }
   Kept-failed (LogFull used need total) is keeps = absurd is
   Kept-failed (GatesFull used total) is keeps = absurd is

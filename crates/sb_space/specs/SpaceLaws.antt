@@ -27,6 +27,7 @@ module _ {D : Type 0} (told : D → Option Story) (len faults : D → ℕ) where
             (λ (was : t.book.down ≡ true). ⊎_elim (λ (first : s.book.down ≡ true). inl first) (λ (rose : Rose (faults d) (faults b)). inr (Rose-before (faults d) (faults b) (faults f) rose fails.0)) (works.fell was))
             (λ (rose : Rose (faults b) (faults f)). inr (Rose-later (faults d) (faults b) (faults f) works.later rose))
             fails.1,
+        fails.2,
       )
   Fails-on tx k d f s u (DataFull used total) b t works fails = tt
   Fails-on tx k d f s u (TempFull used total) b t works fails = fails

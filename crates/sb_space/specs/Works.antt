@@ -73,10 +73,10 @@ pub record Works {D : Type 0} (told : D → Option Story) (len faults : D → �
   pub fell : t.book.down ≡ true → (s.book.down ≡ true) ⊎ Rose (faults old) (faults new)
   pub makes : t.book.down ≡ false → Makes tx changes (parts told len old s) (parts told len new t)
 
--- Why a call is refused: the disk failed a call, and the store is down from now on; it is down already; the log hasn't the bytes that a change wants, or no gate is left for it; no page is left; memory is wanting.
+-- Why a call is refused: the disk failed a call, and the store is down from now on; it is down already, and stays so; the log hasn't the bytes that a change wants, or no gate is left for it; no page is left; memory is wanting.
 abbrev pub Fails : {D : Type 0} → (D → ℕ) → SpaceFault → D → D → State → State → Type 0
 Fails faults Fault old new s t = Rose (faults old) (faults new) × (t.book.down ≡ true)
-Fails faults Down old new s t = (faults old ≤ faults new) × ((s.book.down ≡ true) ⊎ Rose (faults old) (faults new))
+Fails faults Down old new s t = (faults old ≤ faults new) × ((s.book.down ≡ true) ⊎ Rose (faults old) (faults new)) × (t.book.down ≡ true)
 Fails faults (LogFull used need total) old new s t =
     (used ≡ used_of t.journal) × (need ≤ 13424) × (total ≡ t.journal.log.len) × (total < used + need)
 Fails faults (GatesFull used total) old new s t = (used ≡ length t.journal.lens) × (total ≡ t.journal.gates.len) × (65534 < used)

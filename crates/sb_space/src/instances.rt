@@ -181,6 +181,3 @@ impl<D: Disk> Durable<'_, D> {
         self.set_bytes(TABLE, page, &table)
     }
 }
-
-#[cfg(test)]
-mod tests;

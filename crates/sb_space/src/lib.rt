@@ -19,8 +19,3 @@ pub use durable::Durable;
 pub use laws::going_back_gives_what_was;
 pub use opening::{catalogue, open_store, owner_of};
 pub use transactions::{Mark, Space, Tx};
-
-#[cfg(test)]
-mod tests;
-#[cfg(test)]
-mod transaction_tests;

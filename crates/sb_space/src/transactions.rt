@@ -17,7 +17,8 @@ use sb_disk::Disk;
 use sb_drive::SpaceFault;
 use sb_txn::Store;
 
-/// A transaction that is out, the only one of its space. It is spent by `commit` or `abort`.
+/// A transaction that is out, the only one of its space. It is spent by `commit` or `abort`; one that is let go stays out as long as its store is open.
+#[derive(Drop)]
 pub struct Tx {
     pub store: sb_txn::Tx,
 }
@@ -40,6 +41,13 @@ impl Space {
         ensures { result ≡ self.now.store.pool.geometry.pages }
     {
         self.store.pages()
+    }
+
+    /// Whether a call on the disk has failed. Every call fails then that wants the disk.
+    pub fn is_down(&self) -> bool
+        ensures { result ≡ self.now.store.book.down }
+    {
+        self.store.is_down()
     }
 
     /// Begins a transaction. A checkpoint is taken first where more than half of the log or of its gates is used, or of the numbers of transactions; else disk and journal stay as they were.

@@ -108,7 +108,7 @@ module _ {S : Type 0} (Has : Wanted → Slots → S → Type 0) (m : Meanings) (
       record { want = stands.want; slots = stands.slots; kept = stands.kept; has = stands.has; is = stands.db; keeps = stands.keeps; lasting = stands.lasting }
 
   -- with nothing open
-  stands_on : (g : Going) (space : S) (w : Work) → KeepsDb Has m root w.gone.items g.db space → AreMirrored g.db → ArePaired g.db → IsComplete g.db g.queue → w.opened.items ≡ []
+  pub stands_on : (g : Going) (space : S) (w : Work) → KeepsDb Has m root w.gone.items g.db space → AreMirrored g.db → ArePaired g.db → IsComplete g.db g.queue → w.opened.items ≡ []
       → left_of w ≡ g.queue → w.picks.items ≡ g.used → AllFit g.db g.queue.actions → Stands Has m root g space w
   stands_on g space w keeps mirrored paired complete closed waits picked fit = record {
     want = keeps.want;

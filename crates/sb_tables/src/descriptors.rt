@@ -60,7 +60,7 @@ fn are_short_names(names: &[Str]) -> bool
 }
 
 /// Gives the relation of a name this descriptor in the catalogue, in the place of another one.
-pub(crate) fn enter<S: PageSpace>(
+pub fn enter<S: PageSpace>(
     space: &mut S,
     alloc: Global,
     place: Place,

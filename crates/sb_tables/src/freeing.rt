@@ -35,6 +35,7 @@ pub fn free_gone<B: Boxes, S: Owners>(
     ensures refused { IfErr result (λ r. IsRefusedBy S.fails r running.new.space.now) }
     ensures cause { IfErr result (λ r. HasCause S.fails r running.new.space.now) }
     ensures frees { Frees S.leads running.old running.new }
+    ensures kept { IfErr result (λ r. running.new.work.now.gone ≡ running.old.work.now.gone) }
     ensures ready { IsServing S.is_ready B.meanings running.new }
 {
     match free_all(running.space, alloc, &mut running.work.gone) {
@@ -52,6 +53,7 @@ fn free_all<S: Owners>(space: &mut S, alloc: Global, gone: &mut Vec<u16>) -> Res
     ensures none { OnOk result (gone.new.items ≡ []) }
     ensures refused { IfErr result (λ e. IsRefusedBy S.fails (refusal_of e) space.new) }
     ensures undamaged { IfErr result IsSound }
+    ensures kept { IfErr result (λ e. gone.new ≡ gone.old) }
     ensures leads { LeadsOn S.leads space.old space.new }
     ensures ready { S.is_ready space.new }
 {

@@ -8,9 +8,7 @@ mod mirrors;
 mod removal;
 
 pub use creation::create;
+pub use descriptors::enter;
 pub use freeing::free_gone;
-pub use mirrors::detach_named;
+pub use mirrors::{detach_named, mirror_name, mirrored};
 pub use removal::drop_relation;
-
-#[cfg(test)]
-mod tests;

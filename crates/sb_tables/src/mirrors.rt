@@ -181,7 +181,7 @@ fn detach_mirror<S: PageSpace, B: Boxes>(
 }
 
 /// The relation that has the mirror of a rule.
-fn mirrored(rule: &Rule) -> Option<&Str>
+pub fn mirrored(rule: &Rule) -> Option<&Str>
     ensures { (name : Named) → option_copied result ≡ option_map (λ mirror. mirror.0) (mirror_of name rule.now) }
 {
     match rule {
@@ -200,7 +200,7 @@ fn mirrored(rule: &Rule) -> Option<&Str>
 }
 
 /// The name of the mirror of a relation's attachment.
-fn mirror_name(relation: &Str, name: &Str) -> Result<Str, AllocError>
+pub fn mirror_name(relation: &Str, name: &Str) -> Result<Str, AllocError>
     ensures { IfOk result (λ label. label ≡ mirror_name relation.now name.now) }
 {
     let mut label = relation.copy()?.into_string();

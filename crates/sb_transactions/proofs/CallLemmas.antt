@@ -1,5 +1,5 @@
 -- What the calls of a space keep, as those of a transaction.
-use Rattle.std.proofs.Common.{◌≡◌, ⊎_elim, ℕ, Bool, true, false, Option, Ok, Err, IsErrOf, refl, sym, ap, ◌∙◌}
+use Rattle.std.proofs.Common.{◌≡◌, ⊎_elim, ℕ, Bool, true, false, Option, Result, Ok, Err, IsErrOf, refl, sym, ap, ◌∙◌}
 use Rattle.std.proofs.lemmas.Bool.{false≢true}
 use Rattle.sb_disk.specs.Disk.{Story}
 use Rattle.sb_fold.specs.declared.refusal.Refusal.{Refusal}
@@ -11,7 +11,7 @@ use Rattle.sb_space.specs.Transactions.{Kept}
 use Rattle.sb_space.specs.Works.{Fails, MeansDown}
 use Rattle.sb_engine.specs.Refusals.{HasCause, refusal_of}
 use Rattle.sb_transactions.specs.Calls.{IsOnlyFault, Remains}
-use Rattle.sb_transactions.specs.Commits.{FailsOn}
+use Rattle.sb_transactions.specs.Commits.{FailsOn, Mounted}
 
 ok_err : {T E A : Type 0} (x : T) (e : E) → Ok x ≡ Err e → A
 ok_err x e is = absurd (cc)
@@ -91,3 +91,45 @@ module _ {D : Type 0} (told : D → Option Story) (len faults : D → ℕ) (d e 
   HasCause-of (GatesFull used total) means fails = absurd means
   HasCause-of (Damaged page) means fails = absurd means
   HasCause-of NoMemory means fails = absurd means
+
+-- a store that is up was up before a call
+pub up-earlier : {D T : Type 0} (told : D → Option Story) (len faults : D → ℕ) (d e : D) (s t : State) (r : Result T Refusal) → Remains told len faults d e s t r → t.book.down ≡ false → s.book.down ≡ false
+up-earlier told len faults d e s t r remains up = by s.book.down refl
+  where
+    by : (b : Bool) → s.book.down ≡ b → s.book.down ≡ false
+    by false off = off
+    by true on = absurd (false≢true (sym up ∙ ap (λ (x : State). x.book.down) (remains.down on).store ∙ on))
+
+-- and a call that was answered leaves it up
+pub up-later : {D T : Type 0} (told : D → Option Story) (len faults : D → ℕ) (d e : D) (s t : State) (x : T) → Remains told len faults d e s t (Ok x) → t.book.down ≡ false
+up-later told len faults d e s t x remains = by t.book.down refl
+  where
+    by : (b : Bool) → t.book.down ≡ b → t.book.down ≡ false
+    by false off = off
+    by true on = ok_err x refusal.Fault (remains.up on)
+
+-- what an answered call keeps is kept too where something else is answered
+pub Remains-answered : {D T U : Type 0} (told : D → Option Story) (len faults : D → ℕ) (d e : D) (s t : State) (x : T) (q : Result U Refusal) → Remains told len faults d e s t (Ok x) → Remains told len faults d e s t q
+Remains-answered told len faults d e s t x q remains = record {
+  size = remains.size;
+  later = remains.later;
+  geometry = remains.geometry;
+  ready = remains.ready;
+  down = λ on. ok_err x refusal.Fault (remains.down on).answer;
+  up = λ on. ok_err x refusal.Fault (remains.up on);
+  fell = remains.fell;
+}
+
+-- ---- a fault that has a cause means that the store is down
+down_by : {D : Type 0} (faults : D → ℕ) (fault : SpaceFault) (old new : Mounted D) → refusal_of fault ≡ refusal.Fault → FailsOn faults fault old new → new.store.book.down ≡ true
+down_by faults Fault old new is fails = fails.1
+down_by faults Down old new is fails = fails.2
+down_by faults (DataFull used total) old new is fails = absurd (cc)
+down_by faults (TempFull used total) old new is fails = absurd (cc)
+down_by faults (LogFull used need total) old new is fails = absurd (cc)
+down_by faults (GatesFull used total) old new is fails = absurd (cc)
+down_by faults (Damaged page) old new is fails = absurd (cc)
+down_by faults NoMemory old new is fails = absurd (cc)
+
+pub Fault-down : {D : Type 0} (faults : D → ℕ) (x : Mounted D) → HasCause (FailsOn faults) refusal.Fault x → x.store.book.down ≡ true
+Fault-down faults x cause = down_by faults cause.fault cause.before x cause.is cause.fails

@@ -1,5 +1,6 @@
 -- The end of a transaction, by a commit or an abort, behind the work that finishes it.
 use Rattle.std.proofs.Common.{◌≡◌, ⊎_elim, inl, inr, ℕ, Bool, true, false, Option, None, Result, Ok, Err, IfErr, IfOk, IsErrOf, OnOk, List, [], All, refl, sym, ap, subst, ◌∙◌, arith}
+use Rattle.std.proofs.lemmas.Bool.{false≢true}
 use Rattle.std.proofs.lemmas.List.Elements.{All-nil}
 use Rattle.sb_disk.specs.Causes.{Rose}
 use Rattle.sb_disk.specs.Disk.{Story}
@@ -31,15 +32,34 @@ use Rattle.sb_engine.specs.Refusals.{HasCause}
 use Rattle.sb_engine.specs.Working.{extensions_of}
 use Rattle.sb_standing.specs.Tables.{db_of}
 use Rattle.sb_transactions.specs.Calls.{IsOnlyFault, Remains}
-use Rattle.sb_transactions.specs.Commits.{ComesTo, FailsOn, Finishes, IsDone, IsLed, LeavesEither, LeavesOldOrFinished, Mounted, StopsAt}
+use Rattle.sb_transactions.specs.declared.refusals.Uncommitted.{Uncommitted}
+use Rattle.sb_transactions.specs.Commits.{by_refusal, ComesTo, FailsOn, Finishes, IsFaulted, IsDone, IsLed, IsOrFaulted, IsEnded, LeavesEither, LeavesOldOrFinished, Mounted, StopsAt, ended}
 use Rattle.sb_transactions.specs.Transactions.{HasNothingLeft, IsAt, IsCommitted, IsFinished}
-use Rattle.sb_transactions.proofs.FinishLemmas.{StopsFrom-behind, StopsFrom-else, finish-at_once, finish-map}
+use Rattle.sb_transactions.proofs.CallLemmas.{Fault-down}
+use Rattle.sb_transactions.proofs.FinishLemmas.{StopsFrom-behind, StopsFrom-else, StopsFrom-fault, finish-at_once, finish-map}
 
 ok_err : {T E A : Type 0} (x : T) (e : E) → Ok x ≡ Err e → A
 ok_err x e is = absurd (cc)
 
 fault_free : (r : Refusal) → r ≡ Fault → is_free r ≡ true
 fault_free r is = ap is_free is
+
+-- ---- the answer of a call behind which the transaction is over
+pub only-ended : {T : Type 0} (r : Result T Refusal) (t : State) (P : Uncommitted → Type 0) → ((q : Refusal) → IsOnlyFault q t → P (record { refusal = q; transaction = None })) → IfErr r (λ q. IsOnlyFault q t)
+    → IfErr (ended r) P
+only-ended (Ok x) t P gives only = tt
+only-ended (Err q) t P gives only = gives q only
+
+pub none-ended : {T : Type 0} (r : Result T Refusal) (t : State) → OnOk r (t.book.out ≡ []) → IfErr r (λ q. IsOnlyFault q t) → IsEnded (ended r) → t.book.down ≡ false → t.book.out ≡ []
+none-ended (Ok x) t none only ended up = none
+none-ended (Err q) t none only ended up = absurd (false≢true (sym up ∙ only.down))
+
+pub remains-ended : {T : Type 0} (P : Result T Refusal → Type 0) (r : Result T Refusal) → P r → P (by_refusal (ended r))
+remains-ended P (Ok x) is = is
+remains-ended P (Err q) is = is
+
+err_as : {T U : Type 0} (q : Refusal) → IsErrOf {T = T} (Err q) Fault → IsErrOf {T = U} (Err q) Fault
+err_as q is = let same : q ≡ Fault = cc in ap (λ (r : Refusal). Err r) same
 
 -- ---- nothing is left
 module _ (m : Meanings) (place : Place) (want : Wanted) (tx : ℕ) (g : Going) (p : Parts) (w : Work) (at : IsAt m place want tx g p w) (left : HasNothingLeft w) where
@@ -66,7 +86,7 @@ module _ (m : Meanings) (place : Place) (want : Wanted) (tx : ℕ) (g : Going) (
 module _ (m : Meanings) (place : Place) (tx : ℕ) (p q : Parts) (w : Work) (left : HasNothingLeft w) where
   pub done-left : {T : Type 0} (r : Result T Refusal) (items : T → List Key)
       → IfOk r (λ picks. (m : Meanings) (place : Place) (want : Wanted) (g : Going) → IsAt m place want tx g p w → IsFinished m g w → IsDone m place.root (items picks) g q)
-      → IfOk r (λ picks. (want : Wanted) (g : Going) → IsAt m place want tx g p w → Finishes m g (IsDone m place.root (items picks)) q)
+      → IfOk (ended r) (λ picks. (want : Wanted) (g : Going) → IsAt m place want tx g p w → Finishes m g (IsDone m place.root (items picks)) q)
   done-left (Ok picks) items done = λ want g at.
       finished-left m place want tx g p w at left (IsDone m place.root (items picks)) q (done m place want g at (IsFinished-left m place want tx g p w at left))
   done-left (Err e) items done = tt
@@ -87,7 +107,7 @@ StopsAt-left told len faults m place want tx g p w old new r at left only cause 
 
 pub stops-left : {D T : Type 0} (told : D → Option Story) (len faults : D → ℕ) (m : Meanings) (place : Place) (tx : ℕ) (p : Parts) (w : Work) (old new : Mounted D) (r : Result T Refusal) → HasNothingLeft w
     → IfErr r (λ e. IsOnlyFault e new.store) → IfErr r (λ e. HasCause (FailsOn faults) e new)
-    → IfErr r (λ e. (want : Wanted) (g : Going) → IsAt m place want tx g p w → StopsAt told len faults (extensions_of m) tx g e old)
+    → IfErr (ended r) (λ e. (want : Wanted) (g : Going) → IsAt m place want tx g p w → StopsAt told len faults (extensions_of m) tx g e.refusal old)
 stops-left told len faults m place tx p w old new (Ok x) left only cause = tt
 stops-left told len faults m place tx p w old new (Err e) left only cause = λ want g at. StopsAt-left told len faults m place want tx g p w old new e at left only cause
 
@@ -126,6 +146,9 @@ module _ {D : Type 0} (told : D → Option Story) (len faults : D → ℕ) (m : 
         (λ (rose : Rose (faults e) (faults f)). inr (Rose-later (faults d) (faults e) (faults f) works.later rose))
         (remains.fell on);
   }
+
+  pub Remains-stopped : {U : Type 0} (q : Refusal) → Remains {T = Unit {0}} told len faults e f t u (Err q) → Remains {T = U} told len faults d f s u (Err q)
+  Remains-stopped q remains = Remains-behind (Err q) (Err q) (λ is. err_as q is) remains
 
   -- where the store went down in that work, it is as that left it
   still_down : {T : Type 0} (r : Result T Refusal) → Remains told len faults e f t u r → t.book.down ≡ true → (want : Wanted) → LeavesOnly (told d) (told e) (Restores s.pool.geometry want)
@@ -181,12 +204,12 @@ module _ {D : Type 0} (told : D → Option Story) (len faults : D → ℕ) (m : 
   module _ (v : Work) (finished : (want : Wanted) (g : Going) → IsAt m place want tx g old v → Finishes m g (ComesTo m place want tx w) mid) (none : w.gone.items ≡ []) where
     pub done-commit : {T : Type 0} (r : Result T Refusal) (items : T → List Key) (tx' : ℕ) → tx' ≡ tx → OnOk r (t.book.down ≡ false)
         → IfOk r (λ picks. (m : Meanings) (place : Place) (want : Wanted) (g : Going) → IsAt m place want tx' g mid w → IsFinished m g w → IsDone m place.root (items picks) g new)
-        → IfOk r (λ picks. (want : Wanted) (g : Going) → IsAt m place want tx g old v → Finishes m g (IsDone m place.root (items picks)) new)
+        → IfOk (ended r) (λ picks. (want : Wanted) (g : Going) → IsAt m place want tx g old v → Finishes m g (IsDone m place.root (items picks)) new)
     done-commit (Ok picks) items tx' same up done = λ want g at. IsDone-behind want g (v, at) (finished want g at) none (items picks) tx' same up done
     done-commit (Err e) items tx' same up done = tt
 
     pub stops-commit : {T : Type 0} (r : Result T Refusal) → IfErr r (λ e. IsOnlyFault e u) → IfErr r (λ e. HasCause (FailsOn faults) e (record { disk = f; store = u }))
-        → IfErr r (λ e. (want : Wanted) (g : Going) → IsAt m place want tx g old v → StopsAt told len faults (extensions_of m) tx g e (record { disk = d; store = s }))
+        → IfErr (ended r) (λ e. (want : Wanted) (g : Going) → IsAt m place want tx g old v → StopsAt told len faults (extensions_of m) tx g e.refusal (record { disk = d; store = s }))
     stops-commit (Ok x) only cause = tt
     stops-commit (Err e) only cause = λ want g at. StopsAt-commit want g (v, at) (finished want g at) none e only cause
 
@@ -217,3 +240,25 @@ module _ {D : Type 0} (told : D → Option Story) (len faults : D → ℕ) (m : 
       stops = StopsFrom-else (λ refusal trail x. HasCause (FailsOn faults) refusal x) (λ refusal trail x. HasCause (FailsOn faults) refusal x) (finish (extensions_of m)) g r q (record { disk = e; store = t })
           (record { disk = f; store = u }) (fault_free q only.is) (λ trail. cause) stops;
     }
+
+    -- by what is answered then
+    abbrev answered : Refusal → Type 0
+    answered q = IsOrFaulted faults r q (record { disk = f; store = u })
+
+    pub StopsAt-stopped : (q : Refusal) → answered q → StopsAt told len faults (extensions_of m) tx g q (record { disk = d; store = s })
+    StopsAt-stopped q is =
+        ⊎_elim
+        (λ (same : q ≡ r). subst (λ (x : Refusal). StopsAt told len faults (extensions_of m) tx g x (record { disk = d; store = s })) (sym same) StopsAt-abort)
+        (λ (failed : IsFaulted faults q (record { disk = f; store = u })). StopsAt-fault q failed.only failed.cause)
+        is
+
+    -- a fault is answered only where the store is down
+    pub down-stopped : (q : Refusal) → answered q → Remains {T = Unit {0}} told len faults e f t u (Err q) → q ≡ Fault → u.book.down ≡ true
+    down-stopped q is remains fault =
+        ⊎_elim
+        (λ (same : q ≡ r).
+        let cause = StopsFrom-fault (λ refusal trail x. HasCause (FailsOn faults) refusal x) (finish (extensions_of m)) g r (record { disk = e; store = t }) (sym same ∙ fault) stops in
+        let on : t.book.down ≡ true = Fault-down faults (record { disk = e; store = t }) cause.1 in
+        ap (λ (x : State). x.book.down) (remains.down on).store ∙ on)
+        (λ (failed : IsFaulted faults q (record { disk = f; store = u })). failed.only.down)
+        is

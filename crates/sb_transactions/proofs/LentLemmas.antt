@@ -21,9 +21,10 @@ use Rattle.sb_engine.specs.Refusals.{HasCause}
 use Rattle.sb_engine.specs.Working.{extensions_of}
 use Rattle.sb_engine.specs.Working as engine
 use Rattle.sb_transactions.specs.Commits.{ComesTo, FailsOn, Finishes, Mounted}
-use Rattle.sb_transactions.specs.Driven.{HasLent, IsServed, LeadsLent}
-use Rattle.sb_transactions.specs.Transactions.{IsAt, WasBegun}
-use Rattle.sb_transactions.proofs.DrivenLemmas.{Stands-at, driven-begun, driven-stands}
+use Rattle.sb_transactions.specs.declared.transactions.Point.{Point}
+use Rattle.sb_transactions.specs.Driven.{HasLent, IsServed, LeadsLent, WorksOn}
+use Rattle.sb_transactions.specs.Transactions.{IsAt, IsPointOf, WasBegun, WasSo}
+use Rattle.sb_transactions.proofs.DrivenLemmas.{Stands-at, driven-begun, driven-each, driven-points, driven-stands}
 use Rattle.sb_transactions.proofs.FinishLemmas.{HasCause-map, StopsFrom-map, finish-map}
 
 -- what is lent
@@ -83,3 +84,25 @@ module _ {D : Type 0} (told : D → Option Story) (len faults : D → ℕ) (m : 
   begun-lent up m root want db begun =
       to_end (λ p. WasBegun m root want db tx p) (subst (λ (n : ℕ). WasBegun m root want db n (parts_in told len (lent b))) is.tx_is
       (driven-begun told len faults m root want db a b (to_lent (λ n p. WasBegun m root want db n p) begun) leads up))
+
+  -- ---- points, where it was stopped
+  module _ (works : WorksOn (LeadsLent told len faults) a b v w) where
+    IsPointOf-lent : (one : Point) → IsPointOf tx one (parts told len disk store) v → IsPointOf tx one end w
+    IsPointOf-lent one of =
+        to_end (λ p. IsPointOf tx one p w) (subst (λ (n : ℕ). IsPointOf n one (parts_in told len (lent b)) w) is.tx_is
+        (driven-each told len faults one a b v w (to_lent (λ n p. IsPointOf n one p v) of) works))
+
+    WasSo-lent : b.store.now.book.down ≡ false → (m : Meanings) (place : Place) (want : Wanted) (g : Going) (one : Point) → WasSo m place want tx g one (parts told len disk store) v → WasSo m place want tx g one end w
+    WasSo-lent up m place want g one was =
+        to_end (λ p. WasSo m place want tx g one p w) (subst (λ (n : ℕ). WasSo m place want n g one (parts_in told len (lent b)) w) is.tx_is
+        (driven-points told len faults m place want g one a b v w (to_lent (λ n p. WasSo m place want n g one p v) was) works up))
+
+  pub points-lent : {T : Type 0} (r : Result T Refusal) → IfErr r (λ q. WorksOn (LeadsLent told len faults) a b v w)
+      → IfErr r (λ q. (one : Point) → IsPointOf tx one (parts told len disk store) v → IsPointOf tx one end w)
+  points-lent (Ok x) works = tt
+  points-lent (Err q) works = IsPointOf-lent works
+
+  pub was-lent : {T : Type 0} (r : Result T Refusal) → IfErr r (λ q. WorksOn (LeadsLent told len faults) a b v w)
+      → IfErr r (λ q. b.store.now.book.down ≡ false → (m : Meanings) (place : Place) (want : Wanted) (g : Going) (one : Point) → WasSo m place want tx g one (parts told len disk store) v → WasSo m place want tx g one end w)
+  was-lent (Ok x) works = tt
+  was-lent (Err q) works = WasSo-lent works

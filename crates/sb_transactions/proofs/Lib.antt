@@ -6,5 +6,6 @@ pub mod CommitLemmas
 pub mod FinishLemmas
 pub mod DrivenLemmas
 pub mod EndLemmas
+pub mod OpenLemmas
 pub mod RunLemmas
 pub mod LentLemmas

@@ -1,5 +1,5 @@
 -- Work at its begin, at a point, and back there.
-use Rattle.std.proofs.Common.{◌≡◌, ℕ, ◌≤◌, List, [], length, take, drop, sym, ap, subst, ◌∙◌, arith}
+use Rattle.std.proofs.Common.{◌≡◌, ℕ, ◌≤◌, false, List, [], length, take, drop, sym, ap, subst, ◌∙◌, arith}
 use Rattle.std.proofs.Math.Seq.{take-length}
 use Rattle.sb_relation.specs.Db.{Db}
 use Rattle.sb_fold.specs.Outcome.{Going, Queue}
@@ -100,6 +100,15 @@ module _ (tx : ℕ) (point : Point) (p : Parts) (w : Work) (changes : point.spac
     where
       all : take point.gone w.gone.items ≡ w.gone.items
       all = ap (λ (n : ℕ). take n w.gone.items) gone ∙ take-length w.gone.items
+
+  -- no point of the work is behind it
+  pub IsNotBehind-mark : p.store.book.down ≡ false → (one : Point) → IsPointOf tx one p w → IsNotBehind one point
+  IsNotBehind-mark up one of = record {
+    changes = let less = of.changes up in omega arith;
+    actions = let less = of.queue.actions in let is : point.queue.actions ≡ length w.queue.actions = λ i. (queue i).actions in omega arith;
+    entries = let less = of.queue.entries in let is : point.queue.entries ≡ length w.queue.entries = λ i. (queue i).entries in omega arith;
+    gone = let less = of.gone in omega arith;
+  }
 
 -- ---- back at a point
 module _ (tx : ℕ) (point : Point) (p q : Parts) (v w : Work) (of : IsPointOf tx point p v) (cut : IsCutTo point v w) where

@@ -1,9 +1,10 @@
 -- An engine at work that is lent a space and work, and finishes them.
-use Rattle.std.proofs.Common.{◌≡◌, ℕ, true, Result, Ok, Err, IfErr, IsErrAnd, sym, subst}
+use Rattle.std.proofs.Common.{◌≡◌, ℕ, true, List, ◌++◌, Result, Ok, Err, IfErr, IsErrAnd, sym, subst}
 use Rattle.sb_fold.specs.Finish.{finish}
 use Rattle.sb_fold.specs.Outcome.{Going}
 use Rattle.sb_fold.specs.declared.refusal.Refusal.{Refusal}
 use Rattle.sb_cascade.specs.Runs.{is_free, MadeFrom, StopsFrom}
+use Rattle.sb_deferred.specs.Waiting.{IsFront}
 use Rattle.sb_registry.specs.Boxes.{Meanings}
 use Rattle.sb_drive.specs.Slots.{Slots}
 use Rattle.sb_drive.specs.Spaces.{LeadsOn, Wanted}
@@ -13,6 +14,7 @@ use Rattle.sb_engine.specs.declared.running.Running.{Running}
 use Rattle.sb_engine.specs.declared.running.Work.{Work}
 use Rattle.sb_engine.specs.Refusals.{HasCause, IsRefusedBy}
 use Rattle.sb_engine.specs.Working.{IsStoppedBy, Stands, StandsFor, extensions_in, extensions_of}
+use Rattle.sb_transactions.specs.Driven.{WorksOn}
 use Rattle.sb_transactions.proofs.FinishLemmas.{StopsFrom-behind, StopsFrom-map, refusal-free}
 
 -- a refusal that is passed on
@@ -23,6 +25,12 @@ passed (Ok x) e P is so = tt
 -- calls from one state to another, by names of their own
 pub led_between : {S : Type 0} (Leads : ℕ → S → S → Type 0) (x y a b : S) → a ≡ x → b ≡ y → LeadsOn Leads a b → LeadsOn Leads x y
 led_between {S} Leads x y a b first last led = subst (λ (z : S). LeadsOn Leads z y) first (subst (λ (z : S). LeadsOn Leads a z) last led)
+
+-- and what it keeps beside them
+pub works_between : {S : Type 0} (Leads : ℕ → S → S → Type 0) (x y a b : S) (v w k l : Work) → a ≡ x → b ≡ y → k ≡ v → l ≡ w → LeadsOn Leads a b → IsFront k.queue l.queue → (more : List ℕ) × (l.gone.items ≡ k.gone.items ++ more) → WorksOn Leads x y v w
+works_between {S} Leads x y a b v w k l first last before after leads queue gone =
+    subst (λ (z : S). WorksOn Leads z y v w) first (subst (λ (z : S). WorksOn Leads a z v w) last
+    (subst (λ (u : Work). WorksOn Leads a b u w) before (subst (λ (u : Work). WorksOn Leads a b k u) after (record { leads = leads; queue = queue; gone = gone }))))
 
 -- what is lent
 pub record IsLent {B S : Type 0} (boxes : B) (place : Place) (x : S) (w : Work) (a : Running B S) : Type 0 where

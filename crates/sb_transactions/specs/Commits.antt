@@ -1,26 +1,29 @@
 -- What a commit makes of the work of a transaction.
-use Rattle.std.specs.Prelude.{◌≡◌, ◌⊎◌, ℕ, false, List, Option}
+use Rattle.std.specs.Prelude.{◌≡◌, ◌⊎◌, ℕ, Bool, true, false, List, Option, None, Result, Ok, Err}
 use Rattle.sb_disk.specs.Disk.{Story}
 use Rattle.sb_disk.specs.Moments.{LeavesOnly}
 use Rattle.sb_images.specs.Images.{Restores, IsOldOrNew}
-use Rattle.sb_relation.specs.Db.{Key}
+use Rattle.sb_relation.specs.Db.{Db, Key}
 use Rattle.sb_fold.specs.Extensions.{Extensions}
 use Rattle.sb_fold.specs.Finish.{finish}
 use Rattle.sb_fold.specs.Outcome.{Going}
 use Rattle.sb_map.specs.declared.place.Place.{Place}
 use Rattle.sb_fold.specs.declared.refusal.Refusal.{Refusal}
-use Rattle.sb_fold.specs.declared.refusal.Refusal.TheVariants.{Fault}
+use Rattle.sb_fold.specs.declared.refusal.Refusal.TheVariants.{Room, Fault, NoMemory}
 use Rattle.sb_cascade.specs.Runs.{MadeFrom, StopsFrom}
 use Rattle.sb_registry.specs.Boxes.{Meanings}
 use Rattle.sb_drive.specs.Spaces.{Wanted}
 use Rattle.sb_drive.specs.declared.space.SpaceFault.{SpaceFault}
-use Rattle.sb_txn.specs.Clauses.{Parts}
+use Rattle.sb_txn.specs.Clauses.{Parts, LeavesWanted}
 use Rattle.sb_txn.specs.State.{State}
 use Rattle.sb_space.specs.Works.{Fails, Works}
 use Rattle.sb_engine.specs.Refusals.{HasCause}
 use Rattle.sb_engine.specs.Working.{extensions_of}
 use Rattle.sb_engine.specs.declared.running.Work.{Work}
-use Rattle.sb_transactions.specs.Transactions.{IsAt, IsCommitted, Rests}
+use Rattle.sb_transactions.specs.declared.refusals.Uncommitted.{Uncommitted}
+use Rattle.sb_transactions.specs.declared.transactions.Point.{Point}
+use Rattle.sb_transactions.specs.Calls.{IsOnlyFault}
+use Rattle.sb_transactions.specs.Transactions.{IsAt, IsCommitted, IsPointOf, IsUsable, Rests, WasBegun, WasSo, unused}
 
 -- ---- what is committed
 -- the work's database is committed, and these are the picks that it used
@@ -62,7 +65,50 @@ abbrev pub IsLed : {D : Type 0} → (D → Option Story) → (D → ℕ) → (D 
 IsLed told len faults tx old new = (k : ℕ) × Works told len faults tx k old.disk new.disk old.store new.store
 
 -- Finishing the transaction is refused: as the definition says; or the disk has failed; or room or memory is wanting at a moment behind calls of it.
+-- To a fault no such calls lead where it came in the commit of the pages, or on the way back from the work.
 pub record StopsAt {D : Type 0} (told : D → Option Story) (len faults : D → ℕ) (ext : Extensions) (tx : ℕ) (g : Going) (r : Refusal) (old : Mounted D) : Type 0 where
   pub there : Mounted D
   pub led : (r ≡ Fault → ⊥) → IsLed told len faults tx old there
   pub stops : StopsFrom (λ refusal trail x. HasCause (FailsOn faults) refusal x) (finish ext) g r there
+
+-- the refusal that led here, or a fault, since the disk failed on the way back
+pub record IsFaulted {D : Type 0} (faults : D → ℕ) (r : Refusal) (new : Mounted D) : Type 0 where
+  pub only : IsOnlyFault r new.store
+  pub cause : HasCause (FailsOn faults) r new
+
+abbrev pub IsOrFaulted : {D : Type 0} → (D → ℕ) → Refusal → Refusal → Mounted D → Type 0
+IsOrFaulted faults before r new = (r ≡ before) ⊎ IsFaulted faults r new
+
+-- ---- what goes on
+-- room or memory is wanting
+abbrev pub is_wanting : Refusal → Bool
+is_wanting (Room room) = true
+is_wanting NoMemory = true
+is_wanting _ = false
+
+-- the answer of a call behind which the transaction is over
+abbrev pub ended : {T : Type 0} → Result T Refusal → Result T Uncommitted
+ended (Ok x) = Ok x
+ended (Err r) = Err (record { refusal = r; transaction = None })
+
+-- the transaction is over
+abbrev pub IsEnded : {T : Type 0} → Result T Uncommitted → Type 0
+IsEnded (Ok x) = Unit {0}
+IsEnded (Err e) = e.transaction ≡ None
+
+-- the same answer by its refusal alone
+abbrev pub by_refusal : {T : Type 0} → Result T Uncommitted → Result T Refusal
+by_refusal (Ok x) = Ok x
+by_refusal (Err e) = Err e.refusal
+
+-- A transaction goes on where it was before the commit: it can be worked in, and what it had come to, the points to go back to and the database over
+-- which it was begun stand. No pick is noted. At each moment a crash leaves what was wanted.
+pub record StaysOpen (tx : ℕ) (p q : Parts) (v w : Work) : Type 0 where
+  pub up : q.store.book.down ≡ false
+  pub usable : (m : Meanings) (place : Place) → place.owner ≡ 2 → IsUsable m place tx q w
+  pub stays : (m : Meanings) (place : Place) (want : Wanted) (g : Going) → IsAt m place want tx g p v → IsAt m place want tx (unused g) q w
+  pub begun : (m : Meanings) (root : ℕ) (want : Wanted) (db : Db) → WasBegun m root want db tx p → WasBegun m root want db tx q
+  pub points : (one : Point) → IsPointOf tx one p v → IsPointOf tx one q w
+  pub was : (m : Meanings) (place : Place) (want : Wanted) (g : Going) (one : Point)
+      → WasSo m place want tx g one p v → WasSo m place want tx g one q w
+  pub leaves : LeavesWanted p q

@@ -121,6 +121,17 @@ pub record IsNotBehind (one other : Point) : Type 0 where
   pub entries : one.queue.entries ≤ other.queue.entries
   pub gone : one.gone ≤ other.gone
 
+-- Back at the point: what had come so far there has come so far again, and what stood at points that aren't behind it stands still.
+pub record IsBack (tx : ℕ) (point : Point) (p q : Parts) (v w : Work) : Type 0 where
+  pub up : q.store.book.down ≡ false
+  pub usable : (m : Meanings) (place : Place) → place.owner ≡ 2 → IsUsable m place tx q w
+  pub back : (m : Meanings) (place : Place) (want : Wanted) (g : Going) → place.owner ≡ 2
+      → WasSo m place want tx g point p v → IsAt m place want tx (unused g) q w
+  pub earlier : (m : Meanings) (place : Place) (want : Wanted) (g : Going) (one : Point) → IsNotBehind one point
+      → WasSo m place want tx g one p v → WasSo m place want tx g one q w
+  pub stand : (one : Point) → IsNotBehind one point → IsPointOf tx one p v → IsPointOf tx one q w
+  pub begun : (m : Meanings) (root : ℕ) (want : Wanted) (db : Db) → WasBegun m root want db tx p → WasBegun m root want db tx q
+
 -- what is kept beside the pages once it was cut to the point: nothing is open, and no pick is noted
 pub record IsCutTo (point : Point) (old new : Work) : Type 0 where
   pub actions : new.queue.actions ≡ take point.queue.actions old.queue.actions

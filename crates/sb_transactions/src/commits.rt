@@ -1,6 +1,6 @@
 //! Commits.
 
-ghost use Rattle.std.specs.Prelude.{◌≡◌, [], false, ℕ, Some, IfErr, IfOk, OnOk};
+ghost use Rattle.std.specs.Prelude.{◌≡◌, [], true, false, is_some, ℕ, Some, IfErr, IfOk, IfSome, OnOk};
 ghost use Rattle.sb_relation.specs.Db.{Db};
 ghost use Rattle.sb_fold.specs.Outcome.{Going};
 ghost use Rattle.sb_registry.specs.Boxes.{Meanings};
@@ -12,11 +12,13 @@ ghost use Rattle.sb_space.specs.Works.{Serves};
 ghost use Rattle.sb_engine.specs.Refusals.{HasCause};
 ghost use Rattle.sb_engine.specs.Working.{extensions_of};
 ghost use Rattle.sb_transactions.specs.Calls.{IsOnlyFault, Remains};
-ghost use Rattle.sb_transactions.specs.Commits.{FailsOn, Finishes, IsDone, LeavesEither, LeavesOldOrFinished, StopsAt};
+ghost use Rattle.sb_transactions.specs.Commits.{by_refusal, FailsOn, Finishes, IsDone, IsEnded, LeavesEither, LeavesOldOrFinished, StaysOpen, StopsAt, is_wanting};
 ghost use Rattle.sb_transactions.specs.Transactions.{HasNothingLeft, IsAt, IsFinished, IsUsable, Rests, WasBegun};
 
 use crate::finishing::{finish_work, is_idle};
-use crate::transactions::{Transaction, abort};
+use crate::points::mark;
+use crate::refusals::{Uncommitted, ended, stop};
+use crate::transactions::Transaction;
 use sb_disk::Disk;
 use sb_engine::refusal_of;
 use sb_fold::Refusal;
@@ -28,7 +30,7 @@ use std::alloc::Global;
 
 /// Commits the transaction: does what waits for it, gives back the pages of owners that are to go, and commits the pages. It gives the record keys that the work picked.
 ///
-/// Where any step is refused the transaction is aborted, and the refusal answered; or `Fault`, where the disk fails then.
+/// Where room or memory is wanting for that, the transaction goes on as it was. Any other refusal aborts it; or `Fault` is answered, where the disk fails then.
 pub fn commit<B: Boxes, D: Disk>(
     boxes: &B,
     space: &mut Space,
@@ -36,40 +38,48 @@ pub fn commit<B: Boxes, D: Disk>(
     place: Place,
     mut transaction: Transaction,
     alloc: Global,
-) -> Result<Vec<RecKey>, Refusal>
+) -> Result<Vec<RecKey>, Uncommitted>
     requires usable { IsUsable (B.meanings boxes.now) place transaction.tx.store.number (parts D.told D.len disk.old space.old.store) transaction.work }
 
     ensures done { IfOk result (λ picks. (want : Wanted) (g : Going)
         → IsAt (B.meanings boxes.now) place want transaction.tx.store.number g (parts D.told D.len disk.old space.old.store) transaction.work
         → Finishes (B.meanings boxes.now) g (IsDone (B.meanings boxes.now) place.root picks.items) (parts D.told D.len disk.new space.new.store)) }
-    ensures refused { IfErr result (λ r. (want : Wanted) (g : Going)
+    ensures refused { IfErr result (λ e. (want : Wanted) (g : Going)
         → IsAt (B.meanings boxes.now) place want transaction.tx.store.number g (parts D.told D.len disk.old space.old.store) transaction.work
-        → StopsAt D.told D.len D.faults (extensions_of (B.meanings boxes.now)) transaction.tx.store.number g r
+        → StopsAt D.told D.len D.faults (extensions_of (B.meanings boxes.now)) transaction.tx.store.number g e.refusal
         (record { disk = disk.old; store = space.old.store })) }
-    ensures aborted { IfErr result (λ r. space.new.store.book.down ≡ false → (m : Meanings) (root : ℕ) (want : Wanted) (db : Db)
+    ensures faulted { IfErr result (λ e. e.refusal ≡ Refusal.Fault → (want : Wanted) (g : Going)
+        → IsAt (B.meanings boxes.now) place want transaction.tx.store.number g (parts D.told D.len disk.old space.old.store) transaction.work
+        → space.new.store.book.down ≡ true) }
+
+    // The transaction goes on exactly where room or memory is wanting.
+    ensures wanting { IfErr result (λ e. is_some e.transaction ≡ is_wanting e.refusal) }
+    ensures tx { IfErr result (λ e. IfSome e.transaction (λ t. t.tx ≡ transaction.tx)) }
+    ensures stays { IfErr result (λ e. IfSome e.transaction (λ t. StaysOpen transaction.tx.store.number
+        (parts D.told D.len disk.old space.old.store) (parts D.told D.len disk.new space.new.store) transaction.work t.work)) }
+    ensures aborted { IfErr result (λ e. e.transaction ≡ None → space.new.store.book.down ≡ false → (m : Meanings) (root : ℕ) (want : Wanted) (db : Db)
         → WasBegun m root want db transaction.tx.store.number (parts D.told D.len disk.old space.old.store)
         → Rests m root want db (parts D.told D.len disk.new space.new.store)) }
+    ensures none { IsEnded result → space.new.store.book.down ≡ false → space.new.store.book.out ≡ [] }
+
     ensures any_moment { (want : Wanted) (g : Going)
         → IsAt (B.meanings boxes.now) place want transaction.tx.store.number g (parts D.told D.len disk.old space.old.store) transaction.work
         → LeavesOldOrFinished (B.meanings boxes.now) place.root want g (parts D.told D.len disk.old space.old.store) (parts D.told D.len disk.new space.new.store) }
-    ensures none { space.new.store.book.down ≡ false → space.new.store.book.out ≡ [] }
 
     // Where nothing waits and no owner is to go it takes no memory, and makes no call on the disk where no page was changed.
-    ensures quiet { HasNothingLeft transaction.work → IfErr result (λ r. IsOnlyFault r space.new.store) }
+    ensures quiet { HasNothingLeft transaction.work → IfErr result (λ e. IsOnlyFault e.refusal space.new.store) }
     ensures idle { HasNothingLeft transaction.work → (o : Out) → out_with transaction.tx.store.number space.old.store.book.out ≡ Some o
         → IsIdle o disk.old disk.new space.old.store space.new.store }
 
-    ensures remains { Remains D.told D.len D.faults disk.old disk.new space.old.store space.new.store result }
+    ensures remains { Remains D.told D.len D.faults disk.old disk.new space.old.store space.new.store (by_refusal result) }
 {
     if is_idle(&transaction.work) {
-        return commit_pages(space, disk, transaction);
+        return ended(commit_pages(space, disk, transaction));
     }
+    let point = mark(space, &transaction);
     match finish_work(boxes, space, disk, place, &mut transaction, alloc) {
-        Ok(()) => commit_pages(space, disk, transaction),
-        Err(refusal) => match abort(space, disk, transaction) {
-            Ok(()) => Err(refusal),
-            Err(fault) => Err(fault),
-        },
+        Ok(()) => ended(commit_pages(space, disk, transaction)),
+        Err(refusal) => Err(stop(space, disk, transaction, point, refusal)),
     }
 }
 

@@ -11,8 +11,11 @@ ghost use Rattle.sb_txn.specs.Clauses.{parts};
 ghost use Rattle.sb_engine.specs.Refusals.{HasCause};
 ghost use Rattle.sb_engine.specs.Working.{extensions_of};
 ghost use Rattle.sb_engine.specs.Working as engine;
+ghost use Rattle.sb_map.specs.declared.place.Place.{Place};
+ghost use Rattle.sb_transactions.specs.declared.transactions.Point.{Point};
 ghost use Rattle.sb_transactions.specs.Commits.{ComesTo, FailsOn, Finishes, IsLed};
-ghost use Rattle.sb_transactions.specs.Transactions.{HasNothingLeft, IsAt, IsUsable, WasBegun};
+ghost use Rattle.sb_transactions.specs.Driven.{WorksOn};
+ghost use Rattle.sb_transactions.specs.Transactions.{HasNothingLeft, IsAt, IsPointOf, IsUsable, WasBegun, WasSo};
 
 use crate::transactions::Transaction;
 use sb_cascade::finish;
@@ -62,6 +65,12 @@ pub(crate) fn finish_work<B: Boxes, D: Disk>(
     ensures begun { space.new.store.book.down ≡ false → (m : Meanings) (root : ℕ) (want : Wanted) (db : Db)
         → WasBegun m root want db transaction.old.tx.store.number (parts D.told D.len disk.old space.old.store)
         → WasBegun m root want db transaction.old.tx.store.number (parts D.told D.len disk.new space.new.store) }
+    ensures points { IfErr result (λ r. (one : Point)
+        → IsPointOf transaction.old.tx.store.number one (parts D.told D.len disk.old space.old.store) transaction.old.work
+        → IsPointOf transaction.old.tx.store.number one (parts D.told D.len disk.new space.new.store) transaction.new.work) }
+    ensures was { IfErr result (λ r. space.new.store.book.down ≡ false → (m : Meanings) (place : Place) (want : Wanted) (g : Going) (one : Point)
+        → WasSo m place want transaction.old.tx.store.number g one (parts D.told D.len disk.old space.old.store) transaction.old.work
+        → WasSo m place want transaction.old.tx.store.number g one (parts D.told D.len disk.new space.new.store) transaction.new.work) }
     ensures led { IsLed D.told D.len D.faults transaction.old.tx.store.number (record { disk = disk.old; store = space.old.store })
         (record { disk = disk.new; store = space.new.store }) }
     ensures usable { IsUsable (B.meanings boxes.now) place transaction.old.tx.store.number (parts D.told D.len disk.new space.new.store) transaction.new.work }
@@ -86,6 +95,7 @@ fn finish_over<B: Boxes, S: Owners>(
     ensures none { OnOk result (work.new.gone.items ≡ []) }
     ensures refused { IfErr result (λ r. (g : Going) → engine.Stands S.has (B.meanings boxes.now) place.root g space.old work.old
         → StopsFrom (λ refusal trail x. HasCause S.fails refusal x) (finish (extensions_of (B.meanings boxes.now))) g r space.new) }
+    ensures works { IfErr result (λ r. WorksOn S.leads space.old space.new work.old work.new) }
     ensures leads { LeadsOn S.leads space.old space.new }
     ensures ready { engine.Serves S.is_ready (B.meanings boxes.now) place space.new work.new }
 {

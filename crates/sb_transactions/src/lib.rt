@@ -5,11 +5,10 @@ mod commits;
 mod finishing;
 pub mod laws;
 mod points;
+mod refusals;
 mod transactions;
 
 pub use commits::{commit, commit_pages};
 pub use points::{back_to, mark};
+pub use refusals::Uncommitted;
 pub use transactions::{Point, Transaction, abort, begin, settle};
-
-#[cfg(test)]
-mod tests;

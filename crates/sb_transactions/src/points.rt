@@ -1,6 +1,6 @@
 //! Points in a transaction, and the way back to them.
 
-ghost use Rattle.std.specs.Prelude.{◌≡◌, ◌≤◌, length, ℕ, Option, IfErr, OnOk};
+ghost use Rattle.std.specs.Prelude.{◌≡◌, ◌≤◌, false, length, ℕ, Option, IfErr, OnOk};
 ghost use Rattle.sb_disk.specs.Disk.{Story};
 ghost use Rattle.sb_relation.specs.Db.{Db};
 ghost use Rattle.sb_fold.specs.Outcome.{Going};
@@ -10,8 +10,10 @@ ghost use Rattle.sb_drive.specs.Spaces.{Wanted};
 ghost use Rattle.sb_map.specs.declared.place.Place.{Place};
 ghost use Rattle.sb_txn.specs.Clauses.{parts, Grows, LeavesWanted};
 ghost use Rattle.sb_space.specs.Works.{Serves};
+ghost use Rattle.sb_engine.specs.Refusals.{HasCause};
 ghost use Rattle.sb_transactions.specs.declared.transactions.Point.{Point};
 ghost use Rattle.sb_transactions.specs.Calls.{IsOnlyFault, Remains};
+ghost use Rattle.sb_transactions.specs.Commits.{FailsOn};
 ghost use Rattle.sb_transactions.specs.Transactions.{IsAt, IsCutTo, IsNotBehind, IsPointOf, IsUsable, WasBegun, WasSo, unused};
 
 use crate::transactions::{Point, Transaction};
@@ -28,6 +30,9 @@ pub fn mark(space: &Space, transaction: &Transaction) -> Point
     ensures was { (m : Meanings) (place : Place) (want : Wanted) (g : Going) (told : Option Story) (size : ℕ)
         → IsAt m place want transaction.now.tx.store.number g (record { told = told; size = size; store = space.now.store }) transaction.now.work
         → WasSo m place want transaction.now.tx.store.number g result (record { told = told; size = size; store = space.now.store }) transaction.now.work }
+    ensures latest { space.now.store.book.down ≡ false → (one : Point) (told : Option Story) (size : ℕ)
+        → IsPointOf transaction.now.tx.store.number one (record { told = told; size = size; store = space.now.store }) transaction.now.work
+        → IsNotBehind one result }
 {
     Point {
         space: space.mark(&transaction.tx),
@@ -70,6 +75,7 @@ pub fn back_to<D: Disk>(
     ensures grows { OnOk result (Grows space.old.store space.new.store 0 0) }
     ensures any_moment { LeavesWanted (parts D.told D.len disk.old space.old.store) (parts D.told D.len disk.new space.new.store) }
     ensures err { IfErr result (λ r. IsOnlyFault r space.new.store) }
+    ensures cause { IfErr result (λ r. HasCause (FailsOn D.faults) r (record { disk = disk.new; store = space.new.store })) }
     ensures remains { Remains D.told D.len D.faults disk.old disk.new space.old.store space.new.store result }
 {
     match space.back_to(disk, &transaction.tx, point.space) {

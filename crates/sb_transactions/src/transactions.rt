@@ -22,6 +22,7 @@ use sb_space::{Mark, Space, Tx};
 use std::alloc::Global;
 
 /// A transaction of the engine: that of the store, and what the engine keeps beside its pages. It is spent by `commit` or `abort`.
+#[derive(Drop)]
 pub struct Transaction {
     pub tx: Tx,
     pub work: Work,

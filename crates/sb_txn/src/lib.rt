@@ -14,8 +14,6 @@ mod paging;
 mod ranges;
 mod steps;
 mod store;
-#[cfg(test)]
-mod tests;
 mod writing;
 
 pub use fault::StoreFault;

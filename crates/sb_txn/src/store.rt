@@ -26,7 +26,8 @@ use sb_recover::{OpenFault, restart};
 use std::alloc::Global;
 use std::marker::Model;
 
-/// A transaction that is out. It is spent by `commit` or `abort`.
+/// A transaction that is out. It is spent by `commit` or `abort`; one that is let go stays out as long as its store is open.
+#[derive(Drop)]
 pub struct Tx {
     pub(crate) number: u32,
 }
@@ -106,6 +107,13 @@ impl Store {
         ensures { result ≡ self.now.pool.geometry.pages }
     {
         self.pool.pages()
+    }
+
+    /// Whether a call on the disk has failed. Every call fails then that wants the disk.
+    pub fn is_down(&self) -> bool
+        ensures { result ≡ self.now.book.down }
+    {
+        self.book.is_down()
     }
 
     /// Begins a transaction, beside up to seven others. With none out, a checkpoint is taken first where more than half of the log or of its gates is used, or of the numbers of transactions. Else disk and journal stay as they were.

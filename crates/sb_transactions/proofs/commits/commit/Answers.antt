@@ -1,8 +1,13 @@
-use Rattle.std.proofs.Common.{ℕ, ap, subst, sym}
+use Rattle.std.proofs.Common.{ℕ, sym, ap, subst, ◌∙◌}
+use Rattle.std.proofs.lemmas.Bool.{false≢true}
 use Rattle.sb_txn.specs.Clauses.{parts}
 use Rattle.sb_space.specs.declared.transactions.Tx.{Tx}
-use Rattle.sb_transactions.specs.Transactions.{WasBegun}
-use Rattle.sb_transactions.proofs.EndLemmas.{LeavesOldOrFinished-abort, LeavesOldOrFinished-commit, StopsAt-abort, StopsAt-fault, done-commit, done-left, leaves-left, stops-commit, stops-left}
+use Rattle.sb_transactions.specs.Calls.{Remains}
+use Rattle.sb_transactions.specs.Commits.{is_wanting}
+use Rattle.sb_transactions.specs.Transactions.{IsPointOf, WasBegun}
+use Rattle.sb_transactions.proofs.CallLemmas.{up-earlier}
+use Rattle.sb_transactions.proofs.EndLemmas.{LeavesOldOrFinished-abort, LeavesOldOrFinished-commit, Remains-behind, Remains-stopped, StopsAt-stopped, done-commit, done-left, down-stopped, leaves-left, none-ended, only-ended, remains-ended, stops-commit, stops-left}
+use Rattle.sb_transactions.proofs.OpenLemmas.{same-open, stays-open}
 use Rattle.sb_transactions.proofs.commits.commit.Goals as goal
 
 pub returns-then-is_idle-clause-done : goal.returns-then-is_idle-clause-done
@@ -17,8 +22,9 @@ returns-then-is_idle-clause-done g c =
     let s = c.args.space.now.store in
     let f = c.commit_pages.new.disk in
     let u = c.commit_pages.new.space.store in
+    let r = c.commit_pages.result in
     let left = c.is_idle.ensures.0 c.if-is_idle.true in
-    done-left m c.args.place tx (parts told len d s) (parts told len f u) v left c.commit_pages.result (λ picks. picks.items) c.commit_pages.ensures.done
+    rw c.ended.ensures (done-left m c.args.place tx (parts told len d s) (parts told len f u) v left r (λ picks. picks.items) c.commit_pages.ensures.done)
 
 pub returns-then-is_idle-clause-refused : goal.returns-then-is_idle-clause-refused
 returns-then-is_idle-clause-refused g c =
@@ -32,8 +38,105 @@ returns-then-is_idle-clause-refused g c =
     let s = c.args.space.now.store in
     let f = c.commit_pages.new.disk in
     let u = c.commit_pages.new.space.store in
+    let r = c.commit_pages.result in
     let left = c.is_idle.ensures.0 c.if-is_idle.true in
-    stops-left told len faults m c.args.place tx (parts told len d s) v (record { disk = d; store = s }) (record { disk = f; store = u }) c.commit_pages.result left c.commit_pages.ensures.err c.commit_pages.ensures.cause
+    rw c.ended.ensures (stops-left told len faults m c.args.place tx (parts told len d s) v (record { disk = d; store = s }) (record { disk = f; store = u }) r left c.commit_pages.ensures.err c.commit_pages.ensures.cause)
+
+pub returns-then-is_idle-clause-faulted : goal.returns-then-is_idle-clause-faulted
+returns-then-is_idle-clause-faulted g c =
+    let told = g.D.Disk.told in
+    let len = g.D.Disk.len in
+    let faults = g.D.Disk.faults in
+    let m = g.B.Boxes.meanings c.args.boxes.now in
+    let tx = c.args.transaction.tx.store.number in
+    let v = c.args.transaction.work in
+    let d = c.args.disk.now in
+    let s = c.args.space.now.store in
+    let f = c.commit_pages.new.disk in
+    let u = c.commit_pages.new.space.store in
+    let r = c.commit_pages.result in
+    let left = c.is_idle.ensures.0 c.if-is_idle.true in
+    rw c.ended.ensures (only-ended r u _ (λ q only is want h at. only.down) c.commit_pages.ensures.err)
+
+pub returns-then-is_idle-clause-wanting : goal.returns-then-is_idle-clause-wanting
+returns-then-is_idle-clause-wanting g c =
+    let told = g.D.Disk.told in
+    let len = g.D.Disk.len in
+    let faults = g.D.Disk.faults in
+    let m = g.B.Boxes.meanings c.args.boxes.now in
+    let tx = c.args.transaction.tx.store.number in
+    let v = c.args.transaction.work in
+    let d = c.args.disk.now in
+    let s = c.args.space.now.store in
+    let f = c.commit_pages.new.disk in
+    let u = c.commit_pages.new.space.store in
+    let r = c.commit_pages.result in
+    let left = c.is_idle.ensures.0 c.if-is_idle.true in
+    rw c.ended.ensures (only-ended r u _ (λ q only. sym (ap is_wanting only.is)) c.commit_pages.ensures.err)
+
+pub returns-then-is_idle-clause-tx : goal.returns-then-is_idle-clause-tx
+returns-then-is_idle-clause-tx g c =
+    let told = g.D.Disk.told in
+    let len = g.D.Disk.len in
+    let faults = g.D.Disk.faults in
+    let m = g.B.Boxes.meanings c.args.boxes.now in
+    let tx = c.args.transaction.tx.store.number in
+    let v = c.args.transaction.work in
+    let d = c.args.disk.now in
+    let s = c.args.space.now.store in
+    let f = c.commit_pages.new.disk in
+    let u = c.commit_pages.new.space.store in
+    let r = c.commit_pages.result in
+    let left = c.is_idle.ensures.0 c.if-is_idle.true in
+    rw c.ended.ensures (only-ended r u _ (λ q only. tt) c.commit_pages.ensures.err)
+
+pub returns-then-is_idle-clause-stays : goal.returns-then-is_idle-clause-stays
+returns-then-is_idle-clause-stays g c =
+    let told = g.D.Disk.told in
+    let len = g.D.Disk.len in
+    let faults = g.D.Disk.faults in
+    let m = g.B.Boxes.meanings c.args.boxes.now in
+    let tx = c.args.transaction.tx.store.number in
+    let v = c.args.transaction.work in
+    let d = c.args.disk.now in
+    let s = c.args.space.now.store in
+    let f = c.commit_pages.new.disk in
+    let u = c.commit_pages.new.space.store in
+    let r = c.commit_pages.result in
+    let left = c.is_idle.ensures.0 c.if-is_idle.true in
+    rw c.ended.ensures (only-ended r u _ (λ q only. tt) c.commit_pages.ensures.err)
+
+pub returns-then-is_idle-clause-aborted : goal.returns-then-is_idle-clause-aborted
+returns-then-is_idle-clause-aborted g c =
+    let told = g.D.Disk.told in
+    let len = g.D.Disk.len in
+    let faults = g.D.Disk.faults in
+    let m = g.B.Boxes.meanings c.args.boxes.now in
+    let tx = c.args.transaction.tx.store.number in
+    let v = c.args.transaction.work in
+    let d = c.args.disk.now in
+    let s = c.args.space.now.store in
+    let f = c.commit_pages.new.disk in
+    let u = c.commit_pages.new.space.store in
+    let r = c.commit_pages.result in
+    let left = c.is_idle.ensures.0 c.if-is_idle.true in
+    rw c.ended.ensures (only-ended r u _ (λ q only none up. absurd (false≢true (sym up ∙ only.down))) c.commit_pages.ensures.err)
+
+pub returns-then-is_idle-clause-none : goal.returns-then-is_idle-clause-none
+returns-then-is_idle-clause-none g c =
+    let told = g.D.Disk.told in
+    let len = g.D.Disk.len in
+    let faults = g.D.Disk.faults in
+    let m = g.B.Boxes.meanings c.args.boxes.now in
+    let tx = c.args.transaction.tx.store.number in
+    let v = c.args.transaction.work in
+    let d = c.args.disk.now in
+    let s = c.args.space.now.store in
+    let f = c.commit_pages.new.disk in
+    let u = c.commit_pages.new.space.store in
+    let r = c.commit_pages.result in
+    let left = c.is_idle.ensures.0 c.if-is_idle.true in
+    rw c.ended.ensures (none-ended r u c.commit_pages.ensures.none c.commit_pages.ensures.err)
 
 pub returns-then-is_idle-clause-any_moment : goal.returns-then-is_idle-clause-any_moment
 returns-then-is_idle-clause-any_moment g c =
@@ -47,8 +150,41 @@ returns-then-is_idle-clause-any_moment g c =
     let s = c.args.space.now.store in
     let f = c.commit_pages.new.disk in
     let u = c.commit_pages.new.space.store in
+    let r = c.commit_pages.result in
     let left = c.is_idle.ensures.0 c.if-is_idle.true in
     leaves-left m c.args.place tx (parts told len d s) (parts told len f u) v left c.commit_pages.ensures.any_moment
+
+pub returns-then-is_idle-clause-quiet : goal.returns-then-is_idle-clause-quiet
+returns-then-is_idle-clause-quiet g c =
+    let told = g.D.Disk.told in
+    let len = g.D.Disk.len in
+    let faults = g.D.Disk.faults in
+    let m = g.B.Boxes.meanings c.args.boxes.now in
+    let tx = c.args.transaction.tx.store.number in
+    let v = c.args.transaction.work in
+    let d = c.args.disk.now in
+    let s = c.args.space.now.store in
+    let f = c.commit_pages.new.disk in
+    let u = c.commit_pages.new.space.store in
+    let r = c.commit_pages.result in
+    let left = c.is_idle.ensures.0 c.if-is_idle.true in
+    rw c.ended.ensures (λ _. only-ended r u _ (λ q only. only) c.commit_pages.ensures.err)
+
+pub returns-then-is_idle-clause-remains : goal.returns-then-is_idle-clause-remains
+returns-then-is_idle-clause-remains g c =
+    let told = g.D.Disk.told in
+    let len = g.D.Disk.len in
+    let faults = g.D.Disk.faults in
+    let m = g.B.Boxes.meanings c.args.boxes.now in
+    let tx = c.args.transaction.tx.store.number in
+    let v = c.args.transaction.work in
+    let d = c.args.disk.now in
+    let s = c.args.space.now.store in
+    let f = c.commit_pages.new.disk in
+    let u = c.commit_pages.new.space.store in
+    let r = c.commit_pages.result in
+    let left = c.is_idle.ensures.0 c.if-is_idle.true in
+    rw c.ended.ensures (remains-ended (λ q. Remains told len faults d f s u q) r c.commit_pages.ensures.remains)
 
 pub returns-in-Ok-clause-done : goal.returns-in-Ok-clause-done
 returns-in-Ok-clause-done g c =
@@ -68,7 +204,8 @@ returns-in-Ok-clause-done g c =
     let led = c.finish_work.ensures.led in
     let f = c.commit_pages-in-Ok.new.disk in
     let u = c.commit_pages-in-Ok.new.space.store in
-    done-commit told len faults m c.args.place tx d e f s t u w led v c.in-Ok.ensures.finished c.in-Ok.ensures.none c.commit_pages-in-Ok.result (λ picks. picks.items) next same c.commit_pages-in-Ok.ensures.up c.commit_pages-in-Ok.ensures.done
+    let r = c.commit_pages-in-Ok.result in
+    rw c.ended-in-Ok.ensures (done-commit told len faults m c.args.place tx d e f s t u w led v c.in-Ok.ensures.finished c.in-Ok.ensures.none r (λ picks. picks.items) next same c.commit_pages-in-Ok.ensures.up c.commit_pages-in-Ok.ensures.done)
 
 pub returns-in-Ok-clause-refused : goal.returns-in-Ok-clause-refused
 returns-in-Ok-clause-refused g c =
@@ -88,7 +225,134 @@ returns-in-Ok-clause-refused g c =
     let led = c.finish_work.ensures.led in
     let f = c.commit_pages-in-Ok.new.disk in
     let u = c.commit_pages-in-Ok.new.space.store in
-    stops-commit told len faults m c.args.place tx d e f s t u w led v c.in-Ok.ensures.finished c.in-Ok.ensures.none c.commit_pages-in-Ok.result c.commit_pages-in-Ok.ensures.err c.commit_pages-in-Ok.ensures.cause
+    let r = c.commit_pages-in-Ok.result in
+    rw c.ended-in-Ok.ensures (stops-commit told len faults m c.args.place tx d e f s t u w led v c.in-Ok.ensures.finished c.in-Ok.ensures.none r c.commit_pages-in-Ok.ensures.err c.commit_pages-in-Ok.ensures.cause)
+
+pub returns-in-Ok-clause-faulted : goal.returns-in-Ok-clause-faulted
+returns-in-Ok-clause-faulted g c =
+    let told = g.D.Disk.told in
+    let len = g.D.Disk.len in
+    let faults = g.D.Disk.faults in
+    let m = g.B.Boxes.meanings c.args.boxes.now in
+    let tx = c.args.transaction.tx.store.number in
+    let v = c.args.transaction.work in
+    let d = c.args.disk.now in
+    let s = c.args.space.now.store in
+    let e = c.finish_work.new.disk in
+    let t = c.finish_work.new.space.store in
+    let w = c.finish_work.new.transaction.work in
+    let next = c.finish_work.new.transaction.tx.store.number in
+    let same = ap (λ (x : Tx). x.store.number) c.finish_work.ensures.tx in
+    let led = c.finish_work.ensures.led in
+    let f = c.commit_pages-in-Ok.new.disk in
+    let u = c.commit_pages-in-Ok.new.space.store in
+    let r = c.commit_pages-in-Ok.result in
+    rw c.ended-in-Ok.ensures (only-ended r u _ (λ q only is want h at. only.down) c.commit_pages-in-Ok.ensures.err)
+
+pub returns-in-Ok-clause-wanting : goal.returns-in-Ok-clause-wanting
+returns-in-Ok-clause-wanting g c =
+    let told = g.D.Disk.told in
+    let len = g.D.Disk.len in
+    let faults = g.D.Disk.faults in
+    let m = g.B.Boxes.meanings c.args.boxes.now in
+    let tx = c.args.transaction.tx.store.number in
+    let v = c.args.transaction.work in
+    let d = c.args.disk.now in
+    let s = c.args.space.now.store in
+    let e = c.finish_work.new.disk in
+    let t = c.finish_work.new.space.store in
+    let w = c.finish_work.new.transaction.work in
+    let next = c.finish_work.new.transaction.tx.store.number in
+    let same = ap (λ (x : Tx). x.store.number) c.finish_work.ensures.tx in
+    let led = c.finish_work.ensures.led in
+    let f = c.commit_pages-in-Ok.new.disk in
+    let u = c.commit_pages-in-Ok.new.space.store in
+    let r = c.commit_pages-in-Ok.result in
+    rw c.ended-in-Ok.ensures (only-ended r u _ (λ q only. sym (ap is_wanting only.is)) c.commit_pages-in-Ok.ensures.err)
+
+pub returns-in-Ok-clause-tx : goal.returns-in-Ok-clause-tx
+returns-in-Ok-clause-tx g c =
+    let told = g.D.Disk.told in
+    let len = g.D.Disk.len in
+    let faults = g.D.Disk.faults in
+    let m = g.B.Boxes.meanings c.args.boxes.now in
+    let tx = c.args.transaction.tx.store.number in
+    let v = c.args.transaction.work in
+    let d = c.args.disk.now in
+    let s = c.args.space.now.store in
+    let e = c.finish_work.new.disk in
+    let t = c.finish_work.new.space.store in
+    let w = c.finish_work.new.transaction.work in
+    let next = c.finish_work.new.transaction.tx.store.number in
+    let same = ap (λ (x : Tx). x.store.number) c.finish_work.ensures.tx in
+    let led = c.finish_work.ensures.led in
+    let f = c.commit_pages-in-Ok.new.disk in
+    let u = c.commit_pages-in-Ok.new.space.store in
+    let r = c.commit_pages-in-Ok.result in
+    rw c.ended-in-Ok.ensures (only-ended r u _ (λ q only. tt) c.commit_pages-in-Ok.ensures.err)
+
+pub returns-in-Ok-clause-stays : goal.returns-in-Ok-clause-stays
+returns-in-Ok-clause-stays g c =
+    let told = g.D.Disk.told in
+    let len = g.D.Disk.len in
+    let faults = g.D.Disk.faults in
+    let m = g.B.Boxes.meanings c.args.boxes.now in
+    let tx = c.args.transaction.tx.store.number in
+    let v = c.args.transaction.work in
+    let d = c.args.disk.now in
+    let s = c.args.space.now.store in
+    let e = c.finish_work.new.disk in
+    let t = c.finish_work.new.space.store in
+    let w = c.finish_work.new.transaction.work in
+    let next = c.finish_work.new.transaction.tx.store.number in
+    let same = ap (λ (x : Tx). x.store.number) c.finish_work.ensures.tx in
+    let led = c.finish_work.ensures.led in
+    let f = c.commit_pages-in-Ok.new.disk in
+    let u = c.commit_pages-in-Ok.new.space.store in
+    let r = c.commit_pages-in-Ok.result in
+    rw c.ended-in-Ok.ensures (only-ended r u _ (λ q only. tt) c.commit_pages-in-Ok.ensures.err)
+
+pub returns-in-Ok-clause-aborted : goal.returns-in-Ok-clause-aborted
+returns-in-Ok-clause-aborted g c =
+    let told = g.D.Disk.told in
+    let len = g.D.Disk.len in
+    let faults = g.D.Disk.faults in
+    let m = g.B.Boxes.meanings c.args.boxes.now in
+    let tx = c.args.transaction.tx.store.number in
+    let v = c.args.transaction.work in
+    let d = c.args.disk.now in
+    let s = c.args.space.now.store in
+    let e = c.finish_work.new.disk in
+    let t = c.finish_work.new.space.store in
+    let w = c.finish_work.new.transaction.work in
+    let next = c.finish_work.new.transaction.tx.store.number in
+    let same = ap (λ (x : Tx). x.store.number) c.finish_work.ensures.tx in
+    let led = c.finish_work.ensures.led in
+    let f = c.commit_pages-in-Ok.new.disk in
+    let u = c.commit_pages-in-Ok.new.space.store in
+    let r = c.commit_pages-in-Ok.result in
+    rw c.ended-in-Ok.ensures (only-ended r u _ (λ q only none up. absurd (false≢true (sym up ∙ only.down))) c.commit_pages-in-Ok.ensures.err)
+
+pub returns-in-Ok-clause-none : goal.returns-in-Ok-clause-none
+returns-in-Ok-clause-none g c =
+    let told = g.D.Disk.told in
+    let len = g.D.Disk.len in
+    let faults = g.D.Disk.faults in
+    let m = g.B.Boxes.meanings c.args.boxes.now in
+    let tx = c.args.transaction.tx.store.number in
+    let v = c.args.transaction.work in
+    let d = c.args.disk.now in
+    let s = c.args.space.now.store in
+    let e = c.finish_work.new.disk in
+    let t = c.finish_work.new.space.store in
+    let w = c.finish_work.new.transaction.work in
+    let next = c.finish_work.new.transaction.tx.store.number in
+    let same = ap (λ (x : Tx). x.store.number) c.finish_work.ensures.tx in
+    let led = c.finish_work.ensures.led in
+    let f = c.commit_pages-in-Ok.new.disk in
+    let u = c.commit_pages-in-Ok.new.space.store in
+    let r = c.commit_pages-in-Ok.result in
+    rw c.ended-in-Ok.ensures (none-ended r u c.commit_pages-in-Ok.ensures.none c.commit_pages-in-Ok.ensures.err)
 
 pub returns-in-Ok-clause-any_moment : goal.returns-in-Ok-clause-any_moment
 returns-in-Ok-clause-any_moment g c =
@@ -108,10 +372,11 @@ returns-in-Ok-clause-any_moment g c =
     let led = c.finish_work.ensures.led in
     let f = c.commit_pages-in-Ok.new.disk in
     let u = c.commit_pages-in-Ok.new.space.store in
-    λ want h at. LeavesOldOrFinished-commit told len faults m c.args.place tx d e f s t u w led want h (v, at) (c.in-Ok.ensures.finished want h at) c.in-Ok.ensures.none c.commit_pages-in-Ok.result next same c.commit_pages-in-Ok.ensures.remains c.commit_pages-in-Ok.ensures.any_moment
+    let r = c.commit_pages-in-Ok.result in
+    λ want h at. LeavesOldOrFinished-commit told len faults m c.args.place tx d e f s t u w led want h (v, at) (c.in-Ok.ensures.finished want h at) c.in-Ok.ensures.none r next same c.commit_pages-in-Ok.ensures.remains c.commit_pages-in-Ok.ensures.any_moment
 
-pub returns-in-Ok-abort-clause-refused : goal.returns-in-Ok-abort-clause-refused
-returns-in-Ok-abort-clause-refused g c =
+pub returns-in-Ok-clause-remains : goal.returns-in-Ok-clause-remains
+returns-in-Ok-clause-remains g c =
     let told = g.D.Disk.told in
     let len = g.D.Disk.len in
     let faults = g.D.Disk.faults in
@@ -126,12 +391,13 @@ returns-in-Ok-abort-clause-refused g c =
     let next = c.finish_work.new.transaction.tx.store.number in
     let same = ap (λ (x : Tx). x.store.number) c.finish_work.ensures.tx in
     let led = c.finish_work.ensures.led in
-    let f = c.abort.new.disk in
-    let u = c.abort.new.space.store in
-    λ want h at. StopsAt-abort told len faults m c.args.place tx d e f s t u w led h c.in-Err.refusal (c.in-Err.ensures.refused want h at)
+    let f = c.commit_pages-in-Ok.new.disk in
+    let u = c.commit_pages-in-Ok.new.space.store in
+    let r = c.commit_pages-in-Ok.result in
+    rw c.ended-in-Ok.ensures (remains-ended (λ q. Remains told len faults d f s u q) r (Remains-behind told len faults m c.args.place tx d e f s t u w led r r (λ is. is) c.commit_pages-in-Ok.ensures.remains))
 
-pub returns-in-Ok-abort-clause-aborted : goal.returns-in-Ok-abort-clause-aborted
-returns-in-Ok-abort-clause-aborted g c =
+pub returns-in-Err-clause-refused : goal.returns-in-Err-clause-refused
+returns-in-Err-clause-refused g c =
     let told = g.D.Disk.told in
     let len = g.D.Disk.len in
     let faults = g.D.Disk.faults in
@@ -146,13 +412,13 @@ returns-in-Ok-abort-clause-aborted g c =
     let next = c.finish_work.new.transaction.tx.store.number in
     let same = ap (λ (x : Tx). x.store.number) c.finish_work.ensures.tx in
     let led = c.finish_work.ensures.led in
-    let f = c.abort.new.disk in
-    let u = c.abort.new.space.store in
-    λ up k root want db begun.
-    c.in-Ok-abort.ensures.rests k root want db (subst (λ (n : ℕ). WasBegun k root want db n (parts told len e t)) (sym same) (c.finish_work.ensures.begun c.in-Ok-abort.ensures.up k root want db begun))
+    let f = c.stop.new.disk in
+    let u = c.stop.new.space.store in
+    let q = c.stop.result.refusal in
+    λ want h at. StopsAt-stopped told len faults m c.args.place tx d e f s t u w led h c.in-Err.refusal (c.in-Err.ensures.refused want h at) q c.stop.ensures.refused
 
-pub returns-in-Ok-abort-clause-any_moment : goal.returns-in-Ok-abort-clause-any_moment
-returns-in-Ok-abort-clause-any_moment g c =
+pub returns-in-Err-clause-faulted : goal.returns-in-Err-clause-faulted
+returns-in-Err-clause-faulted g c =
     let told = g.D.Disk.told in
     let len = g.D.Disk.len in
     let faults = g.D.Disk.faults in
@@ -167,12 +433,13 @@ returns-in-Ok-abort-clause-any_moment g c =
     let next = c.finish_work.new.transaction.tx.store.number in
     let same = ap (λ (x : Tx). x.store.number) c.finish_work.ensures.tx in
     let led = c.finish_work.ensures.led in
-    let f = c.abort.new.disk in
-    let u = c.abort.new.space.store in
-    λ want h at. LeavesOldOrFinished-abort told len faults m c.args.place tx d e f s t u w led want h (v, at) c.abort.result c.abort.ensures.remains c.abort.ensures.any_moment
+    let f = c.stop.new.disk in
+    let u = c.stop.new.space.store in
+    let q = c.stop.result.refusal in
+    λ is want h at. down-stopped told len faults m c.args.place tx d e f s t u w led h c.in-Err.refusal (c.in-Err.ensures.refused want h at) q c.stop.ensures.refused c.stop.ensures.remains is
 
-pub returns-in-Err-abort-clause-refused : goal.returns-in-Err-abort-clause-refused
-returns-in-Err-abort-clause-refused g c =
+pub returns-in-Err-clause-tx : goal.returns-in-Err-clause-tx
+returns-in-Err-clause-tx g c =
     let told = g.D.Disk.told in
     let len = g.D.Disk.len in
     let faults = g.D.Disk.faults in
@@ -187,12 +454,13 @@ returns-in-Err-abort-clause-refused g c =
     let next = c.finish_work.new.transaction.tx.store.number in
     let same = ap (λ (x : Tx). x.store.number) c.finish_work.ensures.tx in
     let led = c.finish_work.ensures.led in
-    let f = c.abort.new.disk in
-    let u = c.abort.new.space.store in
-    λ want h at. StopsAt-fault told len faults m c.args.place tx d e f s t u w led h c.in-Err.refusal (c.in-Err.ensures.refused want h at) c.in-Err-abort.fault c.in-Err-abort.ensures.err c.in-Err-abort.ensures.cause
+    let f = c.stop.new.disk in
+    let u = c.stop.new.space.store in
+    let q = c.stop.result.refusal in
+    same-open c.stop.result.transaction c.args.transaction c.finish_work.new.transaction c.finish_work.ensures.tx c.stop.ensures.tx
 
-pub returns-in-Err-abort-clause-any_moment : goal.returns-in-Err-abort-clause-any_moment
-returns-in-Err-abort-clause-any_moment g c =
+pub returns-in-Err-clause-stays : goal.returns-in-Err-clause-stays
+returns-in-Err-clause-stays g c =
     let told = g.D.Disk.told in
     let len = g.D.Disk.len in
     let faults = g.D.Disk.faults in
@@ -207,6 +475,92 @@ returns-in-Err-abort-clause-any_moment g c =
     let next = c.finish_work.new.transaction.tx.store.number in
     let same = ap (λ (x : Tx). x.store.number) c.finish_work.ensures.tx in
     let led = c.finish_work.ensures.led in
-    let f = c.abort.new.disk in
-    let u = c.abort.new.space.store in
-    λ want h at. LeavesOldOrFinished-abort told len faults m c.args.place tx d e f s t u w led want h (v, at) c.abort.result c.abort.ensures.remains c.abort.ensures.any_moment
+    let f = c.stop.new.disk in
+    let u = c.stop.new.space.store in
+    let q = c.stop.result.refusal in
+    stays-open told len faults tx d e f s t u v w c.mark-point.result led c.finish_work.ensures.begun c.in-Err.ensures.points c.in-Err.ensures.was
+    (λ up one of. c.mark-point.ensures.latest up one (told d) (len d) of) (λ k place want h at. c.mark-point.ensures.was k place want h (told d) (len d) at)
+    c.stop.result.transaction q next same c.stop.ensures.remains c.stop.ensures.any_moment c.stop.ensures.back
+
+pub returns-in-Err-clause-aborted : goal.returns-in-Err-clause-aborted
+returns-in-Err-clause-aborted g c =
+    let told = g.D.Disk.told in
+    let len = g.D.Disk.len in
+    let faults = g.D.Disk.faults in
+    let m = g.B.Boxes.meanings c.args.boxes.now in
+    let tx = c.args.transaction.tx.store.number in
+    let v = c.args.transaction.work in
+    let d = c.args.disk.now in
+    let s = c.args.space.now.store in
+    let e = c.finish_work.new.disk in
+    let t = c.finish_work.new.space.store in
+    let w = c.finish_work.new.transaction.work in
+    let next = c.finish_work.new.transaction.tx.store.number in
+    let same = ap (λ (x : Tx). x.store.number) c.finish_work.ensures.tx in
+    let led = c.finish_work.ensures.led in
+    let f = c.stop.new.disk in
+    let u = c.stop.new.space.store in
+    let q = c.stop.result.refusal in
+    λ none up k root want db begun.
+    c.stop.ensures.aborted none up k root want db (subst (λ (n : ℕ). WasBegun k root want db n (parts told len e t)) (sym same)
+    (c.finish_work.ensures.begun (up-earlier told len faults e f t u _ c.stop.ensures.remains up) k root want db begun))
+
+pub returns-in-Err-clause-any_moment : goal.returns-in-Err-clause-any_moment
+returns-in-Err-clause-any_moment g c =
+    let told = g.D.Disk.told in
+    let len = g.D.Disk.len in
+    let faults = g.D.Disk.faults in
+    let m = g.B.Boxes.meanings c.args.boxes.now in
+    let tx = c.args.transaction.tx.store.number in
+    let v = c.args.transaction.work in
+    let d = c.args.disk.now in
+    let s = c.args.space.now.store in
+    let e = c.finish_work.new.disk in
+    let t = c.finish_work.new.space.store in
+    let w = c.finish_work.new.transaction.work in
+    let next = c.finish_work.new.transaction.tx.store.number in
+    let same = ap (λ (x : Tx). x.store.number) c.finish_work.ensures.tx in
+    let led = c.finish_work.ensures.led in
+    let f = c.stop.new.disk in
+    let u = c.stop.new.space.store in
+    let q = c.stop.result.refusal in
+    λ want h at. LeavesOldOrFinished-abort told len faults m c.args.place tx d e f s t u w led want h (v, at) _ c.stop.ensures.remains c.stop.ensures.any_moment
+
+pub returns-in-Err-clause-remains : goal.returns-in-Err-clause-remains
+returns-in-Err-clause-remains g c =
+    let told = g.D.Disk.told in
+    let len = g.D.Disk.len in
+    let faults = g.D.Disk.faults in
+    let m = g.B.Boxes.meanings c.args.boxes.now in
+    let tx = c.args.transaction.tx.store.number in
+    let v = c.args.transaction.work in
+    let d = c.args.disk.now in
+    let s = c.args.space.now.store in
+    let e = c.finish_work.new.disk in
+    let t = c.finish_work.new.space.store in
+    let w = c.finish_work.new.transaction.work in
+    let next = c.finish_work.new.transaction.tx.store.number in
+    let same = ap (λ (x : Tx). x.store.number) c.finish_work.ensures.tx in
+    let led = c.finish_work.ensures.led in
+    let f = c.stop.new.disk in
+    let u = c.stop.new.space.store in
+    let q = c.stop.result.refusal in
+    Remains-stopped told len faults m c.args.place tx d e f s t u w led q c.stop.ensures.remains
+
+pub stop-requires-clause-point : goal.stop-requires-clause-point
+stop-requires-clause-point g c =
+    let told = g.D.Disk.told in
+    let len = g.D.Disk.len in
+    let faults = g.D.Disk.faults in
+    let m = g.B.Boxes.meanings c.args.boxes.now in
+    let tx = c.args.transaction.tx.store.number in
+    let v = c.args.transaction.work in
+    let d = c.args.disk.now in
+    let s = c.args.space.now.store in
+    let e = c.finish_work.new.disk in
+    let t = c.finish_work.new.space.store in
+    let w = c.finish_work.new.transaction.work in
+    let next = c.finish_work.new.transaction.tx.store.number in
+    let same = ap (λ (x : Tx). x.store.number) c.finish_work.ensures.tx in
+    let led = c.finish_work.ensures.led in
+    subst (λ (n : ℕ). IsPointOf n c.mark-point.result (parts told len e t) w) (sym same) (c.in-Err.ensures.points c.mark-point.result (c.mark-point.ensures.of (told d) (len d)))

@@ -1,6 +1,8 @@
 use Rattle.std.proofs.Common.{sym, subst, ◌∙◌, ◌+◌}
+use Rattle.sb_deferred.specs.Waiting.{IsFront}
+use Rattle.sb_fold.specs.Outcome.{Queue}
 use Rattle.sb_engine.specs.Refusals.{HasCause, IsRefusedBy}
-use Rattle.sb_transactions.proofs.RunLemmas.{IsLent, finish-freed, finish-refused, finish-stopped, led_between, passed}
+use Rattle.sb_transactions.proofs.RunLemmas.{IsLent, finish-freed, finish-refused, finish-stopped, led_between, passed, works_between}
 use Rattle.sb_transactions.proofs.finishing.finish_over.Goals as goal
 
 pub returns-in_err-finish-clause-refused : goal.returns-in_err-finish-clause-refused
@@ -56,3 +58,30 @@ returns-clause-leads g c =
     let later = frees.leads in
     led_between g.S.PageSpace.leads c.args.space.now _ c.new-running.result.space.now c.free_gone.new.running.space.now c.new-running.ensures.space (sym end)
     (first.0 + later.0, g.met.S.PageSpace.goes_on first.0 later.0 c.new-running.result.space.now c.finish.new.layer.space.now c.free_gone.new.running.space.now first.1 later.1)
+
+pub returns-in_err-finish-clause-works : goal.returns-in_err-finish-clause-works
+returns-in_err-finish-clause-works g c =
+    let goes = c.finish.ensures.leads.goes in
+    let end = c.in_err-finish.space-1-own.given.1 (sym (goes.same_space ∙ c.new-running.ensures.same_space)) in
+    let work = c.in_err-finish.work-1-own.given.1 (sym (goes.same_work ∙ c.new-running.ensures.same_work)) in
+    passed c.from_residual.result c.in_err-finish.field-0.0 _ c.from_residual.ensures.1
+    (works_between g.S.PageSpace.leads c.args.space.now _ c.new-running.result.space.now c.finish.new.layer.space.now c.args.work.now _ c.new-running.result.work.now c.finish.new.layer.work.now
+    c.new-running.ensures.space (sym end) c.new-running.ensures.work (sym work) goes.leads goes.queue goes.gone)
+
+pub returns-in_err-free_gone-clause-works : goal.returns-in_err-free_gone-clause-works
+returns-in_err-free_gone-clause-works g c =
+    let goes = c.finish.ensures.leads.goes in
+    let frees = c.free_gone.ensures.frees in
+    let end = c.space-2-1.given.1 (sym (frees.same_space ∙ (goes.same_space ∙ c.new-running.ensures.same_space))) in
+    let work = c.work-2-1.given.1 (sym (frees.same_work ∙ (goes.same_work ∙ c.new-running.ensures.same_work))) in
+    let first = goes.leads in
+    let later = frees.leads in
+    let a = c.new-running.result in
+    let b = c.finish.new.layer in
+    let d = c.free_gone.new.running in
+    passed c.from_residual-in_err-free_gone.result c.in_err-free_gone.field-0.0 _ c.from_residual-in_err-free_gone.ensures.1
+    (works_between g.S.PageSpace.leads c.args.space.now _ a.space.now d.space.now c.args.work.now _ a.work.now d.work.now
+    c.new-running.ensures.space (sym end) c.new-running.ensures.work (sym work)
+    (first.0 + later.0, g.met.S.PageSpace.goes_on first.0 later.0 a.space.now b.space.now d.space.now first.1 later.1)
+    (subst (λ (q : Queue). IsFront a.work.now.queue q) (sym frees.queue) goes.queue)
+    (goes.gone.0, (λ i. (c.in_err-free_gone.ensures.kept i).items) ∙ goes.gone.1))

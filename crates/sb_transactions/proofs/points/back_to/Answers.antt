@@ -1,4 +1,5 @@
 use Rattle.sb_txn.specs.Clauses.{parts}
+use Rattle.sb_transactions.proofs.CallLemmas.{HasCause-of}
 use Rattle.sb_transactions.proofs.PointLemmas.{IsAt-back, WasSo-back}
 use Rattle.sb_transactions.proofs.points.back_to.Goals as goal
 
@@ -16,3 +17,8 @@ returns-in-Ok-clause-earlier g c =
     λ m place want h one less was.
     WasSo-back c.args.transaction.now.tx.store.number c.args.point (parts told len c.args.disk.now c.args.space.now.store) (parts told len c.back_to.new.disk c.back_to.new.self.store)
     c.args.transaction.now.work c.cut_work.new.work c.requires.point c.cut_work.ensures c.in-Ok.ensures.standing one less c.in-Ok.ensures.earlier m place want h was
+
+pub returns-in-Err-clause-cause : goal.returns-in-Err-clause-cause
+returns-in-Err-clause-cause g c =
+    rw c.refusal_of.ensures
+    (HasCause-of g.D.Disk.told g.D.Disk.len g.D.Disk.faults c.args.disk.now c.back_to.new.disk c.args.space.now.store c.back_to.new.self.store c.in-Err.fault c.in-Err.ensures.err c.in-Err.ensures.keeps.fails)
