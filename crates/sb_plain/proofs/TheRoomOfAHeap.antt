@@ -5,7 +5,7 @@ use Rattle.std.specs.Int.{to_be_bytes, w64}
 use Rattle.sb_relation.specs.Db.{Db, int_column}
 use Rattle.sb_fold.specs.Need.{need, at_rest}
 use Rattle.sb_plain.specs.declared.command.Command.TheVariants as command
-use Rattle.sb_plain.specs.Plays.{spent_in}
+use Rattle.sb_plain.specs.State.{spent_in}
 use Rattle.sb_plain.proofs.Scripts.{Asked, ask, after, start, no_extensions, int}
 
 abbrev heap_of : ℕ → Db

@@ -11,7 +11,7 @@ use Rattle.sb_plain.specs.declared.command.Command.{Command}
 use Rattle.sb_plain.specs.declared.command.Command.TheVariants as command
 use Rattle.sb_plain.specs.Licences.{table_pages, may_want_room, may_want_memory}
 use Rattle.sb_plain.specs.State.{State}
-use Rattle.sb_plain.specs.Plays.{spent_in}
+use Rattle.sb_plain.specs.State.{spent_in}
 use Rattle.sb_plain.specs.Step.{step}
 use Rattle.sb_plain.proofs.ATriggerWhoseInsertIsVetoed.{script}
 use Rattle.sb_plain.proofs.Scripts.{Asked, ask, after, start, no_extensions, int, slot}

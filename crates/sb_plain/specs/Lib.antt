@@ -6,6 +6,5 @@ pub mod Reading
 pub mod Text
 pub mod Step
 pub mod Licences
-pub mod Plays
 pub mod Lawful
 pub mod Laws

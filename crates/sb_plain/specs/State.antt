@@ -119,3 +119,12 @@ with_spent n s = elim s.transaction [ None ↦ s | Some t ↦ with_transaction s
 -- each command of a transaction costs 1
 abbrev pub paid : State → State
 paid s = elim s.transaction [ None ↦ s | Some t ↦ with_spent (t.spent + 1) s ]
+
+-- ---- what states have come to
+-- the pages that the open transaction edited
+abbrev pub spent_in : State → ℕ
+spent_in s = elim s.transaction [ None ↦ 0 | Some t ↦ t.spent ]
+
+-- a fault or damage has ended the kernel
+abbrev pub downed : State → State
+downed s = record s { down = true }

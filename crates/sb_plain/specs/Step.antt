@@ -1,5 +1,5 @@
 -- What a command answers, and what it makes of a state.
-use Rattle.std.specs.Prelude.{ℕ, Bool, true, false, List, [], ◌∷◌, ◌++◌, drop, Option, Some, None}
+use Rattle.std.specs.Prelude.{◌≡◌, ℕ, Bool, true, false, List, [], ◌∷◌, ◌++◌, drop, Option, Some, None}
 use Rattle.sb_relation.specs.Db.{Name, Key, Db, relation_at}
 use Rattle.sb_relation.specs.Keys.{Keying, Picked, Coded, Counted, keying_of}
 use Rattle.sb_fold.specs.declared.refusal.Refusal.{Refusal}
@@ -171,3 +171,9 @@ if_up s = elim s.down [ true ↦ s | false ↦ paid s ]
 
 abbrev pub step : Extensions → State → Command → List Key → Turn
 step ext s c picks = tested ext (if_up s) c picks (refused ext s c)
+
+-- with some picks the step gives this reply and this state
+pub record Steps (ext : Extensions) (s : State) (c : Command) (reply : Reply) (t : State) : Type 0 where
+  pub picks : List Key
+  pub replies : (step ext s c picks).reply ≡ Some reply
+  pub leads : (step ext s c picks).state ≡ t

@@ -16,6 +16,11 @@ is_free Fault = true
 is_free NoMemory = true
 is_free _ = false
 
+-- it calls a page damaged
+abbrev pub is_damage : Refusal → Bool
+is_damage (Damaged page) = true
+is_damage _ = false
+
 -- the relation is there with this descriptor, or neither is
 abbrev pub Describes : Option Relation → Option Descriptor → Type 0
 Describes None None = Unit {0}

@@ -1,6 +1,6 @@
 //! What is known of an open database without its rows.
 
-ghost use Rattle.std.specs.Prelude.{◌≡◌, ◌<◌, ◌^◌, true, cond, length, T, ℕ, Option, option_copied, IfOk, IfErr};
+ghost use Rattle.std.specs.Prelude.{◌≡◌, ◌<◌, ◌^◌, true, false, cond, length, T, ℕ, Option, option_copied, IfOk, IfErr};
 ghost use Rattle.std.specs.List.{list_any};
 ghost use Rattle.std.specs.FinMap.Entries.{is_sorted};
 ghost use Rattle.sb_value.specs.Order.{bytes_cmp};
@@ -11,7 +11,7 @@ ghost use Rattle.sb_fold.specs.declared.refusal.Refusal.{Refusal};
 ghost use Rattle.sb_fold.specs.declared.refusal.Refusal.TheVariants.{NoMemory};
 ghost use Rattle.sb_fold.specs.Extensions.{Extensions, method_of, is_durable_method};
 ghost use Rattle.sb_plain.specs.State.{State, view, is_inside, points_of, is_point, has_waiting, codes_of, has_code};
-ghost use Rattle.sb_refusals.specs.Catalogue.{Describes, IsFirst, above, is_free};
+ghost use Rattle.sb_refusals.specs.Catalogue.{Describes, IsFirst, above, is_damage, is_free};
 
 use sb_catalog::Descriptor;
 use sb_fold::Refusal;
@@ -20,6 +20,9 @@ use std::alloc::Global;
 
 /// What is known of an open database without its rows, of its transaction, and of the extensions.
 pub trait Catalogue {
+    /// It serves.
+    ghost is_ready: { Self → Type 0 };
+
     ghost extensions: { Self → Extensions };
 
     /// It is of this state.
@@ -33,10 +36,13 @@ pub trait Catalogue {
 
     /// The descriptor of a relation, or None where it isn't there.
     fn descriptor(&mut self, alloc: Global, name: &Str) -> Result<Option<Descriptor>, Refusal>
+        requires ready { is_ready self.old }
         ensures found { IfOk result (λ d. (s : State) → sees s self.old → Describes (relation_at (view s) name.now) d × sees s self.new) }
         ensures free { IfErr result (λ r. is_free r ≡ true) }
+        ensures undamaged { IfErr result (λ r. (s : State) → sees s self.old → is_damage r ≡ false) }
         ensures fails { IfErr result (λ r. fails r self.old self.new) }
-        ensures leads { leads self.old self.new };
+        ensures leads { leads self.old self.new }
+        ensures ready { is_ready self.new };
 
     /// The first relation by name behind this one, or of all.
     fn next(
@@ -44,10 +50,13 @@ pub trait Catalogue {
         alloc: Global,
         after: Option<&Str>,
     ) -> Result<Option<(Str, Descriptor)>, Refusal>
+        requires ready { is_ready self.old }
         ensures found { IfOk result (λ x. (s : State) → sees s self.old → IsFirst (above (option_copied after.entry) (view s)) x × sees s self.new) }
         ensures free { IfErr result (λ r. is_free r ≡ true) }
+        ensures undamaged { IfErr result (λ r. (s : State) → sees s self.old → is_damage r ≡ false) }
         ensures fails { IfErr result (λ r. fails r self.old self.new) }
-        ensures leads { leads self.old self.new };
+        ensures leads { leads self.old self.new }
+        ensures ready { is_ready self.new };
 
     fn is_down(&self) -> bool
         ensures { (s : State) → sees s self.now → result ≡ s.down };

@@ -1,9 +1,9 @@
 //! The first refusal of a command.
 
-ghost use Rattle.std.specs.Prelude.{◌≡◌, true, IfOk, IfErr};
+ghost use Rattle.std.specs.Prelude.{◌≡◌, true, false, IfOk, IfErr};
 ghost use Rattle.sb_plain.specs.State.{State, view};
 ghost use Rattle.sb_plain.specs.Refusing.{first_of, refused};
-ghost use Rattle.sb_refusals.specs.Catalogue.{is_free};
+ghost use Rattle.sb_refusals.specs.Catalogue.{is_damage, is_free};
 ghost use Rattle.sb_refusals.specs.Refusing.{place_tests, name_tests, code_tests, kind_tests, seen_tests};
 ghost use Rattle.sb_refusals.specs.Seen.{AreSeen};
 
@@ -72,11 +72,14 @@ fn refuse_codes<C: Catalogue>(
     alloc: Global,
     command: &Command,
 ) -> Result<Option<Refusal>, Refusal>
+    requires ready { C.is_ready catalogue.old }
     ensures refused { IfOk result (λ r. (s : State) → C.sees s catalogue.old
         → (r ≡ first_of (code_tests s command.now)) × C.sees s catalogue.new) }
     ensures free { IfErr result (λ r. is_free r ≡ true) }
+    ensures undamaged { IfErr result (λ r. (s : State) → C.sees s catalogue.old → is_damage r ≡ false) }
     ensures fails { IfErr result (λ r. C.fails r catalogue.old catalogue.new) }
     ensures leads { C.leads catalogue.old catalogue.new }
+    ensures ready { C.is_ready catalogue.new }
 {
     if let Some(code) = missing_code(catalogue, command) {
         return Ok(Some(Refusal::NoExtension { code }));
@@ -110,11 +113,14 @@ fn refuse_seen<C: Catalogue>(
     named: &Named,
     command: &Command,
 ) -> Result<Option<Refusal>, Refusal>
+    requires ready { C.is_ready catalogue.old }
     ensures refused { IfOk result (λ r. (s : State) → C.sees s catalogue.old → AreSeen (view s) command.now named.now
         → (r ≡ first_of (seen_tests (C.extensions catalogue.old) s command.now)) × C.sees s catalogue.new) }
     ensures free { IfErr result (λ r. is_free r ≡ true) }
+    ensures undamaged { IfErr result (λ r. (s : State) → C.sees s catalogue.old → is_damage r ≡ false) }
     ensures fails { IfErr result (λ r. C.fails r catalogue.old catalogue.new) }
     ensures leads { C.leads catalogue.old catalogue.new }
+    ensures ready { C.is_ready catalogue.new }
 {
     if let Some(refusal) = refuse_names(catalogue, named, command)? {
         return Ok(Some(refusal));
@@ -131,11 +137,14 @@ pub fn refuse<C: Catalogue>(
     alloc: Global,
     command: &Command,
 ) -> Result<Option<Refusal>, Refusal>
+    requires ready { C.is_ready catalogue.old }
     ensures refused { IfOk result (λ r. (s : State) → C.sees s catalogue.old
         → (r ≡ refused (C.extensions catalogue.old) s command.now) × C.sees s catalogue.new) }
     ensures free { IfErr result (λ r. is_free r ≡ true) }
+    ensures undamaged { IfErr result (λ r. (s : State) → C.sees s catalogue.old → is_damage r ≡ false) }
     ensures fails { IfErr result (λ r. C.fails r catalogue.old catalogue.new) }
     ensures leads { C.leads catalogue.old catalogue.new }
+    ensures ready { C.is_ready catalogue.new }
 {
     if let Some(refusal) = refuse_place(catalogue, command) {
         return Ok(Some(refusal));

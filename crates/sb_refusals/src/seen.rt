@@ -1,12 +1,12 @@
 //! The relations that a command names, by their descriptors.
 
-ghost use Rattle.std.specs.Prelude.{◌≡◌, ◌-◌, ◌^◌, ℕ, min, Some, Option, option_map, option_copied, is_some, map, length, IfOk, IfErr, true};
+ghost use Rattle.std.specs.Prelude.{◌≡◌, ◌-◌, ◌^◌, ℕ, min, Some, Option, option_map, option_copied, is_some, map, length, IfOk, IfErr, true, false};
 ghost use Rattle.std.specs.List.{find};
 ghost use Rattle.std.specs.Str.{bytes_eq};
 ghost use Rattle.sb_relation.specs.Db.{Relation};
 ghost use Rattle.sb_catalog.specs.Descriptors.{described, standing};
 ghost use Rattle.sb_plain.specs.State.{State, view};
-ghost use Rattle.sb_refusals.specs.Catalogue.{is_free};
+ghost use Rattle.sb_refusals.specs.Catalogue.{is_damage, is_free};
 ghost use Rattle.sb_refusals.specs.Lengths.{is_over};
 ghost use Rattle.sb_refusals.specs.Named.{own_of, other_of};
 ghost use Rattle.sb_refusals.specs.Seen.{IsSeen, AreSeen, columns_of, attachments_of, relation_named};
@@ -145,11 +145,14 @@ pub(crate) fn other_relation(command: &Command) -> Option<&Str>
 }
 
 fn see<C: Catalogue>(catalogue: &mut C, alloc: Global, name: Option<&Str>) -> Result<Seen, Refusal>
+    requires ready { C.is_ready catalogue.old }
     ensures seen { IfOk result (λ seen. (s : State) → C.sees s catalogue.old
         → IsSeen (relation_named (view s) (option_copied name.entry)) seen × C.sees s catalogue.new) }
     ensures free { IfErr result (λ r. is_free r ≡ true) }
+    ensures undamaged { IfErr result (λ r. (s : State) → C.sees s catalogue.old → is_damage r ≡ false) }
     ensures fails { IfErr result (λ r. C.fails r catalogue.old catalogue.new) }
     ensures leads { C.leads catalogue.old catalogue.new }
+    ensures ready { C.is_ready catalogue.new }
 {
     let Some(name) = name else {
         return Ok(Seen {
@@ -169,10 +172,13 @@ pub(crate) fn see_named<C: Catalogue>(
     alloc: Global,
     command: &Command,
 ) -> Result<Named, Refusal>
+    requires ready { C.is_ready catalogue.old }
     ensures seen { IfOk result (λ named. (s : State) → C.sees s catalogue.old → AreSeen (view s) command.now named × C.sees s catalogue.new) }
     ensures free { IfErr result (λ r. is_free r ≡ true) }
+    ensures undamaged { IfErr result (λ r. (s : State) → C.sees s catalogue.old → is_damage r ≡ false) }
     ensures fails { IfErr result (λ r. C.fails r catalogue.old catalogue.new) }
     ensures leads { C.leads catalogue.old catalogue.new }
+    ensures ready { C.is_ready catalogue.new }
 {
     let own = see(catalogue, alloc, own_relation(command))?;
     let other = see(catalogue, alloc, other_relation(command))?;

@@ -188,6 +188,8 @@ impl Five {
 impl Catalogue for Five {
     ghost use Rattle.sb_fold.specs.Extensions.{Extensions};
 
+    ghost is_ready = { λ c. Unit {0} };
+
     ghost extensions = { λ c. record { boxes = record { methods = []; attachments = [] }; methods = []; attachments = [] } };
 
     ghost sees = { λ s c. ⊥ };

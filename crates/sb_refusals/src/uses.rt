@@ -1,13 +1,13 @@
 //! What is in use.
 
-ghost use Rattle.std.specs.Prelude.{◌≡◌, ◌==◌, ◌∷◌, [], true, cond, Some, None, option_map, option_copied, IfOk, IfErr};
+ghost use Rattle.std.specs.Prelude.{◌≡◌, ◌==◌, ◌∷◌, [], true, false, cond, Some, None, option_map, option_copied, IfOk, IfErr};
 ghost use Rattle.std.specs.List.{find};
 ghost use Rattle.std.specs.Str.{bytes_eq};
 ghost use Rattle.sb_relation.specs.Db.{Relation};
 ghost use Rattle.sb_catalog.specs.Descriptors.{IsDescriptorOf};
 ghost use Rattle.sb_plain.specs.State.{State, view};
 ghost use Rattle.sb_plain.specs.Refusing.{ties_to, first_use};
-ghost use Rattle.sb_refusals.specs.Catalogue.{above, is_free};
+ghost use Rattle.sb_refusals.specs.Catalogue.{above, is_damage, is_free};
 ghost use Rattle.sb_refusals.specs.Uses.{user_at, user_in, IsStep};
 
 use crate::catalogue::Catalogue;
@@ -127,11 +127,14 @@ fn step_over<C: Catalogue>(
     command: &Command,
     after: Option<&Str>,
 ) -> Result<Step, Refusal>
+    requires ready { C.is_ready catalogue.old }
     ensures step { IfOk result (λ x. (s : State) → C.sees s catalogue.old
         → IsStep command.now (above (option_copied after.entry) (view s)) x × C.sees s catalogue.new) }
     ensures free { IfErr result (λ r. is_free r ≡ true) }
+    ensures undamaged { IfErr result (λ r. (s : State) → C.sees s catalogue.old → is_damage r ≡ false) }
     ensures fails { IfErr result (λ r. C.fails r catalogue.old catalogue.new) }
     ensures leads { C.leads catalogue.old catalogue.new }
+    ensures ready { C.is_ready catalogue.new }
 {
     let Some((name, descriptor)) = catalogue.next(alloc, after)? else {
         return Ok(Step::End);
@@ -149,10 +152,13 @@ fn first_user<C: Catalogue>(
     alloc: Global,
     command: &Command,
 ) -> Result<Option<(Str, Str)>, Refusal>
+    requires ready { C.is_ready catalogue.old }
     ensures found { IfOk result (λ x. (s : State) → C.sees s catalogue.old → (x ≡ user_in command.now (view s)) × C.sees s catalogue.new) }
     ensures free { IfErr result (λ r. is_free r ≡ true) }
+    ensures undamaged { IfErr result (λ r. (s : State) → C.sees s catalogue.old → is_damage r ≡ false) }
     ensures fails { IfErr result (λ r. C.fails r catalogue.old catalogue.new) }
     ensures leads { C.leads catalogue.old catalogue.new }
+    ensures ready { C.is_ready catalogue.new }
 {
     let mut after: Option<Str> = None;
     for _turn in 0..u64::MAX {
@@ -171,10 +177,13 @@ pub(crate) fn first_use<C: Catalogue>(
     alloc: Global,
     command: &Command,
 ) -> Result<Option<(Str, Str)>, Refusal>
+    requires ready { C.is_ready catalogue.old }
     ensures found { IfOk result (λ x. (s : State) → C.sees s catalogue.old → (x ≡ first_use (view s) command.now) × C.sees s catalogue.new) }
     ensures free { IfErr result (λ r. is_free r ≡ true) }
+    ensures undamaged { IfErr result (λ r. (s : State) → C.sees s catalogue.old → is_damage r ≡ false) }
     ensures fails { IfErr result (λ r. C.fails r catalogue.old catalogue.new) }
     ensures leads { C.leads catalogue.old catalogue.new }
+    ensures ready { C.is_ready catalogue.new }
 {
     match command {
         Command::Drop { .. } => first_user(catalogue, alloc, command),

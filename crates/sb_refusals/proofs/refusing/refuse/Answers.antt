@@ -1,8 +1,9 @@
-use Rattle.std.proofs.Common.{◌≡◌, ◌∙◌, ap, sym}
+use Rattle.std.proofs.Common.{◌≡◌, false, ◌∙◌, ap, sym}
 use Rattle.std.proofs.lemmas.Result.{IfOk-weaker, IfErr-weaker}
 use Rattle.sb_fold.specs.Extensions.{Extensions}
 use Rattle.sb_plain.specs.Refusing.{first_of, refused}
 use Rattle.sb_plain.specs.State.{State, view}
+use Rattle.sb_refusals.specs.Catalogue.{is_damage}
 use Rattle.sb_refusals.specs.Refusing.{seen_tests}
 use Rattle.sb_refusals.specs.Seen.{AreSeen}
 use Rattle.sb_refusals.proofs.InOrder.{behind_place}
@@ -30,3 +31,9 @@ returns-clause-fails g c =
     IfErr-weaker c.refuse_seen.result (λ r. g.C.Catalogue.fails r c.see_named.new.catalogue c.refuse_seen.new.catalogue)
     (λ r. g.C.Catalogue.fails r c.args.catalogue.now c.refuse_seen.new.catalogue)
     (λ r h. g.met.C.Catalogue.fails_on r c.args.catalogue.now c.see_named.new.catalogue c.refuse_seen.new.catalogue c.see_named.ensures.leads h) c.refuse_seen.ensures.fails
+
+pub returns-clause-undamaged : goal.returns-clause-undamaged
+returns-clause-undamaged g c =
+    IfErr-weaker c.refuse_seen.result (λ r. (s : State) → g.C.Catalogue.sees s c.see_named.new.catalogue → is_damage r ≡ false)
+    (λ r. (s : State) → g.C.Catalogue.sees s c.args.catalogue.now → is_damage r ≡ false)
+    (λ r h s sees. h s (c.in_ok-named.ensures.seen s sees).1) c.refuse_seen.ensures.undamaged

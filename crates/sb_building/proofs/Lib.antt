@@ -1,0 +1,16 @@
+pub mod RowsLemmas
+pub mod HeldLemmas
+pub mod ContentLemmas
+pub mod SiteLemmas
+pub mod InstanceLemmas
+pub mod PlaceLemmas
+pub mod EndedLemmas
+pub mod OpenLemmas
+pub mod NameLemmas
+pub mod PairLemmas
+pub mod LengthLemmas
+pub mod CallLemmas
+pub mod BuildLemmas
+pub mod WorkLemmas
+pub mod AttachLemmas
+pub mod DetachLemmas

@@ -1,0 +1,147 @@
+use Rattle.std.proofs.Common.{◌≡◌, [], append-nil, refl, sym, subst}
+use Rattle.sb_fold.specs.declared.refusal.Refusal.TheVariants.{TooLong as LongRow, Veto}
+use Rattle.sb_fold.specs.Building.{build}
+use Rattle.sb_cascade.proofs.Stopping.{stops_free}
+use Rattle.sb_engine.specs.declared.running.Work.{Work}
+use Rattle.sb_engine.specs.Goings.{front_none}
+use Rattle.sb_engine.specs.Working.{extensions_of}
+use Rattle.sb_engine.proofs.RefusedLemmas.{free_refusal}
+use Rattle.sb_building.specs.declared.attaching.Attaching.{Attaching}
+use Rattle.sb_building.specs.Attaching.{HasEnded}
+use Rattle.sb_building.proofs.AttachLemmas.{attach_large, attach_long, attach_made, attach_vetoed, may_add, site_of, stores_of}
+use Rattle.sb_building.proofs.WorkLemmas.{forward_build, stops_either}
+use Rattle.sb_building.proofs.attaching.attach.Goals as goal
+
+pub returns-in-Ok-Attached-clause-made : goal.returns-in-Ok-Attached-clause-made
+returns-in-Ok-Attached-clause-made g c = λ h stands may.
+    let a = c.args.running.now in
+    let m = g.B.Boxes.meanings a.boxes.now in
+    let has = g.S.PageSpace.has in
+    let root = a.place.root in
+    let relation = c.args.relation.now in
+    let name = c.args.name.now in
+    let rule = c.args.rule.now in
+    let v : Work = record a.work.now { opened = c.clear.new.self } in
+    let site = site_of has m root h a.space.now a.work.now stands relation name rule may in
+    let adds = may_add has m root h a.space.now a.work.now stands relation name rule may in
+    let stores = stores_of has m root h a.space.now a.work.now stands relation name rule may in
+    let ended = subst (λ (e : Attaching). HasEnded has m root site relation name rule adds.box.rules c.attach_copy.new.space e) c.in-Ok-Attached.field-0-is (c.in-Ok-Attached.ensures.ended site stands.has stores adds may.main may.storable) in
+    let made = attach_made has m root h a.space.now a.work.now stands relation name rule may c.attach_copy.new.space v (record { opened = c.clear.ensures.items; queue = refl; done = refl; picks = refl }) refl ended in
+    record { picks = []; after = made.after; leads = made.leads; stands = made.stands }
+
+pub returns-in-Ok-TooLarge-clause-refused : goal.returns-in-Ok-TooLarge-clause-refused
+returns-in-Ok-TooLarge-clause-refused g c = λ h stands may.
+    let a = c.args.running.now in
+    let m = g.B.Boxes.meanings a.boxes.now in
+    let has = g.S.PageSpace.has in
+    let root = a.place.root in
+    let relation = c.args.relation.now in
+    let name = c.args.name.now in
+    let rule = c.args.rule.now in
+    let site = site_of has m root h a.space.now a.work.now stands relation name rule may in
+    let adds = may_add has m root h a.space.now a.work.now stands relation name rule may in
+    let stores = stores_of has m root h a.space.now a.work.now stands relation name rule may in
+    let ended = subst (λ (e : Attaching). HasEnded has m root site relation name rule adds.box.rules c.attach_copy.new.space e) c.in-Ok-TooLarge.field-0-is (c.in-Ok-TooLarge.ensures.ended site stands.has stores adds may.main may.storable) in
+    absurd (attach_large has m root h a.space.now a.work.now stands relation name rule may c.attach_copy.new.space ended)
+
+pub returns-in-Ok-TooLong-clause-refused : goal.returns-in-Ok-TooLong-clause-refused
+returns-in-Ok-TooLong-clause-refused g c = λ h stands may.
+    let a = c.args.running.now in
+    let m = g.B.Boxes.meanings a.boxes.now in
+    let has = g.S.PageSpace.has in
+    let root = a.place.root in
+    let relation = c.args.relation.now in
+    let name = c.args.name.now in
+    let rule = c.args.rule.now in
+    let site = site_of has m root h a.space.now a.work.now stands relation name rule may in
+    let adds = may_add has m root h a.space.now a.work.now stands relation name rule may in
+    let stores = stores_of has m root h a.space.now a.work.now stands relation name rule may in
+    let ended = subst (λ (e : Attaching). HasEnded has m root site relation name rule adds.box.rules c.attach_copy.new.space e) c.in-Ok-TooLong.field-0-is (c.in-Ok-TooLong.ensures.ended site stands.has stores adds may.main may.storable) in
+    stops_either _ (build (extensions_of m) relation name rule) h (LongRow relation) c.too_long.result _ c.too_long.ensures refl (attach_long has m root h a.space.now a.work.now stands relation name rule may c.attach_copy.new.space ended)
+    (forward_build (extensions_of m) relation name rule) (λ t. tt) (λ t. tt)
+
+pub returns-in-Ok-Vetoed-clause-refused : goal.returns-in-Ok-Vetoed-clause-refused
+returns-in-Ok-Vetoed-clause-refused g c = λ h stands may.
+    let a = c.args.running.now in
+    let m = g.B.Boxes.meanings a.boxes.now in
+    let has = g.S.PageSpace.has in
+    let root = a.place.root in
+    let relation = c.args.relation.now in
+    let name = c.args.name.now in
+    let rule = c.args.rule.now in
+    let site = site_of has m root h a.space.now a.work.now stands relation name rule may in
+    let adds = may_add has m root h a.space.now a.work.now stands relation name rule may in
+    let stores = stores_of has m root h a.space.now a.work.now stands relation name rule may in
+    let ended = subst (λ (e : Attaching). HasEnded has m root site relation name rule adds.box.rules c.attach_copy.new.space e) c.in-Ok-Vetoed.field-0-is (c.in-Ok-Vetoed.ensures.ended site stands.has stores adds may.main may.storable) in
+    stops_either _ (build (extensions_of m) relation name rule) h (Veto relation name) c.veto.result _ c.veto.ensures refl (attach_vetoed has m root h a.space.now a.work.now stands relation name rule may c.attach_copy.new.space ended)
+    (forward_build (extensions_of m) relation name rule) (λ t. tt) (λ t. tt)
+
+pub returns-in-Err-clause-refused : goal.returns-in-Err-clause-refused
+returns-in-Err-clause-refused g c = λ h stands may.
+    let a = c.args.running.now in
+    let m = g.B.Boxes.meanings a.boxes.now in
+    let has = g.S.PageSpace.has in
+    let root = a.place.root in
+    let relation = c.args.relation.now in
+    let name = c.args.name.now in
+    let rule = c.args.rule.now in
+    let site = site_of has m root h a.space.now a.work.now stands relation name rule may in
+    let adds = may_add has m root h a.space.now a.work.now stands relation name rule may in
+    let stores = stores_of has m root h a.space.now a.work.now stands relation name rule may in
+    rw c.refusal_of.ensures
+    (stops_free _ (build (extensions_of m) relation name rule) _ _ h (free_refusal c.in-Err.fault) (forward_build (extensions_of m) relation name rule) (c.in-Err.ensures.refused site stands.has stores adds))
+
+pub returns-in-Ok-Attached-clause-goes : goal.returns-in-Ok-Attached-clause-goes
+returns-in-Ok-Attached-clause-goes g c = record {
+  same_space = refl;
+  same_work = refl;
+  boxes = refl;
+  place = refl;
+  leads = c.attach_copy.ensures.leads;
+  queue = front_none c.args.running.now.work.now.queue;
+  gone = ([], sym (append-nil c.args.running.now.work.now.gone.items));
+}
+
+pub returns-in-Ok-TooLarge-clause-goes : goal.returns-in-Ok-TooLarge-clause-goes
+returns-in-Ok-TooLarge-clause-goes g c = record {
+  same_space = refl;
+  same_work = refl;
+  boxes = refl;
+  place = refl;
+  leads = c.attach_copy.ensures.leads;
+  queue = front_none c.args.running.now.work.now.queue;
+  gone = ([], sym (append-nil c.args.running.now.work.now.gone.items));
+}
+
+pub returns-in-Ok-TooLong-clause-goes : goal.returns-in-Ok-TooLong-clause-goes
+returns-in-Ok-TooLong-clause-goes g c = record {
+  same_space = refl;
+  same_work = refl;
+  boxes = refl;
+  place = refl;
+  leads = c.attach_copy.ensures.leads;
+  queue = front_none c.args.running.now.work.now.queue;
+  gone = ([], sym (append-nil c.args.running.now.work.now.gone.items));
+}
+
+pub returns-in-Ok-Vetoed-clause-goes : goal.returns-in-Ok-Vetoed-clause-goes
+returns-in-Ok-Vetoed-clause-goes g c = record {
+  same_space = refl;
+  same_work = refl;
+  boxes = refl;
+  place = refl;
+  leads = c.attach_copy.ensures.leads;
+  queue = front_none c.args.running.now.work.now.queue;
+  gone = ([], sym (append-nil c.args.running.now.work.now.gone.items));
+}
+
+pub returns-in-Err-clause-goes : goal.returns-in-Err-clause-goes
+returns-in-Err-clause-goes g c = record {
+  same_space = refl;
+  same_work = refl;
+  boxes = refl;
+  place = refl;
+  leads = c.attach_copy.ensures.leads;
+  queue = front_none c.args.running.now.work.now.queue;
+  gone = ([], sym (append-nil c.args.running.now.work.now.gone.items));
+}

@@ -1,0 +1,147 @@
+use Rattle.sb_drive.proofs.SpacesLemmas.{IfErr-passed}
+use Rattle.sb_engine.proofs.RefusedLemmas.{refused_cause}
+use Rattle.sb_building.proofs.CallLemmas.{IfOk-failed, leads_then}
+use Rattle.sb_building.proofs.InstanceLemmas.{law_of-code, prepared_begun, prepared_refused, test_sound}
+use Rattle.sb_building.proofs.instances.begin.Goals as goal
+
+-- ---- its entry
+pub returns-in_err-attached-clause-refused : goal.returns-in_err-attached-clause-refused
+returns-in_err-attached-clause-refused g c = IfErr-passed c.from_residual.result c.in_err-attached.field-0.0 _ c.from_residual.ensures.1 (λ x store same may. c.in_err-attached.ensures.refused)
+
+pub returns-in_err-attached-clause-leads : goal.returns-in_err-attached-clause-leads
+returns-in_err-attached-clause-leads g c = c.in_err-attached.ensures.leads
+
+-- ---- its test
+pub test_entry-requires-clause-storable : goal.test_entry-requires-clause-storable
+test_entry-requires-clause-storable g c = c.in_ok-attached.ensures.entered.entry.storable
+
+pub returns-in_err-inst-clause-refused : goal.returns-in_err-inst-clause-refused
+returns-in_err-inst-clause-refused g c =
+    let m = g.B.Boxes.meanings c.args.boxes.now in
+    let e = c.in_err-inst.field-0.0 in
+    IfErr-passed c.from_residual-in_err-inst.result e _ c.from_residual-in_err-inst.ensures.1
+    (λ x store same may.
+    refused_cause g.S.PageSpace.fails _ c.new_entry.new.space c.test_entry.new.space e c.in_err-inst.ensures.looks.refused
+    (test_sound g.S.PageSpace.has m c.args.place.root x c.args.opened.now.name c.args.label.now c.args.rule c.in_ok-attached.attached c.args.space.now c.new_entry.new.space store may
+    c.in_ok-attached.ensures.entered c.requires.storable (law_of-code m c.args.rule c.code_of-code.result c.code_of-code.ensures c.learn_rule.ensures)
+    c.args.opened.now.descriptor same e c.in_err-inst.ensures.undamaged))
+
+pub returns-in_err-inst-clause-leads : goal.returns-in_err-inst-clause-leads
+returns-in_err-inst-clause-leads g c =
+    leads_then g.S.PageSpace.leads g.met.S.PageSpace.goes_on c.args.space.now c.new_entry.new.space c.test_entry.new.space c.in_ok-attached.ensures.leads (0, c.in_err-inst.ensures.looks.leads)
+
+-- ---- its content
+pub prepare-requires-clause-live : goal.prepare-requires-clause-live
+prepare-requires-clause-live g c = c.in_ok-inst.ensures.live
+
+pub returns-in_err-prepare-clause-refused : goal.returns-in_err-prepare-clause-refused
+returns-in_err-prepare-clause-refused g c =
+    let m = g.B.Boxes.meanings c.args.boxes.now in
+    let e = c.in_err-prepare.field-0.0 in
+    IfErr-passed c.from_residual-in_err-prepare.result e _ c.from_residual-in_err-prepare.ensures.1
+    (λ x store same may.
+    prepared_refused g.S.PageSpace.has m c.args.place.root x c.args.opened.now.name c.args.label.now c.args.rule c.in_ok-attached.attached c.args.space.now c.new_entry.new.space store may
+    c.in_ok-attached.ensures.entered c.requires.storable (law_of-code m c.args.rule c.code_of-code.result c.code_of-code.ensures c.learn_rule.ensures)
+    c.args.opened.now.descriptor same c.test_entry.new.space c.prepare.new.space c.in_ok-inst.ensures.looks.same c.in_ok-inst.inst c.in_ok-inst.ensures.is c.in_ok-inst.ensures.live
+    g.S.PageSpace.fails e c.in_err-prepare.ensures.refused)
+
+pub returns-in_err-prepare-clause-leads : goal.returns-in_err-prepare-clause-leads
+returns-in_err-prepare-clause-leads g c =
+    let leads = g.S.PageSpace.leads in
+    let goes = g.met.S.PageSpace.goes_on in
+    leads_then leads goes c.args.space.now c.test_entry.new.space c.prepare.new.space
+    (leads_then leads goes c.args.space.now c.new_entry.new.space c.test_entry.new.space c.in_ok-attached.ensures.leads (0, c.in_ok-inst.ensures.looks.leads)) c.in_err-prepare.ensures.leads
+
+-- ---- it has begun
+pub returns-clause-begun : goal.returns-clause-begun
+returns-clause-begun g c = λ live x store same may.
+    let m = g.B.Boxes.meanings c.args.boxes.now in
+    prepared_begun g.S.PageSpace.has m c.args.place.root x c.args.opened.now.name c.args.label.now c.args.rule c.in_ok-attached.attached c.args.space.now c.new_entry.new.space store may
+    c.in_ok-attached.ensures.entered c.requires.storable (law_of-code m c.args.rule c.code_of-code.result c.code_of-code.ensures c.learn_rule.ensures)
+    c.args.opened.now.descriptor same c.test_entry.new.space c.prepare.new.space c.in_ok-inst.ensures.looks.same c.in_ok-inst.inst c.in_ok-inst.ensures.is live c.in_ok-prepare.ensures.prepared
+
+pub returns-clause-leads : goal.returns-clause-leads
+returns-clause-leads g c =
+    let leads = g.S.PageSpace.leads in
+    let goes = g.met.S.PageSpace.goes_on in
+    leads_then leads goes c.args.space.now c.test_entry.new.space c.prepare.new.space
+    (leads_then leads goes c.args.space.now c.new_entry.new.space c.test_entry.new.space c.in_ok-attached.ensures.leads (0, c.in_ok-inst.ensures.looks.leads)) c.in_ok-prepare.ensures.leads
+
+-- ---- the rest
+pub new_entry-requires-clause-ready : goal.new_entry-requires-clause-ready
+new_entry-requires-clause-ready g c = c.requires.ready
+
+pub new_entry-requires-clause-storable : goal.new_entry-requires-clause-storable
+new_entry-requires-clause-storable g c = c.requires.storable
+
+pub new_entry-requires-clause-short : goal.new_entry-requires-clause-short
+new_entry-requires-clause-short g c = c.requires.short
+
+pub test_entry-requires-clause-ready : goal.test_entry-requires-clause-ready
+test_entry-requires-clause-ready g c = c.in_ok-attached.ensures.ready
+
+pub test_entry-requires-clause-owner : goal.test_entry-requires-clause-owner
+test_entry-requires-clause-owner g c = c.requires.owner
+
+pub prepare-requires-clause-ready : goal.prepare-requires-clause-ready
+prepare-requires-clause-ready g c = c.in_ok-inst.ensures.ready
+
+pub prepare-requires-clause-owner : goal.prepare-requires-clause-owner
+prepare-requires-clause-owner g c = c.requires.owner
+
+pub returns-in_err-attached-clause-entry : goal.returns-in_err-attached-clause-entry
+returns-in_err-attached-clause-entry g c = IfOk-failed c.from_residual.result _ _ c.from_residual.ensures.1
+
+pub returns-in_err-attached-clause-is : goal.returns-in_err-attached-clause-is
+returns-in_err-attached-clause-is g c = IfOk-failed c.from_residual.result _ _ c.from_residual.ensures.1
+
+pub returns-in_err-attached-clause-live : goal.returns-in_err-attached-clause-live
+returns-in_err-attached-clause-live g c = IfOk-failed c.from_residual.result _ _ c.from_residual.ensures.1
+
+pub returns-in_err-attached-clause-begun : goal.returns-in_err-attached-clause-begun
+returns-in_err-attached-clause-begun g c = IfOk-failed c.from_residual.result _ _ c.from_residual.ensures.1
+
+pub returns-in_err-attached-clause-ready : goal.returns-in_err-attached-clause-ready
+returns-in_err-attached-clause-ready g c = c.in_err-attached.ensures.ready
+
+pub returns-in_err-inst-clause-entry : goal.returns-in_err-inst-clause-entry
+returns-in_err-inst-clause-entry g c = IfOk-failed c.from_residual-in_err-inst.result _ _ c.from_residual-in_err-inst.ensures.1
+
+pub returns-in_err-inst-clause-is : goal.returns-in_err-inst-clause-is
+returns-in_err-inst-clause-is g c = IfOk-failed c.from_residual-in_err-inst.result _ _ c.from_residual-in_err-inst.ensures.1
+
+pub returns-in_err-inst-clause-live : goal.returns-in_err-inst-clause-live
+returns-in_err-inst-clause-live g c = IfOk-failed c.from_residual-in_err-inst.result _ _ c.from_residual-in_err-inst.ensures.1
+
+pub returns-in_err-inst-clause-begun : goal.returns-in_err-inst-clause-begun
+returns-in_err-inst-clause-begun g c = IfOk-failed c.from_residual-in_err-inst.result _ _ c.from_residual-in_err-inst.ensures.1
+
+pub returns-in_err-inst-clause-ready : goal.returns-in_err-inst-clause-ready
+returns-in_err-inst-clause-ready g c = c.in_err-inst.ensures.ready
+
+pub returns-in_err-prepare-clause-entry : goal.returns-in_err-prepare-clause-entry
+returns-in_err-prepare-clause-entry g c = IfOk-failed c.from_residual-in_err-prepare.result _ _ c.from_residual-in_err-prepare.ensures.1
+
+pub returns-in_err-prepare-clause-is : goal.returns-in_err-prepare-clause-is
+returns-in_err-prepare-clause-is g c = IfOk-failed c.from_residual-in_err-prepare.result _ _ c.from_residual-in_err-prepare.ensures.1
+
+pub returns-in_err-prepare-clause-live : goal.returns-in_err-prepare-clause-live
+returns-in_err-prepare-clause-live g c = IfOk-failed c.from_residual-in_err-prepare.result _ _ c.from_residual-in_err-prepare.ensures.1
+
+pub returns-in_err-prepare-clause-begun : goal.returns-in_err-prepare-clause-begun
+returns-in_err-prepare-clause-begun g c = IfOk-failed c.from_residual-in_err-prepare.result _ _ c.from_residual-in_err-prepare.ensures.1
+
+pub returns-in_err-prepare-clause-ready : goal.returns-in_err-prepare-clause-ready
+returns-in_err-prepare-clause-ready g c = c.in_err-prepare.ensures.ready
+
+pub returns-clause-entry : goal.returns-clause-entry
+returns-clause-entry g c = c.in_ok-attached.ensures.entered.entry
+
+pub returns-clause-is : goal.returns-clause-is
+returns-clause-is g c = c.in_ok-inst.ensures.is
+
+pub returns-clause-live : goal.returns-clause-live
+returns-clause-live g c = c.in_ok-inst.ensures.live
+
+pub returns-clause-ready : goal.returns-clause-ready
+returns-clause-ready g c = c.in_ok-prepare.ensures.ready

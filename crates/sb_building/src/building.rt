@@ -1,0 +1,140 @@
+//! Contents of new instances, built over the rows of their relation.
+
+ghost use Rattle.std.specs.Prelude.{◌≡◌, [], true, IfErr, IfOk, OnOk};
+ghost use Rattle.sb_rule.specs.declared.rule.Rule.{Rule as Policy};
+ghost use Rattle.sb_rule.specs.Spelling.{SpellsRule};
+ghost use Rattle.sb_relation.specs.Db.{Rows};
+ghost use Rattle.sb_relation.specs.Keys.{is_record_key};
+ghost use Rattle.sb_ctx.specs.Attachment.{MayHold};
+ghost use Rattle.sb_drive.specs.Spaces.{LeadsOn, Leaves};
+ghost use Rattle.sb_registry.specs.Live.{IsLive, IsLiveRule};
+ghost use Rattle.sb_standing.specs.Tables.{db_of, table_of};
+ghost use Rattle.sb_opened.specs.Opened.{IsDurable};
+ghost use Rattle.sb_engine.specs.Refusals.{HasCause, refusal_of};
+ghost use Rattle.sb_building.specs.Building.{HasNoLong, HoldsBuilt, IsBuilt, IsBuiltOver, IsNext, is_done};
+ghost use Rattle.sb_building.specs.Instances.{HasNewPages, HoldsFirst, IsSite, Site};
+
+use sb_asking::ask;
+use sb_ctx::{AttachCall, Instance, Move};
+use sb_drive::{PageSpace, SpaceFault};
+use sb_map::Place;
+use sb_registry::Boxes;
+use sb_rows::next_row;
+use sb_rule::Rule;
+use sb_value::{RecKey, Tuple};
+use sb_wishes::is_long_for;
+use std::alloc::Global;
+
+/// More rows than a relation has.
+const MOST_ROWS: u64 = 1 << 48;
+
+/// Makes the content of a new instance over no rows.
+pub(crate) fn prepare<S: PageSpace, B: Boxes>(
+    space: &mut S,
+    alloc: Global,
+    boxes: &B,
+    place: Place,
+    inst: &Instance,
+) -> Result<(), SpaceFault>
+    requires ready { S.is_ready space.old }
+    requires owner { place.owner ≡ 2 }
+    requires live { IsLiveRule (B.meanings boxes.now) inst.now }
+
+    ensures prepared { OnOk result ((live : IsLiveRule (B.meanings boxes.now) inst.now) (x : Site) (rule : Policy)
+        → IsSite S.has (B.meanings boxes.now) place.root x inst.now rule live.box space.old → HasNewPages x live.box inst.now
+        → Leaves S.has inst.now.owner x.want x.slots space.new (HoldsFirst live.box inst.now rule (db_of x.kept))) }
+    ensures refused { IfErr result (λ e. (live : IsLiveRule (B.meanings boxes.now) inst.now) (x : Site) (rule : Policy)
+        → IsSite S.has (B.meanings boxes.now) place.root x inst.now rule live.box space.old → HasNewPages x live.box inst.now
+        → HasCause S.fails (refusal_of e) space.new) }
+    ensures leads { LeadsOn S.leads space.old space.new }
+    ensures ready { S.is_ready space.new }
+{
+    let call = AttachCall::Prepare;
+    ask(space, alloc, boxes, place, inst, &call)?;
+    Ok(())
+}
+
+/// Adds all rows of the relation to the content, one after the other, up to one that isn't admitted. Whether all are admitted.
+pub(crate) fn build_rows<S: PageSpace, B: Boxes>(
+    space: &mut S,
+    alloc: Global,
+    boxes: &B,
+    place: Place,
+    table: &Instance,
+    inst: &Instance,
+    rule: &Rule,
+) -> Result<bool, SpaceFault>
+    requires ready { S.is_ready space.old }
+    requires owner { place.owner ≡ 2 }
+    requires live { IsLive (B.meanings boxes.now) table.now }
+    requires live_rule { IsLiveRule (B.meanings boxes.now) inst.now }
+    requires columns { inst.now.schema ≡ table.now.schema }
+    requires spelled { SpellsRule inst.now.code inst.now.desc rule.now }
+
+    ensures built { IfOk result (λ held. (live : IsLiveRule (B.meanings boxes.now) inst.now) (x : Site)
+        → IsSite S.has (B.meanings boxes.now) place.root x inst.now rule.now live.box space.old → table.now ≡ table_of IsDurable x.one
+        → HoldsBuilt x live.box inst.now rule.now []
+        → Leaves S.has inst.now.owner x.want x.slots space.new
+        (IsBuiltOver live.box inst.now rule.now (db_of x.kept) x.one.relation.rows held)) }
+    ensures refused { IfErr result (λ e. (live : IsLiveRule (B.meanings boxes.now) inst.now) (x : Site)
+        → IsSite S.has (B.meanings boxes.now) place.root x inst.now rule.now live.box space.old → table.now ≡ table_of IsDurable x.one
+        → HoldsBuilt x live.box inst.now rule.now [] → HasNoLong x rule.now
+        → HasCause S.fails (refusal_of e) space.new) }
+    ensures leads { LeadsOn S.leads space.old space.new }
+    ensures ready { S.is_ready space.new }
+{
+    let mut last = None;
+    'rows: for _ in 0..MOST_ROWS {
+        let Some((key, row)) = next_row(space, alloc, boxes, table, last)? else {
+            return Ok(true);
+        };
+        if is_long_for(&table.schema, &row, rule) {
+            return Err(SpaceFault::Damaged { page: table.root });
+        }
+        let admitted = build_row(space, alloc, boxes, place, inst, &key, row)?;
+        if !admitted {
+            return Ok(false);
+        }
+        last = Some(key);
+    }
+    Err(SpaceFault::Damaged { page: table.root })
+}
+
+/// Adds one row to the content. Whether it is admitted.
+fn build_row<S: PageSpace, B: Boxes>(
+    space: &mut S,
+    alloc: Global,
+    boxes: &B,
+    place: Place,
+    inst: &Instance,
+    key: &RecKey,
+    row: Tuple,
+) -> Result<bool, SpaceFault>
+    requires ready { S.is_ready space.old }
+    requires owner { place.owner ≡ 2 }
+    requires live { IsLiveRule (B.meanings boxes.now) inst.now }
+    requires row { (live : IsLiveRule (B.meanings boxes.now) inst.now) → MayHold live.box inst.now row }
+    requires key { is_record_key key.now ≡ true }
+
+    ensures built { IfOk result (λ admitted. (live : IsLiveRule (B.meanings boxes.now) inst.now) (x : Site) (rule : Policy) (built : Rows)
+        → IsSite S.has (B.meanings boxes.now) place.root x inst.now rule live.box space.old
+        → IsNext x.one.relation.rows built (key.now, row) → HoldsBuilt x live.box inst.now rule built
+        → Leaves S.has inst.now.owner x.want x.slots space.new
+        (IsBuilt live.box inst.now rule (db_of x.kept) built (key.now, row) admitted)) }
+    ensures refused { IfErr result (λ e. (live : IsLiveRule (B.meanings boxes.now) inst.now) (x : Site) (rule : Policy) (built : Rows)
+        → IsSite S.has (B.meanings boxes.now) place.root x inst.now rule live.box space.old → HoldsBuilt x live.box inst.now rule built
+        → HasCause S.fails (refusal_of e) space.new) }
+    ensures leads { LeadsOn S.leads space.old space.new }
+    ensures ready { S.is_ready space.new }
+{
+    let copy = key.copy()?;
+    let call = AttachCall::Build(copy, row);
+    let made = ask(space, alloc, boxes, place, inst, &call)?;
+    Ok(is_done(&made))
+}
+
+fn is_done(made: &Move) -> bool
+    ensures { result ≡ is_done made.now }
+{
+    matches!(made, Move::Done)
+}

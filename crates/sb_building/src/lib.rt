@@ -1,0 +1,13 @@
+//! Rules that come and go, on an engine at work.
+#![tactic(auto)]
+
+mod attaching;
+mod building;
+mod detaching;
+mod instances;
+mod lengths;
+mod placing;
+mod rules;
+
+pub use attaching::attach;
+pub use detaching::detach;

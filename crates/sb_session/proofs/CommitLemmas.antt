@@ -1,0 +1,419 @@
+-- What becomes of a session in a commit.
+use Rattle.std.proofs.Common.{◌≡◌, ⊎_elim, inl, inr, ◌⊎◌, ℕ, ◌+◌, ◌&&◌, ◌||◌, Bool, true, false, not, get_or, List, [], ◌∷◌, ◌++◌, All, Option, Some, None, Ok, Err, Result, is_some, refl, sym, ap, ◌∙◌, subst}
+use Rattle.std.proofs.lemmas.Bool.{false≢true}
+use Rattle.std.proofs.Math.Bool.{or-false}
+use Rattle.std.specs.List.{AllZip}
+use Rattle.sb_disk.specs.Causes.{Rose}
+use Rattle.sb_disk.specs.Disk.{Story}
+use Rattle.sb_disk.specs.Moments.{LeavesOnly}
+use Rattle.sb_images.specs.Images.{Restores}
+use Rattle.sb_relation.specs.Db.{Key, Db}
+use Rattle.sb_fold.specs.declared.refusal.Refusal.{Refusal}
+use Rattle.sb_fold.specs.declared.refusal.Refusal.TheVariants as refusal
+use Rattle.sb_fold.specs.declared.refusal.Room.{Room}
+use Rattle.sb_fold.specs.Extensions.{Extensions}
+use Rattle.sb_fold.specs.Finish.{finish}
+use Rattle.sb_rule.specs.declared.action.Action.{Action}
+use Rattle.sb_fold.specs.Outcome.{Entry, Going, Queue, Trail, Work}
+use Rattle.sb_cascade.specs.Runs.{EndsBy, RefusedFrom, StopsFrom, is_free}
+use Rattle.sb_deferred.specs.Waiting.{nothing}
+use Rattle.sb_plain.specs.declared.command.Command.{Command}
+use Rattle.sb_plain.specs.declared.command.Command.TheVariants as command
+use Rattle.sb_plain.specs.declared.reply.Reply.{Reply}
+use Rattle.sb_plain.specs.declared.reply.Reply.TheVariants as reply
+use Rattle.sb_plain.specs.State.{downed}
+use Rattle.sb_plain.specs.Step.{Steps}
+use Rattle.sb_plain.specs.State.{Point as PlainPoint, State, Transaction as PlainTransaction, committed}
+use Rattle.sb_registry.specs.Boxes.{Meanings}
+use Rattle.sb_drive.specs.Spaces.{Wanted}
+use Rattle.sb_map.specs.declared.place.Place.{Place}
+use Rattle.sb_txn.specs.Clauses.{Parts, parts, IsStoreOf, LeavesWanted}
+use Rattle.sb_engine.specs.Refusals.{HasCause}
+use Rattle.sb_engine.specs.Working.{extensions_of}
+use Rattle.sb_engine.specs.declared.running.Work.{Work as EngineWork}
+use Rattle.sb_space.specs.declared.transactions.Space.{Space}
+use Rattle.sb_space.specs.declared.transactions.Tx.{Tx}
+use Rattle.sb_transactions.specs.declared.transactions.Point.{Point}
+use Rattle.sb_transactions.specs.declared.transactions.Transaction.{Transaction}
+use Rattle.sb_transactions.specs.Calls.{IsOnlyFault, Remains}
+use Rattle.sb_transactions.specs.Commits.{FailsOn, Finishes, IsDone, LeavesEither, LeavesOldOrFinished, Mounted, StaysOpen, StopsAt, is_wanting}
+use Rattle.sb_transactions.specs.Transactions.{HasNothingLeft, IsAt, IsCommitted, IsPointOf, IsUsable, Rests, WasBegun, WasSo, unused}
+use Rattle.sb_session.specs.declared.session.Open.{Open}
+use Rattle.sb_session.specs.declared.session.Savepoint.{Savepoint}
+use Rattle.sb_session.specs.declared.session.Session.{Session}
+use Rattle.sb_session.specs.Ends.{Ends, IsFree, IsStep, MayWant, ends_with, is_end}
+use Rattle.sb_session.specs.Sessions.{AreInOrder, AreSavepoints, CanGoOn, CanRun, HasFailed, IsFor, IsInside, IsOpenFor, Keeps, Lacks, LeavesNext, LeavesOldOrNext, StandsFor, going_in, parts_of}
+use Rattle.sb_session.proofs.Carried.{CanRun-as, Carried, Ends-given, IsFor-as, end_of_given}
+use Rattle.sb_session.proofs.Commands.{inside_for}
+use Rattle.sb_session.proofs.CommitSteps.{Steps-committed, Steps-refused_commit, committed-push, going_on, with_committed, without_transaction}
+use Rattle.sb_session.proofs.OpenLemmas.{Inside, IsAt-same}
+use Rattle.sb_session.proofs.PointLemmas.{AreSavepoints-kept}
+
+-- ---- ends of other states
+module _ (S T : State → Type 0) (Lacks : Room → Type 0) (HasFailed : Type 0) (ext : Extensions) (s : State) (c : Command) (wider : (t : State) → S t → T t) where
+  step-wider : (r : Reply) → IsStep S ext s c r → IsStep T ext s c r
+  step-wider r step = record { after = step.after; steps = step.steps; stands = wider step.after step.stands }
+
+  free-wider : (Cause : Type 0) (now : State) → IsFree S Cause s now → IsFree T Cause s now
+  free-wider Cause now free = record { up = free.up; cause = free.cause; stands = wider now free.stands }
+
+  pub Ends-wider : (r : Reply) → Ends S Lacks HasFailed ext s c r → Ends T Lacks HasFailed ext s c r
+  Ends-wider (reply.Refused (refusal.Room room)) ends = free-wider (Lacks room) s ends
+  Ends-wider (reply.Refused refusal.NoMemory) ends = free-wider (MayWant s c) s ends
+  Ends-wider (reply.Refused refusal.Fault) ends = free-wider HasFailed (downed s) ends
+  Ends-wider (reply.Refused (refusal.Damaged page)) ends = ends
+  Ends-wider (reply.Refused (refusal.Syntax column)) ends = step-wider (reply.Refused (refusal.Syntax column)) ends
+  Ends-wider (reply.Refused refusal.Down) ends = step-wider (reply.Refused refusal.Down) ends
+  Ends-wider (reply.Refused refusal.State) ends = step-wider (reply.Refused refusal.State) ends
+  Ends-wider (reply.Refused (refusal.NoRelation name)) ends = step-wider (reply.Refused (refusal.NoRelation name)) ends
+  Ends-wider (reply.Refused (refusal.Exists name)) ends = step-wider (reply.Refused (refusal.Exists name)) ends
+  Ends-wider (reply.Refused (refusal.NoName name)) ends = step-wider (reply.Refused (refusal.NoName name)) ends
+  Ends-wider (reply.Refused (refusal.NoExtension code)) ends = step-wider (reply.Refused (refusal.NoExtension code)) ends
+  Ends-wider (reply.Refused (refusal.InUse relation name)) ends = step-wider (reply.Refused (refusal.InUse relation name)) ends
+  Ends-wider (reply.Refused refusal.Mistyped) ends = step-wider (reply.Refused refusal.Mistyped) ends
+  Ends-wider (reply.Refused (refusal.TooLong relation)) ends = step-wider (reply.Refused (refusal.TooLong relation)) ends
+  Ends-wider (reply.Refused refusal.Mixed) ends = step-wider (reply.Refused refusal.Mixed) ends
+  Ends-wider (reply.Refused refusal.Limit) ends = step-wider (reply.Refused refusal.Limit) ends
+  Ends-wider (reply.Refused (refusal.NoRecord relation)) ends = step-wider (reply.Refused (refusal.NoRecord relation)) ends
+  Ends-wider (reply.Refused (refusal.Duplicate relation)) ends = step-wider (reply.Refused (refusal.Duplicate relation)) ends
+  Ends-wider (reply.Refused (refusal.Veto relation name)) ends = step-wider (reply.Refused (refusal.Veto relation name)) ends
+  Ends-wider (reply.Refused (refusal.Range relation)) ends = step-wider (reply.Refused (refusal.Range relation)) ends
+  Ends-wider (reply.Refused refusal.Depth) ends = step-wider (reply.Refused refusal.Depth) ends
+  Ends-wider (reply.Refused refusal.DeferLimit) ends = step-wider (reply.Refused refusal.DeferLimit) ends
+  Ends-wider (reply.Done key picks) ends = step-wider (reply.Done key picks) ends
+  Ends-wider (reply.Count count picks) ends = step-wider (reply.Count count picks) ends
+  Ends-wider (reply.Rows rows) ends = step-wider (reply.Rows rows) ends
+  Ends-wider (reply.Entries image) ends = step-wider (reply.Entries image) ends
+  Ends-wider (reply.Lines lines) ends = step-wider (reply.Lines lines) ends
+
+-- ---- refusals by kind
+-- what the definition gives, a fault, damage, or want of room or memory
+pub data Kind : Refusal → Type 0 where
+  Given : {r : Refusal} → is_free r ≡ false → Kind r
+  Failed : Kind refusal.Fault
+  Broken : (page : ℕ) → Kind (refusal.Damaged page)
+  Wanting : {r : Refusal} → is_wanting r ≡ true → Kind r
+
+-- want of room, or of memory
+pub wanting_of : (r : Refusal) → is_wanting r ≡ true → ((room : Room) × (r ≡ refusal.Room room)) ⊎ (r ≡ refusal.NoMemory)
+wanting_of (refusal.Room room) wanting = inl (room, refl)
+wanting_of refusal.NoMemory wanting = inr refl
+wanting_of (refusal.Syntax column) wanting = absurd (false≢true wanting)
+wanting_of refusal.Down wanting = absurd (false≢true wanting)
+wanting_of refusal.State wanting = absurd (false≢true wanting)
+wanting_of (refusal.NoRelation name) wanting = absurd (false≢true wanting)
+wanting_of (refusal.Exists name) wanting = absurd (false≢true wanting)
+wanting_of (refusal.NoName name) wanting = absurd (false≢true wanting)
+wanting_of (refusal.NoExtension code) wanting = absurd (false≢true wanting)
+wanting_of (refusal.InUse relation name) wanting = absurd (false≢true wanting)
+wanting_of refusal.Mistyped wanting = absurd (false≢true wanting)
+wanting_of (refusal.TooLong relation) wanting = absurd (false≢true wanting)
+wanting_of refusal.Mixed wanting = absurd (false≢true wanting)
+wanting_of refusal.Limit wanting = absurd (false≢true wanting)
+wanting_of (refusal.NoRecord relation) wanting = absurd (false≢true wanting)
+wanting_of (refusal.Duplicate relation) wanting = absurd (false≢true wanting)
+wanting_of (refusal.Veto relation name) wanting = absurd (false≢true wanting)
+wanting_of (refusal.Range relation) wanting = absurd (false≢true wanting)
+wanting_of refusal.Depth wanting = absurd (false≢true wanting)
+wanting_of refusal.DeferLimit wanting = absurd (false≢true wanting)
+wanting_of (refusal.Damaged page) wanting = absurd (false≢true wanting)
+wanting_of refusal.Fault wanting = absurd (false≢true wanting)
+
+pub kind_of : (r : Refusal) → Kind r
+kind_of (refusal.Syntax column) = Given refl
+kind_of refusal.Down = Given refl
+kind_of refusal.State = Given refl
+kind_of (refusal.NoRelation name) = Given refl
+kind_of (refusal.Exists name) = Given refl
+kind_of (refusal.NoName name) = Given refl
+kind_of (refusal.NoExtension code) = Given refl
+kind_of (refusal.InUse relation name) = Given refl
+kind_of refusal.Mistyped = Given refl
+kind_of (refusal.TooLong relation) = Given refl
+kind_of refusal.Mixed = Given refl
+kind_of refusal.Limit = Given refl
+kind_of (refusal.NoRecord relation) = Given refl
+kind_of (refusal.Duplicate relation) = Given refl
+kind_of (refusal.Veto relation name) = Given refl
+kind_of (refusal.Range relation) = Given refl
+kind_of refusal.Depth = Given refl
+kind_of refusal.DeferLimit = Given refl
+kind_of (refusal.Room room) = Wanting refl
+kind_of (refusal.Damaged page) = Broken page
+kind_of refusal.Fault = Failed
+kind_of refusal.NoMemory = Wanting refl
+
+-- ends of a commit that is over, by the kind of the refusal
+over_by : (S : State → Type 0) (Lacks : Room → Type 0) (HasFailed : Type 0) (ext : Extensions) (s : State) (r : Refusal) → Kind r → is_wanting r ≡ false
+    → (is_free r ≡ false → IsStep S ext s command.Commit (reply.Refused r)) → (r ≡ refusal.Fault → IsFree S HasFailed s (downed s)) → ((page : ℕ) → r ≡ refusal.Damaged page → ⊥)
+    → Ends S Lacks HasFailed ext s command.Commit (reply.Refused r)
+over_by S Lacks HasFailed ext s r (Given given) not step failed damaged = Ends-given S Lacks HasFailed ext s command.Commit r given (step given)
+over_by S Lacks HasFailed ext s _ Failed not step failed damaged = failed refl
+over_by S Lacks HasFailed ext s _ (Broken page) not step failed damaged = absurd (damaged page refl)
+over_by S Lacks HasFailed ext s r (Wanting wanting) not step failed damaged = absurd (false≢true (sym not ∙ wanting))
+
+fault_memory : {A : Type 0} (r : Refusal) → r ≡ refusal.Fault → r ≡ refusal.NoMemory → A
+fault_memory r fault memory = absurd (cc)
+
+-- want of room or memory doesn't end a session
+end_of_wanting : (r : Refusal) → is_wanting r ≡ true → is_end r ≡ false
+end_of_wanting r wanting = ⊎_elim
+    (λ (a : (room : Room) × (r ≡ refusal.Room room)). ap is_end a.1)
+    (λ (a : r ≡ refusal.NoMemory). ap is_end a)
+    (wanting_of r wanting)
+
+-- ---- what stopped it
+refused_run : {S : Type 0} (Stopped : Refusal → Trail → S → Type 0) (work : Work (Unit {0})) (g : Going) (r : Refusal) (there : S) → is_free r ≡ false → StopsFrom Stopped work g r there
+    → RefusedFrom Stopped work g r there
+refused_run Stopped work g r there given stops = subst (λ (b : Bool). EndsBy Stopped b work g r there) given stops
+
+module _ {D : Type 0} (faults : D → ℕ) (work : Work (Unit {0})) (g : Going) where
+  abbrev Stops : Refusal → Mounted D → Type 0
+  Stops r there = StopsFrom (λ refusal trail x. HasCause (FailsOn faults) refusal x) work g r there
+
+  -- no page is damaged
+  damage_stops : (page : ℕ) (r : Refusal) → r ≡ refusal.Damaged page → (there : Mounted D) → Stops r there → ⊥
+  damage_stops page r is there stops = let at : Stops (refusal.Damaged page) there = subst (λ (r : Refusal). Stops r there) is stops in at.stopped
+
+  room_stops : (room : Room) (r : Refusal) → r ≡ refusal.Room room → (there : Mounted D) → Stops r there → HasCause (FailsOn faults) (refusal.Room room) there
+  room_stops room r is there stops = let at : Stops (refusal.Room room) there = subst (λ (r : Refusal). Stops r there) is stops in at.stopped
+
+-- ---- a commit
+-- what is said of it
+pub record Committed {B D : Type 0} (meanings : B → Meanings) (told : D → Option Story) (len faults : D → ℕ) (d e : D) (x y : Session B) (r : Reply) : Type 0 where
+  pub ends : (want : Wanted) (s : State) → IsFor meanings told len want s d x
+      → Ends (λ t. StandsFor meanings told len t e y) (Lacks faults) (HasFailed faults d e) (extensions_of (meanings x.boxes)) s command.Commit r
+  pub keeps : Keeps len faults d e x y r
+  pub runs : CanRun meanings told len e y
+
+module _ {B D : Type 0} (meanings : B → Meanings) (told : D → Option Story) (len faults : D → ℕ) where
+  -- one that changed nothing
+  pub Committed-carried : (d e : D) (x y : Session B) (r : Reply) → Carried meanings told len faults command.Commit d e x y r → Committed meanings told len faults d e x y r
+  Committed-carried d e x y r carried = record {
+    ends = λ want s for.
+        Ends-wider (λ t. IsFor meanings told len want t e y) (λ t. StandsFor meanings told len t e y) (Lacks faults) (HasFailed faults d e) (extensions_of (meanings x.boxes)) s command.Commit
+        (λ t is. record { want = want; is = is }) r (carried.ends want s for);
+    keeps = carried.keeps;
+    runs = carried.runs;
+  }
+
+  module _ (d e : D) (x y : Session B) (runs : CanRun meanings told len d x) (up : x.down ≡ false) (o : Open) (some : x.open ≡ Some o)
+      (space : Space) (same : y.space ≡ space) (boxes : meanings y.boxes ≡ meanings x.boxes) (place : y.place ≡ x.place) where
+    abbrev m : Meanings
+    m = meanings x.boxes
+
+    abbrev ext : Extensions
+    ext = extensions_of m
+
+    abbrev tx : ℕ
+    tx = o.transaction.tx.store.number
+
+    abbrev w : EngineWork
+    w = o.transaction.work
+
+    abbrev p : Parts
+    p = parts_of told len d x
+
+    abbrev q : Parts
+    q = parts told len e space.store
+
+    abbrev now : parts_of told len e y ≡ q
+    now = ap (λ (a : Space). parts told len e a.store) same
+
+    up_for : (want : Wanted) (s : State) → IsFor meanings told len want s d x → s.down ≡ false
+    up_for want s for = sym for.down ∙ up
+
+    within : (want : Wanted) (s : State) → IsFor meanings told len want s d x → Inside m x.place want (committed s) p o s.transaction
+    within want s for = inside_for meanings told len faults d x runs up o some want s for
+
+    -- the work that a commit finishes
+    at_commit : (want : Wanted) (s : State) (for : IsFor meanings told len want s d x) → IsAt m x.place want tx (going_on (within want s for).of) p w
+    at_commit want s for =
+        let t : PlainTransaction = (within want s for).of in
+        IsAt-same m x.place want tx (going_in t) (going_on t) p w refl refl refl (within want s for).inside.at
+
+    ended : {A : Type 0} → x.down ≡ true → A
+    ended down = absurd (false≢true (sym up ∙ down))
+
+    -- ---- what a crash leaves
+    pub LeavesOldOrNext-commit : ((want : Wanted) (g : Going) → IsAt m x.place want tx g p w → LeavesOldOrFinished m x.place.root want g p q)
+        → (want : Wanted) (s : State) → IsFor meanings told len want s d x → LeavesOldOrNext m x.place.root want ext s command.Commit p (parts_of told len e y)
+    LeavesOldOrNext-commit moments want s for =
+        subst (λ (r : Parts). LeavesOldOrNext m x.place.root want ext s command.Commit p r) (sym now)
+        (⊎_elim
+        (λ (old : LeavesOnly p.told q.told (Restores p.store.pool.geometry want)). inl old)
+        (λ (run : Finishes m (going_on (within want s for).of) (LeavesEither m x.place.root want p) q). inr (next run))
+        (moments want (going_on (within want s for).of) (at_commit want s for)))
+      where
+        next : Finishes m (going_on (within want s for).of) (LeavesEither m x.place.root want p) q → LeavesNext m x.place.root want ext s command.Commit p q
+        next run = record {
+          reply = reply.Done None run.after.used;
+          after = with_committed s run.after.db;
+          steps = Steps-committed ext s (within want s for).of (within want s for).is (up_for want s for) run.picks run.after run.leads;
+          pages = run.stands.pages;
+          commits = subst (λ (db : Db). IsCommitted m x.place.root p.store.pool.geometry.pages run.stands.pages db) (sym (committed-push s run.after.db)) run.stands.committed;
+          leaves = run.stands.leaves;
+        }
+
+    -- ---- what it keeps
+    module _ {T : Type 0} (result : Result T Refusal) (remains : Remains told len faults d e x.space.store space.store result) where
+      Keeps-commit : (r : Reply) → y.down ≡ (x.down || ends_with r) → Keeps len faults d e x y r
+      Keeps-commit r down = record {
+        size = remains.size;
+        later = remains.later;
+        geometry = ap (λ (a : Space). a.store.pool.geometry) same ∙ remains.geometry;
+        place = place;
+        down = down;
+        ended = ended;
+      }
+
+      runs-commit : (opened : Option Open) → y.open ≡ opened → (y.down ≡ false → space.store.book.down ≡ false) → (y.down ≡ false → CanGoOn m x.place q opened) → CanRun meanings told len e y
+      runs-commit opened is up_then goes = CanRun-as meanings told len d e x y opened q runs boxes place is now remains.geometry remains.ready up_then goes
+
+    -- ---- a commit that goes through
+    pub Committed-ok : {T : Type 0} (value : T) (picks : List Key) → Remains told len faults d e x.space.store space.store (Ok value) → y.down ≡ x.down → y.open ≡ None
+        → ((want : Wanted) (g : Going) → IsAt m x.place want tx g p w → Finishes m g (IsDone m x.place.root picks) q)
+        → (space.store.book.down ≡ false → space.store.book.out ≡ [])
+        → Committed meanings told len faults d e x y (reply.Done None picks)
+    Committed-ok value picks remains down none done out = record {
+      ends = λ want s for. step want s for (done want (going_on (within want s for).of) (at_commit want s for));
+      keeps = Keeps-commit (Ok value) remains (reply.Done None picks) (down ∙ sym (or-false x.down));
+      runs = runs-commit (Ok value) remains None none (λ on. still_up space.store.book.down refl) (λ on. out (still_up space.store.book.down refl));
+    }
+      where
+        still_up : (b : Bool) → space.store.book.down ≡ b → space.store.book.down ≡ false
+        still_up false is = is
+        still_up true is = absurd (let e : Ok value ≡ Err refusal.Fault = remains.up is in cc)
+
+        step : (want : Wanted) (s : State) (for : IsFor meanings told len want s d x) → Finishes m (going_on (within want s for).of) (IsDone m x.place.root picks) q
+            → IsStep (λ t. StandsFor meanings told len t e y) ext s command.Commit (reply.Done None picks)
+        step want s for run = record {
+          after = with_committed s run.after.db;
+          steps = subst (λ (used : List Key). Steps ext s command.Commit (reply.Done None used) (with_committed s run.after.db)) (sym run.stands.picked)
+              (Steps-committed ext s (within want s for).of (within want s for).is (up_for want s for) run.picks run.after run.leads);
+          stands = record {
+            want = run.stands.want;
+            is = IsFor-as meanings told len want s d e x y for run.stands.want (with_committed s run.after.db) None q boxes place none now (down ∙ up) refl refl
+                (λ on. subst (λ (db : Db). Rests m x.place.root run.stands.want db q) (sym (committed-push s run.after.db)) run.stands.rests);
+          };
+        }
+
+    -- ---- one that is refused
+    module _ (T : Type 0) (r : Refusal) (remains : Remains {T = T} told len faults d e x.space.store space.store (Err r)) (down : y.down ≡ (x.down || is_end r))
+        (stopped : (want : Wanted) (g : Going) → IsAt m x.place want tx g p w → StopsAt told len faults ext tx g r (record { disk = d; store = x.space.store })) where
+      stays_up : (b : Bool) → space.store.book.down ≡ b → y.down ≡ false → space.store.book.down ≡ false
+      stays_up false is on = is
+      stays_up true is on =
+          let fault : ◌≡◌ {A = Result T Refusal} (Err r) (Err refusal.Fault) = remains.up is in
+          let same : r ≡ refusal.Fault = cc in
+          absurd (false≢true (sym on ∙ down ∙ ap (λ (b : Bool). b || is_end r) up ∙ ap is_end same))
+
+      not_end : is_end r ≡ false → y.down ≡ false
+      not_end is = down ∙ ap (λ (b : Bool). x.down || b) is ∙ or-false x.down ∙ up
+
+      -- ---- and is over
+      module _ (over : is_wanting r ≡ false) (none : y.open ≡ None)
+          (faulted : r ≡ refusal.Fault → (want : Wanted) (g : Going) → IsAt m x.place want tx g p w → space.store.book.down ≡ true)
+          (aborted : space.store.book.down ≡ false → (m : Meanings) (root : ℕ) (want : Wanted) (db : Db) → WasBegun m root want db tx p → Rests m root want db q)
+          (out : space.store.book.down ≡ false → space.store.book.out ≡ []) where
+        given_step : is_free r ≡ false → (want : Wanted) (s : State) (for : IsFor meanings told len want s d x) → IsStep (λ t. StandsFor meanings told len t e y) ext s command.Commit (reply.Refused r)
+        given_step given want s for =
+            let stops : StopsFrom (λ refusal trail x. HasCause (FailsOn faults) refusal x) (finish ext) (going_on (within want s for).of) r (stopped want (going_on (within want s for).of) (at_commit want s for)).there =
+            (stopped want (going_on (within want s for).of) (at_commit want s for)).stops in
+            let run = refused_run (λ refusal trail x. HasCause (FailsOn faults) refusal x) (finish ext) (going_on (within want s for).of) r (stopped want (going_on (within want s for).of) (at_commit want s for)).there given stops in
+            record {
+              after = without_transaction s;
+              steps = Steps-refused_commit ext s (within want s for).of (within want s for).is (up_for want s for) run.picks run.after r run.leads;
+              stands = record {
+                want = want;
+                is = IsFor-as meanings told len want s d e x y for want (without_transaction s) None q boxes place none now (not_end (end_of_given r given)) refl refl
+                    (λ on. aborted (stays_up space.store.book.down refl (not_end (end_of_given r given))) m x.place.root want (committed s) (within want s for).inside.begun);
+              };
+            }
+
+        fault_free : r ≡ refusal.Fault → (want : Wanted) (s : State) (for : IsFor meanings told len want s d x) → IsFree (λ t. StandsFor meanings told len t e y) (HasFailed faults d e) s (downed s)
+        fault_free is want s for =
+            let off : y.down ≡ true = down ∙ ap (λ (b : Bool). b || is_end r) up ∙ ap is_end is in
+            record {
+              up = up_for want s for;
+              cause = ⊎_elim (λ (was : x.space.store.book.down ≡ true). absurd (false≢true (sym (runs.up up) ∙ was))) (λ (rose : Rose (faults d) (faults e)). rose)
+                  (remains.fell (faulted is want (going_on (within want s for).of) (at_commit want s for)));
+              stands = record {
+                want = want;
+                is = IsFor-as meanings told len want s d e x y for want (downed s) y.open (parts_of told len e y) boxes place refl refl off refl refl (λ on. absurd (false≢true (sym on)));
+              };
+            }
+
+        over_ends : (want : Wanted) (s : State) (for : IsFor meanings told len want s d x) → Ends (λ t. StandsFor meanings told len t e y) (Lacks faults) (HasFailed faults d e) ext s command.Commit (reply.Refused r)
+        over_ends want s for =
+            let stops = stopped want (going_on (within want s for).of) (at_commit want s for) in
+            over_by (λ t. StandsFor meanings told len t e y) (Lacks faults) (HasFailed faults d e) ext s r (kind_of r) over (λ given. given_step given want s for) (λ is. fault_free is want s for)
+            (λ page is. damage_stops faults (finish ext) (going_on (within want s for).of) page r is stops.there stops.stops)
+
+        pub Committed-over : Committed meanings told len faults d e x y (reply.Refused r)
+        Committed-over = record {
+          ends = over_ends;
+          keeps = Keeps-commit (Err r) remains (reply.Refused r) down;
+          runs = runs-commit (Err r) remains None none (stays_up space.store.book.down refl) (λ on. out (stays_up space.store.book.down refl on));
+        }
+
+      -- ---- and goes on
+      module _ (wanting : is_wanting r ≡ true) (t : Transaction) (is : y.open ≡ Some (record { transaction = t; points = o.points })) (numbered : t.tx ≡ o.transaction.tx)
+          (stays : StaysOpen tx p q w t.work) where
+        abbrev new : Open
+        new = record { transaction = t; points = o.points }
+
+        number : t.tx.store.number ≡ tx
+        number = ap (λ (a : Tx). a.store.number) numbered
+
+        goes_on : y.down ≡ false
+        goes_on = not_end (end_of_wanting r wanting)
+
+        can_go : CanGoOn m x.place p (Some o) → CanGoOn m x.place q (Some new)
+        can_go goes = (
+          subst (λ (n : ℕ). IsUsable m x.place n q t.work) (sym number) (stays.usable m x.place runs.owner),
+          subst (λ (n : ℕ). All (λ one. IsPointOf n one.point q t.work) o.points.items) (sym number) (λ k a h. stays.points (get_or o.points.items k a).point (goes.1 k a h)),
+          goes.2,
+        )
+
+        still_inside : (want : Wanted) (s : State) (for : IsFor meanings told len want s d x) → IsInside m x.place want (committed s) q new (within want s for).of
+        still_inside want s for =
+            let u : PlainTransaction = (within want s for).of in
+            let inside = (within want s for).inside in
+            record {
+              at = subst (λ (n : ℕ). IsAt m x.place want n (going_in u) q t.work) (sym number) (stays.stays m x.place want (going_in u) inside.at);
+              begun = subst (λ (n : ℕ). WasBegun m x.place.root want (committed s) n q) (sym number) (stays.begun m x.place.root want (committed s) inside.begun);
+              points = subst (λ (n : ℕ). AreSavepoints m x.place want n q t.work o.points.items u.points) (sym number)
+                  (AreSavepoints-kept m x.place want tx p q w t.work (stays.was m x.place want) o.points.items u.points inside.points);
+            }
+
+        still_for : (want : Wanted) (s : State) → IsFor meanings told len want s d x → StandsFor meanings told len s e y
+        still_for want s for = record {
+          want = want;
+          is = IsFor-as meanings told len want s d e x y for want s (Some new) q boxes place is now (goes_on ∙ sym (up_for want s for)) refl refl
+              (λ on. subst (λ (a : Option PlainTransaction). IsOpenFor m x.place want (committed s) q (Some new) a) (sym (within want s for).is) (still_inside want s for));
+        }
+
+        wanting_ends : (want : Wanted) (s : State) (for : IsFor meanings told len want s d x)
+            → ((room : Room) × (r ≡ refusal.Room room)) ⊎ (r ≡ refusal.NoMemory)
+            → Ends (λ t. StandsFor meanings told len t e y) (Lacks faults) (HasFailed faults d e) ext s command.Commit (reply.Refused r)
+        wanting_ends want s for = ⊎_elim
+            (λ (a : (room : Room) × (r ≡ refusal.Room room)).
+            let stops = stopped want (going_on (within want s for).of) (at_commit want s for) in
+            subst (λ (r : Refusal). Ends (λ t. StandsFor meanings told len t e y) (Lacks faults) (HasFailed faults d e) ext s command.Commit (reply.Refused r)) (sym a.1)
+            (record { up = up_for want s for; cause = record { at = stops.there; cause = room_stops faults (finish ext) (going_on (within want s for).of) a.0 r a.1 stops.there stops.stops }; stands = still_for want s for }))
+            (λ (a : r ≡ refusal.NoMemory).
+            subst (λ (r : Refusal). Ends (λ t. StandsFor meanings told len t e y) (Lacks faults) (HasFailed faults d e) ext s command.Commit (reply.Refused r)) (sym a)
+            (record { up = up_for want s for; cause = tt; stands = still_for want s for }))
+
+        -- memory is wanting only where something is left
+        pub something_left : (HasNothingLeft w → IsOnlyFault r space.store) → r ≡ refusal.NoMemory → HasNothingLeft w → ⊥
+        something_left quiet is left = fault_memory r (quiet left).is is
+
+        pub Committed-wanting : Committed meanings told len faults d e x y (reply.Refused r)
+        Committed-wanting = record {
+          ends = λ want s for. wanting_ends want s for (wanting_of r wanting);
+          keeps = Keeps-commit (Err r) remains (reply.Refused r) down;
+          runs = runs-commit (Err r) remains (Some new) is (stays_up space.store.book.down refl)
+              (λ on. can_go (subst (λ (a : Option Open). CanGoOn m x.place p a) some (runs.goes up)));
+        }

@@ -1,0 +1,12 @@
+pub mod StepLemmas
+pub mod CommitSteps
+pub mod OpenLemmas
+pub mod PointLemmas
+pub mod Stepped
+pub mod Carried
+pub mod Commands
+pub mod MoveLists
+pub mod MoveBoxes
+pub mod SameBoxes
+pub mod Moves
+pub mod CommitLemmas

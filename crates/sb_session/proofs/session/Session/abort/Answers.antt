@@ -1,0 +1,29 @@
+use Rattle.std.proofs.Common.{◌≡◌, Bool, List, Option, Some, None, Err, IfSome, Result, false, true, position, inl, is_some, refl, sym, ap, ◌∙◌, subst}
+use Rattle.sb_plain.specs.declared.command.Command.TheVariants as command
+use Rattle.sb_txn.specs.Clauses.{parts}
+use Rattle.sb_txn.proofs.KeepsLemmas.{LeavesWanted-none}
+use Rattle.sb_session.specs.declared.session.Open.{Open}
+use Rattle.sb_session.specs.declared.session.Savepoint.{Savepoint}
+use Rattle.sb_session.specs.declared.session.Session.{Session}
+use Rattle.sb_session.proofs.Commands.{Carried-abort}
+use Rattle.sb_session.proofs.session.Session.abort.Goals as goal
+
+pub returns-then-self-clause-any_moment : goal.returns-then-self-clause-any_moment
+returns-then-self-clause-any_moment g c =
+    LeavesWanted-none (parts g.D.Disk.told g.D.Disk.len c.args.disk.now c.args.self.now.space.store)
+
+pub returns-in_default-clause-any_moment : goal.returns-in_default-clause-any_moment
+returns-in_default-clause-any_moment g c =
+    LeavesWanted-none (parts g.D.Disk.told g.D.Disk.len c.args.disk.now c.args.self.now.space.store)
+
+pub returns-in-Ok-clause-ends : goal.returns-in-Ok-clause-ends
+returns-in-Ok-clause-ends g c =
+    let meanings = g.B.Boxes.meanings in
+    let told = g.D.Disk.told in
+    let len = g.D.Disk.len in
+    let faults = g.D.Disk.faults in
+    let x = c.args.self.now in
+    let d = c.args.disk.now in
+    let y : Session g.row.B.Denot = record { boxes = x.boxes; space = c.abort.new.space; place = x.place; «open» = c.take.new.self; down = x.down } in
+    (Carried-abort meanings told len faults d x c.requires.runs c.if-self.false c.abort.new.disk y c.abort.new.space refl refl refl refl c.in-Some.current c.in-Ok.ensures.remains (sym c.take.ensures.value ∙ c.in-Some.is)
+    c.take.ensures.after c.in-Ok.ensures.none c.in-Ok.ensures.rests).ends

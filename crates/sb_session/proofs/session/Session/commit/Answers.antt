@@ -1,0 +1,125 @@
+use Rattle.std.proofs.Common.{◌≡◌, Bool, List, Option, Some, None, Err, IfSome, Result, false, true, position, inl, is_some, refl, sym, ap, ◌∙◌, subst}
+use Rattle.sb_plain.specs.declared.command.Command.TheVariants as command
+use Rattle.sb_txn.specs.Clauses.{parts}
+use Rattle.sb_txn.proofs.KeepsLemmas.{LeavesWanted-none}
+use Rattle.sb_session.specs.declared.session.Open.{Open}
+use Rattle.sb_session.specs.declared.session.Savepoint.{Savepoint}
+use Rattle.sb_session.specs.declared.session.Session.{Session}
+use Rattle.sb_relation.specs.Db.{Key}
+use Rattle.sb_fold.specs.declared.refusal.Refusal.{Refusal}
+use Rattle.sb_plain.specs.declared.reply.Reply.TheVariants.{Done, Refused}
+use Rattle.sb_plain.specs.State.{State}
+use Rattle.sb_drive.specs.Spaces.{Wanted}
+use Rattle.sb_engine.specs.Working.{extensions_of}
+use Rattle.sb_transactions.specs.declared.transactions.Transaction.{Transaction}
+use Rattle.sb_transactions.specs.Commits.{StaysOpen}
+use Rattle.sb_session.specs.Ends.{Ends, IsStep}
+use Rattle.sb_session.specs.Sessions.{HasFailed, IsFor, Lacks, StandsFor}
+use Rattle.sb_session.proofs.Commands.{outside_for}
+use Rattle.sb_session.proofs.CommitLemmas.{Committed-ok, Committed-over, Committed-wanting, LeavesOldOrNext-commit}
+use Rattle.sb_session.proofs.session.Session.commit.Goals as goal
+
+pub returns-in_default-clause-any_moment : goal.returns-in_default-clause-any_moment
+returns-in_default-clause-any_moment g c =
+    let meanings = g.B.Boxes.meanings in
+    let told = g.D.Disk.told in
+    let len = g.D.Disk.len in
+    let faults = g.D.Disk.faults in
+    let x = c.args.self.now in
+    let d = c.args.disk.now in
+    λ want s for up.
+    let rests = (outside_for meanings told len faults d x c.requires.runs c.if-self.false (sym c.take.ensures.value ∙ c.in_default.is) want s for).rests in
+    inl ((LeavesWanted-none (parts told len d x.space.store)).each want rests.has.now rests.has.stands.store)
+
+pub returns-in-Ok-clause-ends : goal.returns-in-Ok-clause-ends
+returns-in-Ok-clause-ends g c =
+    let meanings = g.B.Boxes.meanings in
+    let told = g.D.Disk.told in
+    let len = g.D.Disk.len in
+    let faults = g.D.Disk.faults in
+    let x = c.args.self.now in
+    let d = c.args.disk.now in
+    let y : Session g.row.B.Denot = record { boxes = x.boxes; space = c.commit.new.space; place = x.place; «open» = c.take.new.self; down = x.down } in
+    subst (λ (picks : List Key). (want : Wanted) (s : State) → IsFor meanings told len want s d x
+    → IsStep (λ t. StandsFor meanings told len t c.commit.new.disk y) (extensions_of (meanings x.boxes)) s command.Commit (Done None picks)) (sym c.from_vec.ensures)
+    (Committed-ok meanings told len faults d c.commit.new.disk x y c.requires.runs c.if-self.false c.in-Some.current (sym c.take.ensures.value ∙ c.in-Some.is) c.commit.new.space refl refl refl c.in-Ok.picks c.in-Ok.picks.items c.in-Ok.ensures.remains refl c.take.ensures.after c.in-Ok.ensures.done (c.in-Ok.ensures.none tt)).ends
+
+pub returns-in-Ok-clause-any_moment : goal.returns-in-Ok-clause-any_moment
+returns-in-Ok-clause-any_moment g c =
+    let meanings = g.B.Boxes.meanings in
+    let told = g.D.Disk.told in
+    let len = g.D.Disk.len in
+    let faults = g.D.Disk.faults in
+    let x = c.args.self.now in
+    let d = c.args.disk.now in
+    let y : Session g.row.B.Denot = record { boxes = x.boxes; space = c.commit.new.space; place = x.place; «open» = c.take.new.self; down = x.down } in
+    λ want s for up. LeavesOldOrNext-commit meanings told len faults d c.commit.new.disk x y c.requires.runs c.if-self.false c.in-Some.current (sym c.take.ensures.value ∙ c.in-Some.is) c.commit.new.space refl refl refl c.in-Ok.ensures.any_moment want s for
+
+pub returns-in-Some-transaction-clause-ends : goal.returns-in-Some-transaction-clause-ends
+returns-in-Some-transaction-clause-ends g c =
+    let meanings = g.B.Boxes.meanings in
+    let told = g.D.Disk.told in
+    let len = g.D.Disk.len in
+    let faults = g.D.Disk.faults in
+    let x = c.args.self.now in
+    let d = c.args.disk.now in
+    let y = c.refused.new.self in
+    subst (λ (r : Refusal). (want : Wanted) (s : State) → IsFor meanings told len want s d x
+    → Ends (λ t. StandsFor meanings told len t c.commit.new.disk y) (Lacks faults) (HasFailed faults d c.commit.new.disk) (extensions_of (meanings x.boxes)) s command.Commit (Refused r)) (sym c.refused.ensures.same)
+    (Committed-wanting meanings told len faults d c.commit.new.disk x y c.requires.runs c.if-self.false c.in-Some.current (sym c.take.ensures.value ∙ c.in-Some.is) c.commit.new.space c.refused.ensures.space (ap meanings c.refused.ensures.boxes) c.refused.ensures.place _ c.in-Err.uncommitted.refusal c.in-Err.ensures.remains c.refused.ensures.down c.in-Err.ensures.refused
+    (sym c.in-Err.ensures.wanting ∙ ap is_some c.in-Some-transaction.is) c.in-Some-transaction.transaction c.refused.ensures.open
+    (subst (λ (o : Option Transaction). IfSome o (λ t. t.tx ≡ c.in-Some.current.transaction.tx)) c.in-Some-transaction.is c.in-Err.ensures.tx)
+    (subst (λ (o : Option Transaction). IfSome o (λ t. StaysOpen c.in-Some.current.transaction.tx.store.number (parts told len d x.space.store) (parts told len c.commit.new.disk c.commit.new.space.store)
+    c.in-Some.current.transaction.work t.work)) c.in-Some-transaction.is c.in-Err.ensures.stays)).ends
+
+pub returns-in-Some-transaction-clause-any_moment : goal.returns-in-Some-transaction-clause-any_moment
+returns-in-Some-transaction-clause-any_moment g c =
+    let meanings = g.B.Boxes.meanings in
+    let told = g.D.Disk.told in
+    let len = g.D.Disk.len in
+    let faults = g.D.Disk.faults in
+    let x = c.args.self.now in
+    let d = c.args.disk.now in
+    let y = c.refused.new.self in
+    λ want s for up. LeavesOldOrNext-commit meanings told len faults d c.commit.new.disk x y c.requires.runs c.if-self.false c.in-Some.current (sym c.take.ensures.value ∙ c.in-Some.is) c.commit.new.space c.refused.ensures.space (ap meanings c.refused.ensures.boxes) c.refused.ensures.place c.in-Err.ensures.any_moment want s for
+
+pub returns-in-Some-transaction-clause-runs : goal.returns-in-Some-transaction-clause-runs
+returns-in-Some-transaction-clause-runs g c =
+    let meanings = g.B.Boxes.meanings in
+    let told = g.D.Disk.told in
+    let len = g.D.Disk.len in
+    let faults = g.D.Disk.faults in
+    let x = c.args.self.now in
+    let d = c.args.disk.now in
+    let y = c.refused.new.self in
+    (Committed-wanting meanings told len faults d c.commit.new.disk x y c.requires.runs c.if-self.false c.in-Some.current (sym c.take.ensures.value ∙ c.in-Some.is) c.commit.new.space c.refused.ensures.space (ap meanings c.refused.ensures.boxes) c.refused.ensures.place _ c.in-Err.uncommitted.refusal c.in-Err.ensures.remains c.refused.ensures.down c.in-Err.ensures.refused
+    (sym c.in-Err.ensures.wanting ∙ ap is_some c.in-Some-transaction.is) c.in-Some-transaction.transaction c.refused.ensures.open
+    (subst (λ (o : Option Transaction). IfSome o (λ t. t.tx ≡ c.in-Some.current.transaction.tx)) c.in-Some-transaction.is c.in-Err.ensures.tx)
+    (subst (λ (o : Option Transaction). IfSome o (λ t. StaysOpen c.in-Some.current.transaction.tx.store.number (parts told len d x.space.store) (parts told len c.commit.new.disk c.commit.new.space.store)
+    c.in-Some.current.transaction.work t.work)) c.in-Some-transaction.is c.in-Err.ensures.stays)).runs
+
+pub returns-in-None-clause-ends : goal.returns-in-None-clause-ends
+returns-in-None-clause-ends g c =
+    let meanings = g.B.Boxes.meanings in
+    let told = g.D.Disk.told in
+    let len = g.D.Disk.len in
+    let faults = g.D.Disk.faults in
+    let x = c.args.self.now in
+    let d = c.args.disk.now in
+    let y = c.refused-in-None.new.self in
+    subst (λ (r : Refusal). (want : Wanted) (s : State) → IsFor meanings told len want s d x
+    → Ends (λ t. StandsFor meanings told len t c.commit.new.disk y) (Lacks faults) (HasFailed faults d c.commit.new.disk) (extensions_of (meanings x.boxes)) s command.Commit (Refused r)) (sym c.refused-in-None.ensures.same)
+    (Committed-over meanings told len faults d c.commit.new.disk x y c.requires.runs c.if-self.false c.in-Some.current (sym c.take.ensures.value ∙ c.in-Some.is) c.commit.new.space c.refused-in-None.ensures.space (ap meanings c.refused-in-None.ensures.boxes) c.refused-in-None.ensures.place _ c.in-Err.uncommitted.refusal c.in-Err.ensures.remains c.refused-in-None.ensures.down c.in-Err.ensures.refused
+    (sym c.in-Err.ensures.wanting ∙ ap is_some c.in-None.is) (c.refused-in-None.ensures.open ∙ c.take.ensures.after) c.in-Err.ensures.faulted (c.in-Err.ensures.aborted c.in-None.is)
+    (c.in-Err.ensures.none c.in-None.is)).ends
+
+pub returns-in-None-clause-any_moment : goal.returns-in-None-clause-any_moment
+returns-in-None-clause-any_moment g c =
+    let meanings = g.B.Boxes.meanings in
+    let told = g.D.Disk.told in
+    let len = g.D.Disk.len in
+    let faults = g.D.Disk.faults in
+    let x = c.args.self.now in
+    let d = c.args.disk.now in
+    let y = c.refused-in-None.new.self in
+    λ want s for up. LeavesOldOrNext-commit meanings told len faults d c.commit.new.disk x y c.requires.runs c.if-self.false c.in-Some.current (sym c.take.ensures.value ∙ c.in-Some.is) c.commit.new.space c.refused-in-None.ensures.space (ap meanings c.refused-in-None.ensures.boxes) c.refused-in-None.ensures.place c.in-Err.ensures.any_moment want s for

@@ -1,0 +1,72 @@
+//! The commit of the open transaction.
+
+ghost use Rattle.std.specs.Prelude.{◌≡◌, false, IsErrOf, Result};
+ghost use Rattle.sb_drive.specs.Spaces.{Wanted};
+ghost use Rattle.sb_engine.specs.Working.{extensions_of};
+ghost use Rattle.sb_plain.specs.State.{State};
+ghost use Rattle.sb_plain.specs.declared.command.Command.TheVariants as command;
+ghost use Rattle.sb_session.specs.Ends.{Ends, picked_reply};
+ghost use Rattle.sb_session.specs.Sessions.{CanRun, HasFailed, HasWork, IsFor, Keeps, Lacks, LeavesOldOrNext, StandsFor, parts_of};
+
+use crate::session::{Open, Session};
+use sb_disk::Disk;
+use sb_fold::Refusal;
+use sb_plain::Picks;
+use sb_transactions::{Uncommitted, commit};
+use sb_vectors::Vectors;
+use std::alloc::Global;
+
+impl<B: Vectors> Session<B> {
+    /// Commits the open transaction, and gives the record keys that what waited picked. Where room or memory is wanting the transaction goes on; any other refusal ends it.
+    pub fn commit<D: Disk>(&mut self, disk: &mut D, alloc: Global) -> Result<Picks, Refusal>
+        requires runs { CanRun B.meanings D.told D.len disk.old self.old }
+
+        ensures ends { (want : Wanted) (s : State) → IsFor B.meanings D.told D.len want s disk.old self.old
+            → Ends (λ t. StandsFor B.meanings D.told D.len t disk.new self.new) (Lacks D.faults) (HasFailed D.faults disk.old disk.new)
+            (extensions_of (B.meanings self.old.boxes)) s command.Commit (picked_reply result) }
+        ensures any_moment { (want : Wanted) (s : State) → IsFor B.meanings D.told D.len want s disk.old self.old → s.down ≡ false
+            → LeavesOldOrNext (B.meanings self.old.boxes) self.old.place.root want (extensions_of (B.meanings self.old.boxes)) s command.Commit
+            (parts_of D.told D.len disk.old self.old) (parts_of D.told D.len disk.new self.new) }
+        ensures memory { IsErrOf result Refusal.NoMemory → HasWork self.old.open }
+        ensures boxes { self.new.boxes ≡ self.old.boxes }
+        ensures keeps { Keeps D.len D.faults disk.old disk.new self.old self.new (picked_reply result) }
+        ensures runs { CanRun B.meanings D.told D.len disk.new self.new }
+    {
+        if self.down {
+            return Err(Refusal::Down);
+        }
+        let Some(current) = self.open.take() else {
+            return Err(Refusal::State);
+        };
+        let Open {
+            transaction,
+            points,
+        } = current;
+        match commit(
+            &self.boxes,
+            &mut self.space,
+            disk,
+            self.place,
+            transaction,
+            alloc,
+        ) {
+            Ok(picks) => Ok(Picks::from_vec(picks)),
+            Err(uncommitted) => {
+                let Uncommitted {
+                    refusal,
+                    transaction,
+                } = uncommitted;
+                match transaction {
+                    Some(transaction) => {
+                        self.open = Some(Open {
+                            transaction,
+                            points,
+                        });
+                        Err(self.refused(refusal))
+                    }
+                    None => Err(self.refused(refusal)),
+                }
+            }
+        }
+    }
+}

@@ -1,0 +1,10 @@
+//! A session of commands over a store: boxes, the pages of the store, and the transaction that is open. The commands that change what a session is, and no relation.
+#![tactic(auto)]
+
+mod committing;
+mod moving;
+mod savepoints;
+mod session;
+mod transactions;
+
+pub use session::{Open, Savepoint, Session};

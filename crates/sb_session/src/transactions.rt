@@ -1,0 +1,100 @@
+//! The begin and the end of transactions, and checkpoints.
+
+ghost use Rattle.std.specs.Prelude.{◌≡◌, OnOk};
+ghost use Rattle.sb_journal.specs.State.{used_of};
+ghost use Rattle.sb_drive.specs.Spaces.{Wanted};
+ghost use Rattle.sb_engine.specs.Working.{extensions_of};
+ghost use Rattle.sb_plain.specs.State.{State};
+ghost use Rattle.sb_plain.specs.declared.command.Command.TheVariants as command;
+ghost use Rattle.sb_txn.specs.Clauses.{LeavesWanted};
+ghost use Rattle.sb_session.specs.Ends.{Ends, reply_of};
+ghost use Rattle.sb_session.specs.Sessions.{CanRun, HasFailed, IsFor, Keeps, Lacks, parts_of};
+
+use crate::session::{Open, Session};
+use sb_disk::Disk;
+use sb_engine::refusal_of;
+use sb_fold::Refusal;
+use sb_transactions::{abort, begin};
+use sb_vectors::Vectors;
+use std::alloc::Global;
+
+impl<B: Vectors> Session<B> {
+    /// Begins a transaction. It takes no memory.
+    pub fn begin<D: Disk>(&mut self, disk: &mut D, alloc: Global) -> Result<(), Refusal>
+        requires runs { CanRun B.meanings D.told D.len disk.old self.old }
+
+        ensures ends { (want : Wanted) (s : State) → IsFor B.meanings D.told D.len want s disk.old self.old
+            → Ends (λ t. IsFor B.meanings D.told D.len want t disk.new self.new) (Lacks D.faults) (HasFailed D.faults disk.old disk.new)
+            (extensions_of (B.meanings self.old.boxes)) s command.Begin (reply_of result) }
+        ensures any_moment { LeavesWanted (parts_of D.told D.len disk.old self.old) (parts_of D.told D.len disk.new self.new) }
+        ensures boxes { self.new.boxes ≡ self.old.boxes }
+        ensures keeps { Keeps D.len D.faults disk.old disk.new self.old self.new (reply_of result) }
+        ensures runs { CanRun B.meanings D.told D.len disk.new self.new }
+    {
+        if self.down {
+            return Err(Refusal::Down);
+        }
+        if self.open.is_some() {
+            return Err(Refusal::State);
+        }
+        match begin(&mut self.space, disk, alloc) {
+            Ok(transaction) => {
+                self.open = Some(Open {
+                    transaction,
+                    points: Vec::new(alloc),
+                });
+                Ok(())
+            }
+            Err(refusal) => Err(self.refused(refusal)),
+        }
+    }
+
+    /// Ends the open transaction without its changes. It takes no memory.
+    pub fn abort<D: Disk>(&mut self, disk: &mut D) -> Result<(), Refusal>
+        requires runs { CanRun B.meanings D.told D.len disk.old self.old }
+
+        ensures ends { (want : Wanted) (s : State) → IsFor B.meanings D.told D.len want s disk.old self.old
+            → Ends (λ t. IsFor B.meanings D.told D.len want t disk.new self.new) (Lacks D.faults) (HasFailed D.faults disk.old disk.new)
+            (extensions_of (B.meanings self.old.boxes)) s command.Abort (reply_of result) }
+        ensures any_moment { LeavesWanted (parts_of D.told D.len disk.old self.old) (parts_of D.told D.len disk.new self.new) }
+        ensures boxes { self.new.boxes ≡ self.old.boxes }
+        ensures keeps { Keeps D.len D.faults disk.old disk.new self.old self.new (reply_of result) }
+        ensures runs { CanRun B.meanings D.told D.len disk.new self.new }
+    {
+        if self.down {
+            return Err(Refusal::Down);
+        }
+        let Some(current) = self.open.take() else {
+            return Err(Refusal::State);
+        };
+        match abort(&mut self.space, disk, current.transaction) {
+            Ok(()) => Ok(()),
+            Err(refusal) => Err(self.refused(refusal)),
+        }
+    }
+
+    /// Writes the changed pages to the disk and empties the log. It takes no memory.
+    pub fn checkpoint<D: Disk>(&mut self, disk: &mut D) -> Result<(), Refusal>
+        requires runs { CanRun B.meanings D.told D.len disk.old self.old }
+
+        ensures ends { (want : Wanted) (s : State) → IsFor B.meanings D.told D.len want s disk.old self.old
+            → Ends (λ t. IsFor B.meanings D.told D.len want t disk.new self.new) (Lacks D.faults) (HasFailed D.faults disk.old disk.new)
+            (extensions_of (B.meanings self.old.boxes)) s command.Checkpoint (reply_of result) }
+        ensures any_moment { LeavesWanted (parts_of D.told D.len disk.old self.old) (parts_of D.told D.len disk.new self.new) }
+        ensures empties { OnOk result (used_of self.new.space.store.journal ≡ 0) }
+        ensures boxes { self.new.boxes ≡ self.old.boxes }
+        ensures keeps { Keeps D.len D.faults disk.old disk.new self.old self.new (reply_of result) }
+        ensures runs { CanRun B.meanings D.told D.len disk.new self.new }
+    {
+        if self.down {
+            return Err(Refusal::Down);
+        }
+        if self.open.is_some() {
+            return Err(Refusal::State);
+        }
+        match self.space.checkpoint(disk) {
+            Ok(()) => Ok(()),
+            Err(fault) => Err(self.refused(refusal_of(fault))),
+        }
+    }
+}

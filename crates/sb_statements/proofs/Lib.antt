@@ -1,0 +1,4 @@
+pub mod AnswerLemmas
+pub mod OpenLemmas
+pub mod PassedLemmas
+pub mod PosedLemmas

@@ -1,0 +1,58 @@
+use Rattle.std.proofs.Common.{◌≡◌, [], append-nil, refl, sym}
+use Rattle.sb_engine.specs.Goings.{front_none}
+use Rattle.sb_engine.proofs.RefusedLemmas.{free_refusal, refused_cause}
+use Rattle.sb_engine.proofs.StandingLemmas.{keeping_of, rules_of}
+use Rattle.sb_statements.proofs.OpenLemmas.{action_kept, stands_opened}
+use Rattle.sb_statements.proofs.opening.open_action.Goals as goal
+
+pub returns-in-Ok-clause-stands : goal.returns-in-Ok-clause-stands
+returns-in-Ok-clause-stands g c = λ h stands.
+    let a = c.args.running.now in
+    let m = g.B.Boxes.meanings a.boxes.now in
+    let has = g.S.PageSpace.has in
+    let new = c.prepare.new.space in
+    stands_opened has m a.place.root h a.space.now new a.work.now stands c.prepare.new.opened c.in-Ok.ensures.looks.same
+    (c.prepare.ensures.opened stands.want stands.slots stands.kept (keeping_of has m a.place.root h a.space.now new a.work.now stands))
+
+pub returns-in-Err-clause-refused : goal.returns-in-Err-clause-refused
+returns-in-Err-clause-refused g c = λ h stands fits.
+    let a = c.args.running.now in
+    let m = g.B.Boxes.meanings a.boxes.now in
+    let has = g.S.PageSpace.has in
+    let w = a.work.now in
+    let new = c.prepare.new.space in
+    let keeping = keeping_of has m a.place.root h a.space.now new w stands in
+    let rules = rules_of has m a.place.root h a.space.now new w stands in
+    let may = action_kept has m a.place.root h a.space.now new w stands c.args.action.now fits in
+    rw c.refusal_of.ensures (record {
+      free = free_refusal c.in-Err.fault;
+      stopped = refused_cause g.S.PageSpace.fails _ a.space.now new c.in-Err.fault c.in-Err.ensures.looks.refused (c.in-Err.ensures.undamaged stands.want stands.slots stands.kept keeping rules may);
+    })
+
+pub returns-in-Ok-clause-goes : goal.returns-in-Ok-clause-goes
+returns-in-Ok-clause-goes g c = record {
+  goes = record {
+    same_space = refl;
+    same_work = refl;
+    boxes = refl;
+    place = refl;
+    leads = (0, c.in-Ok.ensures.looks.leads);
+    queue = front_none c.args.running.now.work.now.queue;
+    gone = ([], sym (append-nil c.args.running.now.work.now.gone.items));
+  };
+  opened = c.in-Ok.ensures.grows;
+}
+
+pub returns-in-Err-clause-goes : goal.returns-in-Err-clause-goes
+returns-in-Err-clause-goes g c = record {
+  goes = record {
+    same_space = refl;
+    same_work = refl;
+    boxes = refl;
+    place = refl;
+    leads = (0, c.in-Err.ensures.looks.leads);
+    queue = front_none c.args.running.now.work.now.queue;
+    gone = ([], sym (append-nil c.args.running.now.work.now.gone.items));
+  };
+  opened = c.in-Err.ensures.grows;
+}

@@ -1,0 +1,36 @@
+use Rattle.std.proofs.Common.{◌≡◌, IfErr, IfOk, sym, subst}
+use Rattle.sb_plain.specs.declared.command.Command.{Command}
+use Rattle.sb_statements.specs.Statements.{IsDone, IsStopped, answer_of}
+use Rattle.sb_statements.proofs.statements.work.Goals as goal
+
+pub returns-in-Attach-clause-done : goal.returns-in-Attach-clause-done
+returns-in-Attach-clause-done g c =
+    subst (λ (x : Command). IfOk c.attach_rule.result (λ y. IsDone g.S.PageSpace.has g.B.Boxes.meanings x c.args.running.now (answer_of y) c.attach_rule.new.running)) (sym c.in-Attach.is) c.attach_rule.ensures.done
+
+pub returns-in-Attach-clause-stopped : goal.returns-in-Attach-clause-stopped
+returns-in-Attach-clause-stopped g c =
+    subst (λ (x : Command). IfErr c.attach_rule.result (λ r. IsStopped g.S.PageSpace.has g.S.PageSpace.fails g.B.Boxes.meanings x c.args.running.now r c.attach_rule.new.running)) (sym c.in-Attach.is) c.attach_rule.ensures.stopped
+
+pub returns-in-Insert-clause-done : goal.returns-in-Insert-clause-done
+returns-in-Insert-clause-done g c =
+    subst (λ (x : Command). IfOk c.insert.result (λ y. IsDone g.S.PageSpace.has g.B.Boxes.meanings x c.args.running.now (answer_of y) c.insert.new.running)) (sym c.in-Insert.is) c.insert.ensures.done
+
+pub returns-in-Insert-clause-stopped : goal.returns-in-Insert-clause-stopped
+returns-in-Insert-clause-stopped g c =
+    subst (λ (x : Command). IfErr c.insert.result (λ r. IsStopped g.S.PageSpace.has g.S.PageSpace.fails g.B.Boxes.meanings x c.args.running.now r c.insert.new.running)) (sym c.in-Insert.is) c.insert.ensures.stopped
+
+pub returns-in-Delete-clause-done : goal.returns-in-Delete-clause-done
+returns-in-Delete-clause-done g c =
+    subst (λ (x : Command). IfOk c.delete.result (λ y. IsDone g.S.PageSpace.has g.B.Boxes.meanings x c.args.running.now (answer_of y) c.delete.new.running)) (sym c.in-Delete.is) c.delete.ensures.done
+
+pub returns-in-Delete-clause-stopped : goal.returns-in-Delete-clause-stopped
+returns-in-Delete-clause-stopped g c =
+    subst (λ (x : Command). IfErr c.delete.result (λ r. IsStopped g.S.PageSpace.has g.S.PageSpace.fails g.B.Boxes.meanings x c.args.running.now r c.delete.new.running)) (sym c.in-Delete.is) c.delete.ensures.stopped
+
+pub returns-in-Update-clause-done : goal.returns-in-Update-clause-done
+returns-in-Update-clause-done g c =
+    subst (λ (x : Command). IfOk c.update.result (λ y. IsDone g.S.PageSpace.has g.B.Boxes.meanings x c.args.running.now (answer_of y) c.update.new.running)) (sym c.in-Update.is) c.update.ensures.done
+
+pub returns-in-Update-clause-stopped : goal.returns-in-Update-clause-stopped
+returns-in-Update-clause-stopped g c =
+    subst (λ (x : Command). IfErr c.update.result (λ r. IsStopped g.S.PageSpace.has g.S.PageSpace.fails g.B.Boxes.meanings x c.args.running.now r c.update.new.running)) (sym c.in-Update.is) c.update.ensures.stopped

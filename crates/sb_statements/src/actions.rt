@@ -1,0 +1,39 @@
+//! Actions as commands.
+
+ghost use Rattle.std.specs.Prelude.{IfOk, IfErr};
+ghost use Rattle.sb_plain.specs.declared.command.Command.TheVariants as command;
+ghost use Rattle.sb_engine.specs.Working.{Goes, IsServing};
+ghost use Rattle.sb_statements.specs.Statements.{IsDone, IsStopped, answer_of};
+
+use crate::answers::Answer;
+use crate::opening::open_action;
+use crate::rows::LEVELS;
+use sb_cascade::act;
+use sb_drive::PageSpace;
+use sb_engine::Running;
+use sb_fold::Refusal;
+use sb_registry::Boxes;
+use sb_rule::Action;
+use std::alloc::Global;
+
+/// An action to its end, and how many rows it changed.
+pub(crate) fn act_on<B: Boxes, S: PageSpace>(
+    running: &mut Running<'_, B, S>,
+    alloc: Global,
+    action: &Action,
+) -> Result<Answer, Refusal>
+    requires ready { IsServing S.is_ready B.meanings running.old }
+
+    ensures done { IfOk result (λ x. IsDone S.has B.meanings (command.Act action.now) running.old (answer_of x) running.new) }
+    ensures stopped { IfErr result (λ r. IsStopped S.has S.fails B.meanings (command.Act action.now) running.old r running.new) }
+    ensures goes { Goes S.leads running.old running.new }
+    ensures ready { IsServing S.is_ready B.meanings running.new }
+{
+    match open_action(running, alloc, action) {
+        Ok(()) => match act(running, alloc, LEVELS, action) {
+            Ok(count) => Ok(Answer::Counts(count)),
+            Err(refusal) => Err(refusal),
+        },
+        Err(refusal) => Err(refusal),
+    }
+}

@@ -1,0 +1,4 @@
+pub mod BoxLemmas
+pub mod MoveLemmas
+pub mod CodesLemmas
+pub mod LawLemmas
