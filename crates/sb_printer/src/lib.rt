@@ -10,8 +10,6 @@ mod predicates;
 mod refusals;
 mod replies;
 mod rules;
-#[cfg(test)]
-mod tests;
 
 pub use commands::print_command;
 pub use laws::text_is_a_line;

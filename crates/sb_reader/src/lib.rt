@@ -17,8 +17,6 @@ mod reading;
 mod relations;
 mod rows;
 mod terms;
-#[cfg(test)]
-mod tests;
 mod words;
 
 pub use fault::Fault;

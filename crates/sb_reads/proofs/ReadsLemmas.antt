@@ -1,5 +1,5 @@
 -- What commands read, by the relation that is there.
-use Rattle.std.proofs.Common.{◌≡◌, ℕ, true, List, [], ◌∷◌, Option, Some, None, is_some, refl, sym, ap, subst, ◌∙◌}
+use Rattle.std.proofs.Common.{◌≡◌, ℕ, true, List, [], Option, Some, None, is_some, option_map, sym, ap, subst, ◌∙◌}
 use Rattle.sb_value.specs.declared.value.Value.{Value}
 use Rattle.sb_value.specs.declared.schema.Column.{Column}
 use Rattle.sb_relation.specs.Db
@@ -9,7 +9,8 @@ use Rattle.sb_fold.specs.Extensions.{Extensions}
 use Rattle.sb_plain.specs.declared.command.Command.{Command}
 use Rattle.sb_plain.specs.declared.command.Command.TheVariants as command
 use Rattle.sb_plain.specs.declared.reply.Reply.{Reply}
-use Rattle.sb_plain.specs.declared.reply.Reply.TheVariants.{Rows as Rowed}
+use Rattle.sb_plain.specs.declared.reply.Reply.TheVariants.{Lines as Lined, Rows as Rowed}
+use Rattle.sb_plain.specs.Printing.{shown}
 use Rattle.sb_plain.specs.Reading.{index_columns, looked_up, read, row_reply, rows_between}
 use Rattle.sb_plain.specs.Refusing.{is_lookup, is_range}
 use Rattle.sb_reads.specs.Reads.{IsThere, MayRead, relation_read}
@@ -28,32 +29,25 @@ attached_in o = elim o [ None ↦ [] | Some r ↦ r.attachments ]
 pub rule-there : (db : Database) (n : Name) (r : Relation) (name : Name) → relation_at db n ≡ Some r → rule_at db n name ≡ attachment_in r name
 rule-there db n r name there = ap (λ (o : Option Relation). attachment_in (record r { attachments = attached_in o }) name) there
 
--- ---- commands that read no relation
-pub read-other : (ext : Extensions) (db : Database) (c : Command) → relation_read c ≡ None → MayRead db c → (c ≡ command.Tables → ⊥) → read ext db c ≡ None
-read-other ext db (command.Get relation at) none may other = absurd (cc)
-read-other ext db (command.Scan relation after limit) none may other = absurd (cc)
-read-other ext db (command.Lookup relation name values) none may other = absurd (cc)
-read-other ext db (command.Range relation name low high) none may other = absurd (cc)
-read-other ext db (command.Entries relation name) none may other = absurd (cc)
-read-other ext db (command.Show relation) none may other = absurd may
-read-other ext db command.Tables none may other = absurd (other refl)
-read-other ext db c none may other = refl
-
--- no command but those five reads one
-pub reads-none : (c : Command) (n : Name) → relation_read c ≡ Some n → ((r : Name) (at : Key) → c ≡ command.Get r at → ⊥) → ((r : Name) (after : Option Key) (limit : Option ℕ) → c ≡ command.Scan r after limit → ⊥) →
-    ((r name : Name) (values : List Value) → c ≡ command.Lookup r name values → ⊥) → ((r name : Name) (low high : List Value) → c ≡ command.Range r name low high → ⊥) →
-    ((r name : Name) → c ≡ command.Entries r name → ⊥) → ⊥
-reads-none (command.Get r at) n is get scan lookup range entries = get r at refl
-reads-none (command.Scan r after limit) n is get scan lookup range entries = scan r after limit refl
-reads-none (command.Lookup r name values) n is get scan lookup range entries = lookup r name values refl
-reads-none (command.Range r name low high) n is get scan lookup range entries = range r name low high refl
-reads-none (command.Entries r name) n is get scan lookup range entries = entries r name refl
-reads-none c n is get scan lookup range entries = cc
-
--- ---- commands that read one
 same_Some : {A : Type 0} (a b : A) → Some a ≡ Some b → a ≡ b
 same_Some a b e = cc
 
+-- ---- a command that asks how a relation was made
+pub shown-there : (relation : Name) (o : Option Relation) (lines : List (List ℕ)) → Some lines ≡ option_map (λ r. shown relation (Some r)) o → lines ≡ shown relation o
+shown-there relation None lines is = absurd (cc)
+shown-there relation (Some r) lines is = same_Some lines (shown relation (Some r)) is
+
+pub shown-absent : (relation : Name) (o : Option Relation) → None ≡ option_map (λ r. shown relation (Some r)) o → is_some o ≡ true → ⊥
+shown-absent relation None is there = cc
+shown-absent relation (Some r) is there = cc
+
+pub read-show : (ext : Extensions) (db : Database) (c : Command) (relation : Name) (lines : List (List ℕ)) → c ≡ command.Show relation → lines ≡ shown relation (relation_at db relation) → Some (Lined lines) ≡ read ext db c
+read-show ext db c relation lines is says = ap (λ (ls : List (List ℕ)). Some (Lined ls)) says ∙ ap (read ext db) (sym is)
+
+pub may-show : (db : Database) (c : Command) (relation : Name) → c ≡ command.Show relation → MayRead db c → IsThere db relation
+may-show db c relation is may = subst (MayRead db) is may
+
+-- ---- commands that read one
 pub there-read : (db : Database) (c : Command) (n : Name) → relation_read c ≡ Some n → MayRead db c → IsThere db n
 there-read db (command.Get r at) n is may = subst (IsThere db) (same_Some r n is) may
 there-read db (command.Scan r after limit) n is may = subst (IsThere db) (same_Some r n is) may

@@ -7,7 +7,7 @@ use Rattle.sb_plain.specs.declared.command.Command.{Command}
 use Rattle.sb_plain.specs.declared.command.Command.TheVariants as command
 use Rattle.sb_plain.specs.Refusing.{is_lookup, is_range}
 
--- the relation that a command reads
+-- the relation whose rows or attachments a command reads
 abbrev pub relation_read : Command → Option Name
 relation_read (command.Get relation at) = Some relation
 relation_read (command.Scan relation after limit) = Some relation
@@ -19,14 +19,15 @@ relation_read _ = None
 abbrev pub IsThere : Db → Name → Type 0
 IsThere db relation = is_some (relation_at db relation) ≡ true
 
--- What isn't refused: the relation of a command that reads one is there, and so is its attachment, which is an index of these kinds where it is read as one. The commands that make a relation aren't read here.
+-- What isn't refused: the relation of a command that reads one, or how it was made, is there, and so is its attachment, which is an index of these
+-- kinds where it is read as one.
 abbrev pub MayRead : Db → Command → Type 0
 MayRead db (command.Get relation at) = IsThere db relation
 MayRead db (command.Scan relation after limit) = IsThere db relation
 MayRead db (command.Lookup relation name values) = IsThere db relation × (is_lookup (schema_at db relation) (rule_at db relation name) values ≡ true)
 MayRead db (command.Range relation name low high) = IsThere db relation × (is_range (schema_at db relation) (rule_at db relation name) low ≡ true)
 MayRead db (command.Entries relation name) = IsThere db relation × (is_some (rule_at db relation name) ≡ true)
-MayRead db (command.Show relation) = ⊥
+MayRead db (command.Show relation) = IsThere db relation
 MayRead db _ = Unit {0}
 
 -- so many rows, or more than a relation has

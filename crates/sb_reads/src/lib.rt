@@ -3,11 +3,9 @@
 
 mod entries;
 mod indexes;
+mod lines;
 mod names;
 mod reading;
 mod rows;
 
 pub use reading::read;
-
-#[cfg(test)]
-mod tests;

@@ -14,6 +14,7 @@ ghost use Rattle.sb_reads.specs.Reads.{MayRead, relation_read};
 ghost use Rattle.sb_reads.specs.Stores.{OnOpen};
 
 use crate::indexes::{entries, lookup, range};
+use crate::lines::making_lines;
 use crate::names::all_names;
 use crate::rows::{get, scan};
 use sb_drive::{PageSpace, SpaceFault};
@@ -47,7 +48,7 @@ pub fn read<S: PageSpace, B: Boxes>(
     ensures ready { S.is_ready space.new }
 {
     let Some(relation) = relation_read(command) else {
-        return read_names(space, alloc, boxes, place, command);
+        return read_catalogue(space, alloc, boxes, place, command);
     };
     let Some(opened) = open_relation(space, alloc, boxes, place, relation)? else {
         return Err(SpaceFault::Damaged { page: place.root });
@@ -56,7 +57,7 @@ pub fn read<S: PageSpace, B: Boxes>(
     Ok(Some(reply))
 }
 
-/// The relation that a command reads.
+/// The relation whose rows or attachments a command reads.
 fn relation_read(command: &Command) -> Option<&Str>
     ensures { option_copied result ≡ relation_read command.now }
 {
@@ -70,8 +71,8 @@ fn relation_read(command: &Command) -> Option<&Str>
     }
 }
 
-/// What a command answers that reads no relation.
-fn read_names<S: PageSpace, B: Boxes>(
+/// What a command answers that reads the catalogue alone.
+fn read_catalogue<S: PageSpace, B: Boxes>(
     space: &mut S,
     alloc: Global,
     boxes: &B,
@@ -86,7 +87,8 @@ fn read_names<S: PageSpace, B: Boxes>(
         → S.has want s space.old → Keeps (B.meanings boxes.now) IsDurable place.root s gone kept
         → MayRead (db_of kept) command.now → x ≡ read ext (db_of kept) command.now) }
     ensures undamaged { IfErr result (λ e. (want : Wanted) (s : Slots) (gone : List ℕ) (kept : List Kept)
-        → S.has want s space.old → Keeps (B.meanings boxes.now) IsDurable place.root s gone kept → IsSound e) }
+        → S.has want s space.old → Keeps (B.meanings boxes.now) IsDurable place.root s gone kept
+        → MayRead (db_of kept) command.now → IsSound e) }
     ensures looks { Looks S.has S.leads S.fails space.old space.new result }
     ensures ready { S.is_ready space.new }
 {
@@ -95,11 +97,15 @@ fn read_names<S: PageSpace, B: Boxes>(
             let lines = all_names(space, alloc, boxes, place)?;
             Ok(Some(Reply::Lines { lines }))
         }
+        Command::Show { relation } => {
+            let lines = making_lines(space, alloc, place, relation)?;
+            Ok(Some(Reply::Lines { lines }))
+        }
         _ => Ok(None),
     }
 }
 
-/// What a command answers that reads a relation.
+/// What a command answers that reads a relation's rows or attachments.
 fn read_relation<S: PageSpace, B: Boxes>(
     space: &mut S,
     alloc: Global,

@@ -1,0 +1,80 @@
+-- How a command ends whose work was answered, by what comes of the commit.
+use Rattle.std.proofs.Common.{◌≡◌, inl, ℕ, true, false, [], Option, Ok, Err, sym, ap, ◌∙◌, subst}
+use Rattle.std.proofs.lemmas.Bool.{false≢true}
+use Rattle.sb_disk.specs.Disk.{Story}
+use Rattle.sb_relation.specs.Db.{Db}
+use Rattle.sb_fold.specs.declared.refusal.Refusal.{Refusal}
+use Rattle.sb_fold.specs.declared.refusal.Refusal.TheVariants as refusal
+use Rattle.sb_fold.specs.Outcome.{Going}
+use Rattle.sb_engine.specs.Working.{extensions_of}
+use Rattle.sb_engine.specs.declared.running.Work.{Work as EngineWork}
+use Rattle.sb_plain.specs.declared.command.Command.{Command}
+use Rattle.sb_plain.specs.declared.reply.Reply.{Reply}
+use Rattle.sb_plain.specs.State.{committed}
+use Rattle.sb_plain.specs.Step.{Answer}
+use Rattle.sb_registry.specs.Boxes.{Meanings}
+use Rattle.sb_drive.specs.Spaces.{Wanted}
+use Rattle.sb_map.specs.declared.place.Place.{Place}
+use Rattle.sb_txn.specs.Clauses.{Parts, parts, LeavesWanted}
+use Rattle.sb_txn.specs.State.{State as StoreState}
+use Rattle.sb_transactions.specs.Calls.{IsOnlyFault, Remains}
+use Rattle.sb_transactions.specs.Commits.{LeavesOldOrFinished, StaysOpen, StopsAt, is_wanting}
+use Rattle.sb_transactions.specs.Transactions.{IsAt, Rests, WasBegun}
+use Rattle.sb_execution.specs.Endings.{EndsAlone, HasAnswered}
+use Rattle.sb_execution.proofs.AloneLemmas.{EndsAlone-fault, EndsAlone-refused, moments_abort, moments_commit, refuses_commit, remains_abort, remains_alone, rests_abort, was_up}
+use Rattle.sb_execution.proofs.CallLemmas.{Remains-err, err_fault, ok_err}
+use Rattle.sb_execution.proofs.EndLemmas.{MayWant-works}
+
+not_wanting : {A : Type 0} (r : Refusal) → is_wanting r ≡ true → r ≡ refusal.Fault → A
+not_wanting r wanting is = absurd (false≢true (sym (ap (λ (q : Refusal). is_wanting q) is) ∙ wanting))
+
+module _ {D : Type 0} (told : D → Option Story) (len faults : D → ℕ) (m : Meanings) (place : Place) (c : Command)
+    (d e b : D) (s t v : StoreState) (tx : ℕ) (w : EngineWork) (answer : Answer) (has : HasAnswered told len faults m place c d e s t tx w answer) where
+  abbrev here : Parts
+  here = parts told len e t
+
+  abbrev between : Parts
+  between = parts told len b v
+
+  up : s.book.down ≡ false
+  up = was_up told len faults m place d e s t tx has.comes
+
+  -- ---- the commit was refused
+  module _ {K : Type 0} (r : Refusal) (kept : Remains {T = K} told len faults e b t v (Err r))
+      (stops : (want : Wanted) (g : Going) → IsAt m place want tx g here w → StopsAt told len faults (extensions_of m) tx g r (record { disk = e; store = t })) where
+    -- and the transaction is over
+    pub EndsAlone-over : ((want : Wanted) (g : Going) → IsAt m place want tx g here w → LeavesOldOrFinished m place.root want g here between) → (v.book.down ≡ false → v.book.out ≡ [])
+        → (v.book.down ≡ false → (m : Meanings) (root : ℕ) (want : Wanted) (db : Db) → WasBegun m root want db tx here → Rests m root want db between)
+        → (r ≡ refusal.Fault → (want : Wanted) (g : Going) → IsAt m place want tx g here w → v.book.down ≡ true) → EndsAlone told len faults m place c d b s v (Err r)
+    EndsAlone-over moments none aborted faulted =
+        EndsAlone-refused told len faults m place c d b s v up (λ x. MayWant-works x c has.works) r
+        (remains_alone told len faults m place d e s t tx has.comes w {T = Reply} {U = Reply} b v (Err r) (Err r) (λ is. is) (Remains-err told len faults {T = K} {U = Reply} e b t v r kept))
+        (moments_commit told len faults m place c d e s t tx w answer has b v moments)
+        none
+        (λ off want x of. aborted off m place.root want (committed x) (has.comes.begun has.up want x of))
+        (refuses_commit told len faults m place c d e s t tx w answer has r stops v faulted)
+
+    -- and the transaction goes on, and is aborted then
+    module _ (now : EngineWork) (stays : StaysOpen tx here between w now) (f : D) (u : StoreState) (leaves : LeavesWanted between (parts told len f u)) where
+      pub EndsAlone-let_go : is_wanting r ≡ true → Remains {T = Unit {0}} told len faults b f v u (Ok tt) → u.book.out ≡ [] → (last : ℕ) → last ≡ tx
+          → ((m : Meanings) (root : ℕ) (want : Wanted) (db : Db) → WasBegun m root want db last between → Rests m root want db (parts told len f u))
+          → EndsAlone told len faults m place c d f s u (Err r)
+      EndsAlone-let_go wanting remains none last number rests =
+          EndsAlone-refused told len faults m place c d f s u up (λ x. MayWant-works x c has.works) r
+          (remains_abort told len faults m place c d e s t tx w answer has {K = K} b f v u now r stays kept {T = Unit {0}} (Ok tt) (Err r) (λ is. ok_err tt refusal.Fault is) remains)
+          (λ want x of posed.
+          inl (moments_abort told len faults m place c d e s t tx w answer has {K = K} b f v u now r stays kept {T = Unit {0}} (Ok tt) remains leaves want x of posed))
+          (λ off. none)
+          (λ off want x of.
+          rests_abort told len faults m place c d e s t tx w answer has {K = K} b f v u now r stays kept
+          (λ m root want db was. rests m root want db (subst (λ (k : ℕ). WasBegun m root want db k between) (sym number) was)) has.up want x of)
+          (refuses_commit told len faults m place c d e s t tx w answer has r stops u (λ is want g at. not_wanting r wanting is))
+
+      -- and the disk failed in that
+      pub EndsAlone-not_let_go : (q : Refusal) → Remains {T = Unit {0}} told len faults b f v u (Err q) → IsOnlyFault q u → EndsAlone told len faults m place c d f s u (Err q)
+      EndsAlone-not_let_go q remains only =
+          EndsAlone-fault told len faults m place c d f s u up q
+          (remains_abort told len faults m place c d e s t tx w answer has {K = K} b f v u now r stays kept {T = Unit {0}} (Err q) (Err q)
+          (λ is. ap (λ (x : Refusal). Err x) (err_fault {T = Unit {0}} q is)) remains) only
+          (λ want x of posed.
+          moments_abort told len faults m place c d e s t tx w answer has {K = K} b f v u now r stays kept {T = Unit {0}} (Err q) remains leaves want x of posed)

@@ -1,0 +1,351 @@
+-- How a command ends in a transaction of its own.
+use Rattle.std.proofs.Common.{◌≡◌, ⊎_elim, inl, inr, ℕ, ◌++◌, Bool, true, false, List, [], Option, None, Result, Ok, Err, IsErrOf, refl, sym, ap, ◌∙◌, subst}
+use Rattle.std.proofs.lemmas.Bool.{false≢true}
+use Rattle.sb_disk.specs.Disk.{Story}
+use Rattle.sb_disk.specs.Moments.{LeavesOnly}
+use Rattle.sb_disk.proofs.MomentLemmas.{and_then, weaker}
+use Rattle.sb_images.specs.Images.{IsOldOrNew, Restores}
+use Rattle.sb_log.specs.declared.geometry.Geometry.{Geometry}
+use Rattle.sb_relation.specs.Db.{Db, Key}
+use Rattle.sb_fold.specs.declared.refusal.Refusal.{Refusal}
+use Rattle.sb_fold.specs.declared.refusal.Refusal.TheVariants as refusal
+use Rattle.sb_fold.specs.Extensions.{Extensions}
+use Rattle.sb_fold.specs.Finish.{finish}
+use Rattle.sb_fold.specs.Outcome.{Going, Trail, Work, made, refuse, Leads, ◌>>=◌}
+use Rattle.sb_fold.proofs.LeadsLemmas.{leads_next, leads_on, leads_refused}
+use Rattle.sb_cascade.specs.Runs.{EndsBy, is_free}
+use Rattle.sb_engine.specs.Refusals.{HasCause}
+use Rattle.sb_engine.specs.Working.{extensions_of}
+use Rattle.sb_engine.specs.declared.running.Work.{Work as EngineWork}
+use Rattle.sb_plain.specs.declared.command.Command.{Command}
+use Rattle.sb_plain.specs.declared.reply.Reply.{Reply}
+use Rattle.sb_plain.specs.declared.reply.Reply.TheVariants.{Refused}
+use Rattle.sb_plain.specs.State.{downed}
+use Rattle.sb_plain.specs.Step.{Steps}
+use Rattle.sb_plain.specs.State.{State, Transaction as PlainTransaction, committed}
+use Rattle.sb_plain.specs.Step.{Answer, answered, finished}
+use Rattle.sb_registry.specs.Boxes.{Meanings}
+use Rattle.sb_drive.specs.Spaces.{Wanted}
+use Rattle.sb_map.specs.declared.place.Place.{Place}
+use Rattle.sb_txn.specs.Clauses.{Parts, parts, LeavesWanted}
+use Rattle.sb_txn.specs.State.{State as StoreState}
+use Rattle.sb_transactions.specs.Calls.{IsOnlyFault, Remains}
+use Rattle.sb_transactions.specs.Commits.{FailsOn, Finishes, IsDone, LeavesEither, LeavesOldOrFinished, Mounted, StaysOpen, StopsAt}
+use Rattle.sb_transactions.specs.Transactions.{IsAt, IsCommitted, Rests, WasBegun}
+use Rattle.sb_transactions.proofs.EndLemmas.{Remains-behind}
+use Rattle.sb_execution.specs.Serving.{IsPosedIn}
+use Rattle.sb_session.specs.Ends.{IsFree, IsStep, MayWant, is_end}
+use Rattle.sb_session.specs.Sessions.{HasFailed, IsOpenFor, Lacks, LeavesOldOrNext}
+use Rattle.sb_session.proofs.Carried.{end_of_given}
+use Rattle.sb_session.proofs.CommitSteps.{committed-push, with_committed}
+use Rattle.sb_session.proofs.OpenLemmas.{Outside, outside_at}
+use Rattle.sb_execution.specs.Endings.{Answers, ComesAlone, EndsAlone, HasAnswered, IsLeftSo, IsOf, going_alone}
+use Rattle.sb_execution.proofs.CallLemmas.{Remains-then, err_fault, has_failed, leaves_behind, not_both, ok_err, still_up}
+use Rattle.sb_execution.proofs.EndLemmas.{Ends-by, Ends-stepped, ends_given}
+use Rattle.sb_execution.proofs.ReplyLemmas.{answered_given, is_free_reply}
+use Rattle.sb_execution.proofs.StepsOf.{Steps-stopped_alone, Steps-worked_alone, with_open}
+
+-- why a command is refused: as the definitions say, or for a cause, which a fault leaves the store down for
+pub record Refuses {D : Type 0} (faults : D → ℕ) (m : Meanings) (c : Command) (x : State) (r : Refusal) (u : StoreState) : Type 0 where
+  pub given : is_free r ≡ false → Steps (extensions_of m) x c (Refused r) (with_open x None)
+  pub there : Mounted D
+  pub cause : is_free r ≡ true → HasCause (FailsOn faults) r there
+  pub failed : r ≡ refusal.Fault → u.book.down ≡ true
+
+module _ {D : Type 0} (told : D → Option Story) (len faults : D → ℕ) (m : Meanings) (place : Place) (c : Command)
+    (d f : D) (s u : StoreState) (up : s.book.down ≡ false) where
+  abbrev p : Parts
+  p = parts told len d s
+
+  abbrev q : Parts
+  q = parts told len f u
+
+  abbrev ext : Extensions
+  ext = extensions_of m
+
+  abbrev LeftBy : State → Reply → State → Type 0
+  LeftBy x r t = IsLeftSo m place x q None r t
+
+  abbrev Of : Wanted → State → Type 0
+  Of want x = IsOf m place want x p None
+
+  -- what is so of each state that has this work to do
+  abbrev Each : (Wanted → State → Type 0) → Type 0
+  Each P = (want : Wanted) (x : State) → Of want x → IsPosedIn m x c → P want x
+
+  abbrev Moments : Type 0
+  Moments = Each (λ want x. LeavesOldOrNext m place.root want ext x c p q)
+
+  without : (want : Wanted) (x : State) → Of want x → Outside m place want (committed x) p x.transaction
+  without want x of = outside_at m place want (committed x) p x.transaction of.stands
+
+  failed_so : (r : Refusal) → Remains {T = Reply} told len faults d f s u (Err r) → r ≡ refusal.Fault → u.book.down ≡ true → (want : Wanted) (x : State) → Of want x
+      → IsFree (LeftBy x (Refused r)) (HasFailed faults d f) x (downed x)
+  failed_so r remains is on want x of = record {
+    up = of.up;
+    cause = has_failed told len faults {T = Reply} d f s u (Err r) remains up on;
+    stands = record { want = want; is = record { down = sym (ap is_end is); live = refl; spare = refl; stands = λ off. absurd (false≢true (sym off)) } };
+  }
+
+  -- ---- the disk failed
+  pub EndsAlone-fault : (r : Refusal) → Remains {T = Reply} told len faults d f s u (Err r) → IsOnlyFault r u
+      → Each (λ want x. LeavesOnly p.told q.told (Restores p.store.pool.geometry want)) → EndsAlone told len faults m place c d f s u (Err r)
+  EndsAlone-fault r remains only leaves = record {
+    ends = λ want x of posed. Ends-by (LeftBy x (Refused r)) (Lacks faults) (HasFailed faults d f) ext x c r
+        (λ given. absurd (false≢true (sym given ∙ ap is_free only.is)))
+        (λ room is. absurd (let e = only.is in cc))
+        (λ is. absurd (let e = only.is in cc))
+        (λ is. failed_so r remains is only.down want x of)
+        (λ page is. absurd (let e = only.is in cc));
+    any_moment = λ want x of posed. inl (leaves want x of posed);
+    none = λ off. not_both u.book.down off only.down;
+    remains = remains;
+  }
+
+  -- ---- it was refused, and the pages are as they were
+  module _ (may : (x : State) → MayWant x c) (r : Refusal) (remains : Remains {T = Reply} told len faults d f s u (Err r)) (moments : Moments) (none : u.book.down ≡ false → u.book.out ≡ [])
+      (rests : u.book.down ≡ false → (want : Wanted) (x : State) → Of want x → Rests m place.root want (committed x) q)
+      (refuses : Each (λ want x. Refuses faults m c x r u)) where
+    stays_up : (r ≡ refusal.Fault → ⊥) → u.book.down ≡ false
+    stays_up not = still_up told len faults {T = Reply} d f s u (Err r) remains (λ is. absurd (not (err_fault {T = Reply} r is)))
+
+    as_it_was : (want : Wanted) (x : State) → Of want x → is_end r ≡ false → LeftBy x (Refused r) x
+    as_it_was want x of not = record {
+      want = want;
+      is = record {
+        down = of.up ∙ sym not;
+        live = refl;
+        spare = refl;
+        stands = λ on. subst (λ (a : Option PlainTransaction). IsOpenFor m place want (committed x) q None a) (sym (without want x of).none)
+            (rests (stays_up (λ is. false≢true (sym not ∙ ap is_end is))) want x of);
+      };
+    }
+
+    given_step : (want : Wanted) (x : State) → Of want x → IsPosedIn m x c → is_free r ≡ false → IsStep (LeftBy x (Refused r)) ext x c (Refused r)
+    given_step want x of posed given = record {
+      after = with_open x None;
+      steps = (refuses want x of posed).given given;
+      stands = record {
+        want = want;
+        is = record {
+          down = sym (end_of_given r given);
+          live = refl;
+          spare = refl;
+          stands = λ on. rests (stays_up (λ is. false≢true (sym given ∙ ap is_free is))) want x of;
+        };
+      };
+    }
+
+    pub EndsAlone-refused : EndsAlone told len faults m place c d f s u (Err r)
+    EndsAlone-refused = record {
+      ends = λ want x of posed. let why = refuses want x of posed in Ends-by (LeftBy x (Refused r)) (Lacks faults) (HasFailed faults d f) ext x c r
+          (λ given. given_step want x of posed given)
+          (λ room is. record {
+            up = of.up;
+            cause = record { at = why.there; cause = subst (λ (r : Refusal). HasCause (FailsOn faults) r why.there) is (why.cause (ap is_free is)) };
+            stands = as_it_was want x of (ap is_end is);
+          })
+          (λ is. record { up = of.up; cause = may x; stands = as_it_was want x of (ap is_end is) })
+          (λ is. failed_so r remains is (why.failed is) want x of)
+          (λ page is. subst (λ (r : Refusal). HasCause (FailsOn faults) r why.there) is (why.cause (ap is_free is)));
+      any_moment = moments;
+      none = none;
+      remains = remains;
+    }
+
+  -- ---- it went through
+  pub EndsAlone-done : (r : Reply) → Remains told len faults d f s u (Ok r) → Moments → (u.book.down ≡ false → u.book.out ≡ [])
+      → Each (λ want x. (is_free_reply r ≡ false) × IsStep (LeftBy x r) ext x c r) → EndsAlone told len faults m place c d f s u (Ok r)
+  EndsAlone-done r remains moments none steps = record {
+    ends = λ want x of posed. let to = steps want x of posed in Ends-stepped (LeftBy x r) (Lacks faults) (HasFailed faults d f) ext x c r to.0 to.1;
+    any_moment = moments;
+    none = none;
+    remains = remains;
+  }
+
+  -- a reading
+  pub read_so : (r : Reply) (want : Wanted) (x : State) → Rests m place.root want (committed x) q → is_free_reply r ≡ false → Steps ext x c r (with_open x None) → (is_free_reply r ≡ false) × IsStep (LeftBy x r) ext x c r
+  read_so r want x rests given steps = (
+    given,
+    record {
+      after = with_open x None;
+      steps = steps;
+      stands = record { want = want; is = record { down = sym (ends_given r given); live = refl; spare = refl; stands = λ on. rests } };
+    },
+  )
+
+-- ---- the way of a transaction of its own
+module _ {D : Type 0} (told : D → Option Story) (len faults : D → ℕ) (m : Meanings) (place : Place) (d e : D) (s t : StoreState) (tx : ℕ) (comes : ComesAlone told len faults m place d e s t tx) where
+  -- the store was up before it
+  pub was_up : s.book.down ≡ false
+  was_up = by s.book.down refl
+    where
+      by : (b : Bool) → s.book.down ≡ b → s.book.down ≡ false
+      by false off = off
+      by true on = ok_err tt refusal.Fault (comes.first.down on).answer
+
+  pub mid_up : comes.mid.store.book.down ≡ false
+  mid_up = still_up told len faults {T = Unit {0}} d comes.mid.disk s comes.mid.store (Ok tt) comes.first (λ is. ok_err tt refusal.Fault is)
+
+  -- what a crash leaves until a call behind it
+  pub leaves_alone : {T : Type 0} (f : D) (u : StoreState) (r : Result T Refusal) → Remains told len faults e f t u r → LeavesWanted (parts told len e t) (parts told len f u)
+      → (want : Wanted) (x : State) → IsOf m place want x (parts told len d s) None → LeavesOnly (told d) (told f) (Restores s.pool.geometry want)
+  leaves_alone f u r remains leaves want x of =
+      let both = comes.store want x of in
+      let rest = leaves_behind told len faults tx comes.mid.disk e comes.mid.store t comes.led f u r remains leaves in
+      and_then (told d) (told comes.mid.disk) (told f) (Restores s.pool.geometry want) (comes.leaves.each want both.0 both.2)
+      (subst (λ (g : Geometry). LeavesOnly (told comes.mid.disk) (told f) (Restores g want)) comes.first.geometry (rest.each want both.1 both.3))
+
+  pub leaves_so_far : (want : Wanted) (x : State) → IsOf m place want x (parts told len d s) None → LeavesOnly (told d) (told e) (Restores s.pool.geometry want)
+  leaves_so_far want x of =
+      let both = comes.store want x of in
+      and_then (told d) (told comes.mid.disk) (told e) (Restores s.pool.geometry want) (comes.leaves.each want both.0 both.2)
+      (subst (λ (g : Geometry). LeavesOnly (told comes.mid.disk) (told e) (Restores g want)) comes.first.geometry (comes.led.1.leaves.each want both.1 both.3))
+
+  pub same_size : t.pool.geometry ≡ s.pool.geometry
+  same_size = comes.led.1.geometry ∙ comes.first.geometry
+
+  module _ (w : EngineWork) where
+    pub remains_alone : {T U : Type 0} (f : D) (u : StoreState) (a : Result T Refusal) (b : Result U Refusal) → (IsErrOf a refusal.Fault → IsErrOf b refusal.Fault) → Remains told len faults e f t u a → Remains told len faults d f s u b
+    remains_alone {T} {U} f u a b same remains =
+        Remains-then told len faults {T = Unit {0}} {U = U} {V = U} d comes.mid.disk f s comes.mid.store u (Ok tt) b b mid_up (λ is. is) comes.first
+        (Remains-behind told len faults m place tx comes.mid.disk e f comes.mid.store t u w comes.led {T = T} {U = U} a b same remains)
+
+-- ---- the end of a command that was answered
+module _ {D : Type 0} (told : D → Option Story) (len faults : D → ℕ) (m : Meanings) (place : Place) (c : Command)
+    (d e : D) (s t : StoreState) (tx : ℕ) (w : EngineWork) (answer : Answer) (has : HasAnswered told len faults m place c d e s t tx w answer) where
+  abbrev from : Parts
+  from = parts told len d s
+
+  abbrev here : Parts
+  here = parts told len e t
+
+  abbrev Begun : Wanted → State → Type 0
+  Begun want x = IsOf m place want x from None
+
+  none_in : (want : Wanted) (x : State) → Begun want x → x.transaction ≡ None
+  none_in want x of = (outside_at m place want (committed x) from x.transaction of.stands).none
+
+  -- work and the work that finishes it
+  leads_whole_way : (work : Work Answer) (g h k : Going) (ps qs : List Key) → Leads work g ps (made answer) h → Leads (finish (extensions_of m)) h qs (made tt) k
+      → Leads (finished (extensions_of m) work) g (ps ++ qs) (made answer) k
+  leads_whole_way work g h k ps qs one two = leads_on (λ (answer : Answer). finish (extensions_of m) >>= λ _. made answer) one (leads_next (λ _. made answer) two)
+
+  leads_to_refusal : (work : Work Answer) (g h k : Going) (ps qs : List Key) (r : Refusal) → Leads work g ps (made answer) h → Leads (finish (extensions_of m)) h qs (refuse r) k
+      → Leads (finished (extensions_of m) work) g (ps ++ qs) (refuse r) k
+  leads_to_refusal work g h k ps qs r one two = leads_on (λ (answer : Answer). finish (extensions_of m) >>= λ _. made answer) one (leads_refused (λ _. made answer) two)
+
+  module _ (f : D) (u : StoreState) where
+    abbrev to : Parts
+    to = parts told len f u
+
+    -- a step that commits
+    committed_step : (want : Wanted) (x : State) (of : Begun want x) (posed : IsPosedIn m x c) (IsSo : Going → Parts → Type 0) (run : Finishes m (has.answers want x of posed).run.after IsSo to)
+        → Steps (extensions_of m) x c (answered answer run.after.used) (with_committed x run.after.db)
+    committed_step want x of posed IsSo run =
+        let why = has.answers want x of posed in
+        Steps-worked_alone (extensions_of m) x c of.up (none_in want x of) why.work why.is (why.run.picks ++ run.picks) run.after answer why.passed
+        (leads_whole_way why.work (going_alone x) why.run.after run.after why.run.picks run.picks why.run.leads run.leads)
+
+    -- what a crash leaves
+    pub moments_commit : ((want : Wanted) (g : Going) → IsAt m place want tx g here w → LeavesOldOrFinished m place.root want g here to)
+        → (want : Wanted) (x : State) → Begun want x → IsPosedIn m x c → LeavesOldOrNext m place.root want (extensions_of m) x c from to
+    moments_commit moments want x of posed =
+        let why : Answers m place want c x here tx w answer = has.answers want x of posed in
+        let size : t.pool.geometry ≡ s.pool.geometry = same_size told len faults m place d e s t tx has.comes in
+        let before : LeavesOnly (told d) (told e) (Restores s.pool.geometry want) = leaves_so_far told len faults m place d e s t tx has.comes want x of in
+        ⊎_elim
+        (λ (old : LeavesOnly here.told to.told (Restores t.pool.geometry want)).
+        inl (and_then (told d) (told e) (told f) (Restores s.pool.geometry want) before
+        (subst (λ (g : Geometry). LeavesOnly (told e) (told f) (Restores g want)) size old)))
+        (λ (run : Finishes m why.run.after (LeavesEither m place.root want here) to). inr (record {
+          reply = answered answer run.after.used;
+          after = with_committed x run.after.db;
+          steps = committed_step want x of posed (LeavesEither m place.root want here) run;
+          pages = run.stands.pages;
+          commits = subst (λ (n : ℕ). IsCommitted m place.root n run.stands.pages (committed (with_committed x run.after.db))) (ap (λ (g : Geometry). g.pages) size)
+              (subst (λ (db : Db). IsCommitted m place.root t.pool.geometry.pages run.stands.pages db) (sym (committed-push x run.after.db)) run.stands.committed);
+          leaves = and_then (told d) (told e) (told f) (IsOldOrNew s.pool.geometry want run.stands.pages)
+              (weaker (told d) (told e) (Restores s.pool.geometry want) (IsOldOrNew s.pool.geometry want run.stands.pages) (λ image is. inl is) before)
+              (subst (λ (g : Geometry). LeavesOnly (told e) (told f) (IsOldOrNew g want run.stands.pages)) size run.stands.leaves);
+        }))
+        (moments want why.run.after why.run.stands)
+
+    -- ---- it was committed
+    pub EndsAlone-committed : {K : Type 0} (held : K) (picks : List Key) → Remains told len faults e f t u (Ok held) → ((want : Wanted) (g : Going) → IsAt m place want tx g here w → LeavesOldOrFinished m place.root want g here to)
+        → (u.book.down ≡ false → u.book.out ≡ []) → ((want : Wanted) (g : Going) → IsAt m place want tx g here w → Finishes m g (IsDone m place.root picks) to)
+        → EndsAlone told len faults m place c d f s u (Ok (answered answer picks))
+    EndsAlone-committed {K} held picks remains moments none done =
+        EndsAlone-done told len faults m place c d f s u (was_up told len faults m place d e s t tx has.comes) (answered answer picks)
+        (remains_alone told len faults m place d e s t tx has.comes w {T = K} {U = Reply} f u (Ok held) (Ok (answered answer picks)) (λ is. ok_err held refusal.Fault is) remains)
+        (moments_commit moments) none
+        (λ want x of posed.
+        let why = has.answers want x of posed in
+        let run = done want why.run.after why.run.stands in
+        let given = answered_given answer picks in (
+          given,
+          record {
+            after = with_committed x run.after.db;
+            steps = subst (λ (used : List Key). Steps (extensions_of m) x c (answered answer used) (with_committed x run.after.db)) (sym run.stands.picked)
+                (committed_step want x of posed (IsDone m place.root picks) run);
+            stands = record {
+              want = run.stands.want;
+              is = record {
+                down = sym (ends_given (answered answer picks) given);
+                live = refl;
+                spare = refl;
+                stands = λ on. subst (λ (db : Db). Rests m place.root run.stands.want db to) (sym (committed-push x run.after.db)) run.stands.rests;
+              };
+            };
+          },
+        ))
+
+  -- ---- it wasn't
+  abbrev Stopped : {D : Type 0} → (D → ℕ) → Refusal → Trail → Mounted D → Type 0
+  Stopped faults refusal trail x = HasCause (FailsOn faults) refusal x
+
+  module _ (r : Refusal) (stops : (want : Wanted) (g : Going) → IsAt m place want tx g here w → StopsAt told len faults (extensions_of m) tx g r (record { disk = e; store = t })) (u : StoreState)
+      (failed : r ≡ refusal.Fault → (want : Wanted) (g : Going) → IsAt m place want tx g here w → u.book.down ≡ true) where
+    pub refuses_commit : (want : Wanted) (x : State) → Begun want x → IsPosedIn m x c → Refuses faults m c x r u
+    refuses_commit want x of posed =
+        let why = has.answers want x of posed in
+        let stop = stops want why.run.after why.run.stands in
+        record {
+          given = λ given.
+              let run : EndsBy (Stopped faults) false (finish (extensions_of m)) why.run.after r stop.there =
+              subst (λ (b : Bool). EndsBy (Stopped faults) b (finish (extensions_of m)) why.run.after r stop.there) given stop.stops in
+              Steps-stopped_alone (extensions_of m) x c of.up (none_in want x of) why.work why.is (why.run.picks ++ run.picks) run.after r why.passed
+              (leads_to_refusal why.work (going_alone x) why.run.after run.after why.run.picks run.picks r why.run.leads run.leads);
+          there = stop.there;
+          cause = λ free.
+              let broken : EndsBy (Stopped faults) true (finish (extensions_of m)) why.run.after r stop.there =
+              subst (λ (b : Bool). EndsBy (Stopped faults) b (finish (extensions_of m)) why.run.after r stop.there) free stop.stops in
+              broken.stopped;
+          failed = λ is. failed is want why.run.after why.run.stands;
+        }
+
+  -- ---- the transaction went on, and was aborted then
+  module _ {K : Type 0} (g f : D) (v u : StoreState) (now : EngineWork) (r : Refusal) (stays : StaysOpen tx here (parts told len g v) w now) (kept : Remains {T = K} told len faults e g t v (Err r)) where
+    abbrev between : Parts
+    between = parts told len g v
+
+    pub moments_abort : {T : Type 0} (a : Result T Refusal) → Remains told len faults g f v u a → LeavesWanted between (parts told len f u)
+        → (want : Wanted) (x : State) → Begun want x → IsPosedIn m x c → LeavesOnly (told d) (told f) (Restores s.pool.geometry want)
+    moments_abort a remains leaves want x of posed =
+        let why = has.answers want x of posed in
+        let at = why.run.stands in
+        let on = stays.stays m place want why.run.after at in
+        let size = same_size told len faults m place d e s t tx has.comes in
+        and_then (told d) (told e) (told f) (Restores s.pool.geometry want) (leaves_so_far told len faults m place d e s t tx has.comes want x of)
+        (and_then (told e) (told g) (told f) (Restores s.pool.geometry want)
+        (subst (λ (a : Geometry). LeavesOnly (told e) (told g) (Restores a want)) size (stays.leaves.each want at.has.now at.has.stands.store))
+        (subst (λ (a : Geometry). LeavesOnly (told g) (told f) (Restores a want)) (kept.geometry ∙ size) (leaves.each want on.has.now on.has.stands.store)))
+
+    pub remains_abort : {T : Type 0} (a : Result T Refusal) (b : Result Reply Refusal) → (IsErrOf a refusal.Fault → IsErrOf b refusal.Fault) → Remains told len faults g f v u a → Remains told len faults d f s u b
+    remains_abort {T} a b same remains =
+        remains_alone told len faults m place d e s t tx has.comes w {T = Reply} {U = Reply} f u b b (λ is. is)
+        (Remains-then told len faults {T = K} {U = T} {V = Reply} e g f t v u (Err r) a b stays.up same kept remains)
+
+    pub rests_abort : ((m : Meanings) (root : ℕ) (want : Wanted) (db : Db) → WasBegun m root want db tx between → Rests m root want db (parts told len f u)) → t.book.down ≡ false
+        → (want : Wanted) (x : State) → Begun want x → Rests m place.root want (committed x) (parts told len f u)
+    rests_abort rests up want x of = rests m place.root want (committed x) (stays.begun m place.root want (committed x) (has.comes.begun up want x of))

@@ -1,0 +1,236 @@
+-- The ways in which a transaction of one command ends, by what the calls on the way promise.
+use Rattle.std.proofs.Common.{◌≡◌, inl, ℕ, true, false, List, [], Option, Some, None, Ok, Err, refl, sym, ap, ◌∙◌, subst}
+use Rattle.std.proofs.lemmas.Bool.{false≢true}
+use Rattle.sb_disk.specs.Disk.{Story}
+use Rattle.sb_disk.specs.Moments.{LeavesOnly}
+use Rattle.sb_images.specs.Images.{Restores}
+use Rattle.sb_relation.specs.Db.{Db}
+use Rattle.sb_fold.specs.declared.refusal.Refusal.{Refusal}
+use Rattle.sb_fold.specs.declared.refusal.Refusal.TheVariants as refusal
+use Rattle.sb_fold.specs.Outcome.{Going}
+use Rattle.sb_cascade.specs.Runs.{MadeFrom, is_free}
+use Rattle.sb_engine.specs.Refusals.{HasCause}
+use Rattle.sb_engine.specs.Working.{extensions_of}
+use Rattle.sb_plain.specs.declared.command.Command.{Command}
+use Rattle.sb_plain.specs.declared.reply.Reply.{Reply}
+use Rattle.sb_plain.specs.declared.reply.Reply.TheVariants.{Refused}
+use Rattle.sb_plain.specs.Step.{Steps}
+use Rattle.sb_plain.specs.Refusing.{refused}
+use Rattle.sb_plain.specs.State.{State, committed, view}
+use Rattle.sb_plain.specs.Step.{work_of}
+use Rattle.sb_registry.specs.Boxes.{Meanings}
+use Rattle.sb_drive.specs.Spaces.{Wanted}
+use Rattle.sb_map.specs.declared.place.Place.{Place}
+use Rattle.sb_txn.specs.Clauses.{Parts, parts, LeavesWanted}
+use Rattle.sb_txn.specs.State.{State as StoreState}
+use Rattle.sb_space.specs.declared.transactions.Tx.{Tx}
+use Rattle.sb_transactions.specs.declared.transactions.Transaction.{Transaction}
+use Rattle.sb_transactions.specs.Calls.{IsOnlyFault, Remains}
+use Rattle.sb_transactions.specs.Commits.{FailsOn, IsLed}
+use Rattle.sb_transactions.specs.Transactions.{IsAt, IsFirst, IsUsable, Rests, WasBegun}
+use Rattle.sb_transactions.proofs.CallLemmas.{Fault-down, Remains-answered, up-earlier, up-later}
+use Rattle.sb_statements.specs.declared.answers.Answer as code
+use Rattle.sb_execution.specs.Serving.{IsPosedIn, IsSeenIn, IsServed, IsUnserved, is_managing}
+use Rattle.sb_statements.specs.Statements.{answer_of}
+use Rattle.sb_session.specs.declared.session.Savepoint.{Savepoint}
+use Rattle.sb_session.specs.Ends.{MayWant}
+use Rattle.sb_session.proofs.OpenLemmas.{Outside, outside_at}
+use Rattle.sb_execution.specs.declared.serving.Served.{Served}
+use Rattle.sb_execution.specs.declared.serving.Served.TheVariants as served
+use Rattle.sb_execution.specs.Endings.{ComesAlone, EndsAlone, HasAnswered, IsOf, Passes, going_alone}
+use Rattle.sb_execution.proofs.AloneLemmas.{EndsAlone-done, EndsAlone-fault, EndsAlone-refused, leaves_alone, leaves_so_far, read_so, remains_alone}
+use Rattle.sb_execution.proofs.CallLemmas.{Remains-err, Remains-led, Remains-then, not_both, ok_err}
+use Rattle.sb_execution.proofs.EndLemmas.{MayWant-works, at_some, seen_alone, unserved_alone, unserved_cause, work_there}
+use Rattle.sb_execution.proofs.ReplyLemmas.{read_given, refused_given}
+use Rattle.sb_execution.proofs.StepsOf.{Steps-read_alone, Steps-refused_alone, with_open}
+
+-- no transaction was begun
+pub EndsAlone-not_begun : {D : Type 0} (told : D → Option Story) (len faults : D → ℕ) (m : Meanings) (place : Place) (c : Command) (d e : D) (s t : StoreState) → s.book.down ≡ false → (r : Refusal)
+    → Remains {T = Transaction} told len faults d e s t (Err r) → IsOnlyFault r t → LeavesWanted (parts told len d s) (parts told len e t) → EndsAlone told len faults m place c d e s t (Err r)
+EndsAlone-not_begun told len faults m place c d e s t up r remains only leaves =
+    EndsAlone-fault told len faults m place c d e s t up r (Remains-err told len faults {T = Transaction} {U = Reply} d e s t r remains) only
+    (λ want x of posed. let out = outside_at m place want (committed x) (parts told len d s) x.transaction of.stands in leaves.each want out.rests.has.now out.rests.has.stands.store)
+
+module _ {D : Type 0} (told : D → Option Story) (len faults : D → ℕ) (m : Meanings) (place : Place) (c : Command)
+    (d b e : D) (s bs t : StoreState) (a y : Transaction) (up : s.book.down ≡ false) (owner : place.owner ≡ 2)
+    -- the transaction was begun
+    (first : Remains told len faults d b s bs (Ok a)) (leaves_first : LeavesWanted (parts told len d s) (parts told len b bs))
+    (begun : (m : Meanings) (root : ℕ) (want : Wanted) (db : Db) → Rests m root want db (parts told len d s) → WasBegun m root want db a.tx.store.number (parts told len b bs))
+    (at : (m : Meanings) (place : Place) (want : Wanted) (g : Going) → place.owner ≡ 2 → IsFirst g → Rests m place.root want g.db (parts told len d s) → IsAt m place want a.tx.store.number g (parts told len b bs) a.work)
+    -- the command was served
+    (tx : y.tx ≡ a.tx) (serves : IsUsable m place a.tx.store.number (parts told len e t) y.work)
+    (led : IsLed told len faults a.tx.store.number (record { disk = b; store = bs }) (record { disk = e; store = t }))
+    (begun_then : t.book.down ≡ false → (m : Meanings) (root : ℕ) (want : Wanted) (db : Db) → WasBegun m root want db a.tx.store.number (parts told len b bs) → WasBegun m root want db a.tx.store.number (parts told len e t)) where
+  abbrev from : Parts
+  from = parts told len d s
+
+  abbrev here : Parts
+  here = parts told len e t
+
+  abbrev n : ℕ
+  n = a.tx.store.number
+
+  abbrev last : ℕ
+  last = y.tx.store.number
+
+  last_number : last ≡ n
+  last_number = ap (λ (a : Tx). a.store.number) tx
+
+  out : (want : Wanted) (x : State) → IsOf m place want x from None → Outside m place want (committed x) from x.transaction
+  out want x of = outside_at m place want (committed x) from x.transaction of.stands
+
+  at_command : (want : Wanted) (x : State) → IsOf m place want x from None → IsAt m place want n (going_alone x) (parts told len b bs) a.work
+  at_command want x of = at m place want (going_alone x) owner (record { queue = refl; used = refl }) (out want x of).rests
+
+  pub comes : ComesAlone told len faults m place d e s t last
+  comes = subst (λ (k : ℕ). ComesAlone told len faults m place d e s t k) (sym last_number) (record {
+    mid = record { disk = b; store = bs };
+    first = Remains-answered told len faults d b s bs a (Ok tt) first;
+    leaves = leaves_first;
+    led = led;
+    store = λ want x of.
+        let rests = (out want x of).rests in
+        let on = at_command want x of in
+        (rests.has.now, on.has.now, rests.has.stands.store, on.has.stands.store);
+    begun = λ off want x of. begun_then off m place.root want (committed x) (begun m place.root want (committed x) (out want x of).rests);
+  })
+
+  -- ---- the store is down
+  pub EndsAlone-down : t.book.down ≡ true → EndsAlone told len faults m place c d e s t (Err refusal.Fault)
+  EndsAlone-down down =
+      EndsAlone-fault told len faults m place c d e s t up refusal.Fault
+      (Remains-then told len faults {T = Transaction} {U = Reply} {V = Reply} d b e s bs t (Ok a) (Err refusal.Fault) (Err refusal.Fault) (up-later told len faults d b s bs a first) (λ is. is) first
+      (Remains-led told len faults n b e bs t led {T = Reply} (Err refusal.Fault) (up-later told len faults d b s bs a first) serves.ready.ready (λ on. refl)))
+      (record { is = refl; down = down })
+      (λ want x of posed. leaves_so_far told len faults m place d e s t last comes want x of)
+
+  -- ---- the transaction was aborted
+  module _ (f : D) (u : StoreState) (leaves : LeavesWanted here (parts told len f u)) where
+    abbrev there : Parts
+    there = parts told len f u
+
+    -- and the disk failed in that
+    pub EndsAlone-failed : (r : Refusal) → Remains {T = Unit {0}} told len faults e f t u (Err r) → IsOnlyFault r u → EndsAlone told len faults m place c d f s u (Err r)
+    EndsAlone-failed r remains only =
+        EndsAlone-fault told len faults m place c d f s u up r
+        (remains_alone told len faults m place d e s t last comes y.work {T = Reply} {U = Reply} f u (Err r) (Err r) (λ is. is) (Remains-err told len faults {T = Unit {0}} {U = Reply} e f t u r remains)) only
+        (λ want x of posed. leaves_alone told len faults m place d e s t last comes {T = Unit {0}} f u (Err r) remains leaves want x of)
+
+    module _ (remains : Remains {T = Unit {0}} told len faults e f t u (Ok tt)) (none : u.book.out ≡ [])
+        (rests : (m : Meanings) (root : ℕ) (want : Wanted) (db : Db) → WasBegun m root want db last here → Rests m root want db there) where
+      still : t.book.down ≡ false
+      still = up-earlier told len faults e f t u (Ok tt) remains (up-later told len faults e f t u tt remains)
+
+      rests_so : (want : Wanted) (x : State) → IsOf m place want x from None → Rests m place.root want (committed x) there
+      rests_so want x of = rests m place.root want (committed x) (comes.begun still want x of)
+
+      moments : (want : Wanted) (x : State) → IsOf m place want x from None → LeavesOnly (told d) (told f) (Restores s.pool.geometry want)
+      moments want x of = leaves_alone told len faults m place d e s t last comes {T = Unit {0}} f u (Ok tt) remains leaves want x of
+
+      module _ (ones : List Savepoint) (listed : ones ≡ []) where
+        seen : (want : Wanted) (x : State) → IsOf m place want x from None → IsSeenIn m false ones x (going_alone x)
+        seen want x of = seen_alone m place want x from ones listed of (out want x of).none
+
+        -- behind a refusal, for a reason of the definitions or of the store
+        EndsAlone-behind : ((x : State) → MayWant x c) → (r : Refusal)
+            → ((want : Wanted) (x : State) → IsOf m place want x from None → IsPosedIn m x c
+            → (is_free r ≡ false → Steps (extensions_of m) x c (Refused r) (with_open x None)) × (is_free r ≡ true → HasCause (FailsOn faults) r (record { disk = e; store = t })))
+            → EndsAlone told len faults m place c d f s u (Err r)
+        EndsAlone-behind may r why =
+            EndsAlone-refused told len faults m place c d f s u up may r
+            (remains_alone told len faults m place d e s t last comes y.work {T = Unit {0}} {U = Reply} f u (Ok tt) (Err r) (λ is. ok_err tt refusal.Fault is) remains)
+            (λ want x of posed. inl (moments want x of)) (λ off. none) (λ off want x of. rests_so want x of)
+            (λ want x of posed.
+            let both = why want x of posed in
+            record {
+              given = both.0;
+              there = record { disk = e; store = t };
+              cause = both.1;
+              failed = λ is. not_both t.book.down still (Fault-down faults (record { disk = e; store = t }) (fault_cause r is both.1));
+            })
+          where
+            fault_cause : (r : Refusal) → r ≡ refusal.Fault → (is_free r ≡ true → HasCause (FailsOn faults) r (record { disk = e; store = t })) → HasCause (FailsOn faults) refusal.Fault (record { disk = e; store = t })
+            fault_cause r is cause = subst (λ (r : Refusal). HasCause (FailsOn faults) r (record { disk = e; store = t })) is (cause (ap is_free is))
+
+        -- the command wasn't served
+        pub EndsAlone-back : is_managing c ≡ false → (r : Refusal)
+            → ((want : Wanted) (x : State) (g : Going) → IsAt m place want n g (parts told len b bs) a.work → IsSeenIn m false ones x g → IsPosedIn m x c
+            → IsUnserved (FailsOn faults) m x c g r (record { disk = e; store = t })) → EndsAlone told len faults m place c d f s u (Err r)
+        EndsAlone-back works r unserved =
+            EndsAlone-behind (λ x. MayWant-works x c works) r
+            (λ want x of posed.
+            let why = unserved want x (going_alone x) (at_command want x of) (seen want x of) posed in (
+              λ given. unserved_alone (FailsOn faults) m x c works r (record { disk = e; store = t }) of.up given (out want x of).none why,
+              unserved_cause (FailsOn faults) m x c works r (record { disk = e; store = t }) (going_alone x) why,
+            ))
+
+        -- a test refuses it
+        pub EndsAlone-tested : ((x : State) → MayWant x c) → (r : Refusal)
+            → ((want : Wanted) (x : State) (g : Going) → IsAt m place want n g (parts told len b bs) a.work → IsSeenIn m false ones x g → Some r ≡ refused (extensions_of m) x c)
+            → EndsAlone told len faults m place c d f s u (Err r)
+        EndsAlone-tested may r refuses =
+            EndsAlone-behind may r
+            (λ want x of posed.
+            let is : refused (extensions_of m) x c ≡ Some r = sym (refuses want x (going_alone x) (at_command want x of) (seen want x of)) in (
+              λ given. Steps-refused_alone (extensions_of m) x c of.up (out want x of).none r is,
+              λ free. absurd (false≢true (sym (refused_given (extensions_of m) x c r is) ∙ free)),
+            ))
+
+        -- a look of the tests was refused
+        pub EndsAlone-looked : ((x : State) → MayWant x c) → (r : Refusal) → is_free r ≡ true
+            → ((want : Wanted) (x : State) (g : Going) → IsAt m place want n g (parts told len b bs) a.work → IsSeenIn m false ones x g → HasCause (FailsOn faults) r (record { disk = e; store = t }))
+            → EndsAlone told len faults m place c d f s u (Err r)
+        EndsAlone-looked may r free cause =
+            EndsAlone-behind may r
+            (λ want x of posed. (
+              λ given. absurd (false≢true (sym given ∙ free)),
+              λ also. cause want x (going_alone x) (at_command want x of) (seen want x of),
+            ))
+
+        -- no test refuses it
+        pub Passes-alone : ((want : Wanted) (x : State) (g : Going) → IsAt m place want n g (parts told len b bs) a.work → IsSeenIn m false ones x g → None ≡ refused (extensions_of m) x c)
+            → Passes told len faults m place c d f s u
+        Passes-alone passed = record {
+          passed = λ want x of. sym (passed want x (going_alone x) (at_command want x of) (seen want x of));
+          rests = rests_so;
+          any_moment = moments;
+          none = none;
+          remains = remains_alone told len faults m place d e s t last comes y.work {T = Unit {0}} {U = Unit {0}} f u (Ok tt) (Ok tt) (λ is. is) remains;
+        }
+
+        -- behind a reading
+        pub EndsAlone-reads : (r : Reply) (came : Served) → came ≡ served.Read r
+            → (t.book.down ≡ false → (want : Wanted) (x : State) (g : Going) → IsAt m place want n g (parts told len b bs) a.work → IsSeenIn m false ones x g → IsPosedIn m x c
+            → IsServed (λ h p. IsAt m place want n h p y.work) m x c g came here) → EndsAlone told len faults m place c d f s u (Ok r)
+        EndsAlone-reads r came is serves_so =
+            EndsAlone-done told len faults m place c d f s u up r
+            (remains_alone told len faults m place d e s t last comes y.work {T = Unit {0}} {U = Reply} f u (Ok tt) (Ok r) (λ is. ok_err tt refusal.Fault is) remains)
+            (λ want x of posed. inl (moments want x of)) (λ off. none)
+            (λ want x of posed.
+            let did : IsServed (λ h p. IsAt m place want n h p y.work) m x c (going_alone x) (served.Read r) here =
+            subst (λ (one : Served). IsServed (λ h p. IsAt m place want n h p y.work) m x c (going_alone x) one here) is (serves_so still want x (going_alone x) (at_command want x of) (seen want x of) posed) in
+            read_so told len faults m place c d f s u up r want x (rests_so want x of) (read_given (extensions_of m) (view x) c r did.1)
+            (Steps-read_alone (extensions_of m) x c of.up (out want x of).none r did.0 did.1))
+
+  -- ---- the command was answered
+  pub has_answered : is_managing c ≡ false → (ones : List Savepoint) → ones ≡ [] → (answer : code.Answer) (came : Served) → came ≡ served.Worked answer → t.book.down ≡ false
+      → (t.book.down ≡ false → (want : Wanted) (x : State) (g : Going) → IsAt m place want n g (parts told len b bs) a.work → IsSeenIn m false ones x g → IsPosedIn m x c
+      → IsServed (λ h p. IsAt m place want n h p y.work) m x c g came here)
+      → HasAnswered told len faults m place c d e s t last y.work (answer_of answer)
+  has_answered works ones listed answer came is still serves_so = record {
+    works = works;
+    up = still;
+    comes = comes;
+    answers = λ want x of posed.
+        let did : IsServed (λ h p. IsAt m place want n h p y.work) m x c (going_alone x) (served.Worked answer) here =
+        subst (λ (one : Served). IsServed (λ h p. IsAt m place want n h p y.work) m x c (going_alone x) one here) is
+        (serves_so still want x (going_alone x) (at_command want x of) (seen_alone m place want x from ones listed of (out want x of).none) posed) in
+        let there = work_there (extensions_of m) (view x) c works did.1 in
+        record {
+          passed = did.0;
+          work = there.0;
+          is = there.1;
+          run = subst (λ (k : ℕ). MadeFrom (λ h p. IsAt m place want k h p y.work) there.0 (going_alone x) (answer_of answer) here) (sym last_number)
+              (at_some (work_of (extensions_of m) c) there.0 (λ work. MadeFrom (λ h p. IsAt m place want n h p y.work) work (going_alone x) (answer_of answer) here) there.1 did.2);
+        };
+  }

@@ -1,0 +1,181 @@
+-- How commands on relations end, by what they reply and by why they are refused.
+use Rattle.std.proofs.Common.{◌≡◌, ℕ, ◌+◌, Bool, true, false, List, [], ◌∷◌, map, Option, Some, None, IfSome, is_some, refl, sym, ap, ◌∙◌, subst}
+use Rattle.std.proofs.lemmas.Bool.{false≢true}
+use Rattle.sb_relation.specs.Db.{Name, Db}
+use Rattle.sb_fold.specs.declared.refusal.Refusal.{Refusal}
+use Rattle.sb_fold.specs.declared.refusal.Refusal.TheVariants as refusal
+use Rattle.sb_fold.specs.declared.refusal.Room.{Room}
+use Rattle.sb_fold.specs.Extensions.{Extensions}
+use Rattle.sb_fold.specs.Finish.{finish}
+use Rattle.sb_fold.specs.Outcome.{Going, Queue, Trail, Work, made, ◌>>=◌}
+use Rattle.sb_fold.proofs.LeadsLemmas.{leads_refused}
+use Rattle.sb_cascade.specs.Runs.{EndsBy, StopsFrom, is_free}
+use Rattle.sb_drive.specs.declared.space.SpaceFault.{SpaceFault}
+use Rattle.sb_engine.specs.Refusals.{HasCause}
+use Rattle.sb_engine.specs.Working.{extensions_of}
+use Rattle.sb_plain.specs.declared.command.Command.{Command}
+use Rattle.sb_plain.specs.declared.command.Command.TheVariants as command
+use Rattle.sb_plain.specs.declared.reply.Reply.{Reply}
+use Rattle.sb_plain.specs.declared.reply.Reply.TheVariants as reply
+use Rattle.sb_plain.specs.State.{downed}
+use Rattle.sb_plain.specs.Step.{Steps}
+use Rattle.sb_plain.specs.Reading.{read}
+use Rattle.sb_plain.specs.State.{Point as PlainPoint, State, Transaction, committed, no_queue, view}
+use Rattle.sb_plain.specs.Step.{Answer, work_of}
+use Rattle.sb_registry.specs.Boxes.{Meanings}
+use Rattle.sb_drive.specs.Spaces.{Wanted}
+use Rattle.sb_map.specs.declared.place.Place.{Place}
+use Rattle.sb_txn.specs.Clauses.{Parts}
+use Rattle.sb_engine.specs.declared.running.Work.{Work as EngineWork}
+use Rattle.sb_session.specs.declared.session.Open.{Open}
+use Rattle.sb_session.specs.declared.session.Savepoint.{Savepoint}
+use Rattle.sb_session.specs.Ends.{Ends, IsFree, IsStep, MayWant, ends_with}
+use Rattle.sb_session.specs.Sessions.{AreSavepoints, IsInside}
+use Rattle.sb_session.proofs.Carried.{Ends-given, end_of_given}
+use Rattle.sb_session.proofs.CommitSteps.{going_on}
+use Rattle.sb_execution.specs.Endings.{IsOf, going_alone}
+use Rattle.sb_execution.specs.Serving.{IsSeenIn, IsUnserved, Looked, Tested, Worked, is_managing}
+use Rattle.sb_execution.proofs.ReplyLemmas.{is_free_reply, refused_given}
+use Rattle.sb_execution.proofs.StepsOf.{Steps-refused_alone, Steps-refused_inside, Steps-stopped_alone, Steps-stopped_inside, with_open, with_spent_in}
+
+-- ---- replies that end no session
+pub ends_given : (r : Reply) → is_free_reply r ≡ false → ends_with r ≡ false
+ends_given (reply.Refused r) given = end_of_given r given
+ends_given r given = refl
+
+module _ (S : State → Type 0) (Lacks : Room → Type 0) (HasFailed : Type 0) (ext : Extensions) (s : State) (c : Command) where
+  pub Ends-stepped : (r : Reply) → is_free_reply r ≡ false → IsStep S ext s c r → Ends S Lacks HasFailed ext s c r
+  Ends-stepped (reply.Refused r) given step = Ends-given S Lacks HasFailed ext s c r given step
+  Ends-stepped r given step = step
+
+  -- by the kind of the refusal
+  pub Ends-by : (r : Refusal) → (is_free r ≡ false → IsStep S ext s c (reply.Refused r)) → ((room : Room) → r ≡ refusal.Room room → IsFree S (Lacks room) s s)
+      → (r ≡ refusal.NoMemory → IsFree S (MayWant s c) s s) → (r ≡ refusal.Fault → IsFree S HasFailed s (downed s)) → ((page : ℕ) → r ≡ refusal.Damaged page → ⊥)
+      → Ends S Lacks HasFailed ext s c (reply.Refused r)
+  Ends-by (refusal.Room room) step lacks wants failed damaged = lacks room refl
+  Ends-by refusal.NoMemory step lacks wants failed damaged = wants refl
+  Ends-by refusal.Fault step lacks wants failed damaged = failed refl
+  Ends-by (refusal.Damaged page) step lacks wants failed damaged = damaged page refl
+  Ends-by r step lacks wants failed damaged = Ends-given S Lacks HasFailed ext s c r refl (step refl)
+
+-- what stands for a state stands for it in another way too
+module _ (S T : State → Type 0) (Lacks : Room → Type 0) (HasFailed : Type 0) (ext : Extensions) (s : State) (c : Command) (wider : (t : State) → S t → T t) where
+  step_wider : (r : Reply) → IsStep S ext s c r → IsStep T ext s c r
+  step_wider r step = record { after = step.after; steps = step.steps; stands = wider step.after step.stands }
+
+  free_wider : (Cause : Type 0) (now : State) → IsFree S Cause s now → IsFree T Cause s now
+  free_wider Cause now free = record { up = free.up; cause = free.cause; stands = wider now free.stands }
+
+  pub Ends-as : (r : Reply) → Ends S Lacks HasFailed ext s c r → Ends T Lacks HasFailed ext s c r
+  Ends-as (reply.Refused (refusal.Room room)) ends = free_wider (Lacks room) s ends
+  Ends-as (reply.Refused refusal.NoMemory) ends = free_wider (MayWant s c) s ends
+  Ends-as (reply.Refused refusal.Fault) ends = free_wider HasFailed (downed s) ends
+  Ends-as (reply.Refused (refusal.Damaged page)) ends = ends
+  Ends-as (reply.Refused r) ends = step_wider (reply.Refused r) ends
+  Ends-as r ends = step_wider r ends
+
+-- and so it is where the disk failed a call for another reason
+pub Ends-since : (S : State → Type 0) (Lacks : Room → Type 0) (Failed HasFailed : Type 0) (ext : Extensions) (s : State) (c : Command) → (Failed → HasFailed)
+    → (r : Reply) → Ends S Lacks Failed ext s c r → Ends S Lacks HasFailed ext s c r
+Ends-since S Lacks Failed HasFailed ext s c since (reply.Refused refusal.Fault) ends = record { up = ends.up; cause = since ends.cause; stands = ends.stands }
+Ends-since S Lacks Failed HasFailed ext s c since (reply.Refused r) ends = ends
+Ends-since S Lacks Failed HasFailed ext s c since r ends = ends
+
+-- ---- commands that have work
+-- one that doesn't manage and doesn't read has some
+has_work : (ext : Extensions) (db : Db) (c : Command) → is_managing c ≡ false → read ext db c ≡ None → work_of ext c ≡ None → ⊥
+has_work ext db command.Tables works none without = cc
+has_work ext db c works none without = cc
+
+some_of : {A : Type 0} (o : Option A) → (o ≡ None → ⊥) → (x : A) × (o ≡ Some x)
+some_of None not = absurd (not refl)
+some_of (Some x) not = (x, refl)
+
+pub work_there : (ext : Extensions) (db : Db) (c : Command) → is_managing c ≡ false → read ext db c ≡ None → (work : Work Answer) × (work_of ext c ≡ Some work)
+work_there ext db c works none = some_of (work_of ext c) (has_work ext db c works none)
+
+pub at_some : {A : Type 0} (o : Option A) (x : A) (P : A → Type 0) → o ≡ Some x → IfSome o P → P x
+at_some {A = A} o x P is here = let Q : Option A → Type 0 = λ o. IfSome o P in subst Q is here
+
+-- memory may be wanting to it
+pub MayWant-works : (s : State) (c : Command) → is_managing c ≡ false → MayWant s c
+MayWant-works s command.Commit works = tt
+MayWant-works s command.Abort works = absurd (false≢true (sym works))
+MayWant-works s (command.Rollback name) works = absurd (false≢true (sym works))
+MayWant-works s c works = refl
+
+-- ---- commands that are refused
+module _ {N : Type 0} (Fails : SpaceFault → N → N → Type 0) (m : Meanings) (s : State) (c : Command) (works : is_managing c ≡ false) (r : Refusal) (new : N) where
+  abbrev ext : Extensions
+  ext = extensions_of m
+
+  abbrev Stopped : Refusal → Trail → N → Type 0
+  Stopped refusal trail x = HasCause Fails refusal x
+
+  -- for want of room or memory, or by a fault: what has the cause
+  pub unserved_cause : (g : Going) → IsUnserved Fails m s c g r new → is_free r ≡ true → HasCause Fails r new
+  unserved_cause g (Tested is) free = absurd (false≢true (sym (refused_given ext s c r is) ∙ free))
+  unserved_cause g (Worked passed none stops) free =
+      let there = work_there ext (view s) c works none in
+      let stop : StopsFrom Stopped there.0 g r new = at_some (work_of ext c) there.0 (λ work. StopsFrom Stopped work g r new) there.1 stops in
+      let broken : EndsBy Stopped true there.0 g r new = subst (λ (b : Bool). EndsBy Stopped b there.0 g r new) free stop in
+      broken.stopped
+  unserved_cause g (Looked free cause) also = cause
+
+  -- as the definitions say: it is a step
+  module _ (up : s.down ≡ false) (given : is_free r ≡ false) where
+    pub unserved_inside : (t : Transaction) → s.transaction ≡ Some t → IsUnserved Fails m s c (going_on t) r new
+        → (n : ℕ) × Steps ext s c (reply.Refused r) (with_open s (Some (with_spent_in n t)))
+    unserved_inside t inside (Tested is) = (t.spent + 1, Steps-refused_inside ext s c up t inside r is)
+    unserved_inside t inside (Worked passed none stops) =
+        let there = work_there ext (view s) c works none in
+        let stop : StopsFrom Stopped there.0 (going_on t) r new = at_some (work_of ext c) there.0 (λ work. StopsFrom Stopped work (going_on t) r new) there.1 stops in
+        let run : EndsBy Stopped false there.0 (going_on t) r new = subst (λ (b : Bool). EndsBy Stopped b there.0 (going_on t) r new) given stop in
+        (run.after.trail.spent, Steps-stopped_inside ext s c up t inside there.0 there.1 run.picks run.after r passed run.leads)
+    unserved_inside t inside (Looked free cause) = absurd (false≢true (sym given ∙ free))
+
+    pub unserved_alone : s.transaction ≡ None → IsUnserved Fails m s c (going_alone s) r new → Steps ext s c (reply.Refused r) (with_open s None)
+    unserved_alone outside (Tested is) = Steps-refused_alone ext s c up outside r is
+    unserved_alone outside (Worked passed none stops) =
+        let there = work_there ext (view s) c works none in
+        let stop : StopsFrom Stopped there.0 (going_alone s) r new = at_some (work_of ext c) there.0 (λ work. StopsFrom Stopped work (going_alone s) r new) there.1 stops in
+        let run : EndsBy Stopped false there.0 (going_alone s) r new = subst (λ (b : Bool). EndsBy Stopped b there.0 (going_alone s) r new) given stop in
+        Steps-stopped_alone ext s c up outside there.0 there.1 run.picks run.after r passed (leads_refused (λ (answer : Answer). finish ext >>= λ _. made answer) run.leads)
+    unserved_alone outside (Looked free cause) = absurd (false≢true (sym given ∙ free))
+
+-- ---- what is seen of a transaction
+module _ (m : Meanings) (place : Place) (want : Wanted) where
+  names_same : (tx : ℕ) (p : Parts) (w : EngineWork) (ones : List Savepoint) (points : List PlainPoint) → AreSavepoints m place want tx p w ones points
+      → map (λ (a : Savepoint). a.name) ones ≡ map (λ (a : PlainPoint). a.name) points
+  names_same tx p w [] [] are = refl
+  names_same tx p w (one ∷ ones) (point ∷ points) are =
+      ap (λ (n : Name). n ∷ map (λ (a : Savepoint). a.name) ones) are.0.name ∙ ap (λ (ns : List Name). point.name ∷ ns) (names_same tx p w ones points are.1)
+  names_same tx p w [] (point ∷ points) are = absurd are
+  names_same tx p w (one ∷ ones) [] are = absurd are
+
+  module _ (s : State) (p : Parts) where
+    pub seen_inside : (o : Open) (t : Transaction) (points : List Savepoint) → points ≡ o.points.items → IsOf m place want s p (Some o) → s.transaction ≡ Some t → IsInside m place want (committed s) p o t
+        → IsSeenIn m true points s (going_on t)
+    seen_inside o t points listed of is inside = record {
+      up = of.up;
+      db = ap (λ (t : Option Transaction). elim t as (λ c. Db) [ None ↦ committed s | Some t ↦ t.db ]) is;
+      queue = ap (λ (t : Option Transaction). elim t as (λ c. Queue) [ None ↦ no_queue | Some t ↦ t.queue ]) is;
+      live = of.live;
+      spare = of.spare;
+      inside = sym (ap (λ (t : Option Transaction). is_some t) is);
+      points = ap (λ (ones : List Savepoint). map (λ (a : Savepoint). a.name) ones) listed
+          ∙ names_same o.transaction.tx.store.number p o.transaction.work o.points.items t.points inside.points
+          ∙ sym (ap (λ (t : Option Transaction). map (λ (a : PlainPoint). a.name) (elim t as (λ c. List PlainPoint) [ None ↦ [] | Some t ↦ t.points ])) is);
+    }
+
+    pub seen_alone : (points : List Savepoint) → points ≡ [] → IsOf m place want s p None → s.transaction ≡ None → IsSeenIn m false points s (going_alone s)
+    seen_alone points none of is = record {
+      up = of.up;
+      db = ap (λ (t : Option Transaction). elim t as (λ c. Db) [ None ↦ committed s | Some t ↦ t.db ]) is;
+      queue = ap (λ (t : Option Transaction). elim t as (λ c. Queue) [ None ↦ no_queue | Some t ↦ t.queue ]) is;
+      live = of.live;
+      spare = of.spare;
+      inside = sym (ap (λ (t : Option Transaction). is_some t) is);
+      points = ap (λ (ones : List Savepoint). map (λ (a : Savepoint). a.name) ones) none
+          ∙ sym (ap (λ (t : Option Transaction). map (λ (a : PlainPoint). a.name) (elim t as (λ c. List PlainPoint) [ None ↦ [] | Some t ↦ t.points ])) is);
+    }

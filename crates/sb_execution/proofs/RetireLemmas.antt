@@ -1,0 +1,94 @@
+-- What becomes of a session whose command went through its tests in a transaction of its own.
+use Rattle.std.proofs.Common.{◌≡◌, ℕ, false, Option, None, Ok, inl, refl, sym, ap, ◌∙◌, subst}
+use Rattle.std.proofs.lemmas.Bool.{false≢true}
+use Rattle.std.proofs.Math.Bool.{or-false}
+use Rattle.sb_disk.specs.Disk.{Story}
+use Rattle.sb_disk.specs.Moments.{LeavesOnly}
+use Rattle.sb_disk.proofs.CauseLemmas.{Rose-later}
+use Rattle.sb_images.specs.Images.{Restores}
+use Rattle.sb_engine.specs.Working.{extensions_of}
+use Rattle.sb_fold.specs.declared.refusal.Refusal.TheVariants as refusal
+use Rattle.sb_plain.specs.declared.command.Command.{Command}
+use Rattle.sb_plain.specs.declared.reply.Reply.{Reply}
+use Rattle.sb_plain.specs.Refusing.{refused}
+use Rattle.sb_plain.specs.State.{State, Transaction as PlainTransaction, committed}
+use Rattle.sb_plain.specs.Step.{ok}
+use Rattle.sb_registry.specs.Boxes.{Meanings}
+use Rattle.sb_drive.specs.Spaces.{Wanted}
+use Rattle.sb_txn.specs.Clauses.{Parts}
+use Rattle.sb_vectors.specs.Vectors.{AreSameBoxes}
+use Rattle.sb_session.specs.declared.session.Open.{Open}
+use Rattle.sb_session.specs.declared.session.Session.{Session}
+use Rattle.sb_session.specs.Ends.{Ends}
+use Rattle.sb_session.specs.Sessions.{CanRun, HasFailed, IsFor, IsOpenFor, Keeps, Lacks, StandsFor, parts_of}
+use Rattle.sb_session.proofs.Carried.{CanRun-as, IsFor-as}
+use Rattle.sb_session.proofs.Commands.{outside_for}
+use Rattle.sb_execution.specs.Endings.{Executed, IsOf, Passes}
+use Rattle.sb_execution.proofs.CallLemmas.{ok_err, still_up}
+use Rattle.sb_execution.proofs.EndLemmas.{Ends-as, Ends-since}
+use Rattle.sb_execution.proofs.ExecLemmas.{Keeps-then}
+
+module _ {B D : Type 0} (meanings : B → Meanings) (told : D → Option Story) (len faults : D → ℕ) (c : Command) (d e : D) (x y : Session B)
+    (runs : CanRun meanings told len d x) (up : x.down ≡ false) (none : x.open ≡ None)
+    (boxes : y.boxes ≡ x.boxes) (place : y.place ≡ x.place) (down : y.down ≡ x.down) (opened : y.open ≡ x.open)
+    (passes : Passes told len faults (meanings x.boxes) x.place c d e x.space.store y.space.store) where
+  abbrev m : Meanings
+  m = meanings x.boxes
+
+  abbrev p : Parts
+  p = parts_of told len d x
+
+  abbrev q : Parts
+  q = parts_of told len e y
+
+  of_state : (want : Wanted) (s : State) → IsFor meanings told len want s d x → IsOf m x.place want s p None
+  of_state want s for =
+      let up_state : s.down ≡ false = sym for.down ∙ up in
+      record {
+        up = up_state;
+        live = for.live;
+        spare = for.spare;
+        stands = subst (λ (o : Option Open). IsOpenFor m x.place want (committed s) p o s.transaction) none (for.stands up_state);
+      }
+
+  -- it stands for the same state
+  pub IsFor-tested : (want : Wanted) (s : State) → IsFor meanings told len want s d x → IsFor meanings told len want s e y
+  IsFor-tested want s for =
+      IsFor-as meanings told len want s d e x y for want s None q (ap meanings boxes) place (opened ∙ none) refl (down ∙ for.down) refl refl
+      (λ on. subst (λ (a : Option PlainTransaction). IsOpenFor m x.place want (committed s) q None a) (sym (outside_for meanings told len faults d x runs up none want s for).none)
+      (passes.rests want s (of_state want s for)))
+
+  pub runs_tested : CanRun meanings told len e y
+  runs_tested =
+      CanRun-as meanings told len d e x y None q runs (ap meanings boxes) place (opened ∙ none) refl passes.remains.geometry passes.remains.ready
+      (λ on. still_up told len faults {T = Unit {0}} d e x.space.store y.space.store (Ok tt) passes.remains (λ is. ok_err tt refusal.Fault is)) (λ on. passes.none)
+
+  keeps_tested : Keeps len faults d e x y ok
+  keeps_tested = record {
+    size = passes.remains.size;
+    later = passes.remains.later;
+    geometry = passes.remains.geometry;
+    place = place;
+    down = down ∙ sym (or-false x.down);
+    ended = λ on. absurd (false≢true (sym up ∙ on));
+  }
+
+  -- and the command goes on, and asks nothing of the disk
+  pub Executed-tested : (f : D) (z : Session B) (r : Reply) → f ≡ e → AreSameBoxes (meanings y.boxes) (meanings z.boxes) → Keeps len faults e f y z r → CanRun meanings told len f z
+      → ((want : Wanted) (s : State) → IsFor meanings told len want s e y → refused (extensions_of m) s c ≡ None
+      → Ends (λ t. IsFor meanings told len want t f z) (Lacks faults) (HasFailed faults e f) (extensions_of (meanings y.boxes)) s c r)
+      → Executed meanings told len faults c d f x z r
+  Executed-tested f z r disk same keeps runs_on ends = record {
+    ends = λ want s for posed.
+        Ends-as (λ t. IsFor meanings told len want t f z) (λ t. StandsFor meanings told len t f z) (Lacks faults) (HasFailed faults d f) (extensions_of m) s c
+        (λ t is. record { want = want; is = is }) r
+        (Ends-since (λ t. IsFor meanings told len want t f z) (Lacks faults) (HasFailed faults e f) (HasFailed faults d f) (extensions_of m) s c
+        (Rose-later (faults d) (faults e) (faults f) passes.remains.later) r
+        (subst (λ (b : B). Ends (λ t. IsFor meanings told len want t f z) (Lacks faults) (HasFailed faults e f) (extensions_of (meanings b)) s c r) boxes
+        (ends want s (IsFor-tested want s for) (passes.passed want s (of_state want s for)))));
+    any_moment = λ want s for posed on.
+        inl (subst (λ (g : D). LeavesOnly (told d) (told g) (Restores x.space.store.pool.geometry want)) (sym disk) (passes.any_moment want s (of_state want s for)));
+    same = subst (λ (b : B). AreSameBoxes (meanings b) (meanings z.boxes)) boxes same;
+    keeps = Keeps-then len faults d e f x y z ok r up down keeps_tested keeps;
+    runs = runs_on;
+  }

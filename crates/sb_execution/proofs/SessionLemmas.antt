@@ -1,0 +1,108 @@
+-- What becomes of a session in a command on relations.
+use Rattle.std.proofs.Common.{◌≡◌, ◌||◌, ℕ, Bool, false, Option, Some, None, Result, sym, ap, ◌∙◌, subst}
+use Rattle.std.proofs.lemmas.Bool.{false≢true}
+use Rattle.sb_disk.specs.Disk.{Story}
+use Rattle.sb_fold.specs.declared.refusal.Refusal.{Refusal}
+use Rattle.sb_engine.specs.Working.{extensions_of}
+use Rattle.sb_plain.specs.declared.command.Command.{Command}
+use Rattle.sb_plain.specs.declared.reply.Reply.{Reply}
+use Rattle.sb_plain.specs.State.{State, committed}
+use Rattle.sb_registry.specs.Boxes.{Meanings}
+use Rattle.sb_drive.specs.Spaces.{Wanted}
+use Rattle.sb_txn.specs.Clauses.{Parts, parts, LeavesWanted}
+use Rattle.sb_space.specs.declared.transactions.Space.{Space}
+use Rattle.sb_transactions.specs.Calls.{Remains}
+use Rattle.sb_execution.specs.Serving.{IsPosedIn}
+use Rattle.sb_session.specs.declared.session.Open.{Open}
+use Rattle.sb_session.specs.declared.session.Session.{Session}
+use Rattle.sb_session.specs.Ends.{Ends, ends_with}
+use Rattle.sb_session.specs.Sessions.{CanRun, HasFailed, IsFor, IsOpenFor, Keeps, Lacks, LeavesOldOrNext, StandsFor, parts_of}
+use Rattle.sb_session.proofs.Carried.{CanRun-as, IsFor-as, leaves-for}
+use Rattle.sb_execution.specs.Endings.{EndsAlone, EndsInside, IsLeft, IsLeftSo, IsOf, reply_by}
+use Rattle.sb_execution.proofs.CallLemmas.{still_up}
+use Rattle.sb_execution.proofs.EndLemmas.{Ends-as}
+
+module _ {B D : Type 0} (meanings : B → Meanings) (told : D → Option Story) (len faults : D → ℕ) (c : Command) (d e : D) (x y : Session B)
+    (runs : CanRun meanings told len d x) (up : x.down ≡ false) (space : Space) (same : y.space ≡ space) (boxes : y.boxes ≡ x.boxes) (place : y.place ≡ x.place)
+    (result : Result Reply Refusal) (r : Reply) (replies : r ≡ reply_by result) (down : y.down ≡ (x.down || ends_with r)) where
+  abbrev m : Meanings
+  m = meanings x.boxes
+
+  abbrev p : Parts
+  p = parts_of told len d x
+
+  abbrev q : Parts
+  q = parts told len e space.store
+
+  same_boxes : meanings y.boxes ≡ meanings x.boxes
+  same_boxes = ap meanings boxes
+
+  now : parts_of told len e y ≡ q
+  now = ap (λ (a : Space). parts told len e a.store) same
+
+  ends : y.down ≡ ends_with (reply_by result)
+  ends = down ∙ ap (λ (b : Bool). b || ends_with r) up ∙ ap (λ (r : Reply). ends_with r) replies
+
+  of_state : (o : Option Open) → x.open ≡ o → (want : Wanted) (s : State) → IsFor meanings told len want s d x → IsOf m x.place want s p o
+  of_state o is want s for =
+      let up_state : s.down ≡ false = sym for.down ∙ up in
+      record {
+        up = up_state;
+        live = for.live;
+        spare = for.spare;
+        stands = subst (λ (o : Option Open). IsOpenFor m x.place want (committed s) p o s.transaction) is (for.stands up_state);
+      }
+
+  pub leaves_session : LeavesWanted p q → LeavesWanted p (parts_of told len e y)
+  leaves_session leaves = leaves-for meanings told len d e x y space same leaves
+
+  module _ (remains : Remains told len faults d e x.space.store space.store result) where
+    stays_up : y.down ≡ false → space.store.book.down ≡ false
+    stays_up on =
+        still_up told len faults d e x.space.store space.store result remains
+        (λ fault. absurd (false≢true (sym on ∙ ends ∙ ap (λ (a : Result Reply Refusal). ends_with (reply_by a)) fault)))
+
+    pub keeps_session : Keeps len faults d e x y r
+    keeps_session = record {
+      size = remains.size;
+      later = remains.later;
+      geometry = ap (λ (a : Space). a.store.pool.geometry) same ∙ remains.geometry;
+      place = place;
+      down = down;
+      ended = λ on. absurd (false≢true (sym up ∙ on));
+    }
+
+    -- ---- within a transaction
+    module _ (before after : Open) (some : x.open ≡ Some before) (put : y.open ≡ Some after)
+        (ended : EndsInside told len faults m x.place c d e x.space.store space.store before after result) where
+      pub ends_inside : (want : Wanted) (s : State) → IsFor meanings told len want s d x → IsPosedIn m s c
+          → Ends (λ t. IsFor meanings told len want t e y) (Lacks faults) (HasFailed faults d e) (extensions_of m) s c r
+      ends_inside want s for posed =
+          subst (λ (r : Reply). Ends (λ t. IsFor meanings told len want t e y) (Lacks faults) (HasFailed faults d e) (extensions_of m) s c r) (sym replies)
+          (Ends-as (IsLeft m x.place want s q (Some after) (reply_by result)) (λ t. IsFor meanings told len want t e y) (Lacks faults) (HasFailed faults d e) (extensions_of m) s c
+          (λ t left. IsFor-as meanings told len want s d e x y for want t (Some after) q same_boxes place put now (ends ∙ sym left.down) left.live left.spare left.stands)
+          (reply_by result) (ended.ends want s (of_state (Some before) some want s for) posed))
+
+      pub runs_inside : CanRun meanings told len e y
+      runs_inside = CanRun-as meanings told len d e x y (Some after) q runs same_boxes place put now remains.geometry remains.ready stays_up (λ on. ended.goes (sym ends ∙ on))
+
+    -- ---- outside of one
+    module _ (none : x.open ≡ None) (still : y.open ≡ None) (ended : EndsAlone told len faults m x.place c d e x.space.store space.store result) where
+      pub ends_alone : (want : Wanted) (s : State) → IsFor meanings told len want s d x → IsPosedIn m s c
+          → Ends (λ t. StandsFor meanings told len t e y) (Lacks faults) (HasFailed faults d e) (extensions_of m) s c r
+      ends_alone want s for posed =
+          subst (λ (r : Reply). Ends (λ t. StandsFor meanings told len t e y) (Lacks faults) (HasFailed faults d e) (extensions_of m) s c r) (sym replies)
+          (Ends-as (IsLeftSo m x.place s q None (reply_by result)) (λ t. StandsFor meanings told len t e y) (Lacks faults) (HasFailed faults d e) (extensions_of m) s c
+          (λ t left. record {
+            want = left.want;
+            is = IsFor-as meanings told len want s d e x y for left.want t None q same_boxes place still now (ends ∙ sym left.is.down) left.is.live left.is.spare left.is.stands;
+          })
+          (reply_by result) (ended.ends want s (of_state None none want s for) posed))
+
+      pub moments_alone : (want : Wanted) (s : State) → IsFor meanings told len want s d x → IsPosedIn m s c
+          → LeavesOldOrNext m x.place.root want (extensions_of m) s c p (parts_of told len e y)
+      moments_alone want s for posed =
+          subst (λ (q : Parts). LeavesOldOrNext m x.place.root want (extensions_of m) s c p q) (sym now) (ended.any_moment want s (of_state None none want s for) posed)
+
+      pub runs_alone : CanRun meanings told len e y
+      runs_alone = CanRun-as meanings told len d e x y None q runs same_boxes place still now remains.geometry remains.ready stays_up (λ on. ended.none (stays_up on))

@@ -1,0 +1,104 @@
+-- A command's work on an engine that is lent a space and what is kept beside it.
+use Rattle.std.proofs.Common.{ℕ, ◌+◌, [], append-nil, Option, Some, None, Result, Ok, Err, IfErr, IfOk, sym, subst}
+use Rattle.std.specs.Prelude.{IfSome}
+use Rattle.sb_fold.specs.declared.refusal.Refusal.{Refusal}
+use Rattle.sb_fold.specs.Outcome.{Going}
+use Rattle.sb_plain.specs.declared.command.Command.{Command}
+use Rattle.sb_plain.specs.State.{State}
+use Rattle.sb_plain.specs.Step.{Answer, work_of}
+use Rattle.sb_cascade.specs.Runs.{MadeFrom, StopsFrom}
+use Rattle.sb_registry.specs.Boxes.{Meanings}
+use Rattle.sb_drive.specs.declared.space.SpaceFault.{SpaceFault}
+use Rattle.sb_drive.specs.Slots.{Slots}
+use Rattle.sb_drive.specs.Spaces.{Wanted}
+use Rattle.sb_map.specs.declared.place.Place.{Place}
+use Rattle.sb_engine.specs.declared.running.Running.{Running}
+use Rattle.sb_engine.specs.declared.running.Work.{Work}
+use Rattle.sb_engine.specs.Goings.{front_none}
+use Rattle.sb_engine.specs.Refusals.{HasCause}
+use Rattle.sb_engine.specs.Working.{IsStoppedBy, Stands, StandsFor, extensions_of}
+use Rattle.sb_transactions.specs.Driven.{WorksOn}
+use Rattle.sb_transactions.proofs.FinishLemmas.{StopsFrom-map}
+use Rattle.sb_transactions.proofs.RunLemmas.{IsLent, parts-from, parts-to}
+use Rattle.sb_statements.specs.declared.answers.Answer.{Answer as Answered}
+use Rattle.sb_statements.specs.Statements.{IsDone, IsStopped, MayWork, answer_of}
+use Rattle.sb_execution.specs.declared.serving.Served.{Served}
+use Rattle.sb_execution.specs.declared.serving.Served.TheVariants as served
+use Rattle.sb_execution.specs.Serving.{IsRefusedIn, IsServed, IsUnserved, Looked, Makes, Tested, Worked}
+
+if_some : {A : Type 0} (o : Option A) (P Q : A → Type 0) → ((x : A) → P x → Q x) → IfSome o P → IfSome o Q
+if_some None P Q gives so = tt
+if_some (Some x) P Q gives so = gives x so
+
+-- what is made is so of another state
+pub Makes-map : {S T : Type 0} (P : Going → S → Type 0) (Q : Going → T → Type 0) (m : Meanings) (c : Command) (g : Going) (answer : Answer) (a : S) (b : T)
+    → ((h : Going) → P h a → Q h b) → Makes P m c g answer a → Makes Q m c g answer b
+Makes-map P Q m c g answer a b gives makes =
+    if_some (work_of (extensions_of m) c) (λ work. MadeFrom P work g answer a) (λ work. MadeFrom Q work g answer b)
+    (λ work from. record { picks = from.picks; after = from.after; leads = from.leads; stands = gives from.after from.stands }) makes
+
+pub IsRefusedIn-map : {S T : Type 0} (P : SpaceFault → S → S → Type 0) (Q : SpaceFault → T → T → Type 0) (m : Meanings) (c : Command) (g : Going) (r : Refusal) (a : S) (b : T)
+    → (HasCause P r a → HasCause Q r b) → IsRefusedIn P m c g r a → IsRefusedIn Q m c g r b
+IsRefusedIn-map P Q m c g r a b gives refused =
+    if_some (work_of (extensions_of m) c) (λ work. StopsFrom (λ refusal trail x. HasCause P refusal x) work g r a) (λ work. StopsFrom (λ refusal trail x. HasCause Q refusal x) work g r b)
+    (λ work stops. StopsFrom-map (λ refusal trail x. HasCause P refusal x) (λ refusal trail x. HasCause Q refusal x) work g r a b (λ trail. gives) stops) refused
+
+module _ {B S : Type 0} (Has : Wanted → Slots → S → Type 0) (Fails : SpaceFault → S → S → Type 0) (meanings : B → Meanings) (boxes : B) (place : Place) (x y : S) (w v : Work) (a b : Running B S)
+    (lent : IsLent boxes place x w a) (end : IsLent boxes place y v b) (c : Command) where
+  abbrev IsSo : Going → Meanings → Place → S → Work → Type 0
+  IsSo g m q z u = Stands Has m q.root g z u
+
+  stands_in : (g : Going) → Stands Has (meanings boxes) place.root g x w → StandsFor Has meanings g a
+  stands_in g stands = parts-to meanings boxes place x w a lent (IsSo g) stands
+
+  may_in : (g : Going) → MayWork (meanings boxes) g c → MayWork (meanings a.boxes.now) g c
+  may_in g may = subst (λ (d : B). MayWork (meanings d) g c) (sym lent.boxes_are) may
+
+  work-made : (answer : Answer) → IsDone Has meanings c a answer b → (g : Going) → Stands Has (meanings boxes) place.root g x w → MayWork (meanings boxes) g c
+      → Makes (λ h z. Stands Has (meanings boxes) place.root h z v) (meanings boxes) c g answer y
+  work-made answer done g stands may =
+      Makes-map (λ h d. StandsFor Has meanings h d) (λ h z. Stands Has (meanings boxes) place.root h z v) (meanings boxes) c g answer b y
+      (λ h so. parts-from meanings boxes place y v b end (IsSo h) so)
+      (subst (λ (d : B). Makes (λ h e. StandsFor Has meanings h e) (meanings d) c g answer b) lent.boxes_are (done g (stands_in g stands) (may_in g may)))
+
+  work-stopped : (r : Refusal) → IsStopped Has Fails meanings c a r b → (g : Going) → Stands Has (meanings boxes) place.root g x w → MayWork (meanings boxes) g c
+      → IsRefusedIn Fails (meanings boxes) c g r y
+  work-stopped r stopped g stands may =
+      if_some (work_of (extensions_of (meanings boxes)) c) (λ work. StopsFrom (IsStoppedBy Fails) work g r b) (λ work. StopsFrom (λ refusal trail z. HasCause Fails refusal z) work g r y)
+      (λ work stops. StopsFrom-map (IsStoppedBy Fails) (λ refusal trail z. HasCause Fails refusal z) work g r b y (λ trail is. subst (λ (z : S). HasCause Fails r z) end.space_is is) stops)
+      (subst (λ (d : B). IfSome (work_of (extensions_of (meanings d)) c) (λ work. StopsFrom (IsStoppedBy Fails) work g r b)) lent.boxes_are (stopped g (stands_in g stands) (may_in g may)))
+
+  pub works-made : (r : Result Answered Refusal) → IfOk r (λ answer. IsDone Has meanings c a (answer_of answer) b)
+      → IfOk r (λ answer. (g : Going) → Stands Has (meanings boxes) place.root g x w → MayWork (meanings boxes) g c
+      → Makes (λ h z. Stands Has (meanings boxes) place.root h z v) (meanings boxes) c g (answer_of answer) y)
+  works-made (Ok answer) done = work-made (answer_of answer) done
+  works-made (Err r) done = tt
+
+  pub works-stopped : (r : Result Answered Refusal) → IfErr r (λ e. IsStopped Has Fails meanings c a e b)
+      → IfErr r (λ e. (g : Going) → Stands Has (meanings boxes) place.root g x w → MayWork (meanings boxes) g c → IsRefusedIn Fails (meanings boxes) c g e y)
+  works-stopped (Ok answer) stopped = tt
+  works-stopped (Err r) stopped = work-stopped r stopped
+
+-- ---- a space that was only looked at
+pub looks_works : {S : Type 0} (Leads : ℕ → S → S → Type 0) (a b : S) (w : Work) → Leads 0 a b → WorksOn Leads a b w w
+looks_works Leads a b w leads = record { leads = (0, leads); queue = front_none w.queue; gone = ([], sym (append-nil w.gone.items)) }
+
+pub works_behind : {S : Type 0} (Leads : ℕ → S → S → Type 0) → ((k l : ℕ) (a b c : S) → Leads k a b → Leads l b c → Leads (k + l) a c)
+    → (a b c : S) (v w : Work) → Leads 0 a b → WorksOn Leads b c v w → WorksOn Leads a c v w
+works_behind Leads on a b c v w first works = record {
+  leads = (0 + works.leads.0, on 0 works.leads.0 a b c first works.leads.1);
+  queue = works.queue;
+  gone = works.gone;
+}
+
+-- ---- the same of what is served
+pub IsServed-map : {S T : Type 0} (P : Going → S → Type 0) (Q : Going → T → Type 0) (m : Meanings) (s : State) (c : Command) (g : Going) (x : Served) (a : S) (b : T)
+    → ((h : Going) → P h a → Q h b) → IsServed P m s c g x a → IsServed Q m s c g x b
+IsServed-map P Q m s c g (served.Read reply) a b gives is = (is.0, is.1, gives g is.2)
+IsServed-map P Q m s c g (served.Worked answer) a b gives is = (is.0, is.1, Makes-map P Q m c g (answer_of answer) a b gives is.2)
+
+pub IsUnserved-map : {S T : Type 0} (P : SpaceFault → S → S → Type 0) (Q : SpaceFault → T → T → Type 0) (m : Meanings) (s : State) (c : Command) (g : Going) (r : Refusal) (a : S) (b : T)
+    → (HasCause P r a → HasCause Q r b) → IsUnserved P m s c g r a → IsUnserved Q m s c g r b
+IsUnserved-map P Q m s c g r a b gives (Tested is) = Tested is
+IsUnserved-map P Q m s c g r a b gives (Worked none unread refused) = Worked none unread (IsRefusedIn-map P Q m c g r a b gives refused)
+IsUnserved-map P Q m s c g r a b gives (Looked free cause) = Looked free (gives cause)

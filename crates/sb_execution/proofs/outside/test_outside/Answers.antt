@@ -1,0 +1,103 @@
+use Rattle.std.proofs.Common.{[], refl, sym, ◌∙◌}
+use Rattle.sb_execution.proofs.AloneWork.{EndsAlone-failed, EndsAlone-looked, EndsAlone-not_begun, EndsAlone-tested, Passes-alone}
+use Rattle.sb_execution.proofs.outside.test_outside.Goals as goal
+
+pub returns-in-Err-clause-refused : goal.returns-in-Err-clause-refused
+returns-in-Err-clause-refused g c =
+    let told = g.D.Disk.told in
+    let len = g.D.Disk.len in
+    let faults = g.D.Disk.faults in
+    let m = g.B.Boxes.meanings c.args.boxes.now in
+    EndsAlone-not_begun told len faults m c.args.place c.args.command.now c.args.disk.now c.begin.new.disk c.args.space.now.store c.begin.new.space.store c.requires.up
+    c.in-Err.fault c.in-Err.ensures.remains c.in-Err.ensures.err c.in-Err.ensures.any_moment
+
+pub returns-in-Ok-None-clause-passes : goal.returns-in-Ok-None-clause-passes
+returns-in-Ok-None-clause-passes g c =
+    let told = g.D.Disk.told in
+    let len = g.D.Disk.len in
+    let faults = g.D.Disk.faults in
+    let m = g.B.Boxes.meanings c.args.boxes.now in
+    let place = c.args.place in
+    let d = c.args.disk.now in
+    let s = c.args.space.now.store in
+    let b = c.begin.new.disk in
+    let bs = c.begin.new.space.store in
+    let e = c.test_in-tested.new.disk in
+    let t = c.test_in-tested.new.space.store in
+    let f = c.abort.new.disk in
+    let u = c.abort.new.space.store in
+    let a = c.in-Ok.transaction in
+    let begun = c.in-Ok.ensures in
+    let tests = c.test_in-tested.ensures in
+    let ends = c.in-Ok-abort.ensures in
+    Passes-alone told len faults m place c.args.command.now d b e s bs t a a c.requires.up c.requires.owner begun.remains begun.any_moment begun.begun begun.at
+    refl tests.usable tests.led tests.begun f u ends.any_moment ends.remains ends.none ends.rests
+    [] refl (λ want x h at seen. sym c.in-Ok-None.field-0-is ∙ c.in-Ok-None.ensures.refused want x h at seen)
+
+pub returns-in-Ok-Some-clause-refused : goal.returns-in-Ok-Some-clause-refused
+returns-in-Ok-Some-clause-refused g c =
+    let told = g.D.Disk.told in
+    let len = g.D.Disk.len in
+    let faults = g.D.Disk.faults in
+    let m = g.B.Boxes.meanings c.args.boxes.now in
+    let place = c.args.place in
+    let d = c.args.disk.now in
+    let s = c.args.space.now.store in
+    let b = c.begin.new.disk in
+    let bs = c.begin.new.space.store in
+    let e = c.test_in-tested.new.disk in
+    let t = c.test_in-tested.new.space.store in
+    let f = c.abort.new.disk in
+    let u = c.abort.new.space.store in
+    let a = c.in-Ok.transaction in
+    let begun = c.in-Ok.ensures in
+    let tests = c.test_in-tested.ensures in
+    let ends = c.in-Ok-abort.ensures in
+    EndsAlone-tested told len faults m place c.args.command.now d b e s bs t a a c.requires.up c.requires.owner begun.remains begun.any_moment begun.begun begun.at
+    refl tests.usable tests.led tests.begun f u ends.any_moment ends.remains ends.none ends.rests
+    [] refl c.requires.may c.in-Ok-Some.refusal (λ want x h at seen. sym c.in-Ok-Some.field-0-is ∙ c.in-Ok-Some.ensures.refused want x h at seen)
+
+pub returns-in-Err-tested-clause-refused : goal.returns-in-Err-tested-clause-refused
+returns-in-Err-tested-clause-refused g c =
+    let told = g.D.Disk.told in
+    let len = g.D.Disk.len in
+    let faults = g.D.Disk.faults in
+    let m = g.B.Boxes.meanings c.args.boxes.now in
+    let place = c.args.place in
+    let d = c.args.disk.now in
+    let s = c.args.space.now.store in
+    let b = c.begin.new.disk in
+    let bs = c.begin.new.space.store in
+    let e = c.test_in-tested.new.disk in
+    let t = c.test_in-tested.new.space.store in
+    let f = c.abort.new.disk in
+    let u = c.abort.new.space.store in
+    let a = c.in-Ok.transaction in
+    let begun = c.in-Ok.ensures in
+    let tests = c.test_in-tested.ensures in
+    let ends = c.in-Ok-abort.ensures in
+    EndsAlone-looked told len faults m place c.args.command.now d b e s bs t a a c.requires.up c.requires.owner begun.remains begun.any_moment begun.begun begun.at
+    refl tests.usable tests.led tests.begun f u ends.any_moment ends.remains ends.none ends.rests
+    [] refl c.requires.may c.in-Err-tested.refusal c.in-Err-tested.ensures.free c.in-Err-tested.ensures.cause
+
+pub returns-in-Err-abort-clause-refused : goal.returns-in-Err-abort-clause-refused
+returns-in-Err-abort-clause-refused g c =
+    let told = g.D.Disk.told in
+    let len = g.D.Disk.len in
+    let faults = g.D.Disk.faults in
+    let m = g.B.Boxes.meanings c.args.boxes.now in
+    let place = c.args.place in
+    let d = c.args.disk.now in
+    let s = c.args.space.now.store in
+    let b = c.begin.new.disk in
+    let bs = c.begin.new.space.store in
+    let e = c.test_in-tested.new.disk in
+    let t = c.test_in-tested.new.space.store in
+    let f = c.abort.new.disk in
+    let u = c.abort.new.space.store in
+    let a = c.in-Ok.transaction in
+    let begun = c.in-Ok.ensures in
+    let tests = c.test_in-tested.ensures in
+    let ends = c.in-Err-abort.ensures in
+    EndsAlone-failed told len faults m place c.args.command.now d b e s bs t a a c.requires.up c.requires.owner begun.remains begun.any_moment begun.begun begun.at
+    refl tests.usable tests.led tests.begun f u ends.any_moment c.in-Err-abort.fault ends.remains ends.err

@@ -1,0 +1,78 @@
+use Rattle.std.proofs.Common.{◌∙◌}
+use Rattle.sb_execution.specs.Serving.{Worked}
+use Rattle.sb_execution.proofs.SeenLemmas.{stands-same}
+use Rattle.sb_execution.proofs.ServeLemmas.{look_refused, was_read, works_may}
+use Rattle.sb_execution.proofs.WorkLemmas.{looks_works, works_behind}
+use Rattle.sb_execution.proofs.serving.carry_out.Goals as goal
+
+pub returns-in-Ok-Some-clause-served : goal.returns-in-Ok-Some-clause-served
+returns-in-Ok-Some-clause-served g c = λ s h stands may.
+    let m = g.B.Boxes.meanings c.args.boxes.now in
+    let root = c.args.place.root in (
+      may.passed,
+      was_read g.S.PageSpace.has m root c.args.space.now c.args.work.now c.args.command.now s h stands may c.in-Ok-Some.field-0 c.in-Ok-Some.ensures.reply ∙ c.in-Ok-Some.field-0-is,
+      stands-same g.S.PageSpace.has m root h c.args.space.now c.read.new.space c.args.work.now stands (c.in-Ok-Some.ensures.looks.same stands.want stands.slots stands.has),
+    )
+
+pub returns-in-Ok-clause-served : goal.returns-in-Ok-clause-served
+returns-in-Ok-clause-served g c = λ s h stands may.
+    let m = g.B.Boxes.meanings c.args.boxes.now in
+    let root = c.args.place.root in (
+      may.passed,
+      was_read g.S.PageSpace.has m root c.args.space.now c.args.work.now c.args.command.now s h stands may c.in-Ok-None.field-0 c.in-Ok-None.ensures.reply ∙ c.in-Ok-None.field-0-is,
+      c.in-Ok.ensures.made h (stands-same g.S.PageSpace.has m root h c.args.space.now c.read.new.space c.args.work.now stands (c.in-Ok-None.ensures.looks.same stands.want stands.slots stands.has))
+          (works_may g.S.PageSpace.has m root c.args.space.now c.args.work.now c.args.command.now s h stands may),
+    )
+
+pub returns-in-Err-work_over-clause-refused : goal.returns-in-Err-work_over-clause-refused
+returns-in-Err-work_over-clause-refused g c = λ s h stands may.
+    let m = g.B.Boxes.meanings c.args.boxes.now in
+    let root = c.args.place.root in
+    Worked may.passed
+    (was_read g.S.PageSpace.has m root c.args.space.now c.args.work.now c.args.command.now s h stands may c.in-Ok-None.field-0 c.in-Ok-None.ensures.reply ∙ c.in-Ok-None.field-0-is)
+    (c.in-Err-work_over.ensures.refused h (stands-same g.S.PageSpace.has m root h c.args.space.now c.read.new.space c.args.work.now stands (c.in-Ok-None.ensures.looks.same stands.want stands.slots stands.has))
+    (works_may g.S.PageSpace.has m root c.args.space.now c.args.work.now c.args.command.now s h stands may))
+
+pub returns-in-Err-clause-refused : goal.returns-in-Err-clause-refused
+returns-in-Err-clause-refused g c = λ s h stands may.
+    look_refused g.S.PageSpace.has (g.B.Boxes.meanings c.args.boxes.now) c.args.place.root c.args.space.now c.args.work.now c.args.command.now s h stands may
+    g.S.PageSpace.fails (g.S.PageSpace.leads 0 c.args.space.now c.read.new.space) c.read.new.space c.in-Err.fault c.refusal_of.result c.refusal_of.ensures c.in-Err.ensures.looks.refused c.in-Err.ensures.undamaged
+
+-- ---- calls
+pub returns-in-Ok-Some-clause-works : goal.returns-in-Ok-Some-clause-works
+returns-in-Ok-Some-clause-works g c = looks_works g.S.PageSpace.leads c.args.space.now c.read.new.space c.args.work.now c.in-Ok-Some.ensures.looks.leads
+
+pub returns-in-Err-clause-works : goal.returns-in-Err-clause-works
+returns-in-Err-clause-works g c = looks_works g.S.PageSpace.leads c.args.space.now c.read.new.space c.args.work.now c.in-Err.ensures.looks.leads
+
+pub returns-in-Ok-clause-works : goal.returns-in-Ok-clause-works
+returns-in-Ok-clause-works g c =
+    works_behind g.S.PageSpace.leads g.met.S.PageSpace.goes_on c.args.space.now c.read.new.space c.work_over.new.space c.args.work.now c.work_over.new.work c.in-Ok-None.ensures.looks.leads c.in-Ok.ensures.works
+
+pub returns-in-Err-work_over-clause-works : goal.returns-in-Err-work_over-clause-works
+returns-in-Err-work_over-clause-works g c =
+    works_behind g.S.PageSpace.leads g.met.S.PageSpace.goes_on c.args.space.now c.read.new.space c.work_over.new.space c.args.work.now c.work_over.new.work c.in-Ok-None.ensures.looks.leads c.in-Err-work_over.ensures.works
+
+-- ---- it can be called
+pub read-requires-clause-ready : goal.read-requires-clause-ready
+read-requires-clause-ready g c = c.requires.ready.ready
+
+pub read-requires-clause-owner : goal.read-requires-clause-owner
+read-requires-clause-owner g c = c.requires.ready.owner
+
+pub work_over-requires : goal.work_over-requires
+work_over-requires g c = record {
+  ready = record { ready = c.in-Ok-None.ensures.ready; owner = c.requires.ready.owner; opened = c.requires.ready.opened; within = c.requires.ready.within };
+}
+
+pub returns-in-Ok-Some-clause-ready : goal.returns-in-Ok-Some-clause-ready
+returns-in-Ok-Some-clause-ready g c = record { ready = c.in-Ok-Some.ensures.ready; owner = c.requires.ready.owner; opened = c.requires.ready.opened; within = c.requires.ready.within }
+
+pub returns-in-Err-clause-ready : goal.returns-in-Err-clause-ready
+returns-in-Err-clause-ready g c = record { ready = c.in-Err.ensures.ready; owner = c.requires.ready.owner; opened = c.requires.ready.opened; within = c.requires.ready.within }
+
+pub returns-in-Ok-clause-ready : goal.returns-in-Ok-clause-ready
+returns-in-Ok-clause-ready g c = c.in-Ok.ensures.ready
+
+pub returns-in-Err-work_over-clause-ready : goal.returns-in-Err-work_over-clause-ready
+returns-in-Err-work_over-clause-ready g c = c.in-Err-work_over.ensures.ready

@@ -1,0 +1,52 @@
+use Rattle.std.proofs.Common.{◌∙◌, sym}
+use Rattle.sb_execution.specs.Serving.{Looked, Tested}
+use Rattle.sb_execution.proofs.ServeLemmas.{tested_served, tested_unserved}
+use Rattle.sb_execution.proofs.WorkLemmas.{looks_works, works_behind}
+use Rattle.sb_execution.proofs.serving.serve.Goals as goal
+
+pub returns-in-Ok-None-clause-served : goal.returns-in-Ok-None-clause-served
+returns-in-Ok-None-clause-served g c =
+    tested_served g.S.PageSpace.has g.S.PageSpace.fails (g.B.Boxes.meanings c.args.boxes.now) c.args.place.root c.args.inside c.args.points.now c.args.command.now
+    c.args.space.now c.refusal_over.new.space c.carry_out.new.space c.args.work.now c.carry_out.new.work
+    (λ s h stands seen. sym c.in-Ok-None.field-0-is ∙ c.in-Ok-None.ensures.refused s h stands seen) c.in-Ok-None.ensures.stands c.carry_out.result c.carry_out.ensures.served
+
+pub returns-in-Ok-None-clause-refused : goal.returns-in-Ok-None-clause-refused
+returns-in-Ok-None-clause-refused g c =
+    tested_unserved g.S.PageSpace.has g.S.PageSpace.fails (g.B.Boxes.meanings c.args.boxes.now) c.args.place.root c.args.inside c.args.points.now c.args.command.now
+    c.args.space.now c.refusal_over.new.space c.carry_out.new.space c.args.work.now c.carry_out.new.work
+    (λ s h stands seen. sym c.in-Ok-None.field-0-is ∙ c.in-Ok-None.ensures.refused s h stands seen) c.in-Ok-None.ensures.stands c.carry_out.result c.carry_out.ensures.refused
+
+pub returns-in-Ok-Some-clause-refused : goal.returns-in-Ok-Some-clause-refused
+returns-in-Ok-Some-clause-refused g c = λ s h stands seen posed. Tested (sym (c.in-Ok-Some.ensures.refused s h stands seen) ∙ c.in-Ok-Some.field-0-is)
+
+pub returns-in-Err-clause-refused : goal.returns-in-Err-clause-refused
+returns-in-Err-clause-refused g c = λ s h stands seen posed. Looked c.in-Err.ensures.free (c.in-Err.ensures.cause s h stands seen)
+
+-- ---- calls
+pub returns-in-Ok-None-clause-works : goal.returns-in-Ok-None-clause-works
+returns-in-Ok-None-clause-works g c =
+    works_behind g.S.PageSpace.leads g.met.S.PageSpace.goes_on c.args.space.now c.refusal_over.new.space c.carry_out.new.space c.args.work.now c.carry_out.new.work c.in-Ok-None.ensures.leads c.carry_out.ensures.works
+
+pub returns-in-Ok-Some-clause-works : goal.returns-in-Ok-Some-clause-works
+returns-in-Ok-Some-clause-works g c = looks_works g.S.PageSpace.leads c.args.space.now c.refusal_over.new.space c.args.work.now c.in-Ok-Some.ensures.leads
+
+pub returns-in-Err-clause-works : goal.returns-in-Err-clause-works
+returns-in-Err-clause-works g c = looks_works g.S.PageSpace.leads c.args.space.now c.refusal_over.new.space c.args.work.now c.in-Err.ensures.leads
+
+-- ---- it can be called
+pub refusal_over-requires : goal.refusal_over-requires
+refusal_over-requires g c = record { ready = c.requires.ready }
+
+pub carry_out-requires : goal.carry_out-requires
+carry_out-requires g c = record {
+  ready = record { ready = c.in-Ok-None.ensures.ready; owner = c.requires.ready.owner; opened = c.requires.ready.opened; within = c.requires.ready.within };
+}
+
+pub returns-in-Ok-None-clause-ready : goal.returns-in-Ok-None-clause-ready
+returns-in-Ok-None-clause-ready g c = c.carry_out.ensures.ready
+
+pub returns-in-Ok-Some-clause-ready : goal.returns-in-Ok-Some-clause-ready
+returns-in-Ok-Some-clause-ready g c = record { ready = c.in-Ok-Some.ensures.ready; owner = c.requires.ready.owner; opened = c.requires.ready.opened; within = c.requires.ready.within }
+
+pub returns-in-Err-clause-ready : goal.returns-in-Err-clause-ready
+returns-in-Err-clause-ready g c = record { ready = c.in-Err.ensures.ready; owner = c.requires.ready.owner; opened = c.requires.ready.opened; within = c.requires.ready.within }

@@ -1,0 +1,155 @@
+-- How commands on relations end, in an open transaction and in one of their own.
+use Rattle.std.specs.Prelude.{◌≡◌, ℕ, false, List, [], Option, Some, None, Result, Ok, Err}
+use Rattle.sb_disk.specs.Disk.{Story}
+use Rattle.sb_disk.specs.Moments.{LeavesOnly}
+use Rattle.sb_images.specs.Images.{Restores}
+use Rattle.sb_fold.specs.declared.refusal.Refusal.{Refusal}
+use Rattle.sb_fold.specs.Outcome.{Going, Work, begun}
+use Rattle.sb_cascade.specs.Runs.{MadeFrom}
+use Rattle.sb_plain.specs.declared.command.Command.{Command}
+use Rattle.sb_plain.specs.declared.reply.Reply.{Reply}
+use Rattle.sb_plain.specs.declared.reply.Reply.TheVariants.{Refused}
+use Rattle.sb_plain.specs.Refusing.{refused}
+use Rattle.sb_plain.specs.State.{State, committed, no_queue, none_gone}
+use Rattle.sb_plain.specs.Step.{Answer, answered, work_of}
+use Rattle.sb_registry.specs.Boxes.{Meanings}
+use Rattle.sb_drive.specs.Spaces.{Wanted}
+use Rattle.sb_map.specs.declared.place.Place.{Place}
+use Rattle.sb_txn.specs.Clauses.{Parts, parts, IsStoreOf, LeavesWanted}
+use Rattle.sb_txn.specs.State.{State as StoreState}
+use Rattle.sb_engine.specs.declared.running.Work.{Work as EngineWork}
+use Rattle.sb_engine.specs.Working.{extensions_of}
+use Rattle.sb_transactions.specs.Calls.{Remains}
+use Rattle.sb_transactions.specs.Commits.{IsLed, Mounted}
+use Rattle.sb_transactions.specs.Transactions.{IsAt, Rests, WasBegun}
+use Rattle.sb_vectors.specs.Vectors.{AreSameBoxes, live_codes, spare_codes}
+use Rattle.sb_execution.specs.Serving.{IsPosedIn, is_managing}
+use Rattle.sb_statements.specs.Statements.{answer_of}
+use Rattle.sb_session.specs.declared.session.Open.{Open}
+use Rattle.sb_session.specs.Ends.{Ends, ends_with}
+use Rattle.sb_session.specs.declared.session.Session.{Session}
+use Rattle.sb_session.specs.Sessions.{CanGoOn, CanRun, HasFailed, IsFor, IsOpenFor, Keeps, Lacks, LeavesOldOrNext, StandsFor, parts_of}
+use Rattle.sb_execution.specs.declared.serving.Served.{Served}
+use Rattle.sb_execution.specs.declared.serving.Served.TheVariants as served
+
+-- ---- replies
+-- what is replied of a result
+abbrev pub reply_by : Result Reply Refusal → Reply
+reply_by (Ok reply) = reply
+reply_by (Err r) = Refused r
+
+-- the picks were taken out of work, which is else as it was
+pub record IsTaken (old new : EngineWork) : Type 0 where
+  pub picks : new.picks.items ≡ []
+  pub opened : new.opened.items ≡ old.opened.items
+  pub queue : new.queue ≡ old.queue
+  pub done : new.done ≡ old.done
+  pub gone : new.gone.items ≡ old.gone.items
+
+-- what was read is the reply; or it is made of the answer and of what the work picked
+abbrev pub IsReplied : Served → EngineWork → EngineWork → Reply → Type 0
+IsReplied (served.Read reply) old new r = (r ≡ reply) × (new ≡ old)
+IsReplied (served.Worked answer) old new r = (r ≡ answered (answer_of answer) old.picks.items) × IsTaken old new
+
+-- ---- states
+-- a state that isn't down: the boxes have its codes, and a store with this transaction keeps its databases
+pub record IsOf (m : Meanings) (place : Place) (want : Wanted) (s : State) (p : Parts) (o : Option Open) : Type 0 where
+  pub up : s.down ≡ false
+  pub live : s.live ≡ live_codes m
+  pub spare : s.spare ≡ spare_codes m
+  pub stands : IsOpenFor m place want (committed s) p o s.transaction
+
+-- what a command with this reply leaves of it
+pub record IsLeft (m : Meanings) (place : Place) (want : Wanted) (s : State) (p : Parts) (o : Option Open) (reply : Reply) (t : State) : Type 0 where
+  pub down : t.down ≡ ends_with reply
+  pub live : t.live ≡ s.live
+  pub spare : t.spare ≡ s.spare
+  pub stands : t.down ≡ false → IsOpenFor m place want (committed t) p o t.transaction
+
+-- so it is with some pages wanted
+pub record IsLeftSo (m : Meanings) (place : Place) (s : State) (p : Parts) (o : Option Open) (reply : Reply) (t : State) : Type 0 where
+  pub want : Wanted
+  pub is : IsLeft m place want s p o reply t
+
+-- ---- in an open transaction
+-- A command in it ends well, with its pages as they were wanted, and the transaction can be worked in unless the session ends.
+pub record EndsInside {D : Type 0} (told : D → Option Story) (len faults : D → ℕ) (m : Meanings) (place : Place) (c : Command)
+    (d e : D) (s t : StoreState) (o now : Open) (result : Result Reply Refusal) : Type 0 where
+  pub ends : (want : Wanted) (x : State) → IsOf m place want x (parts told len d s) (Some o) → IsPosedIn m x c
+      → Ends (IsLeft m place want x (parts told len e t) (Some now) (reply_by result)) (Lacks faults) (HasFailed faults d e)
+      (extensions_of m) x c (reply_by result)
+  pub leaves : LeavesWanted (parts told len d s) (parts told len e t)
+  pub goes : ends_with (reply_by result) ≡ false → CanGoOn m place (parts told len e t) (Some now)
+  pub remains : Remains told len faults d e s t result
+
+-- ---- in a transaction of its own
+-- A command in it ends well, and the transaction is over then. What a crash leaves is what was wanted, or what a step of it commits.
+pub record EndsAlone {D : Type 0} (told : D → Option Story) (len faults : D → ℕ) (m : Meanings) (place : Place) (c : Command)
+    (d e : D) (s t : StoreState) (result : Result Reply Refusal) : Type 0 where
+  pub ends : (want : Wanted) (x : State) → IsOf m place want x (parts told len d s) None → IsPosedIn m x c
+      → Ends (IsLeftSo m place x (parts told len e t) None (reply_by result)) (Lacks faults) (HasFailed faults d e)
+      (extensions_of m) x c (reply_by result)
+  pub any_moment : (want : Wanted) (x : State) → IsOf m place want x (parts told len d s) None → IsPosedIn m x c
+      → LeavesOldOrNext m place.root want (extensions_of m) x c (parts told len d s) (parts told len e t)
+  pub none : t.book.down ≡ false → t.book.out ≡ []
+  pub remains : Remains told len faults d e s t result
+
+-- its work begins at the committed database, once the transaction itself was paid for
+abbrev pub going_alone : State → Going
+going_alone s = begun (committed s) no_queue none_gone 1 []
+
+-- The transaction was begun, and calls in it led here; to take out what they changed gives the database of the state.
+pub record ComesAlone {D : Type 0} (told : D → Option Story) (len faults : D → ℕ) (m : Meanings) (place : Place)
+    (d e : D) (s t : StoreState) (tx : ℕ) : Type 0 where
+  pub mid : Mounted D
+  pub first : Remains {T = Unit {0}} told len faults d mid.disk s mid.store (Ok tt)
+  pub leaves : LeavesWanted (parts told len d s) (parts told len mid.disk mid.store)
+  pub led : IsLed told len faults tx mid (record { disk = e; store = t })
+  pub store : (want : Wanted) (x : State) → IsOf m place want x (parts told len d s) None
+      → (was now : ℕ → List ℕ) × IsStoreOf want was (parts told len d s) × IsStoreOf want now (parts told len mid.disk mid.store)
+  pub begun : t.book.down ≡ false → (want : Wanted) (x : State) → IsOf m place want x (parts told len d s) None
+      → WasBegun m place.root want (committed x) tx (parts told len e t)
+
+-- No test refuses the command, whose work gives this answer.
+pub record Answers (m : Meanings) (place : Place) (want : Wanted) (c : Command) (x : State) (p : Parts) (tx : ℕ)
+    (w : EngineWork) (answer : Answer) : Type 0 where
+  pub passed : refused (extensions_of m) x c ≡ None
+  pub work : Work Answer
+  pub is : work_of (extensions_of m) c ≡ Some work
+  pub run : MadeFrom (λ h p. IsAt m place want tx h p w) work (going_alone x) answer p
+
+-- With work that gives the answer the transaction of the command has come here.
+pub record HasAnswered {D : Type 0} (told : D → Option Story) (len faults : D → ℕ) (m : Meanings) (place : Place) (c : Command)
+    (d e : D) (s t : StoreState) (tx : ℕ) (w : EngineWork) (answer : Answer) : Type 0 where
+  pub works : is_managing c ≡ false
+  pub up : t.book.down ≡ false
+  pub comes : ComesAlone told len faults m place d e s t tx
+  pub answers : (want : Wanted) (x : State) → IsOf m place want x (parts told len d s) None → IsPosedIn m x c
+      → Answers m place want c x (parts told len e t) tx w answer
+
+-- ---- tests in a transaction of their own
+-- No test refuses the command, the transaction is over, and the pages rest as they were.
+pub record Passes {D : Type 0} (told : D → Option Story) (len faults : D → ℕ) (m : Meanings) (place : Place) (c : Command)
+    (d e : D) (s t : StoreState) : Type 0 where
+  pub passed : (want : Wanted) (x : State) → IsOf m place want x (parts told len d s) None → refused (extensions_of m) x c ≡ None
+  pub rests : (want : Wanted) (x : State) → IsOf m place want x (parts told len d s) None
+      → Rests m place.root want (committed x) (parts told len e t)
+  pub any_moment : (want : Wanted) (x : State) → IsOf m place want x (parts told len d s) None
+      → LeavesOnly (told d) (told e) (Restores s.pool.geometry want)
+  pub none : t.book.out ≡ []
+  pub remains : Remains {T = Unit {0}} told len faults d e s t (Ok tt)
+
+-- ---- any command
+-- A command of the session ends well with this reply, and the boxes are the same ones. What a crash leaves is what was wanted, or what a step of it
+-- commits.
+pub record Executed {B D : Type 0} (meanings : B → Meanings) (told : D → Option Story) (len faults : D → ℕ) (c : Command)
+    (d e : D) (x y : Session B) (r : Reply) : Type 0 where
+  pub ends : (want : Wanted) (s : State) → IsFor meanings told len want s d x → IsPosedIn (meanings x.boxes) s c
+      → Ends (λ t. StandsFor meanings told len t e y) (Lacks faults) (HasFailed faults d e)
+      (extensions_of (meanings x.boxes)) s c r
+  pub any_moment : (want : Wanted) (s : State) → IsFor meanings told len want s d x → IsPosedIn (meanings x.boxes) s c
+      → s.down ≡ false
+      → LeavesOldOrNext (meanings x.boxes) x.place.root want (extensions_of (meanings x.boxes)) s c (parts_of told len d x) (parts_of told len e y)
+  pub same : AreSameBoxes (meanings x.boxes) (meanings y.boxes)
+  pub keeps : Keeps len faults d e x y r
+  pub runs : CanRun meanings told len e y

@@ -1,0 +1,5 @@
+pub mod Serving
+pub mod Endings
+pub mod Seen
+pub mod FewLaws
+pub mod SeenLaws

@@ -1,0 +1,80 @@
+-- What comes of a command on an engine, for a state of the plain database.
+use Rattle.std.specs.Prelude.{◌≡◌, Bool, true, false, List, map, Some, None, IfSome}
+use Rattle.sb_fold.specs.declared.refusal.Refusal.{Refusal}
+use Rattle.sb_fold.specs.Outcome.{Going, Queue}
+use Rattle.sb_plain.specs.declared.command.Command.{Command}
+use Rattle.sb_plain.specs.declared.command.Command.TheVariants as command
+use Rattle.sb_plain.specs.Reading.{read}
+use Rattle.sb_plain.specs.Refusing.{refused}
+use Rattle.sb_plain.specs.State.{State, is_inside, no_queue, points_of, view}
+use Rattle.sb_plain.specs.Step.{Answer, work_of}
+use Rattle.sb_cascade.specs.Runs.{MadeFrom, StopsFrom, is_free}
+use Rattle.sb_registry.specs.Boxes.{Meanings}
+use Rattle.sb_drive.specs.declared.space.SpaceFault.{SpaceFault}
+use Rattle.sb_engine.specs.Refusals.{HasCause}
+use Rattle.sb_engine.specs.Working.{extensions_of}
+use Rattle.sb_vectors.specs.Vectors.{live_codes, spare_codes}
+use Rattle.sb_session.specs.declared.session.Savepoint.{Savepoint}
+use Rattle.sb_statements.specs.Posed.{IsPosed, IsWhere}
+use Rattle.sb_statements.specs.Statements.{answer_of}
+use Rattle.sb_execution.specs.declared.serving.Served.{Served}
+use Rattle.sb_execution.specs.declared.serving.Served.TheVariants as served
+
+-- a command that changes a transaction or the boxes, and no relation
+abbrev pub is_managing : Command → Bool
+is_managing command.Begin = true
+is_managing command.Commit = true
+is_managing command.Abort = true
+is_managing (command.Savepoint name) = true
+is_managing (command.Rollback name) = true
+is_managing command.Checkpoint = true
+is_managing (command.Register method code) = true
+is_managing (command.Retire method code) = true
+is_managing c = false
+
+-- what waits in the transaction of a state
+abbrev pub waiting_in : State → Queue
+waiting_in s = elim s.transaction [ None ↦ no_queue | Some t ↦ t.queue ]
+
+-- The work is that of a state that isn't down, of whose transaction this is told.
+pub record IsSeenIn (m : Meanings) (within : Bool) (named : List Savepoint) (s : State) (g : Going) : Type 0 where
+  pub up : s.down ≡ false
+  pub db : view s ≡ g.db
+  pub queue : waiting_in s ≡ g.queue
+  pub live : s.live ≡ live_codes m
+  pub spare : s.spare ≡ spare_codes m
+  pub inside : within ≡ is_inside s
+  pub points : map (λ p. p.name) named ≡ map (λ p. p.name) (points_of s)
+
+-- the command may be carried out if no test refuses it
+abbrev pub IsPosedIn : Meanings → State → Command → Type 0
+IsPosedIn m s c = refused (extensions_of m) s c ≡ None → IsPosed m c
+
+-- no test refuses a posed command, and the work is that of the state
+pub record MayServe (m : Meanings) (s : State) (c : Command) (g : Going) : Type 0 where
+  pub posed : IsPosed m c
+  pub passed : refused (extensions_of m) s c ≡ None
+  pub is : IsWhere m s g
+
+-- the command has work, which gives the answer
+abbrev pub Makes : {S : Type 0} → (Going → S → Type 0) → Meanings → Command → Going → Answer → S → Type 0
+Makes IsSo m c g answer new = IfSome (work_of (extensions_of m) c) (λ work. MadeFrom IsSo work g answer new)
+
+-- or which is refused so, for a cause that the space has
+abbrev pub IsRefusedIn : {S : Type 0} → (SpaceFault → S → S → Type 0) → Meanings → Command → Going → Refusal → S → Type 0
+IsRefusedIn Fails m c g r new = IfSome (work_of (extensions_of m) c) (λ work. StopsFrom (λ refusal trail x. HasCause Fails refusal x) work g r new)
+
+-- A command that no test refuses reads its reply, and the work stands as it was; or its work gives the answer.
+abbrev pub IsServed : {S : Type 0} → (Going → S → Type 0) → Meanings → State → Command → Going → Served → S → Type 0
+IsServed IsSo m s c g (served.Read reply) new =
+    (refused (extensions_of m) s c ≡ None) × (read (extensions_of m) (view s) c ≡ Some reply) × IsSo g new
+IsServed IsSo m s c g (served.Worked answer) new =
+    (refused (extensions_of m) s c ≡ None) × (read (extensions_of m) (view s) c ≡ None) × Makes IsSo m c g (answer_of answer) new
+
+-- A command is refused: by a test; or by its work; or the space has refused a look at its pages.
+pub data IsUnserved {S : Type 0} (Fails : SpaceFault → S → S → Type 0) (m : Meanings) (s : State) (c : Command)
+    (g : Going) (r : Refusal) (new : S) : Type 0 where
+  Tested : refused (extensions_of m) s c ≡ Some r → IsUnserved Fails m s c g r new
+  Worked : refused (extensions_of m) s c ≡ None → read (extensions_of m) (view s) c ≡ None → IsRefusedIn Fails m c g r new
+      → IsUnserved Fails m s c g r new
+  Looked : is_free r ≡ true → HasCause Fails r new → IsUnserved Fails m s c g r new

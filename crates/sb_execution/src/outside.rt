@@ -1,0 +1,193 @@
+//! Commands outside of a transaction, each of which is one of its own.
+
+ghost use Rattle.std.specs.Prelude.{◌≡◌, ◌≤◌, [], false, Err, None, IfErr, OnOk};
+ghost use Rattle.sb_drive.specs.Spaces.{Wanted};
+ghost use Rattle.sb_engine.specs.Working.{extensions_of};
+ghost use Rattle.sb_plain.specs.State.{State};
+ghost use Rattle.sb_plain.specs.declared.command.Command.{Command as PlainCommand};
+ghost use Rattle.sb_execution.specs.Serving.{IsPosedIn, is_managing};
+ghost use Rattle.sb_statements.specs.Statements.{answer_of};
+ghost use Rattle.sb_execution.specs.Endings.{EndsAlone, HasAnswered, Passes};
+ghost use Rattle.sb_session.specs.Ends.{Ends, MayWant};
+ghost use Rattle.sb_session.specs.Sessions.{CanRun, HasFailed, IsFor, Keeps, Lacks, LeavesOldOrNext, StandsFor, parts_of};
+ghost use Rattle.sb_transactions.specs.Transactions.{IsUsable};
+ghost use Rattle.sb_txn.specs.Clauses.{parts, IsReady};
+ghost use Rattle.sb_txn.specs.State.{State as StoreState};
+
+use crate::replies::{replied, told};
+use crate::serving::{Served, serve_in, test_in};
+use sb_disk::Disk;
+use sb_fold::Refusal;
+use sb_map::Place;
+use sb_plain::{Command, Reply};
+use sb_session::Session;
+use sb_space::Space;
+use sb_statements::Answer;
+use sb_transactions::{Transaction, Uncommitted, abort, begin, commit};
+use sb_vectors::Vectors;
+use std::alloc::Global;
+
+/// Carries out a command that changes or reads relations in a transaction of its own: it is committed where the command changes something.
+pub(crate) fn exec_outside<B: Vectors, D: Disk>(
+    session: &mut Session<B>,
+    disk: &mut D,
+    alloc: Global,
+    command: &Command,
+) -> Reply
+    requires runs { CanRun B.meanings D.told D.len disk.old session.old }
+    requires up { session.old.down ≡ false }
+    requires none { session.old.open ≡ None }
+    requires works { is_managing command.now ≡ false }
+
+    ensures ends { (want : Wanted) (s : State) → IsFor B.meanings D.told D.len want s disk.old session.old → IsPosedIn (B.meanings session.old.boxes) s command.now
+        → Ends (λ t. StandsFor B.meanings D.told D.len t disk.new session.new) (Lacks D.faults) (HasFailed D.faults disk.old disk.new)
+        (extensions_of (B.meanings session.old.boxes)) s command.now result }
+    ensures any_moment { (want : Wanted) (s : State) → IsFor B.meanings D.told D.len want s disk.old session.old → IsPosedIn (B.meanings session.old.boxes) s command.now
+        → LeavesOldOrNext (B.meanings session.old.boxes) session.old.place.root want (extensions_of (B.meanings session.old.boxes)) s command.now
+        (parts_of D.told D.len disk.old session.old) (parts_of D.told D.len disk.new session.new) }
+    ensures boxes { session.new.boxes ≡ session.old.boxes }
+    ensures keeps { Keeps D.len D.faults disk.old disk.new session.old session.new result }
+    ensures runs { CanRun B.meanings D.told D.len disk.new session.new }
+{
+    let result = work_outside(
+        &session.boxes,
+        &mut session.space,
+        disk,
+        session.place,
+        alloc,
+        command,
+    );
+    told(session, result)
+}
+
+/// Begins a transaction, and ends it with the command.
+fn work_outside<B: Vectors, D: Disk>(
+    boxes: &B,
+    space: &mut Space,
+    disk: &mut D,
+    place: Place,
+    alloc: Global,
+    command: &Command,
+) -> Result<Reply, Refusal>
+    requires ready { IsReady (parts D.told D.len disk.old space.old.store) }
+    requires few { space.old.store.pool.geometry.pages ≤ 65536 }
+    requires none { space.old.store.book.out ≡ [] }
+    requires owner { place.owner ≡ 2 }
+    requires up { space.old.store.book.down ≡ false }
+    requires works { is_managing command.now ≡ false }
+    ensures { EndsAlone D.told D.len D.faults (B.meanings boxes.now) place command.now disk.old disk.new space.old.store space.new.store result }
+{
+    let mut transaction = match begin(space, disk, alloc) {
+        Ok(transaction) => transaction,
+        Err(fault) => return Err(fault),
+    };
+    let served = serve_in(
+        boxes,
+        space,
+        disk,
+        place,
+        &mut transaction,
+        &[],
+        false,
+        alloc,
+        command,
+    );
+    match served {
+        Ok(served) => {
+            if space.is_down() {
+                return Err(Refusal::Fault);
+            }
+            match served {
+                Served::Read(reply) => match abort(space, disk, transaction) {
+                    Ok(()) => Ok(reply),
+                    Err(fault) => Err(fault),
+                },
+                Served::Worked(answer) => {
+                    commit_answer(boxes, space, disk, place, transaction, answer, alloc)
+                }
+            }
+        }
+        Err(refusal) => match abort(space, disk, transaction) {
+            Ok(()) => Err(refusal),
+            Err(fault) => Err(fault),
+        },
+    }
+}
+
+/// Tests a command in a transaction of its own, which ends so. It does no work.
+pub(crate) fn test_outside<B: Vectors, D: Disk>(
+    boxes: &B,
+    space: &mut Space,
+    disk: &mut D,
+    place: Place,
+    alloc: Global,
+    command: &Command,
+) -> Result<(), Refusal>
+    requires ready { IsReady (parts D.told D.len disk.old space.old.store) }
+    requires few { space.old.store.pool.geometry.pages ≤ 65536 }
+    requires none { space.old.store.book.out ≡ [] }
+    requires owner { place.owner ≡ 2 }
+    requires up { space.old.store.book.down ≡ false }
+    requires may { (s : State) → MayWant s command.now }
+
+    ensures passes { OnOk result (Passes D.told D.len D.faults (B.meanings boxes.now) place command.now disk.old disk.new space.old.store space.new.store) }
+    ensures refused { IfErr result (λ r. EndsAlone D.told D.len D.faults (B.meanings boxes.now) place command.now disk.old disk.new space.old.store space.new.store
+        (Err r)) }
+{
+    let transaction = match begin(space, disk, alloc) {
+        Ok(transaction) => transaction,
+        Err(fault) => return Err(fault),
+    };
+    let tested = test_in(
+        boxes,
+        space,
+        disk,
+        place,
+        &transaction,
+        &[],
+        false,
+        alloc,
+        command,
+    );
+    match abort(space, disk, transaction) {
+        Ok(()) => match tested {
+            Ok(None) => Ok(()),
+            Ok(Some(refusal)) => Err(refusal),
+            Err(refusal) => Err(refusal),
+        },
+        Err(fault) => Err(fault),
+    }
+}
+
+/// Commits the transaction of a command that was answered so. It ends whatever comes.
+fn commit_answer<B: Vectors, D: Disk>(
+    boxes: &B,
+    space: &mut Space,
+    disk: &mut D,
+    place: Place,
+    transaction: Transaction,
+    answer: Answer,
+    alloc: Global,
+) -> Result<Reply, Refusal>
+    requires usable { IsUsable (B.meanings boxes.now) place transaction.tx.store.number (parts D.told D.len disk.old space.old.store) transaction.work }
+    ensures { (c : PlainCommand) (d : D) (s : StoreState)
+        → HasAnswered D.told D.len D.faults (B.meanings boxes.now) place c d disk.old s space.old.store transaction.tx.store.number transaction.work (answer_of answer)
+        → EndsAlone D.told D.len D.faults (B.meanings boxes.now) place c d disk.new s space.new.store result }
+{
+    match commit(boxes, space, disk, place, transaction, alloc) {
+        Ok(picks) => Ok(replied(answer, picks)),
+        Err(uncommitted) => {
+            let Uncommitted {
+                refusal,
+                transaction,
+            } = uncommitted;
+            match transaction {
+                Some(kept) => match abort(space, disk, kept) {
+                    Ok(()) => Err(refusal),
+                    Err(fault) => Err(fault),
+                },
+                None => Err(refusal),
+            }
+        }
+    }
+}

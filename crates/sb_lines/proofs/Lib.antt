@@ -1,0 +1,6 @@
+pub mod CutLemmas
+pub mod ItemsLemmas
+pub mod HeldLemmas
+pub mod InputLemmas
+pub mod LineEnds
+mod WorkedLines

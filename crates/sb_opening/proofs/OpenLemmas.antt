@@ -1,0 +1,274 @@
+-- A session that is opened, or isn't.
+use Rattle.std.proofs.Common.{◌≡◌, ◌⊎◌, ⊎_elim, inl, inr, ℕ, ◌<◌, ◌≤◌, true, false, Option, Some, None, is_some, Result, IsErrOf, List, [], refl, sym, ap, subst, ◌∙◌}
+use Rattle.std.specs.Result.{IsErrAnd}
+use Rattle.std.proofs.lemmas.Bool.{false≢true}
+use Rattle.sb_disk.specs.Causes.{Rose}
+use Rattle.sb_disk.specs.Disk.{Story, WhereTold}
+use Rattle.sb_disk.specs.Moments.{LeavesOnly}
+use Rattle.sb_disk.proofs.CauseLemmas.{Rose-later}
+use Rattle.sb_disk.proofs.MomentLemmas.{and_then, at_end, started}
+use Rattle.sb_images.specs.Images.{Restores}
+use Rattle.sb_images.specs.Store.{IfTold, IsMounted}
+use Rattle.sb_log.specs.declared.geometry.Geometry.{Geometry}
+use Rattle.sb_recover.specs.Restarted.{IsRestarted}
+use Rattle.sb_recover.specs.declared.fault.OpenFault.{OpenFault}
+use Rattle.sb_recover.specs.declared.fault.OpenFault.TheVariants.{Fault, TooSmall, NotStore, BadLog, MissingExtension, Damaged, BadExtensions, AlreadyStore, NoMemory}
+use Rattle.sb_relation.specs.Db.{Db}
+use Rattle.sb_registry.specs.Boxes.{Meanings}
+use Rattle.sb_drive.specs.Spaces.{Wanted}
+use Rattle.sb_map.specs.declared.place.Place.{Place}
+use Rattle.sb_standing.specs.Tables.{Kept, Tables}
+use Rattle.sb_opened.specs.Opened.{IsDurable}
+use Rattle.sb_txn.specs.Book.{Book}
+use Rattle.sb_txn.specs.Clauses.{Parts, parts, IsStoreOf}
+use Rattle.sb_txn.specs.Opened.{IsOpened}
+use Rattle.sb_txn.specs.State.{State}
+use Rattle.sb_space.specs.Opening.{IsFirstDamaged, IsSpace, NamesDamage, SpaceErr}
+use Rattle.sb_space.specs.Table.{IsTable, slots_in, table_len}
+use Rattle.sb_space.specs.Telling.{told_from, told_map}
+use Rattle.sb_space.specs.Transactions.{AreFormed}
+use Rattle.sb_space.specs.Works.{HasPages}
+use Rattle.sb_space.proofs.TablePages.{tables_by_pages}
+use Rattle.sb_transactions.specs.Transactions.{IsCommitted, Rests}
+use Rattle.sb_session.specs.declared.session.Session.{Session}
+use Rattle.sb_session.specs.Sessions.{CanRun, IsFor}
+use Rattle.sb_opening.specs.declared.codes.Named.{Named}
+use Rattle.sb_opening.specs.Looking.{IsLook, IsLookErr, IsUndamaged, OverCatalogue, RestsStill}
+use Rattle.sb_opening.specs.Naming.{HasLive, IsAbsent, all_live, first_absent, named_in}
+use Rattle.sb_opening.specs.Opening.{IsStored, MayRefuse, NamesTable, OpeningErr, WasLookedAt, opened}
+use Rattle.sb_opening.proofs.CommittedLemmas.{committed-live}
+
+-- ---- the space isn't opened
+was_looked_at : (old new : Option Story) → ((want : ℕ → List ℕ) (g : Geometry) → IsMounted want old g → LeavesOnly old new (Restores g want)) → (g : Geometry) → WhereTold old new (IsRestarted g) → WasLookedAt old new
+was_looked_at old new leaves g restarted = record {
+  between = new;
+  restarted = (g, restarted);
+  leaves = λ want h mounted. started new (Restores h want) (at_end old new (Restores h want) (leaves want h mounted));
+}
+
+module _ (old new : Option Story) where
+  pub OpeningErr-space : (e : OpenFault) → ((want : ℕ → List ℕ) (g : Geometry) → IsMounted want old g → LeavesOnly old new (Restores g want)) → SpaceErr e old new → OpeningErr e old new
+  OpeningErr-space (Damaged page) leaves err = was_looked_at old new leaves err.0 err.1
+  OpeningErr-space (MissingExtension code) leaves err = absurd err
+  OpeningErr-space NoMemory leaves (inl same) = inl same
+  OpeningErr-space NoMemory leaves (inr restarted) = inr (was_looked_at old new leaves restarted.0 restarted.1)
+  OpeningErr-space Fault leaves err = err
+  OpeningErr-space (TooSmall have need) leaves err = err
+  OpeningErr-space NotStore leaves err = err
+  OpeningErr-space (BadLog chunk offset) leaves err = err
+  OpeningErr-space (BadExtensions code) leaves err = err
+  OpeningErr-space AlreadyStore leaves err = err
+
+  pub NamesTable-space : (e : OpenFault) → NamesDamage e old → NamesTable e old
+  NamesTable-space (Damaged page) names = λ want g mounted.
+      told_map old (IsFirstDamaged g.pages want page) ((IsTable g.pages want → ⊥) → IsFirstDamaged g.pages want page) (λ first not. first) (names want g mounted)
+  NamesTable-space (MissingExtension code) names = tt
+  NamesTable-space NoMemory names = tt
+  NamesTable-space Fault names = tt
+  NamesTable-space (TooSmall have need) names = tt
+  NamesTable-space NotStore names = tt
+  NamesTable-space (BadLog chunk offset) names = tt
+  NamesTable-space (BadExtensions code) names = tt
+  NamesTable-space AlreadyStore names = tt
+
+  -- nothing is damaged where the contents stand for a database
+  never-damaged : (page : ℕ) (m : Meanings) (g : Geometry) (want : Wanted) (db : Db) → IsStored m old g want db → NamesDamage (Damaged page) old → ⊥
+  never-damaged page m g want db stored names =
+      let first = told_from old (IsFirstDamaged g.pages want page) stored.tells (names want g stored.mounted) in
+      first.damaged ((tables_by_pages g.pages want).0 stored.committed.formed.table page first.within)
+
+  pub MayRefuse-space : (n : Meanings) (e : OpenFault) → NamesDamage e old → SpaceErr e old new → (m : Meanings) (g : Geometry) (want : Wanted) (db : Db) (stored : IsStored m old g want db)
+      → MayRefuse n (named_in stored.committed.kept) e
+  MayRefuse-space n (Damaged page) names err m g want db stored = never-damaged page m g want db stored names
+  MayRefuse-space n (MissingExtension code) names err m g want db stored = absurd err
+  MayRefuse-space n NoMemory names err m g want db stored = tt
+  MayRefuse-space n Fault names err m g want db stored = tt
+  MayRefuse-space n (TooSmall have need) names err m g want db stored = tt
+  MayRefuse-space n NotStore names err m g want db stored = tt
+  MayRefuse-space n (BadLog chunk offset) names err m g want db stored = tt
+  MayRefuse-space n (BadExtensions code) names err m g want db stored = tt
+  MayRefuse-space n AlreadyStore names err m g want db stored = tt
+
+-- ---- it is opened
+-- a disk that tells nothing leaves nothing
+leaves_none : (a b : Option Story) (P Q : List ℕ → Type 0) → a ≡ None → LeavesOnly a b P → LeavesOnly a b Q
+leaves_none a None P Q none run = record { tells = run.tells; later = run.later; before = run.before; since = λ t image late left. absurd left }
+leaves_none a (Some s) P Q none run = absurd (false≢true (ap is_some (sym none) ∙ run.tells))
+
+told_or : (o : Option Story) (A : Type 0) → IfTold o A → (o ≡ None) ⊎ A
+told_or None A has = inl refl
+told_or (Some s) A has = inr has
+
+pub told_by : (o : Option Story) (A : Type 0) → (is_some o ≡ true → A) → IfTold o A
+told_by None A has = tt
+told_by (Some s) A has = has refl
+
+tells_then : (a b : Option Story) (g : Geometry) → WhereTold a b (IsRestarted g) → is_some a ≡ true → is_some b ≡ true
+tells_then None b g restart tells = absurd (false≢true tells)
+tells_then (Some s) None g restart tells = absurd restart
+tells_then (Some s) (Some t) g restart tells = refl
+
+none_then : (a b : Option Story) (g : Geometry) → WhereTold a b (IsRestarted g) → a ≡ None → b ≡ None
+none_then None b g restart none = restart
+none_then (Some s) b g restart none = absurd (false≢true (sym (ap is_some none)))
+
+module _ {D : Type 0} (told : D → Option Story) (len faults : D → ℕ) (d e : D) (s : State) (was : IsOpened (parts told len d s) (parts told len e s)) (space : IsSpace (parts told len e s)) where
+  abbrev mid : Parts
+  mid = parts told len e s
+
+  pub up-opened : s.book.down ≡ false
+  up-opened = ap (λ (b : Book). b.down) was.book
+
+  size_of : (want : ℕ → List ℕ) (g : Geometry) → IsMounted want (told d) g → is_some (told d) ≡ true → g ≡ s.pool.geometry
+  size_of want g mounted tells = told_from (told d) (g ≡ s.pool.geometry) tells (was.sizes want g mounted)
+
+  store_of : (want : ℕ → List ℕ) (g : Geometry) → IsMounted want (told d) g → IsStoreOf want want mid
+  store_of want g mounted = ([], [], was.pages want g mounted)
+
+  -- ---- a disk whose contents stand for a database
+  module _ (m : Meanings) (g : Geometry) (want : Wanted) (db : Db) (stored : IsStored m (told d) g want db) where
+    size : g ≡ s.pool.geometry
+    size = size_of want g stored.mounted stored.tells
+
+    pub has-stored : HasPages want (slots_in s.pool.geometry.pages want) mid
+    has-stored =
+        space.has want want (store_of want g stored.mounted) (tells_then (told d) (told e) s.pool.geometry was.restart stored.tells)
+        (λ n less. (stored.committed.formed.whole n (subst (λ (x : Geometry). n < x.pages) (sym size) less)).small)
+
+    formed-stored : AreFormed s.pool.geometry.pages want
+    formed-stored = subst (λ (x : Geometry). AreFormed x.pages want) size stored.committed.formed
+
+    pub over-stored : (root : ℕ) (IsSo : List Kept → Type 0) → root ≡ table_len s.pool.geometry.pages → OverCatalogue root mid IsSo → IsSo stored.committed.kept
+    over-stored root IsSo is over =
+        over (all_live m) want (slots_in s.pool.geometry.pages want) stored.committed.kept has-stored
+        (subst (λ (n : ℕ). Tables (all_live m) IsDurable n (slots_in s.pool.geometry.pages want) stored.committed.kept) (sym is)
+        (subst (λ (x : Geometry). Tables (all_live m) IsDurable (table_len x.pages) (slots_in x.pages want) stored.committed.kept) size stored.committed.keeps.tables))
+
+    pub rests-stored : (n : Meanings) (root : ℕ) (f : D) (t : State) → t.pool.geometry ≡ s.pool.geometry → root ≡ table_len s.pool.geometry.pages → RestsStill mid (parts told len f t)
+        → HasLive m (named_in stored.committed.kept) n → Rests n root want db (parts told len f t)
+    rests-stored n root f t same is still live = record {
+      has = still.has want (slots_in s.pool.geometry.pages want) formed-stored has-stored;
+      committed =
+          subst (λ (r : ℕ). IsCommitted n r t.pool.geometry.pages want db) (sym is)
+          (subst (λ (x : Geometry). IsCommitted n (table_len s.pool.geometry.pages) x.pages want db) (sym same)
+          (subst (λ (x : Geometry). IsCommitted n (table_len x.pages) x.pages want db) size (committed-live m n (table_len g.pages) g.pages want db stored.committed live)));
+    }
+
+  -- ---- the look at it
+  module _ (f : D) (t : State) (look : IsLook told len faults e f s t) where
+    leaves_between : (want : ℕ → List ℕ) (g : Geometry) → IsMounted want (told d) g → LeavesOnly (told e) (told f) (Restores g want)
+    leaves_between want g mounted =
+        let leaves : LeavesOnly (told e) (told f) (Restores s.pool.geometry want) = look.leaves.each want want (store_of want g mounted) in
+        ⊎_elim
+        (λ (none : told d ≡ None). leaves_none (told e) (told f) (Restores s.pool.geometry want) (Restores g want) (none_then (told d) (told e) s.pool.geometry was.restart none) leaves)
+        (λ (same : g ≡ s.pool.geometry). subst (λ (x : Geometry). LeavesOnly (told e) (told f) (Restores x want)) (sym same) leaves)
+        (told_or (told d) (g ≡ s.pool.geometry) (was.sizes want g mounted))
+
+    pub leaves-looked : ((want : ℕ → List ℕ) (g : Geometry) → IsMounted want (told d) g → LeavesOnly (told d) (told e) (Restores g want))
+        → (want : ℕ → List ℕ) (g : Geometry) → IsMounted want (told d) g → LeavesOnly (told d) (told f) (Restores g want)
+    leaves-looked first want g mounted = and_then (told d) (told e) (told f) (Restores g want) (first want g mounted) (leaves_between want g mounted)
+
+    looked-at : WasLookedAt (told d) (told f)
+    looked-at = record { between = told e; restarted = (s.pool.geometry, was.restart); leaves = leaves_between }
+
+    -- it was refused
+    pub OpeningErr-looked : (a b : ℕ) (x : OpenFault) → IsLookErr a b x → OpeningErr x (told d) (told f)
+    OpeningErr-looked a b Fault err = tt
+    OpeningErr-looked a b (Damaged page) err = looked-at
+    OpeningErr-looked a b NoMemory err = inr looked-at
+    OpeningErr-looked a b (MissingExtension code) err = absurd err
+    OpeningErr-looked a b (TooSmall have need) err = absurd err
+    OpeningErr-looked a b NotStore err = absurd err
+    OpeningErr-looked a b (BadLog chunk offset) err = absurd err
+    OpeningErr-looked a b (BadExtensions code) err = absurd err
+    OpeningErr-looked a b AlreadyStore err = absurd err
+
+    -- a box was missing
+    pub OpeningErr-absent : (absent : Option ℕ) (x : OpenFault) → IsAbsent absent x → OpeningErr x (told d) (told f)
+    OpeningErr-absent absent (MissingExtension code) err = looked-at
+    OpeningErr-absent absent NoMemory err = inr looked-at
+    OpeningErr-absent absent Fault err = absurd err
+    OpeningErr-absent absent (Damaged page) err = absurd err
+    OpeningErr-absent absent (TooSmall have need) err = absurd err
+    OpeningErr-absent absent NotStore err = absurd err
+    OpeningErr-absent absent (BadLog chunk offset) err = absurd err
+    OpeningErr-absent absent (BadExtensions code) err = absurd err
+    OpeningErr-absent absent AlreadyStore err = absurd err
+
+  -- the owner table has its form
+  pub NamesTable-opened : (x : OpenFault) → NamesTable x (told d)
+  NamesTable-opened (Damaged page) = λ want g mounted.
+      told_by (told d) ((IsTable g.pages want → ⊥) → IsFirstDamaged g.pages want page)
+      (λ tells not. absurd (not (subst (λ (x : Geometry). IsTable x.pages want) (sym (size_of want g mounted tells))
+      (space.table want want (store_of want g mounted) (tells_then (told d) (told e) s.pool.geometry was.restart tells)))))
+  NamesTable-opened (MissingExtension code) = tt
+  NamesTable-opened NoMemory = tt
+  NamesTable-opened Fault = tt
+  NamesTable-opened (TooSmall have need) = tt
+  NamesTable-opened NotStore = tt
+  NamesTable-opened (BadLog chunk offset) = tt
+  NamesTable-opened (BadExtensions code) = tt
+  NamesTable-opened AlreadyStore = tt
+
+  -- ---- the session
+  module _ {B : Type 0} (meanings : B → Meanings) (boxes : B) (f : D) (t : State) (place : Place) (same : t.pool.geometry ≡ s.pool.geometry) (still : RestsStill mid (parts told len f t)) where
+    abbrev session : Session B
+    session = record { boxes = boxes; space = record { store = t }; place = place; «open» = None; down = false }
+
+    pub IsFor-opened : (m : Meanings) (g : Geometry) (want : Wanted) (db : Db) (stored : IsStored m (told d) g want db) → place.root ≡ table_len s.pool.geometry.pages
+        → HasLive m (named_in stored.committed.kept) (meanings boxes) → IsFor meanings told len want (opened (meanings boxes) db) f session
+    IsFor-opened m g want db stored root live = record {
+      down = refl;
+      live = refl;
+      spare = refl;
+      stands = λ up. rests-stored m g want db stored (meanings boxes) place.root f t same root still live;
+    }
+
+    pub CanRun-opened : place.owner ≡ 2 → (old : Meanings) (named : List Named) → HasLive old named (meanings boxes) → CanRun meanings told len f session
+    CanRun-opened owner old named live = record {
+      ready = still.ready;
+      few = subst (λ (x : Geometry). x.pages ≤ 65536) (sym same) space.few;
+      owner = owner;
+      unique = live.unique;
+      up = λ up. still.up;
+      goes = λ up. still.none;
+    }
+
+-- ---- refusals behind the opening of the space
+pub MayRefuse-looked : (n : Meanings) (named : List Named) (a b : ℕ) (x : OpenFault) → IsLookErr a b x → IsUndamaged x → MayRefuse n named x
+MayRefuse-looked n named a b Fault err sound = tt
+MayRefuse-looked n named a b (Damaged page) err sound = sound
+MayRefuse-looked n named a b NoMemory err sound = tt
+MayRefuse-looked n named a b (MissingExtension code) err sound = absurd err
+MayRefuse-looked n named a b (TooSmall have need) err sound = tt
+MayRefuse-looked n named a b NotStore err sound = tt
+MayRefuse-looked n named a b (BadLog chunk offset) err sound = tt
+MayRefuse-looked n named a b (BadExtensions code) err sound = tt
+MayRefuse-looked n named a b AlreadyStore err sound = tt
+
+absent_same : (n : Meanings) (named : List Named) (x : OpenFault) → IsAbsent (first_absent n named) x → MayRefuse n named x
+absent_same n named (MissingExtension code) err = err
+absent_same n named NoMemory err = tt
+absent_same n named Fault err = tt
+absent_same n named (Damaged page) err = err
+absent_same n named (TooSmall have need) err = tt
+absent_same n named NotStore err = tt
+absent_same n named (BadLog chunk offset) err = tt
+absent_same n named (BadExtensions code) err = tt
+absent_same n named AlreadyStore err = tt
+
+pub MayRefuse-absent : (n : Meanings) (found named : List Named) (x : OpenFault) → found ≡ named → IsAbsent (first_absent n found) x → MayRefuse n named x
+MayRefuse-absent n found named x same err = subst (λ (ns : List Named). MayRefuse n ns x) same (absent_same n found x err)
+
+-- ---- faults
+handed : {T : Type 0} (r : Result T OpenFault) (x y : OpenFault) → IsErrAnd r (λ f. f ≡ x) → IsErrOf r y → x ≡ y
+handed {T} r x y is err = let same : y ≡ x = subst (λ (q : Result T OpenFault). IsErrAnd q (λ f. f ≡ x)) err is in sym same
+
+pub fault-looked : {T : Type 0} (r : Result T OpenFault) (a b c : ℕ) (x : OpenFault) → IsErrAnd r (λ f. f ≡ x) → a ≤ b → IsLookErr b c x → IsErrOf r Fault → Rose a c
+fault-looked r a b c x is before err fault = Rose-later a b c before (subst (λ (y : OpenFault). IsLookErr b c y) (handed r x Fault is fault) err)
+
+pub fault-absent : {T : Type 0} {A : Type 0} (r : Result T OpenFault) (absent : Option ℕ) (x : OpenFault) → IsErrAnd r (λ f. f ≡ x) → IsAbsent absent x → IsErrOf r Fault → A
+fault-absent r absent x is err fault = absurd (subst (λ (y : OpenFault). IsAbsent absent y) (handed r x Fault is fault) err)
+
+pub fault-space : {T : Type 0} (r : Result T OpenFault) (a b : ℕ) (x : OpenFault) → IsErrAnd r (λ f. f ≡ x) → (x ≡ Fault → Rose a b) → IsErrOf r Fault → Rose a b
+fault-space r a b x is rose fault = rose (handed r x Fault is fault)

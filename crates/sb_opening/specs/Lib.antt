@@ -1,0 +1,5 @@
+pub mod Naming
+pub mod Laws
+pub mod Opening
+pub mod Looking
+pub mod Creating
