@@ -1,0 +1,10 @@
+//! The words of the program's command line, read by `clap`.
+#![tactic(auto)]
+
+mod command;
+mod matches;
+#[cfg(test)]
+mod tests;
+mod words;
+
+pub use words::{Words, read_words};
