@@ -1,21 +1,17 @@
-//! The kernel: commands carried out behind boxed extensions.
+//! A kernel at work: lines of the command language are answered over a store, each before the next, and a crash at any moment leaves the commits that were
+//! acknowledged.
 #![tactic(auto)]
 
-mod asking;
-mod attaching;
-mod calling;
-mod carrying;
-mod changing;
-mod columns;
-mod finding;
-mod kept;
-mod kernel;
-mod limits;
-mod refusing;
-mod starting;
+mod answering;
+mod dialogue;
+mod ending;
+mod laws;
+mod serving;
+mod starts;
+mod writing;
 
-pub use kernel::Kernel;
-pub use starting::StartFault;
-
-#[cfg(test)]
-mod tests;
+pub use ending::{Ending, Stop};
+pub use laws::{held_images_are_stored, rests_are_held};
+pub use serving::serve;
+pub use starts::Starts;
+pub use writing::write_all;

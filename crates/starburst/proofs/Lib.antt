@@ -1,10 +1,3 @@
-pub mod Partly
-pub mod LineEnds
-pub mod Replied
-pub mod Answering
-pub mod Posed
-pub mod Replying
-pub mod Taking
-pub mod Serving
-pub mod Starting
-pub mod Worked
+pub mod StartLemmas
+pub mod EarlyLemmas
+pub mod RunLemmas

@@ -1,11 +1,3 @@
-pub mod Words
-pub mod Ending
-pub mod Writing
-pub mod Replying
-pub mod Causes
-pub mod Progress
-pub mod Session
-pub mod Starting
 pub mod Refusing
+pub mod Starting
 pub mod Run
-pub mod Serving

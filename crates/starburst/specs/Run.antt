@@ -1,106 +1,132 @@
--- A whole run: what was taken, what was answered and what was written.
-use Rattle.std.specs.Prelude.{◌≡◌, ◌⊎◌, ℕ, ◌<◌, ◌≤◌, Bool, true, false, List, [], ◌++◌, length, Option, Some}
-use Rattle.sb_disk.specs.Streams.{Taken, Given}
-use Rattle.sb_first.specs.declared.reply.Reply.{Reply}
-use Rattle.sb_first.specs.Lines.{Item, whole_lines, lines_of, asking, AreItems, AreFirstItems, Commands}
-use Rattle.sb_first.specs.First.{first_state}
-use Rattle.sb_first.specs.Step.{State}
-use Rattle.sb_first.specs.Plays.{Plays}
-use Rattle.sb_registry.specs.Boxes.{Meanings}
-use Rattle.sb_kernel.specs.Boxes.{boxes_of, codes_of}
+-- A whole run: what was taken, what was answered and written, and what a crash leaves.
+use Rattle.std.specs.Prelude.{◌≡◌, ◌⊎◌, ◌↔◌, ℕ, suc, ◌<◌, ◌≤◌, Bool, true, false, is_some, List, [], Option, None, Some, Ok}
+use Rattle.sb_disk.specs.Causes.{Rose}
+use Rattle.sb_disk.specs.Disk.{Mounted, Story}
+use Rattle.sb_disk.specs.Moments.{IsSettled, LeavesOnly, MayLeave, moment}
+use Rattle.sb_log.specs.declared.geometry.Geometry.{Geometry}
+use Rattle.sb_images.specs.Images.{Restores}
+use Rattle.sb_images.specs.Layout.{need}
+use Rattle.sb_images.specs.Store.{IsMounted}
+use Rattle.sb_recover.specs.declared.fault.OpenFault.{OpenFault}
+use Rattle.sb_recover.specs.declared.fault.OpenFault.TheVariants.{BadExtensions, Fault, TooSmall}
+use Rattle.sb_recover.specs.Formatting.{IsFormatting, KeepsStore}
+use Rattle.sb_recover.specs.Geometries.{HoldsNone}
+use Rattle.sb_recover.specs.SuperPage.{IsNoStore, geometry_of}
+use Rattle.sb_relation.specs.Db.{Db}
+use Rattle.sb_plain.specs.declared.reply.Reply.{Reply}
+use Rattle.sb_grammar.specs.Columns.{Item}
+use Rattle.sb_posing.specs.Posing.{AreSingle}
+use Rattle.sb_registry.specs.Boxes.{Meanings, repeated_in}
+use Rattle.sb_drive.specs.Spaces.{Wanted}
+use Rattle.sb_opening.specs.declared.codes.Named.{Named}
+use Rattle.sb_opening.specs.Creating.{CreateErr}
+use Rattle.sb_opening.specs.Naming.{HasLive, all_live, named_in}
+use Rattle.sb_opening.specs.Opening.{IsStored, MayRefuse, NamesTable, OpeningErr, opened}
+use Rattle.sb_kernel.specs.declared.ending.Ending.{Ending}
+use Rattle.sb_kernel.specs.Crashes.{Holds, next_start}
+use Rattle.sb_kernel.specs.Ending.{status_of}
+use Rattle.sb_kernel.specs.Runs.{HasPlayedOut}
+use Rattle.sb_kernel.specs.Serving.{HasEndedSo}
+use Rattle.sb_words.specs.declared.words.Words.{Words}
+use Rattle.sb_words.specs.Words.{IsRead, IsRefused}
 use Rattle.starburst.specs.declared.report.Report.{Report}
-use Rattle.starburst.specs.declared.ending.Ending.{Ending}
-use Rattle.starburst.specs.declared.ending.Ending.TheVariants.{InputEnded, SourceFailed, MostTaken, Stopped}
-use Rattle.starburst.specs.Words.{are_words, words_line}
-use Rattle.starburst.specs.Ending.{status_of, AreReplied, WritesAtEnd}
-use Rattle.starburst.specs.Starting.{CanStart, refusal_line}
-use Rattle.starburst.specs.Refusing.{WritesRefusal}
+use Rattle.starburst.specs.Refusing.{IsRefusedBy, RefusesWords, WritesNothing}
 
--- what the source has left and the sink holds, where they tell it
-pub record Told : Type 0 where
+-- the bytes that the source has left and those that the sink holds, where they tell them
+pub record Seen : Type 0 where
   pub left : Option (List ℕ)
   pub held : Option (List ℕ)
 
-abbrev pub told : Option (List ℕ) → Option (List ℕ) → Told
-told left held = record { left = left; held = held }
+abbrev pub seen : Option (List ℕ) → Option (List ℕ) → Seen
+seen left held = record { left = left; held = held }
 
--- The items answered are those of the whole input, or of all whole lines taken, or, where a line couldn't be answered, of the first lines taken.
-abbrev pub Answers : Ending → List ℕ → List Item → Type 0
-Answers InputEnded taken items = Commands taken items
-Answers SourceFailed taken items = AreItems (asking (whole_lines taken)) items
-Answers MostTaken taken items = AreItems (asking (whole_lines taken)) items
-Answers (Stopped stop) taken items = AreFirstItems (asking (lines_of taken)) items
+-- what a disk tells, and how often it has failed
+pub record Tells (D : Type 0) : Type 0 where
+  pub told : D → Option Story
+  pub len : D → ℕ
+  pub faults : D → ℕ
 
--- Where the input has ended nothing is left.
-abbrev pub Leaves : Ending → Option (List ℕ) → Type 0
-Leaves InputEnded left = (rest : List ℕ) → left ≡ Some rest → rest ≡ []
-Leaves _ left = Unit {0}
+abbrev pub tells : {D : Type 0} → (D → Option Story) → (D → ℕ) → (D → ℕ) → Tells D
+tells told len faults = record { told = told; len = len; faults = faults }
 
--- how many bytes a run takes: the source is asked for more only below the most
-abbrev pub TakesUpTo : ℕ → Ending → ℕ → Type 0
-TakesUpTo most InputEnded count = count < most
-TakesUpTo most SourceFailed count = count < most
-TakesUpTo most MostTaken count = count ≡ most
-TakesUpTo most (Stopped stop) count = count ≤ most
+-- ---- runs that begin
+-- The items had these replies in a play from the database, with those of the boxes live that were, and the named ones. From the mount until the
+-- first item began, a crash left what is said of early images.
+pub record HasPlayedFrom {D : Type 0} (d : Tells D) (m : Meanings) (named : List Named) (IsEarly : List ℕ → Type 0) (db : Db) (mounted now : D)
+    (items : List Item) (replies : List Reply) (starts : List ℕ) : Type 0 where
+  pub boxes : Meanings
+  pub live : HasLive m named boxes
+  pub first : D
+  pub early : (t : ℕ) (image : List ℕ) → moment (d.told mounted) ≤ t → t < next_start starts (suc (moment (d.told now)))
+      → MayLeave (d.told now) t image → IsEarly image
+  pub played : HasPlayedOut d.told d.faults m first (opened boxes db) items replies starts now
 
--- When the source was asked for the last piece, the replies to all lines that had ended were written.
-pub record KeepsUp (taken : List ℕ) (replies : List Reply) (written : List ℕ) : Type 0 where
-  pub before : List ℕ
-  pub piece : List ℕ
-  pub is : taken ≡ before ++ piece
-  pub short : length piece ≤ 4096
-  pub replied : AreReplied (whole_lines before) replies written
+-- Over contents that stand for a database the play is from it, and early images hold it. A disk without a store becomes a new one, whose database
+-- is empty.
+abbrev pub PlaysFrom : {D : Type 0} → Tells D → Meanings → (create : Bool) → (mounted now : D) → List ℕ → List Item → List Reply → Type 0
+PlaysFrom d m false mounted now starts items replies =
+    (g : Geometry) (want : Wanted) (db : Db) (stored : IsStored m (d.told mounted) g want db) → AreSingle (all_live m)
+    → HasPlayedFrom d m (named_in stored.committed.kept) (λ image. Holds m image db) db mounted now items replies starts
+PlaysFrom d m true mounted now starts items replies =
+    is_some (d.told mounted) ≡ true → IsSettled (d.told mounted) → AreSingle (all_live m)
+    → HasPlayedFrom d m [] (λ image. IsNoStore image ⊎ Holds m image []) [] mounted now items replies starts
 
--- Where a line couldn't be answered, the run had kept up until the last piece; at any other end all replies are written.
-abbrev pub WritesInTime : Ending → List ℕ → List Reply → List ℕ → Type 0
-WritesInTime (Stopped stop) taken replies written = KeepsUp taken replies written
-WritesInTime _ taken replies written = Unit {0}
-
--- a run that has begun, with the items begun, their replies and the states after them
-pub record HasPlayed (m : Meanings) (most : ℕ) (old new : Told) (ending : Ending) (starts : List ℕ) : Type 0 where
-  pub taken : List ℕ
-  pub written : List ℕ
-  pub items : List Item
-  pub replies : List Reply
-  pub states : List State
-  pub is_taken : Taken old.left new.left taken
-  pub is_written : Given old.held new.held written
-  pub begun : length items ≡ length starts
-  pub answers : Answers ending taken items
-  pub leaves : Leaves ending new.left
-  pub within : TakesUpTo most ending (length taken)
-  pub plays : Plays (boxes_of m) (first_state (codes_of m)) items replies states
-  pub writes : WritesAtEnd ending replies written
-  pub in_time : WritesInTime ending taken replies written
-
--- memory was wanting before anything was read
-pub record RanOut (old new : Told) (report : Report) : Type 0 where
-  pub status : report.status ≡ 7
-  pub starts : report.starts ≡ []
-  pub same : new ≡ old
-
--- a run that has begun, with boxes with which a kernel starts, or that ended before anything was read
-pub record HasRun (m : Meanings) (most : ℕ) (old new : Told) (report : Report) : Type 0 where
+-- a store was opened, or made and opened, and items were answered until the run ended
+pub record HasRun {D : Type 0} (d : Tells D) (m : Meanings) (create : Bool) (most : ℕ) (old new : Seen) (mounted now : D) (report : Report) : Type 0 where
   pub ending : Ending
-  pub started : CanStart m ⊎ RanOut old new report
   pub status : report.status ≡ status_of ending
-  pub played : HasPlayed m most old new ending report.starts
+  pub ended : HasEndedSo most old.left new.left old.held new.held ending report.starts (PlaysFrom d m create mounted now report.starts)
 
--- a run that is refused with this status and this line, and reads nothing
-pub record HasRefused (refused : ℕ) (line : List ℕ) (old new : Told) (report : Report) : Type 0 where
+-- ---- runs that don't begin
+-- the disk failed a call, where the refusal says so
+abbrev pub HasFailedIf : {D : Type 0} → Tells D → OpenFault → D → D → Type 0
+HasFailedIf d e mounted now = e ≡ Fault → Rose (d.faults mounted) (d.faults now)
+
+-- Why the store that a disk holds isn't opened. All along a crash leaves what restores the same pages.
+pub record IsNotOpened {D : Type 0} (d : Tells D) (m : Meanings) (e : OpenFault) (mounted now : D) : Type 0 where
+  pub missing : (n : Meanings) (g : Geometry) (want : Wanted) (db : Db) (stored : IsStored n (d.told mounted) g want db)
+      → MayRefuse m (named_in stored.committed.kept) e
+  pub table : NamesTable e (d.told mounted)
+  pub refused : OpeningErr e (d.told mounted) (d.told now)
+  pub leaves : (want : ℕ → List ℕ) (g : Geometry) → IsMounted want (d.told mounted) g → LeavesOnly (d.told mounted) (d.told now) (Restores g want)
+  pub fault : HasFailedIf d e mounted now
+
+-- Why no store is made, or the one that was made isn't opened. A store that is there stays as it is; else a crash leaves none all along, or a new one.
+pub record IsNotMade {D : Type 0} (d : Tells D) (g : Geometry) (e : OpenFault) (mounted now : D) : Type 0 where
+  pub small : (e ≡ TooSmall (d.len mounted) (need g.pages g.log)) ↔ (d.len mounted < need g.pages g.log)
+  pub refused : CreateErr d.told e (d.len mounted) g mounted now
+  pub keeps : KeepsStore (d.told mounted) (d.told now)
+  pub leaves : IsSettled (d.told mounted) → HoldsNone (d.told mounted) → LeavesOnly (d.told mounted) (d.told now) (IsFormatting g)
+  pub fault : HasFailedIf d e mounted now
+
+abbrev pub IsNoSession : {D : Type 0} → Tells D → Meanings → Words → (create : Bool) → OpenFault → D → D → Type 0
+IsNoSession d m words false e mounted now = IsNotOpened d m e mounted now
+IsNoSession d m words true e mounted now = IsNotMade d (geometry_of words.pages words.log) e mounted now
+
+-- What comes of a run over a mounted disk: there is no session over its store, and nothing is read; or items are answered.
+pub data RunsMounted {D : Type 0} (d : Tells D) (m : Meanings) (words : Words) (most : ℕ) (old new : Seen) (mounted now : D) (report : Report)
+    : Type 0 where
+  NotBegun : (e : OpenFault) → IsNoSession d m words words.create e mounted now → new.left ≡ old.left → IsRefusedBy e old.held new.held report
+      → RunsMounted d m words most old new mounted now report
+  Run : HasRun d m words.create most old new mounted now report → RunsMounted d m words most old new mounted now report
+
+-- the disk couldn't be mounted
+pub record HasNotMounted {D : Type 0} (d : Tells D) (old new : Seen) (disk now : D) (report : Report) : Type 0 where
   pub reads : new.left ≡ old.left
-  pub writes : WritesRefusal refused line old.held new.held report
+  pub writes : WritesNothing 3 old.held new.held report
+  pub fault : Rose (d.faults disk) (d.faults now)
 
--- a run that the boxes don't let begin
-pub record HasNotStarted (m : Meanings) (old new : Told) (report : Report) : Type 0 where
-  pub line : List ℕ
-  pub is_line : refusal_line m ≡ Some line
-  pub refused : HasRefused 6 line old new report
+-- What comes of a run with words that were read. Behind the mount a code that repeats among the boxes is refused first.
+pub data RunsOn {D : Type 0} (d : Tells D) (m : Meanings) (words : Words) (most : ℕ) (old new : Seen) (disk now : D) (report : Report) : Type 0 where
+  NotMounted : HasNotMounted d old new disk now report → RunsOn d m words most old new disk now report
+  BadBoxes : (code : ℕ) → Mounted (d.told disk) (d.told now) → repeated_in m ≡ Some code → new.left ≡ old.left
+      → IsRefusedBy (BadExtensions code) old.held new.held report → RunsOn d m words most old new disk now report
+  OnMounted : (mounted : D) → Mounted (d.told disk) (d.told mounted) → repeated_in m ≡ None → RunsMounted d m words most old new mounted now report
+      → RunsOn d m words most old new disk now report
 
-abbrev pub RunsBy : Bool → Meanings → ℕ → Told → Told → Report → Type 0
-RunsBy true m most old new report = HasRun m most old new report ⊎ HasNotStarted m old new report
-RunsBy false m most old new report = HasRefused 2 words_line old new report
-
--- a run with these words and boxes, which takes at most so many bytes
-abbrev pub IsRun : List (List ℕ) → Meanings → ℕ → Told → Told → Report → Type 0
-IsRun words m most old new report = RunsBy (are_words words) m most old new report
+-- What comes of a run with these words: clap refuses them, or memory is wanting to read them, or they are read.
+pub data IsRun {D : Type 0} (d : Tells D) (m : Meanings) (given : List (List ℕ)) (most : ℕ) (old new : Seen) (disk now : D) (report : Report)
+    : Type 0 where
+  BadWords : IsRefused given → new.left ≡ old.left → RefusesWords old.held new.held report → now ≡ disk → IsRun d m given most old new disk now report
+  Unread : new.left ≡ old.left → WritesNothing 7 old.held new.held report → now ≡ disk → IsRun d m given most old new disk now report
+  Read : (words : Words) → IsRead given (Ok (Some words)) → RunsOn d m words most old new disk now report → IsRun d m given most old new disk now report

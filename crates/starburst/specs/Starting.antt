@@ -1,29 +1,37 @@
--- Boxes with which no run begins, and what is written of them.
-use Rattle.std.specs.Prelude.{◌≡◌, ℕ, codes, List, ◌++◌, Option, Some, None}
-use Rattle.std.specs.Fmt.{decimal}
-use Rattle.sb_ctx.specs.Method.{Method}
-use Rattle.sb_registry.specs.Boxes.{Meanings, repeated_in, method_of}
+-- A session that is opened over a mounted disk, as the words ask.
+use Rattle.std.specs.Prelude.{◌≡◌, ◌⊎◌, ℕ, ◌≤◌, Bool, true, false, is_some, List, []}
+use Rattle.sb_disk.specs.Moments.{IsSettled, LeavesOnly}
+use Rattle.sb_images.specs.Layout.{IsGeometry}
+use Rattle.sb_log.specs.declared.geometry.Geometry.{Geometry}
+use Rattle.sb_recover.specs.SuperPage.{IsNoStore, geometry_of}
+use Rattle.sb_relation.specs.Db.{Db}
+use Rattle.sb_registry.specs.Boxes.{Meanings}
+use Rattle.sb_drive.specs.Spaces.{Wanted}
+use Rattle.sb_session.specs.declared.session.Session.{Session}
+use Rattle.sb_opening.specs.declared.codes.Named.{Named}
+use Rattle.sb_opening.specs.Naming.{HasLive, named_in}
+use Rattle.sb_opening.specs.Opening.{IsStored, opened}
+use Rattle.sb_kernel.specs.World.{World, IsNow}
+use Rattle.sb_kernel.specs.Crashes.{Holds}
+use Rattle.sb_words.specs.declared.words.Words.{Words}
 
--- the code repeats among the boxes of a kind
-abbrev pub repeated_line : ℕ → List ℕ
-repeated_line code = codes "? badextensions " ++ decimal code ++ codes "\n"
+-- the sizes are those that a store may have, and so is the number of frames
+pub record AreSizes (words : Words) : Type 0 where
+  pub store : IsGeometry (geometry_of words.pages words.log)
+  pub frames : (8 ≤ words.frames) × (words.frames ≤ 65536)
 
--- no live storage method has this code
-abbrev pub missing_line : ℕ → List ℕ
-missing_line code = codes "? missingextension " ++ decimal code ++ codes "\n"
+-- The session stands for the database, with those of the boxes live that were, and the named ones. Meanwhile a crash left what is said of early
+-- images.
+pub record StartsAt {B D : Type 0} (w : World B D) (m : Meanings) (named : List Named) (IsEarly : List ℕ → Type 0) (db : Db) (mounted here : D)
+    (x : Session B) : Type 0 where
+  pub live : HasLive m named (w.meanings x.boxes)
+  pub now : IsNow w m here x (opened (w.meanings x.boxes) db)
+  pub early : LeavesOnly (w.told mounted) (w.told here) IsEarly
 
--- the line of the first code that repeats; where none does, that of the storage method that is missing
-abbrev pub line_by : Option ℕ → Option Method → Option (List ℕ)
-line_by (Some code) method = Some (repeated_line code)
-line_by None None = Some (missing_line 2)
-line_by None (Some method) = None
-
--- what is written where no run begins with these boxes
-abbrev pub refusal_line : Meanings → Option (List ℕ)
-refusal_line m = line_by (repeated_in m) (method_of 2 m.methods)
-
--- no code repeats among storage methods or among attachments, and a live storage method has the code of the relation
-pub record CanStart (m : Meanings) : Type 0 where
-  pub distinct : repeated_in m ≡ None
-  pub method : Method
-  pub live : method_of 2 m.methods ≡ Some method
+-- Over contents that stand for a database the session stands for it; a new store's database is empty.
+abbrev pub HasStarted : {B D : Type 0} → World B D → Meanings → (create : Bool) → (mounted now : D) → Session B → Type 0
+HasStarted w m false mounted now x =
+    (g : Geometry) (want : Wanted) (db : Db) (stored : IsStored m (w.told mounted) g want db)
+    → StartsAt w m (named_in stored.committed.kept) (λ image. Holds m image db) db mounted now x
+HasStarted w m true mounted now x =
+    is_some (w.told mounted) ≡ true → IsSettled (w.told mounted) → StartsAt w m [] (λ image. IsNoStore image ⊎ Holds m image []) [] mounted now x

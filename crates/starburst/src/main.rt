@@ -1,20 +1,18 @@
-//! The program: a relational storage kernel that answers commands from standard input.
+//! The program: a relational storage kernel that answers commands from standard input, over a store in a file.
 #![tactic(auto)]
 
-mod ending;
-mod lines;
 mod refusing;
 mod report;
 mod run;
-mod session;
-mod words;
-mod writing;
+#[cfg(test)]
+mod tests;
 
-pub use report::{Report, Starts};
+pub use report::Report;
 pub use run::{run, run_to};
-use sb_filedisk::{ReadSource, WriteSink};
+use sb_filedisk::{FileDisk, ReadSource, WriteSink};
+use sb_heap::Heap;
 use sb_registry::Extensions;
-use sb_rules::Check;
+use sb_rules::{Check, Trigger};
 use sb_treemethod::TreeMethod;
 use sb_value::Str;
 use std::alloc::AllocError;
@@ -31,7 +29,7 @@ fn given_words(rt: &(impl Env + AllocGlobal)) -> Result<Vec<Str>, AllocError> {
     Ok(words)
 }
 
-/// Runs the program with a storage method of code 2 and the checks: the exit status.
+/// Runs the program: the exit status. Its boxes are the heap and the tree as storage methods, checks and triggers as attachments.
 fn answer(rt: &HostRuntime) -> Result<u8, AllocError> {
     let alloc = rt.alloc();
     let words = given_words(rt)?;
@@ -41,17 +39,17 @@ fn answer(rt: &HostRuntime) -> Result<u8, AllocError> {
         spare_methods: Vec::new(alloc),
         spare_attachments: Vec::new(alloc),
     };
+    exts.methods.push(Box::new(alloc, Heap::new())?)?;
     exts.methods.push(Box::new(alloc, TreeMethod::new())?)?;
     exts.attachments.push(Box::new(alloc, Check::new())?)?;
+    exts.attachments.push(Box::new(alloc, Trigger::new())?)?;
+    let mut disk = FileDisk::new(rt);
     let mut source = ReadSource::new(rt.reader());
     let mut sink = WriteSink::new(io::writer(rt));
-    let report = run(alloc, &words, exts, &mut source, &mut sink);
+    let report = run(alloc, &words, exts, &mut source, &mut sink, &mut disk);
     Ok(report.status)
 }
 
 fn main(rt: HostRuntime) -> ExitCode {
     ExitCode::from(answer(&rt).unwrap_or(7))
 }
-
-#[cfg(test)]
-mod tests;

@@ -1,21 +1,19 @@
 //! Runs that are refused before they begin.
 
-ghost use Rattle.std.specs.Prelude.{◌≡◌, ◌++◌, [], codes};
-ghost use Rattle.std.specs.Fmt.{decimal};
-ghost use Rattle.sb_disk.specs.Causes.{HasCause, Rose};
-ghost use Rattle.starburst.specs.Words.{words_line};
-ghost use Rattle.starburst.specs.Writing.{Wrote};
-ghost use Rattle.starburst.specs.Refusing.{WritesRefusal, RefusedBy};
+ghost use Rattle.std.specs.Prelude.{◌≡◌, ◌++◌, [], OnErr, OnOk};
+ghost use Rattle.sb_disk.specs.Causes.{Rose};
+ghost use Rattle.starburst.specs.Refusing.{IsRefusedBy, RefusesWords, numbers_text, refusal_line, status_by};
 
-use crate::report::{Report, Starts};
-use crate::writing::write_all;
-use sb_disk::{Failed, Sink};
-use sb_kernel::StartFault;
-use std::alloc::Global;
+use crate::report::Report;
+use sb_disk::Sink;
+use sb_kernel::{Starts, write_all};
+use sb_recover::OpenFault;
+use sb_value::Bytes;
+use std::alloc::{AllocError, Global};
 
 /// Writes that the words are refused.
-pub fn refuse_words<K: Sink>(alloc: Global, sink: &mut K) -> Report
-    ensures writes { WritesRefusal 2 words_line (K.held sink.old) (K.held sink.new) result }
+pub(crate) fn refuse_words<K: Sink>(alloc: Global, sink: &mut K) -> Report
+    ensures refused { RefusesWords (K.held sink.old) (K.held sink.new) result }
     ensures cause { result.status ≡ 5 → Rose (K.faults sink.old) (K.faults sink.new) }
 {
     let status = match write_all(sink, b"? words\n") {
@@ -28,31 +26,18 @@ pub fn refuse_words<K: Sink>(alloc: Global, sink: &mut K) -> Report
     }
 }
 
-/// Writes why no kernel starts with the boxes. Nothing is written where memory is wanting.
-pub fn refuse_boxes<K: Sink>(alloc: Global, sink: &mut K, fault: StartFault) -> Report
-    ensures refused { RefusedBy fault (K.held sink.old) (K.held sink.new) result }
+/// Writes why no store was opened. Where the disk failed a call, or memory was wanting, nothing is written.
+pub(crate) fn refuse_store<K: Sink>(alloc: Global, sink: &mut K, fault: &OpenFault) -> Report
+    ensures refused { IsRefusedBy fault.now (K.held sink.old) (K.held sink.new) result }
     ensures cause { result.status ≡ 5 → Rose (K.faults sink.old) (K.faults sink.new) }
 {
-    match fault {
-        StartFault::BadExtensions { code } => refuse_code(alloc, sink, b"? badextensions ", code),
-        StartFault::MissingExtension { code } => {
-            refuse_code(alloc, sink, b"? missingextension ", code)
-        }
-        StartFault::NoMemory => Report {
-            status: 7,
-            starts: Starts::new(alloc),
+    let mut line = Bytes::new(alloc);
+    let status = match print_fault(fault, &mut line) {
+        Ok(()) => match write_all(sink, line.as_slice()) {
+            Ok(()) => status_of(fault),
+            Err(_) => 5,
         },
-    }
-}
-
-/// Writes a code behind the words that say what is wrong with it.
-fn refuse_code<K: Sink>(alloc: Global, sink: &mut K, words: &[u8], code: u16) -> Report
-    ensures writes { WritesRefusal 6 (words.now ++ decimal code ++ codes "\n") (K.held sink.old) (K.held sink.new) result }
-    ensures cause { result.status ≡ 5 → Rose (K.faults sink.old) (K.faults sink.new) }
-{
-    let status = match write_code(sink, words, code) {
-        Ok(()) => 6,
-        Err(_) => 5,
+        Err(_) => 7,
     };
     Report {
         status,
@@ -60,12 +45,46 @@ fn refuse_code<K: Sink>(alloc: Global, sink: &mut K, words: &[u8], code: u16) ->
     }
 }
 
-fn write_code<K: Sink>(sink: &mut K, words: &[u8], code: u16) -> Result<(), Failed>
-    ensures wrote { Wrote (K.held sink.old) (K.held sink.new) (words.now ++ decimal code ++ codes "\n") result }
-    ensures cause { HasCause (K.faults sink.old) (K.faults sink.new) result }
+/// The status of a run that is refused so.
+fn status_of(fault: &OpenFault) -> u8
+    ensures { result ≡ status_by fault.now }
 {
-    let mut digits = itoa::Buffer::new();
-    write_all(sink, words)?;
-    write_all(sink, digits.format(code).as_bytes())?;
-    write_all(sink, b"\n")
+    match fault {
+        OpenFault::Fault => 3,
+        OpenFault::NoMemory => 7,
+        _ => 6,
+    }
+}
+
+/// Adds the line that says why no store was opened.
+fn print_fault(fault: &OpenFault, out: &mut Bytes) -> Result<(), AllocError>
+    ensures ok { OnOk result (out.new ≡ out.old ++ refusal_line fault.now) }
+{
+    match fault {
+        OpenFault::Fault | OpenFault::NoMemory => Ok(()),
+        OpenFault::TooSmall { have, need } => print_line(b"? toosmall", &[*have, *need], out),
+        OpenFault::NotStore => print_line(b"? notstore", &[], out),
+        OpenFault::BadLog { chunk, offset } => {
+            print_line(b"? badlog", &[*chunk as u64, *offset as u64], out)
+        }
+        OpenFault::MissingExtension { code } => {
+            print_line(b"? missingextension", &[*code as u64], out)
+        }
+        OpenFault::Damaged { page } => print_line(b"? damaged", &[*page as u64], out),
+        OpenFault::BadExtensions { code } => print_line(b"? badextensions", &[*code as u64], out),
+        OpenFault::AlreadyStore => print_line(b"? alreadystore", &[], out),
+    }
+}
+
+/// Adds a line: a word, and numbers behind it.
+fn print_line(word: &[u8], numbers: &[u64], out: &mut Bytes) -> Result<(), AllocError>
+    ensures ok { OnOk result (out.new ≡ out.old ++ (word.now ++ numbers_text numbers.now)) }
+{
+    out.extend(word)?;
+    for number in numbers {
+        let mut digits = itoa::Buffer::new();
+        out.push(b' ')?;
+        out.extend(digits.format(*number).as_bytes())?;
+    }
+    out.push(b'\n')
 }

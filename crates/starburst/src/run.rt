@@ -1,150 +1,158 @@
-//! The top call: lines from a source are answered to a sink.
+//! The top call: lines from a source are answered to a sink, over a store on a disk.
 
-ghost use Rattle.std.specs.Prelude.{◌≡◌, ◌<◌, ◌≤◌, ◌^◌, [], List, ℕ, length};
+ghost use Rattle.std.specs.Prelude.{◌≡◌, ◌^◌, None, IfErr, IfOk, false};
 ghost use Rattle.sb_disk.specs.Causes.{Rose};
-ghost use Rattle.sb_first.specs.Step.{State};
-ghost use Rattle.sb_registry.specs.Boxes.{Meanings};
-ghost use Rattle.sb_kernel.specs.Stepping.{IsFor, holding};
-ghost use Rattle.starburst.specs.Progress.{progress};
-ghost use Rattle.starburst.specs.Run.{Told, told, HasPlayed, IsRun};
-ghost use Rattle.starburst.specs.Serving.{counted, Serves, PieceLeads, ContinuesWithin, NeverFall, HasCause, BreaksWithCause};
+ghost use Rattle.sb_registry.specs.Boxes.{repeated_in};
+ghost use Rattle.sb_session.specs.Sessions.{CanRun};
+ghost use Rattle.sb_kernel.specs.World.{world};
+ghost use Rattle.starburst.specs.Starting.{AreSizes, HasStarted};
+ghost use Rattle.starburst.specs.Run.{IsNoSession, IsRun, RunsMounted, RunsOn, seen, tells};
 
-use crate::ending::Ending;
-use crate::refusing::{refuse_boxes, refuse_words};
+use crate::refusing::{refuse_store, refuse_words};
 use crate::report::Report;
-use crate::session::Session;
-use crate::words::is_creating;
-use sb_disk::{Sink, Source};
-use sb_kernel::Kernel;
+use sb_disk::{Disk, Sink, Source};
+use sb_kernel::{Starts, serve};
+use sb_opening::{create, open};
+use sb_recover::{OpenFault, need};
 use sb_registry::{Extensions, Meant, Registry};
+use sb_session::Session;
 use sb_value::Str;
+use sb_vectors::Vectors;
+use sb_words::{Words, read_words};
 use std::alloc::Global;
-use std::ops::ControlFlow;
 
-/// Takes one piece of the source into the buffer, and answers the lines that end in it.
-fn serve_piece<S: Source, K: Sink>(
+/// Opens a session over the store of a mounted disk, or over a new one, as the words ask.
+fn start<B: Vectors + Drop, D: Disk>(
     alloc: Global,
+    words: &Words,
+    boxes: B,
+    disk: &mut D,
+) -> Result<Session<B>, OpenFault>
+    requires words { AreSizes words.now }
+    requires unique { repeated_in (B.meanings boxes) ≡ None }
+
+    ensures started { IfOk result (λ session. HasStarted (world B.meanings D.told D.len D.clock D.faults) (B.meanings boxes) words.now.create
+        disk.old disk.new session) }
+    ensures refused { IfErr result (λ e. IsNoSession (tells D.told D.len D.faults) (B.meanings boxes) words.now words.now.create e
+        disk.old disk.new) }
+    ensures runs { IfOk result (λ session. CanRun B.meanings D.told D.len disk.new session) }
+    ensures up { IfOk result (λ session. session.down ≡ false) }
+{
+    if words.create {
+        create(boxes, alloc, disk, words.pages, words.log, words.frames)
+    } else {
+        open(boxes, alloc, disk, words.frames)
+    }
+}
+
+/// Answers over a mounted disk.
+fn run_mounted<B: Vectors + Drop, S: Source, K: Sink, D: Disk>(
+    alloc: Global,
+    words: &Words,
+    boxes: B,
     source: &mut S,
     sink: &mut K,
-    buffer: &mut [u8],
-    session: &mut Session,
-) -> ControlFlow<Ending, u64>
-    requires some { 0 < length buffer.old }
-    requires short { length buffer.old ≤ 4096 }
-    requires stands { (s : State) × IsFor
-        (holding (⟦<Registry as Meant>⟧.meant session.old.kernel.registry) session.old.kernel.memory session.old.kernel.relation) s }
-    ensures leads { (m : Meanings) (bytes : List ℕ) (first : Told) (room : ℕ) → length buffer.old ≤ room
-        → Serves m bytes first (told (S.left source.old) (K.held sink.old))
-        (progress (holding (⟦<Registry as Meant>⟧.meant session.old.kernel.registry) session.old.kernel.memory session.old.kernel.relation)
-        session.old.line session.old.starts)
-        → PieceLeads m result room bytes first (told (S.left source.new) (K.held sink.new))
-        (progress (holding (⟦<Registry as Meant>⟧.meant session.new.kernel.registry) session.new.kernel.memory session.new.kernel.relation)
-        session.new.line session.new.starts) }
-    ensures progress { ContinuesWithin result (length buffer.old) }
-    ensures counts { NeverFall (counted (S.faults source.old) (K.faults sink.old))
-        (counted (S.faults source.new) (K.faults sink.new)) }
-    ensures cause { BreaksWithCause result (counted (S.faults source.old) (K.faults sink.old))
-        (counted (S.faults source.new) (K.faults sink.new)) }
-    ensures stands { (s : State) × IsFor
-        (holding (⟦<Registry as Meant>⟧.meant session.new.kernel.registry) session.new.kernel.memory session.new.kernel.relation) s }
+    disk: &mut D,
+    most: u64,
+) -> Report
+    requires words { AreSizes words.now }
+    requires unique { repeated_in (B.meanings boxes) ≡ None }
+
+    ensures run { RunsMounted (tells D.told D.len D.faults) (B.meanings boxes) words.now most (seen (S.left source.old) (K.held sink.old))
+        (seen (S.left source.new) (K.held sink.new)) disk.old disk.new result }
+    ensures source_failed { result.status ≡ 4 → Rose (S.faults source.old) (S.faults source.new) }
+    ensures sink_failed { result.status ≡ 5 → Rose (K.faults sink.old) (K.faults sink.new) }
 {
-    let Ok(count) = source.read(buffer) else {
-        return ControlFlow::Break(Ending::SourceFailed);
+    match start(alloc, words, boxes, disk) {
+        Ok(session) => {
+            let (ending, starts) = serve(alloc, source, sink, disk, most, session);
+            Report {
+                status: ending.status(),
+                starts,
+            }
+        }
+        Err(fault) => refuse_store(alloc, sink, &fault),
+    }
+}
+
+/// Mounts the disk, and answers over it.
+fn run_with<S: Source, K: Sink, D: Disk>(
+    alloc: Global,
+    words: &Words,
+    exts: Extensions,
+    source: &mut S,
+    sink: &mut K,
+    disk: &mut D,
+    most: u64,
+) -> Report
+    requires words { AreSizes words.now }
+
+    ensures run { RunsOn (tells D.told D.len D.faults) (⟦<Extensions as Meant>⟧.meant exts) words.now most (seen (S.left source.old) (K.held sink.old))
+        (seen (S.left source.new) (K.held sink.new)) disk.old disk.new result }
+    ensures source_failed { result.status ≡ 4 → Rose (S.faults source.old) (S.faults source.new) }
+    ensures sink_failed { result.status ≡ 5 → Rose (K.faults sink.old) (K.faults sink.new) }
+{
+    let size = if words.create {
+        Some(need(words.pages, words.log))
+    } else {
+        None
     };
-    if count == 0 {
-        return match session.finish(alloc, sink) {
-            Ok(()) => ControlFlow::Break(Ending::InputEnded),
-            Err(stop) => ControlFlow::Break(Ending::Stopped(stop)),
+    if disk.mount(words.store.as_bytes(), size).is_err() {
+        return Report {
+            status: 3,
+            starts: Starts::new(alloc),
         };
     }
-    match session.feed(alloc, &buffer[..count], sink) {
-        Ok(()) => ControlFlow::Continue(count as u64),
-        Err(stop) => ControlFlow::Break(Ending::Stopped(stop)),
+    match Registry::take(exts) {
+        Ok(boxes) => run_mounted(alloc, words, boxes, source, sink, disk, most),
+        Err((code, _)) => refuse_store(alloc, sink, &OpenFault::BadExtensions { code }),
     }
 }
 
-/// Serves the source until it ends, at most `most` bytes of it.
-fn serve<S: Source, K: Sink>(
-    alloc: Global,
-    source: &mut S,
-    sink: &mut K,
-    most: u64,
-    session: &mut Session,
-) -> Ending
-    requires stands { (s : State) × IsFor
-        (holding (⟦<Registry as Meant>⟧.meant session.old.kernel.registry) session.old.kernel.memory session.old.kernel.relation) s }
-    ensures played { (m : Meanings) (first : Told)
-        → Serves m [] first (told (S.left source.old) (K.held sink.old))
-        (progress (holding (⟦<Registry as Meant>⟧.meant session.old.kernel.registry) session.old.kernel.memory session.old.kernel.relation)
-        session.old.line session.old.starts)
-        → HasPlayed m most first (told (S.left source.new) (K.held sink.new)) result session.new.starts }
-    ensures counts { NeverFall (counted (S.faults source.old) (K.faults sink.old))
-        (counted (S.faults source.new) (K.faults sink.new)) }
-    ensures cause { HasCause result (counted (S.faults source.old) (K.faults sink.old))
-        (counted (S.faults source.new) (K.faults sink.new)) }
-{
-    let mut buffer = [0; 4096];
-    let mut taken: u64 = 0;
-    while taken < most {
-        let room = (most - taken).min(4096) as usize;
-        match serve_piece(alloc, source, sink, &mut buffer[..room], session) {
-            ControlFlow::Continue(count) => taken += count,
-            ControlFlow::Break(ending) => return ending,
-        }
-    }
-    Ending::MostTaken
-}
-
-/// Answers the commands of the source on the sink, one line at a time, until the source ends or `most` bytes were taken.
-/// The boxes carry the commands out; spare ones aren't reached.
+/// Answers the commands of the source on the sink, one line at a time, over the store on the disk that the words name: until the source ends, `most` bytes
+/// were taken, or a command met a fault or damage. The boxes carry the commands out.
 ///
-/// The words are `--store`, a name and `--create`; others are refused with the line `? words`. A code that repeats among
-/// the storage methods or among the attachments, live or spare, is refused with the line `? badextensions` and the first
-/// such code; else boxes without a live storage method of code 2 are, with `? missingextension 2`. The status of the
-/// report says what ended the run: 0 the end of the source, 2 the words, 4 a failed source, 5 a failed sink, 6 the boxes,
-/// 7 memory that was wanting outside a command, 8 that `most` bytes were taken, with the end still unseen.
-pub fn run_to<S: Source, K: Sink>(
+/// The status of the report says what ended the run: 0 the end of the source, 2 the words, 3 a disk that failed, 4 a failed source, 5 a failed sink, 6 a
+/// store that isn't opened or a damaged page, 7 memory that was wanting outside a command, 8 that `most` bytes were taken, with the end still unseen.
+pub fn run_to<S: Source, K: Sink, D: Disk>(
     alloc: Global,
     words: &[Str],
     exts: Extensions,
     source: &mut S,
     sink: &mut K,
+    disk: &mut D,
     most: u64,
 ) -> Report
-    ensures run { IsRun words.now (⟦<Extensions as Meant>⟧.meant exts) most (told (S.left source.old) (K.held sink.old))
-        (told (S.left source.new) (K.held sink.new)) result }
+    ensures run { IsRun (tells D.told D.len D.faults) (⟦<Extensions as Meant>⟧.meant exts) words.now most (seen (S.left source.old) (K.held sink.old))
+        (seen (S.left source.new) (K.held sink.new)) disk.old disk.new result }
 
     // A failure is told only where the object has failed in this run.
     ensures source_failed { result.status ≡ 4 → Rose (S.faults source.old) (S.faults source.new) }
     ensures sink_failed { result.status ≡ 5 → Rose (K.faults sink.old) (K.faults sink.new) }
 {
-    if !is_creating(words) {
-        return refuse_words(alloc, sink);
-    }
-    let kernel = match Kernel::start(alloc, exts) {
-        Ok(kernel) => kernel,
-        Err(fault) => return refuse_boxes(alloc, sink, fault),
-    };
-    let mut session = Session::new(alloc, kernel);
-    let ending = serve(alloc, source, sink, most, &mut session);
-    Report {
-        status: ending.status(),
-        starts: session.into_starts(),
+    match read_words(alloc, words) {
+        Ok(Some(words)) => run_with(alloc, &words, exts, source, sink, disk, most),
+        Ok(None) => refuse_words(alloc, sink),
+        Err(_) => Report {
+            status: 7,
+            starts: Starts::new(alloc),
+        },
     }
 }
 
 /// [`run_to`] with 2^32 bytes at most.
-pub fn run<S: Source, K: Sink>(
+pub fn run<S: Source, K: Sink, D: Disk>(
     alloc: Global,
     words: &[Str],
     exts: Extensions,
     source: &mut S,
     sink: &mut K,
+    disk: &mut D,
 ) -> Report
-    ensures run { IsRun words.now (⟦<Extensions as Meant>⟧.meant exts) (2 ^ 32) (told (S.left source.old) (K.held sink.old))
-        (told (S.left source.new) (K.held sink.new)) result }
+    ensures run { IsRun (tells D.told D.len D.faults) (⟦<Extensions as Meant>⟧.meant exts) words.now (2 ^ 32) (seen (S.left source.old) (K.held sink.old))
+        (seen (S.left source.new) (K.held sink.new)) disk.old disk.new result }
     ensures source_failed { result.status ≡ 4 → Rose (S.faults source.old) (S.faults source.new) }
     ensures sink_failed { result.status ≡ 5 → Rose (K.faults sink.old) (K.faults sink.new) }
 {
-    run_to(alloc, words, exts, source, sink, 1 << 32)
+    run_to(alloc, words, exts, source, sink, disk, 1 << 32)
 }

@@ -1,5 +1,0 @@
-pub mod LinesLemmas
-pub mod PlaysLemmas
-mod Worked
-mod WorkedChecks
-mod WorkedLines

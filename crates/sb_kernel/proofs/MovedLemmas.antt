@@ -1,0 +1,129 @@
+-- The reply to a line, and the state to which it leads.
+use Rattle.std.proofs.Common.{◌≡◌, ℕ, ◌==◌, Bool, false, inl, inr, ⊎_elim, is_some, Option, Some, None, List, ◌++◌, refl, sym, ap, ◌∙◌}
+use Rattle.std.specs.List.{find}
+use Rattle.std.proofs.lemmas.Bool.{true≢false}
+use Rattle.sb_disk.specs.Moments.{LeavesOnly}
+use Rattle.sb_disk.proofs.MomentLemmas.{weaker}
+use Rattle.sb_images.specs.Images.{IsOldOrNew, Restores}
+use Rattle.sb_log.specs.declared.geometry.Geometry.{Geometry}
+use Rattle.sb_fold.specs.declared.refusal.Refusal.TheVariants.{Syntax}
+use Rattle.sb_plain.specs.declared.command.Command.{Command}
+use Rattle.sb_plain.specs.declared.reply.Reply.{Reply}
+use Rattle.sb_plain.specs.declared.reply.Reply.TheVariants.{Refused}
+use Rattle.sb_plain.specs.State.{State, committed}
+use Rattle.sb_grammar.specs.Columns.{IsItem, Says, Bad}
+use Rattle.sb_ctx.specs.Method.{Method}
+use Rattle.sb_ctx.specs.Attachment.{Attachment}
+use Rattle.sb_registry.specs.Boxes.{Meanings}
+use Rattle.sb_drive.specs.Spaces.{Wanted}
+use Rattle.sb_map.specs.declared.place.Place.{Place}
+use Rattle.sb_space.specs.Table.{table_len}
+use Rattle.sb_engine.specs.Working.{extensions_of}
+use Rattle.sb_posing.specs.Posing.{AreSingle}
+use Rattle.sb_posing.proofs.PosedLemmas.{read-posed}
+use Rattle.sb_vectors.specs.Vectors.{AreSameBoxes}
+use Rattle.sb_opening.specs.Naming.{all_live}
+use Rattle.sb_session.specs.declared.session.Session.{Session}
+use Rattle.sb_session.specs.Ends.{Ends}
+use Rattle.sb_session.specs.Sessions.{HasFailed, IsFor, Keeps, Lacks, LeavesNext, LeavesOldOrNext, StandsFor, parts_of}
+use Rattle.sb_session.proofs.MoveLists.{found_more}
+use Rattle.sb_session.proofs.SameBoxes.{same-then}
+use Rattle.sb_execution.specs.Serving.{IsPosedIn}
+use Rattle.sb_kernel.specs.World.{World, IsNow}
+use Rattle.sb_kernel.specs.Plays.{AreBoxesOf}
+use Rattle.sb_kernel.specs.Crashes.{IsLeft}
+use Rattle.sb_kernel.specs.Answering.{HasMoved, HasReplied}
+use Rattle.sb_kernel.proofs.PlayLemmas.{Comes, Ends-comes}
+use Rattle.sb_kernel.proofs.HeldLemmas.{Holds-last, Holds-restored, leaves-still}
+
+-- ---- boxes of which some are live
+none_first : {A : Type 0} (p : A → Bool) (xs ys : List A) → is_some (find p (xs ++ ys)) ≡ false → is_some (find p xs) ≡ false
+none_first {A} p xs ys none = by (find p xs) refl
+  where
+    by : (o : Option A) → find p xs ≡ o → is_some (find p xs) ≡ false
+    by None is = ap (λ (o : Option A). is_some o) is
+    by (Some a) is = absurd (true≢false (sym (ap (λ (o : Option A). is_some o) (found_more p xs ys a is)) ∙ none))
+
+pub AreSingle-live : (m n : Meanings) → AreSameBoxes m n → AreSingle (all_live m) → AreSingle n
+AreSingle-live m n same single = record {
+  outlive = λ code box is. single.outlive code box (sym (same.methods code) ∙ found_more (λ (a : Method). a.rules.code == code) n.methods n.spare_methods box is);
+  no_temp = none_first (λ (a : Method). a.rules.code == 3) n.methods n.spare_methods (ap (λ (o : Option Method). is_some o) (same.methods 3) ∙ single.no_temp);
+  no_joins = none_first (λ (a : Attachment). a.rules.code == 3) n.attachments n.spare_attachments
+      (ap (λ (o : Option Attachment). is_some o) (same.attachments 3) ∙ single.no_joins);
+  no_references = none_first (λ (a : Attachment). a.rules.code == 6) n.attachments n.spare_attachments
+      (ap (λ (o : Option Attachment). is_some o) (same.attachments 6) ∙ single.no_references);
+}
+
+-- ---- a bad line
+pub HasReplied-bad : {B D : Type 0} (w : World B D) (line : List ℕ) (column : ℕ) (d : D) (x : Session B) → x.down ≡ false → IsItem line (Bad column)
+    → HasReplied w line d d x x (Refused (Syntax column))
+HasReplied-bad w line column d x up is = record {
+  item = Bad column;
+  is_item = is;
+  moves = λ m s now single. record {
+    state = s;
+    moves = record {
+      boxes = w.meanings x.boxes;
+      are = record { same = now.same; live = now.stands.is.live; spare = now.stands.is.spare };
+      moves = (refl, refl);
+    };
+    now = now;
+    leaves = leaves-still w m d x s now (sym now.stands.is.down ∙ up);
+  };
+}
+
+-- ---- a command
+module _ {B D : Type 0} (w : World B D) (c : Command) (old new : D) (x y : Session B) (reply : Reply) (up : x.down ≡ false)
+    (ends : (want : Wanted) (s : State) → IsFor w.meanings w.told w.len want s old x → IsPosedIn (w.meanings x.boxes) s c
+    → Ends (λ t. StandsFor w.meanings w.told w.len t new y) (Lacks w.faults) (HasFailed w.faults old new) (extensions_of (w.meanings x.boxes)) s c reply)
+    (any_moment : (want : Wanted) (s : State) → IsFor w.meanings w.told w.len want s old x → IsPosedIn (w.meanings x.boxes) s c → s.down ≡ false
+    → LeavesOldOrNext (w.meanings x.boxes) x.place.root want (extensions_of (w.meanings x.boxes)) s c (parts_of w.told w.len old x) (parts_of w.told w.len new y))
+    (same : AreSameBoxes (w.meanings x.boxes) (w.meanings y.boxes)) (keeps : Keeps w.len w.faults old new x y reply) where
+  abbrev n : Meanings
+  n = w.meanings x.boxes
+
+  abbrev g : Geometry
+  g = x.space.store.pool.geometry
+
+  -- what a step commits is held then
+  next_left : (m : Meanings) (s : State) (now : IsNow w m old x s) (are : AreBoxesOf m s n) (want : Wanted) → IsFor w.meanings w.told w.len want s old x → s.down ≡ false
+      → (next : LeavesNext n x.place.root want (extensions_of n) s c (parts_of w.told w.len old x) (parts_of w.told w.len new y))
+      → (image : List ℕ) → IsOldOrNew g want next.pages image → IsLeft m s (Says c) image
+  next_left m s now are want for up next image left = ⊎_elim
+      (λ (restores : Restores g want image). inl (Holds-last w m old x s now up want for image restores))
+      (λ (restores : Restores g next.pages image). inr (record {
+        db = committed next.after;
+        may = record { boxes = n; are = are; reply = next.reply; after = next.after; steps = next.steps; is = refl };
+        holds = Holds-restored m n g x.place.root next.pages (committed next.after) now.same now.root next.commits image restores;
+      }))
+      left
+
+  moments_left : (m : Meanings) (s : State) (now : IsNow w m old x s) (are : AreBoxesOf m s n) (want : Wanted) → IsFor w.meanings w.told w.len want s old x → s.down ≡ false
+      → LeavesOldOrNext n x.place.root want (extensions_of n) s c (parts_of w.told w.len old x) (parts_of w.told w.len new y)
+      → LeavesOnly (w.told old) (w.told new) (IsLeft m s (Says c))
+  moments_left m s now are want for up (inl still) =
+      weaker (w.told old) (w.told new) (Restores g want) (IsLeft m s (Says c)) (λ image restores. inl (Holds-last w m old x s now up want for image restores)) still
+  moments_left m s now are want for up (inr next) =
+      weaker (w.told old) (w.told new) (IsOldOrNew g want next.pages) (IsLeft m s (Says c)) (next_left m s now are want for up next) next.leaves
+
+  moved : (line : List ℕ) → IsItem line (Says c) → (m : Meanings) (s : State) → IsNow w m old x s → AreSingle (all_live m) → HasMoved w m s (Says c) reply old new y
+  moved line item m s now single =
+      let want = now.stands.want in
+      let for = now.stands.is in
+      let are : AreBoxesOf m s n = record { same = now.same; live = for.live; spare = for.spare } in
+      let posed : IsPosedIn n s c = read-posed n s line c (AreSingle-live m n now.same single) for.live item in
+      let comes : Comes (λ t. StandsFor w.meanings w.told w.len t new y) (Lacks w.faults) (HasFailed w.faults old new) (extensions_of n) s c reply =
+      Ends-comes (λ t. StandsFor w.meanings w.told w.len t new y) (Lacks w.faults) (HasFailed w.faults old new) (extensions_of n) s c reply (ends want s for posed) in
+      record {
+        state = comes.state;
+        moves = record { boxes = n; are = are; moves = comes.ends };
+        now = record {
+          same = same-then m n (w.meanings y.boxes) now.same same;
+          root = ap (λ (p : Place). p.root) keeps.place ∙ now.root ∙ ap (λ (h : Geometry). table_len h.pages) (sym keeps.geometry);
+          stands = comes.stands;
+        };
+        leaves = moments_left m s now are want for (sym for.down ∙ up) (any_moment want s for posed (sym for.down ∙ up));
+      }
+
+  pub HasReplied-command : (line : List ℕ) → IsItem line (Says c) → HasReplied w line old new x y reply
+  HasReplied-command line item = record { item = Says c; is_item = item; moves = moved line item }

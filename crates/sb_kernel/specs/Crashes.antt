@@ -1,0 +1,58 @@
+-- What a crash leaves of a play.
+use Rattle.std.specs.Prelude.{◌≡◌, ◌⊎◌, ℕ, ◌<◌, ◌≤◌, List, [], ◌∷◌, Option}
+use Rattle.sb_disk.specs.Disk.{Story}
+use Rattle.sb_disk.specs.Moments.{MayLeave}
+use Rattle.sb_images.specs.Images.{Restores}
+use Rattle.sb_log.specs.declared.geometry.Geometry.{Geometry}
+use Rattle.sb_relation.specs.Db.{Db}
+use Rattle.sb_plain.specs.declared.command.Command.{Command}
+use Rattle.sb_plain.specs.declared.reply.Reply.{Reply}
+use Rattle.sb_plain.specs.State.{State, committed}
+use Rattle.sb_plain.specs.Step.{Steps}
+use Rattle.sb_grammar.specs.Columns.{Item, Says, Bad}
+use Rattle.sb_registry.specs.Boxes.{Meanings}
+use Rattle.sb_drive.specs.Spaces.{Wanted}
+use Rattle.sb_engine.specs.Working.{extensions_of}
+use Rattle.sb_space.specs.Table.{table_len}
+use Rattle.sb_transactions.specs.Transactions.{IsCommitted}
+use Rattle.sb_opening.specs.Naming.{all_live}
+use Rattle.sb_kernel.specs.Plays.{AreBoxesOf}
+
+-- The image is a store's, and what it restores keeps the database, whichever of the boxes are live.
+pub record Holds (m : Meanings) (image : List ℕ) (db : Db) : Type 0 where
+  pub geometry : Geometry
+  pub want : Wanted
+  pub restores : Restores geometry want image
+  pub committed : IsCommitted (all_live m) (table_len geometry.pages) geometry.pages want db
+
+-- a step of the command commits the database
+pub record MayCommit (m : Meanings) (s : State) (c : Command) (db : Db) : Type 0 where
+  pub boxes : Meanings
+  pub are : AreBoxesOf m s boxes
+  pub reply : Reply
+  pub after : State
+  pub steps : Steps (extensions_of boxes) s c reply after
+  pub is : db ≡ committed after
+
+pub record HoldsNext (m : Meanings) (s : State) (c : Command) (image : List ℕ) : Type 0 where
+  pub db : Db
+  pub may : MayCommit m s c db
+  pub holds : Holds m image db
+
+-- what a crash may leave while an item is answered: the last commit, or what a step of its command commits
+abbrev pub IsLeft : Meanings → State → Item → List ℕ → Type 0
+IsLeft m s (Bad column) image = Holds m image (committed s)
+IsLeft m s (Says c) image = Holds m image (committed s) ⊎ HoldsNext m s c image
+
+-- when the next item begins; behind the last one, this end
+abbrev pub next_start : List ℕ → ℕ → ℕ
+next_start [] end = end
+next_start (start ∷ starts) end = start
+
+-- so it is at each moment from when an item begins until the next one does
+abbrev pub LeavesAlong : Meanings → Option Story → ℕ → State → List Item → List State → List ℕ → Type 0
+LeavesAlong m told end s [] [] [] = Unit {0}
+LeavesAlong m told end s (item ∷ items) (t ∷ states) (start ∷ starts) =
+    ((moment : ℕ) (image : List ℕ) → start ≤ moment → moment < next_start starts end → MayLeave told moment image → IsLeft m s item image)
+    × LeavesAlong m told end t items states starts
+LeavesAlong m told end s _ _ _ = ⊥

@@ -1,0 +1,43 @@
+-- Plays: what a plain database replies to items, one after the other, and the states that they lead to.
+use Rattle.std.specs.Prelude.{◌≡◌, List, [], ◌∷◌}
+use Rattle.sb_fold.specs.declared.refusal.Refusal.TheVariants.{Syntax}
+use Rattle.sb_fold.specs.declared.refusal.Room.{Room}
+use Rattle.sb_fold.specs.Extensions.{Extensions}
+use Rattle.sb_plain.specs.declared.reply.Reply.{Reply}
+use Rattle.sb_plain.specs.declared.reply.Reply.TheVariants.{Refused}
+use Rattle.sb_plain.specs.State.{State}
+use Rattle.sb_grammar.specs.Columns.{Item, Says, Bad}
+use Rattle.sb_registry.specs.Boxes.{Meanings}
+use Rattle.sb_engine.specs.Working.{extensions_of}
+use Rattle.sb_vectors.specs.Vectors.{AreSameBoxes, live_codes, spare_codes}
+use Rattle.sb_session.specs.Ends.{Ends}
+
+-- The reply to an item, and the state after it: a bad line is answered by the column of its fault, and the state stays. A command ends as a step, or
+-- for want of room or memory, or because the disk has failed.
+abbrev pub Moves : (Lacks : Room → Type 0) (HasFailed : Type 0) → Extensions → State → Item → Reply → State → Type 0
+Moves Lacks HasFailed ext s (Bad column) reply t = (reply ≡ Refused (Syntax column)) × (t ≡ s)
+Moves Lacks HasFailed ext s (Says c) reply t = Ends (λ u. t ≡ u) Lacks HasFailed ext s c reply
+
+-- these are the boxes, in the order of the state's codes
+pub record AreBoxesOf (m : Meanings) (s : State) (now : Meanings) : Type 0 where
+  pub same : AreSameBoxes m now
+  pub live : s.live ≡ live_codes now
+  pub spare : s.spare ≡ spare_codes now
+
+-- so it is with the boxes in that order
+pub record MovesBy (m : Meanings) (Lacks : Room → Type 0) (HasFailed : Type 0) (s : State) (item : Item) (reply : Reply) (t : State) : Type 0 where
+  pub boxes : Meanings
+  pub are : AreBoxesOf m s boxes
+  pub moves : Moves Lacks HasFailed (extensions_of boxes) s item reply t
+
+-- the replies to items, and the state after each
+abbrev pub Plays : (m : Meanings) (Lacks : Room → Type 0) (HasFailed : Type 0) → State → List Item → List Reply → List State → Type 0
+Plays m Lacks HasFailed s [] [] [] = Unit {0}
+Plays m Lacks HasFailed s (item ∷ items) (reply ∷ replies) (t ∷ states) =
+    MovesBy m Lacks HasFailed s item reply t × Plays m Lacks HasFailed t items replies states
+Plays m Lacks HasFailed s _ _ _ = ⊥
+
+-- the state that they lead to
+abbrev pub last_state : State → List State → State
+last_state s [] = s
+last_state s (t ∷ states) = last_state t states

@@ -1,0 +1,94 @@
+-- A run over a session that was opened.
+use Rattle.std.proofs.Common.{◌≡◌, ◌⊎◌, inr, ℕ, Bool, true, false, Option, None, List, [], subst}
+use Rattle.sb_disk.specs.Disk.{Mounted}
+use Rattle.sb_disk.specs.Moments.{LeavesOnly}
+use Rattle.sb_recover.specs.SuperPage.{IsNoStore}
+use Rattle.sb_relation.specs.Db.{Db}
+use Rattle.sb_plain.specs.declared.reply.Reply.{Reply}
+use Rattle.sb_grammar.specs.Columns.{Item}
+use Rattle.sb_registry.specs.Boxes.{Meanings, repeated_in}
+use Rattle.sb_session.specs.declared.session.Session.{Session}
+use Rattle.sb_opening.specs.declared.codes.Named.{Named}
+use Rattle.sb_opening.specs.Naming.{HasLive}
+use Rattle.sb_opening.specs.Opening.{opened}
+use Rattle.sb_kernel.specs.declared.ending.Ending.{Ending}
+use Rattle.sb_kernel.specs.Crashes.{Holds}
+use Rattle.sb_kernel.specs.Ending.{status_of}
+use Rattle.sb_kernel.specs.Runs.{HasPlayedOut, PlaysOut}
+use Rattle.sb_kernel.specs.Serving.{HasEndedSo, HasServed}
+use Rattle.sb_kernel.specs.World.{At, World, at}
+use Rattle.sb_words.specs.declared.words.Words.{Words}
+use Rattle.starburst.specs.declared.report.Report.{Report}
+use Rattle.starburst.specs.Run.{HasPlayedFrom, OnMounted, PlaysFrom, Run, RunsMounted, RunsOn, Seen, Tells, seen, tells}
+use Rattle.starburst.specs.Starting.{HasStarted}
+use Rattle.starburst.proofs.EarlyLemmas.{early-along, holds-opened}
+
+-- ---- what was played
+played-from : {D : Type 0} (d : Tells D) (m boxes : Meanings) (named : List Named) (IsEarly : List ℕ → Type 0) (db : Db) (mounted first now : D)
+    (items : List Item) (replies : List Reply) (starts : List ℕ) → HasLive m named boxes → LeavesOnly (d.told mounted) (d.told first) IsEarly
+    → ((image : List ℕ) → Holds m image db → IsEarly image) → HasPlayedOut d.told d.faults m first (opened boxes db) items replies starts now
+    → HasPlayedFrom d m named IsEarly db mounted now items replies starts
+played-from d m boxes named IsEarly db mounted first now items replies starts live early holds played = record {
+  boxes = boxes;
+  live = live;
+  first = first;
+  early = early-along (d.told mounted) (d.told first) (d.told now) starts played.until IsEarly early played.on played.begins
+      (λ none t image from left. holds image
+      (holds-opened m boxes db (d.told now) played.until _ items played.states starts played.leaves played.last none t image from left));
+  played = played;
+}
+
+plays-from : {B D : Type 0} (w : World B D) (m : Meanings) (create : Bool) (mounted : D) (items : List Item) (replies : List Reply) (first now : At B D)
+    → HasStarted w m create mounted first.disk first.session → PlaysOut w m items replies first now
+    → PlaysFrom (tells w.told w.len w.faults) m create mounted now.disk now.starts items replies
+plays-from w m false mounted items replies first now started plays = λ g want db stored single.
+    let start = started g want db stored in
+    played-from (tells w.told w.len w.faults) m (w.meanings first.session.boxes) _ (λ image. Holds m image db) db mounted first.disk now.disk
+    items replies now.starts start.live start.early (λ image holds. holds) (plays (opened (w.meanings first.session.boxes) db) start.now single)
+plays-from w m true mounted items replies first now started plays = λ told settled single.
+    let start = started told settled in
+    played-from (tells w.told w.len w.faults) m (w.meanings first.session.boxes) [] (λ image. IsNoStore image ⊎ Holds m image []) [] mounted
+    first.disk now.disk items replies now.starts start.live start.early (λ image holds. inr holds)
+    (plays (opened (w.meanings first.session.boxes) []) start.now single)
+
+-- what is known of the items and their replies, by what was known
+known-by : (most : ℕ) (left left_now held held_now : Option (List ℕ)) (ending : Ending) (starts : List ℕ)
+    (IsKnown Follows : List Item → List Reply → Type 0) → ((items : List Item) (replies : List Reply) → IsKnown items replies → Follows items replies)
+    → HasEndedSo most left left_now held held_now ending starts IsKnown → HasEndedSo most left left_now held held_now ending starts Follows
+known-by most left left_now held held_now ending starts IsKnown Follows leads ended = record {
+  taken = ended.taken;
+  written = ended.written;
+  items = ended.items;
+  replies = ended.replies;
+  is_taken = ended.is_taken;
+  is_written = ended.is_written;
+  begun = ended.begun;
+  answers = ended.answers;
+  leaves = ended.leaves;
+  within = ended.within;
+  writes = ended.writes;
+  in_time = ended.in_time;
+  known = leads ended.items ended.replies ended.known;
+}
+
+-- ---- what was run
+pub runs_mounted : {B D : Type 0} (w : World B D) (m : Meanings) (words : Words) (most : ℕ) (left left_now held held_now : Option (List ℕ))
+    (mounted first now : D) (x : Session B) (ending : Ending) (report : Report) → HasStarted w m words.create mounted first x
+    → HasServed w m most left left_now ending (at first x held []) (at now x held_now report.starts) → report.status ≡ status_of ending
+    → RunsMounted (tells w.told w.len w.faults) m words most (seen left held) (seen left_now held_now) mounted now report
+runs_mounted w m words most left left_now held held_now mounted first now x ending report started served status = Run (record {
+  ending = ending;
+  status = status;
+  ended = known-by most left left_now held held_now ending report.starts _
+      (PlaysFrom (tells w.told w.len w.faults) m words.create mounted now report.starts)
+      (λ items replies plays. plays-from w m words.create mounted items replies (at first x held []) (at now x held_now report.starts) started plays)
+      served;
+})
+
+-- the boxes of the registry are those that were given
+pub on_mounted : {D : Type 0} (d : Tells D) (m given : Meanings) (words : Words) (most : ℕ) (old new : Seen) (disk mounted now : D) (report : Report)
+    → Mounted (d.told disk) (d.told mounted) → m ≡ given → repeated_in m ≡ None → RunsMounted d m words most old new mounted now report
+    → RunsOn d given words most old new disk now report
+on_mounted d m given words most old new disk mounted now report told same unique run = OnMounted mounted told
+    (subst (λ (n : Meanings). repeated_in n ≡ None) same unique)
+    (subst (λ (n : Meanings). RunsMounted d n words most old new mounted now report) same run)

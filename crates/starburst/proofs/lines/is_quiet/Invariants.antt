@@ -1,6 +1,0 @@
-use Rattle.std.proofs.Common.{◌≡◌, drop}
-use Rattle.sb_first.specs.Lines.{is_passed_over}
-use Rattle.starburst.proofs.lines.is_quiet.Given as goal
-
-abbrev pub invariant-loop-byte : goal.invariant-loop-byte
-invariant-loop-byte l = is_passed_over (drop l.byte-index l.line) ≡ is_passed_over l.line
