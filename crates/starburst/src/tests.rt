@@ -2,6 +2,9 @@
 
 ghost use Rattle.std.specs.Prelude.{Some};
 
+mod foreign;
+mod stops;
+
 use crate::report::Report;
 use crate::run;
 use sb_disk::{Failed, Sink, Source};
@@ -73,6 +76,7 @@ fn words_of(alloc: Global, texts: &[&str]) -> Result<Vec<Str>, AllocError> {
 }
 
 /// What a run gets, and what it comes to.
+#[derive(Drop)]
 struct Row {
     words: &'static [&'static str],
     /// The size of a new disk of zeros; None: the disk of the run before.
