@@ -21,7 +21,7 @@ use Rattle.sb_transactions.specs.Calls.{IsOnlyFault, Remains}
 use Rattle.sb_transactions.specs.Commits.{LeavesOldOrFinished, StaysOpen, StopsAt, is_wanting}
 use Rattle.sb_transactions.specs.Transactions.{IsAt, Rests, WasBegun}
 use Rattle.sb_execution.specs.Endings.{EndsAlone, HasAnswered}
-use Rattle.sb_execution.proofs.AloneLemmas.{EndsAlone-fault, EndsAlone-refused, moments_abort, moments_commit, refuses_commit, remains_abort, remains_alone, rests_abort, was_up}
+use Rattle.sb_execution.proofs.AloneLemmas.{EndsAlone-fault, EndsAlone-refused, fallen_commit, leaves_alone, moments_abort, refuses_commit, remains_abort, remains_alone, rests_abort, was_up}
 use Rattle.sb_execution.proofs.CallLemmas.{Remains-err, err_fault, ok_err}
 use Rattle.sb_execution.proofs.EndLemmas.{MayWant-works}
 
@@ -43,13 +43,15 @@ module _ {D : Type 0} (told : D → Option Story) (len faults : D → ℕ) (m : 
   module _ {K : Type 0} (r : Refusal) (kept : Remains {T = K} told len faults e b t v (Err r))
       (stops : (want : Wanted) (g : Going) → IsAt m place want tx g here w → StopsAt told len faults (extensions_of m) tx g r (record { disk = e; store = t })) where
     -- and the transaction is over
-    pub EndsAlone-over : ((want : Wanted) (g : Going) → IsAt m place want tx g here w → LeavesOldOrFinished m place.root want g here between) → (v.book.down ≡ false → v.book.out ≡ [])
+    pub EndsAlone-over : ((want : Wanted) (g : Going) → IsAt m place want tx g here w → LeavesOldOrFinished m place.root want g here between) → ((r ≡ refusal.Fault → ⊥) → LeavesWanted here between)
+        → (v.book.down ≡ false → v.book.out ≡ [])
         → (v.book.down ≡ false → (m : Meanings) (root : ℕ) (want : Wanted) (db : Db) → WasBegun m root want db tx here → Rests m root want db between)
         → (r ≡ refusal.Fault → (want : Wanted) (g : Going) → IsAt m place want tx g here w → v.book.down ≡ true) → EndsAlone told len faults m place c d b s v (Err r)
-    EndsAlone-over moments none aborted faulted =
+    EndsAlone-over moments still none aborted faulted =
         EndsAlone-refused told len faults m place c d b s v up (λ x. MayWant-works x c has.works) r
         (remains_alone told len faults m place d e s t tx has.comes w {T = Reply} {U = Reply} b v (Err r) (Err r) (λ is. is) (Remains-err told len faults {T = K} {U = Reply} e b t v r kept))
-        (moments_commit told len faults m place c d e s t tx w answer has b v moments)
+        (λ not want x of posed. leaves_alone told len faults m place d e s t tx has.comes {T = K} b v (Err r) kept (still not) want x of)
+        (fallen_commit told len faults m place c d e s t tx w answer has b v moments)
         none
         (λ off want x of. aborted off m place.root want (committed x) (has.comes.begun has.up want x of))
         (refuses_commit told len faults m place c d e s t tx w answer has r stops v faulted)
@@ -62,6 +64,7 @@ module _ {D : Type 0} (told : D → Option Story) (len faults : D → ℕ) (m : 
       EndsAlone-let_go wanting remains none last number rests =
           EndsAlone-refused told len faults m place c d f s u up (λ x. MayWant-works x c has.works) r
           (remains_abort told len faults m place c d e s t tx w answer has {K = K} b f v u now r stays kept {T = Unit {0}} (Ok tt) (Err r) (λ is. ok_err tt refusal.Fault is) remains)
+          (λ not want x of posed. moments_abort told len faults m place c d e s t tx w answer has {K = K} b f v u now r stays kept {T = Unit {0}} (Ok tt) remains leaves want x of posed)
           (λ want x of posed.
           inl (moments_abort told len faults m place c d e s t tx w answer has {K = K} b f v u now r stays kept {T = Unit {0}} (Ok tt) remains leaves want x of posed))
           (λ off. none)

@@ -35,7 +35,7 @@ use Rattle.sb_transactions.specs.Transactions.{IsAt, IsCommitted, Rests, WasBegu
 use Rattle.sb_transactions.proofs.EndLemmas.{Remains-behind}
 use Rattle.sb_execution.specs.Serving.{IsPosedIn}
 use Rattle.sb_session.specs.Ends.{IsFree, IsStep, MayWant, is_end}
-use Rattle.sb_session.specs.Sessions.{HasFailed, IsOpenFor, Lacks, LeavesOldOrNext}
+use Rattle.sb_session.specs.Sessions.{HasFailed, IsNext, IsOpenFor, Lacks, LeavesNext, LeavesOldOrNext}
 use Rattle.sb_session.proofs.Carried.{end_of_given}
 use Rattle.sb_session.proofs.CommitSteps.{committed-push, with_committed}
 use Rattle.sb_session.proofs.OpenLemmas.{Outside, outside_at}
@@ -63,8 +63,8 @@ module _ {D : Type 0} (told : D → Option Story) (len faults : D → ℕ) (m : 
   abbrev ext : Extensions
   ext = extensions_of m
 
-  abbrev LeftBy : State → Reply → State → Type 0
-  LeftBy x r t = IsLeftSo m place x q None r t
+  abbrev LeftBy : Wanted → State → Reply → State → Type 0
+  LeftBy want x r t = IsLeftSo m place want x c p q None r t
 
   abbrev Of : Wanted → State → Type 0
   Of want x = IsOf m place want x p None
@@ -73,45 +73,53 @@ module _ {D : Type 0} (told : D → Option Story) (len faults : D → ℕ) (m : 
   abbrev Each : (Wanted → State → Type 0) → Type 0
   Each P = (want : Wanted) (x : State) → Of want x → IsPosedIn m x c → P want x
 
-  abbrev Moments : Type 0
-  Moments = Each (λ want x. LeavesOldOrNext m place.root want ext x c p q)
+  -- a crash left what was wanted
+  abbrev Still : Type 0
+  Still = Each (λ want x. LeavesOnly p.told q.told (Restores p.store.pool.geometry want))
+
+  -- a crash left this where the disk failed
+  abbrev Fallen : Type 0
+  Fallen = Each (λ want x. LeavesOldOrNext m place.root want ext x c (downed x) p q)
 
   without : (want : Wanted) (x : State) → Of want x → Outside m place want (committed x) p x.transaction
   without want x of = outside_at m place want (committed x) p x.transaction of.stands
 
   failed_so : (r : Refusal) → Remains {T = Reply} told len faults d f s u (Err r) → r ≡ refusal.Fault → u.book.down ≡ true → (want : Wanted) (x : State) → Of want x
-      → IsFree (LeftBy x (Refused r)) (HasFailed faults d f) x (downed x)
-  failed_so r remains is on want x of = record {
+      → LeavesOldOrNext m place.root want ext x c (downed x) p q → IsFree (LeftBy want x (Refused r)) (HasFailed faults d f) x (downed x)
+  failed_so r remains is on want x of leaves = record {
     up = of.up;
     cause = has_failed told len faults {T = Reply} d f s u (Err r) remains up on;
-    stands = record { want = want; is = record { down = sym (ap is_end is); live = refl; spare = refl; stands = λ off. absurd (false≢true (sym off)) } };
+    stands = record {
+      now = want;
+      is = record { down = sym (ap is_end is); live = refl; spare = refl; stands = λ off. absurd (false≢true (sym off)) };
+      leaves = leaves;
+    };
   }
 
   -- ---- the disk failed
-  pub EndsAlone-fault : (r : Refusal) → Remains {T = Reply} told len faults d f s u (Err r) → IsOnlyFault r u
-      → Each (λ want x. LeavesOnly p.told q.told (Restores p.store.pool.geometry want)) → EndsAlone told len faults m place c d f s u (Err r)
-  EndsAlone-fault r remains only leaves = record {
-    ends = λ want x of posed. Ends-by (LeftBy x (Refused r)) (Lacks faults) (HasFailed faults d f) ext x c r
+  pub EndsAlone-fault : (r : Refusal) → Remains {T = Reply} told len faults d f s u (Err r) → IsOnlyFault r u → Still → EndsAlone told len faults m place c d f s u (Err r)
+  EndsAlone-fault r remains only still = record {
+    ends = λ want x of posed. Ends-by (LeftBy want x (Refused r)) (Lacks faults) (HasFailed faults d f) ext x c r
         (λ given. absurd (false≢true (sym given ∙ ap is_free only.is)))
         (λ room is. absurd (let e = only.is in cc))
         (λ is. absurd (let e = only.is in cc))
-        (λ is. failed_so r remains is only.down want x of)
+        (λ is. failed_so r remains is only.down want x of (inl (still want x of posed)))
         (λ page is. absurd (let e = only.is in cc));
-    any_moment = λ want x of posed. inl (leaves want x of posed);
     none = λ off. not_both u.book.down off only.down;
     remains = remains;
   }
 
   -- ---- it was refused, and the pages are as they were
-  module _ (may : (x : State) → MayWant x c) (r : Refusal) (remains : Remains {T = Reply} told len faults d f s u (Err r)) (moments : Moments) (none : u.book.down ≡ false → u.book.out ≡ [])
+  module _ (may : (x : State) → MayWant x c) (r : Refusal) (remains : Remains {T = Reply} told len faults d f s u (Err r)) (still : (r ≡ refusal.Fault → ⊥) → Still) (fallen : Fallen)
+      (none : u.book.down ≡ false → u.book.out ≡ [])
       (rests : u.book.down ≡ false → (want : Wanted) (x : State) → Of want x → Rests m place.root want (committed x) q)
       (refuses : Each (λ want x. Refuses faults m c x r u)) where
     stays_up : (r ≡ refusal.Fault → ⊥) → u.book.down ≡ false
     stays_up not = still_up told len faults {T = Reply} d f s u (Err r) remains (λ is. absurd (not (err_fault {T = Reply} r is)))
 
-    as_it_was : (want : Wanted) (x : State) → Of want x → is_end r ≡ false → LeftBy x (Refused r) x
-    as_it_was want x of not = record {
-      want = want;
+    as_it_was : (want : Wanted) (x : State) → Of want x → IsPosedIn m x c → is_end r ≡ false → LeftBy want x (Refused r) x
+    as_it_was want x of posed not = record {
+      now = want;
       is = record {
         down = of.up ∙ sym not;
         live = refl;
@@ -119,58 +127,59 @@ module _ {D : Type 0} (told : D → Option Story) (len faults : D → ℕ) (m : 
         stands = λ on. subst (λ (a : Option PlainTransaction). IsOpenFor m place want (committed x) q None a) (sym (without want x of).none)
             (rests (stays_up (λ is. false≢true (sym not ∙ ap is_end is))) want x of);
       };
+      leaves = inl (still (λ is. false≢true (sym not ∙ ap is_end is)) want x of posed);
     }
 
-    given_step : (want : Wanted) (x : State) → Of want x → IsPosedIn m x c → is_free r ≡ false → IsStep (LeftBy x (Refused r)) ext x c (Refused r)
+    given_step : (want : Wanted) (x : State) → Of want x → IsPosedIn m x c → is_free r ≡ false → IsStep (LeftBy want x (Refused r)) ext x c (Refused r)
     given_step want x of posed given = record {
       after = with_open x None;
       steps = (refuses want x of posed).given given;
       stands = record {
-        want = want;
+        now = want;
         is = record {
           down = sym (end_of_given r given);
           live = refl;
           spare = refl;
           stands = λ on. rests (stays_up (λ is. false≢true (sym given ∙ ap is_free is))) want x of;
         };
+        leaves = inl (still (λ is. false≢true (sym given ∙ ap is_free is)) want x of posed);
       };
     }
 
     pub EndsAlone-refused : EndsAlone told len faults m place c d f s u (Err r)
     EndsAlone-refused = record {
-      ends = λ want x of posed. let why = refuses want x of posed in Ends-by (LeftBy x (Refused r)) (Lacks faults) (HasFailed faults d f) ext x c r
+      ends = λ want x of posed. let why = refuses want x of posed in Ends-by (LeftBy want x (Refused r)) (Lacks faults) (HasFailed faults d f) ext x c r
           (λ given. given_step want x of posed given)
           (λ room is. record {
             up = of.up;
             cause = record { at = why.there; cause = subst (λ (r : Refusal). HasCause (FailsOn faults) r why.there) is (why.cause (ap is_free is)) };
-            stands = as_it_was want x of (ap is_end is);
+            stands = as_it_was want x of posed (ap is_end is);
           })
-          (λ is. record { up = of.up; cause = may x; stands = as_it_was want x of (ap is_end is) })
-          (λ is. failed_so r remains is (why.failed is) want x of)
+          (λ is. record { up = of.up; cause = may x; stands = as_it_was want x of posed (ap is_end is) })
+          (λ is. failed_so r remains is (why.failed is) want x of (fallen want x of posed))
           (λ page is. subst (λ (r : Refusal). HasCause (FailsOn faults) r why.there) is (why.cause (ap is_free is)));
-      any_moment = moments;
       none = none;
       remains = remains;
     }
 
   -- ---- it went through
-  pub EndsAlone-done : (r : Reply) → Remains told len faults d f s u (Ok r) → Moments → (u.book.down ≡ false → u.book.out ≡ [])
-      → Each (λ want x. (is_free_reply r ≡ false) × IsStep (LeftBy x r) ext x c r) → EndsAlone told len faults m place c d f s u (Ok r)
-  EndsAlone-done r remains moments none steps = record {
-    ends = λ want x of posed. let to = steps want x of posed in Ends-stepped (LeftBy x r) (Lacks faults) (HasFailed faults d f) ext x c r to.0 to.1;
-    any_moment = moments;
+  pub EndsAlone-done : (r : Reply) → Remains told len faults d f s u (Ok r) → (u.book.down ≡ false → u.book.out ≡ [])
+      → Each (λ want x. (is_free_reply r ≡ false) × IsStep (LeftBy want x r) ext x c r) → EndsAlone told len faults m place c d f s u (Ok r)
+  EndsAlone-done r remains none steps = record {
+    ends = λ want x of posed. let to = steps want x of posed in Ends-stepped (LeftBy want x r) (Lacks faults) (HasFailed faults d f) ext x c r to.0 to.1;
     none = none;
     remains = remains;
   }
 
   -- a reading
-  pub read_so : (r : Reply) (want : Wanted) (x : State) → Rests m place.root want (committed x) q → is_free_reply r ≡ false → Steps ext x c r (with_open x None) → (is_free_reply r ≡ false) × IsStep (LeftBy x r) ext x c r
-  read_so r want x rests given steps = (
+  pub read_so : (r : Reply) (want : Wanted) (x : State) → Rests m place.root want (committed x) q → LeavesOnly p.told q.told (Restores p.store.pool.geometry want) → is_free_reply r ≡ false
+      → Steps ext x c r (with_open x None) → (is_free_reply r ≡ false) × IsStep (LeftBy want x r) ext x c r
+  read_so r want x rests still given steps = (
     given,
     record {
       after = with_open x None;
       steps = steps;
-      stands = record { want = want; is = record { down = sym (ends_given r given); live = refl; spare = refl; stands = λ on. rests } };
+      stands = record { now = want; is = record { down = sym (ends_given r given); live = refl; spare = refl; stands = λ on. rests }; leaves = inl still };
     },
   )
 
@@ -247,38 +256,48 @@ module _ {D : Type 0} (told : D → Option Story) (len faults : D → ℕ) (m : 
         Steps-worked_alone (extensions_of m) x c of.up (none_in want x of) why.work why.is (why.run.picks ++ run.picks) run.after answer why.passed
         (leads_whole_way why.work (going_alone x) why.run.after run.after why.run.picks run.picks why.run.leads run.leads)
 
-    -- what a crash leaves
-    pub moments_commit : ((want : Wanted) (g : Going) → IsAt m place want tx g here w → LeavesOldOrFinished m place.root want g here to)
-        → (want : Wanted) (x : State) → Begun want x → IsPosedIn m x c → LeavesOldOrNext m place.root want (extensions_of m) x c from to
-    moments_commit moments want x of posed =
-        let why : Answers m place want c x here tx w answer = has.answers want x of posed in
+    -- what a crash left since the commit began, beside what it left before
+    leaves_next : (want : Wanted) (x : State) → Begun want x → (after next : State) → IsNext (extensions_of m) x c after next → (pages : ℕ → List ℕ)
+        → IsCommitted m place.root t.pool.geometry.pages pages (committed next) → LeavesOnly (told e) (told f) (IsOldOrNew t.pool.geometry want pages)
+        → LeavesNext m place.root want (extensions_of m) x c after from to
+    leaves_next want x of after next is pages commits leaves =
         let size : t.pool.geometry ≡ s.pool.geometry = same_size told len faults m place d e s t tx has.comes in
-        let before : LeavesOnly (told d) (told e) (Restores s.pool.geometry want) = leaves_so_far told len faults m place d e s t tx has.comes want x of in
+        record {
+          next = next;
+          is = is;
+          pages = pages;
+          commits = subst (λ (g : Geometry). IsCommitted m place.root g.pages pages (committed next)) size commits;
+          leaves = and_then (told d) (told e) (told f) (IsOldOrNew s.pool.geometry want pages)
+              (weaker (told d) (told e) (Restores s.pool.geometry want) (IsOldOrNew s.pool.geometry want pages) (λ image was. inl was)
+              (leaves_so_far told len faults m place d e s t tx has.comes want x of))
+              (subst (λ (g : Geometry). LeavesOnly (told e) (told f) (IsOldOrNew g want pages)) size leaves);
+        }
+
+    -- the disk failed, and what a crash left may be what a step commits
+    pub fallen_commit : ((want : Wanted) (g : Going) → IsAt m place want tx g here w → LeavesOldOrFinished m place.root want g here to)
+        → (want : Wanted) (x : State) → Begun want x → IsPosedIn m x c → LeavesOldOrNext m place.root want (extensions_of m) x c (downed x) from to
+    fallen_commit moments want x of posed =
+        let why : Answers m place want c x here tx w answer = has.answers want x of posed in
         ⊎_elim
         (λ (old : LeavesOnly here.told to.told (Restores t.pool.geometry want)).
-        inl (and_then (told d) (told e) (told f) (Restores s.pool.geometry want) before
-        (subst (λ (g : Geometry). LeavesOnly (told e) (told f) (Restores g want)) size old)))
-        (λ (run : Finishes m why.run.after (LeavesEither m place.root want here) to). inr (record {
-          reply = answered answer run.after.used;
-          after = with_committed x run.after.db;
-          steps = committed_step want x of posed (LeavesEither m place.root want here) run;
-          pages = run.stands.pages;
-          commits = subst (λ (n : ℕ). IsCommitted m place.root n run.stands.pages (committed (with_committed x run.after.db))) (ap (λ (g : Geometry). g.pages) size)
-              (subst (λ (db : Db). IsCommitted m place.root t.pool.geometry.pages run.stands.pages db) (sym (committed-push x run.after.db)) run.stands.committed);
-          leaves = and_then (told d) (told e) (told f) (IsOldOrNew s.pool.geometry want run.stands.pages)
-              (weaker (told d) (told e) (Restores s.pool.geometry want) (IsOldOrNew s.pool.geometry want run.stands.pages) (λ image is. inl is) before)
-              (subst (λ (g : Geometry). LeavesOnly (told e) (told f) (IsOldOrNew g want run.stands.pages)) size run.stands.leaves);
-        }))
+        inl (and_then (told d) (told e) (told f) (Restores s.pool.geometry want) (leaves_so_far told len faults m place d e s t tx has.comes want x of)
+        (subst (λ (g : Geometry). LeavesOnly (told e) (told f) (Restores g want)) (same_size told len faults m place d e s t tx has.comes) old)))
+        (λ (run : Finishes m why.run.after (LeavesEither m place.root want here) to).
+        inr (leaves_next want x of (downed x) (with_committed x run.after.db)
+        (inr (refl, record { reply = answered answer run.after.used; steps = committed_step want x of posed (LeavesEither m place.root want here) run }))
+        run.stands.pages
+        (subst (λ (db : Db). IsCommitted m place.root t.pool.geometry.pages run.stands.pages db) (sym (committed-push x run.after.db)) run.stands.committed)
+        run.stands.leaves))
         (moments want why.run.after why.run.stands)
 
     -- ---- it was committed
-    pub EndsAlone-committed : {K : Type 0} (held : K) (picks : List Key) → Remains told len faults e f t u (Ok held) → ((want : Wanted) (g : Going) → IsAt m place want tx g here w → LeavesOldOrFinished m place.root want g here to)
-        → (u.book.down ≡ false → u.book.out ≡ []) → ((want : Wanted) (g : Going) → IsAt m place want tx g here w → Finishes m g (IsDone m place.root picks) to)
+    pub EndsAlone-committed : {K : Type 0} (held : K) (picks : List Key) → Remains told len faults e f t u (Ok held) → (u.book.down ≡ false → u.book.out ≡ [])
+        → ((want : Wanted) (g : Going) → IsAt m place want tx g here w → Finishes m g (IsDone m place.root want picks here) to)
         → EndsAlone told len faults m place c d f s u (Ok (answered answer picks))
-    EndsAlone-committed {K} held picks remains moments none done =
+    EndsAlone-committed {K} held picks remains none done =
         EndsAlone-done told len faults m place c d f s u (was_up told len faults m place d e s t tx has.comes) (answered answer picks)
         (remains_alone told len faults m place d e s t tx has.comes w {T = K} {U = Reply} f u (Ok held) (Ok (answered answer picks)) (λ is. ok_err held refusal.Fault is) remains)
-        (moments_commit moments) none
+        none
         (λ want x of posed.
         let why = has.answers want x of posed in
         let run = done want why.run.after why.run.stands in
@@ -287,15 +306,19 @@ module _ {D : Type 0} (told : D → Option Story) (len faults : D → ℕ) (m : 
           record {
             after = with_committed x run.after.db;
             steps = subst (λ (used : List Key). Steps (extensions_of m) x c (answered answer used) (with_committed x run.after.db)) (sym run.stands.picked)
-                (committed_step want x of posed (IsDone m place.root picks) run);
+                (committed_step want x of posed (IsDone m place.root want picks here) run);
             stands = record {
-              want = run.stands.want;
+              now = run.stands.now;
               is = record {
                 down = sym (ends_given (answered answer picks) given);
                 live = refl;
                 spare = refl;
-                stands = λ on. subst (λ (db : Db). Rests m place.root run.stands.want db to) (sym (committed-push x run.after.db)) run.stands.rests;
+                stands = λ on. subst (λ (db : Db). Rests m place.root run.stands.now db to) (sym (committed-push x run.after.db)) run.stands.rests;
               };
+              leaves = inr (leaves_next want x of (with_committed x run.after.db) (with_committed x run.after.db) (inl refl) run.stands.now
+                  (subst (λ (g : Geometry). IsCommitted m place.root g.pages run.stands.now (committed (with_committed x run.after.db))) remains.geometry
+                  (subst (λ (db : Db). IsCommitted m place.root u.pool.geometry.pages run.stands.now db) (sym (committed-push x run.after.db)) run.stands.rests.committed))
+                  run.stands.leaves);
             };
           },
         ))

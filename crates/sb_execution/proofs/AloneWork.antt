@@ -139,7 +139,7 @@ module _ {D : Type 0} (told : D → Option Story) (len faults : D → ℕ) (m : 
         EndsAlone-behind may r why =
             EndsAlone-refused told len faults m place c d f s u up may r
             (remains_alone told len faults m place d e s t last comes y.work {T = Unit {0}} {U = Reply} f u (Ok tt) (Err r) (λ is. ok_err tt refusal.Fault is) remains)
-            (λ want x of posed. inl (moments want x of)) (λ off. none) (λ off want x of. rests_so want x of)
+            (λ not want x of posed. moments want x of) (λ want x of posed. inl (moments want x of)) (λ off. none) (λ off want x of. rests_so want x of)
             (λ want x of posed.
             let both = why want x of posed in
             record {
@@ -205,11 +205,11 @@ module _ {D : Type 0} (told : D → Option Story) (len faults : D → ℕ) (m : 
         EndsAlone-reads r came is serves_so =
             EndsAlone-done told len faults m place c d f s u up r
             (remains_alone told len faults m place d e s t last comes y.work {T = Unit {0}} {U = Reply} f u (Ok tt) (Ok r) (λ is. ok_err tt refusal.Fault is) remains)
-            (λ want x of posed. inl (moments want x of)) (λ off. none)
+            (λ off. none)
             (λ want x of posed.
             let did : IsServed (λ h p. IsAt m place want n h p y.work) m x c (going_alone x) (served.Read r) here =
             subst (λ (one : Served). IsServed (λ h p. IsAt m place want n h p y.work) m x c (going_alone x) one here) is (serves_so still want x (going_alone x) (at_command want x of) (seen want x of) posed) in
-            read_so told len faults m place c d f s u up r want x (rests_so want x of) (read_given (extensions_of m) (view x) c r did.1)
+            read_so told len faults m place c d f s u up r want x (rests_so want x of) (moments want x of) (read_given (extensions_of m) (view x) c r did.1)
             (Steps-read_alone (extensions_of m) x c of.up (out want x of).none r did.0 did.1))
 
   -- ---- the command was answered

@@ -1,38 +1,27 @@
 -- What becomes of a session in any command.
-use Rattle.std.proofs.Common.{◌≡◌, ◌||◌, ℕ, Bool, true, false, List, Option, Some, None, inl, sym, ap, ◌∙◌, subst, arith}
+use Rattle.std.proofs.Common.{◌≡◌, ◌||◌, ℕ, Bool, true, false, Option, refl, sym, ap, ◌∙◌, subst, arith}
 use Rattle.std.proofs.lemmas.Bool.{false≢true}
 use Rattle.sb_disk.specs.Disk.{Story}
-use Rattle.sb_relation.specs.Db.{Db}
 use Rattle.sb_engine.specs.Working.{extensions_of}
 use Rattle.sb_fold.specs.declared.refusal.Refusal.TheVariants as refusal
 use Rattle.sb_plain.specs.declared.command.Command.{Command}
 use Rattle.sb_plain.specs.declared.reply.Reply.{Reply}
 use Rattle.sb_plain.specs.declared.reply.Reply.TheVariants.{Refused}
-use Rattle.sb_plain.specs.State.{State, Transaction as PlainTransaction, committed}
+use Rattle.sb_plain.specs.State.{State}
 use Rattle.sb_registry.specs.Boxes.{Meanings}
 use Rattle.sb_drive.specs.Spaces.{Wanted}
-use Rattle.sb_map.specs.declared.place.Place.{Place}
-use Rattle.sb_txn.specs.Clauses.{Parts, parts, IsStoreOf, LeavesWanted}
+use Rattle.sb_txn.specs.Clauses.{parts, LeavesWanted}
 use Rattle.sb_txn.proofs.KeepsLemmas.{LeavesWanted-none}
 use Rattle.sb_space.specs.declared.transactions.Space.{Space}
 use Rattle.sb_vectors.specs.Vectors.{AreSameBoxes}
 use Rattle.sb_execution.specs.Serving.{IsPosedIn}
-use Rattle.sb_session.specs.declared.session.Open.{Open}
 use Rattle.sb_session.specs.declared.session.Session.{Session}
 use Rattle.sb_session.specs.Ends.{Ends, ends_with}
-use Rattle.sb_session.specs.Sessions.{CanRun, HasFailed, IsFor, IsOpenFor, Keeps, Lacks, LeavesOldOrNext, StandsFor, parts_of}
+use Rattle.sb_session.specs.Sessions.{CanRun, HasFailed, IsFor, Keeps, Lacks, StandsBehind, parts_of}
+use Rattle.sb_session.proofs.Behind.{Ends-behind_for}
 use Rattle.sb_session.proofs.Commands.{Carried-down}
 use Rattle.sb_session.proofs.SameBoxes.{same-boxes}
 use Rattle.sb_execution.specs.Endings.{Executed}
-use Rattle.sb_execution.proofs.EndLemmas.{Ends-as}
-
--- a store has some pages now beside those wanted
-store_for : (m : Meanings) (place : Place) (want : Wanted) (db : Db) (p : Parts) (o : Option Open) (t : Option PlainTransaction) → IsOpenFor m place want db p o t
-    → (now : ℕ → List ℕ) × IsStoreOf want now p
-store_for m place want db p None None rests = (rests.has.now, rests.has.stands.store)
-store_for m place want db p (Some o) (Some t) inside = (inside.at.has.now, inside.at.has.stands.store)
-store_for m place want db p None (Some t) none = absurd none
-store_for m place want db p (Some o) None none = absurd none
 
 module _ {B D : Type 0} (meanings : B → Meanings) (told : D → Option Story) (len faults : D → ℕ) (c : Command) (d e : D) (x y : Session B) where
   module _ (r : Reply) (same : AreSameBoxes (meanings x.boxes) (meanings y.boxes)) (keeps : Keeps len faults d e x y r) (runs : CanRun meanings told len e y) where
@@ -41,30 +30,10 @@ module _ {B D : Type 0} (meanings : B → Meanings) (told : D → Option Story) 
         → Ends (λ t. IsFor meanings told len want t e y) (Lacks faults) (HasFailed faults d e) (extensions_of (meanings x.boxes)) s c r)
         → LeavesWanted (parts_of told len d x) (parts_of told len e y) → Executed meanings told len faults c d e x y r
     Executed-kept ends leaves = record {
-      ends = λ want s for posed.
-          Ends-as (λ t. IsFor meanings told len want t e y) (λ t. StandsFor meanings told len t e y) (Lacks faults) (HasFailed faults d e) (extensions_of (meanings x.boxes)) s c
-          (λ t is. record { want = want; is = is }) r (ends want s for posed);
-      any_moment = λ want s for posed up.
-          let store = store_for (meanings x.boxes) x.place want (committed s) (parts_of told len d x) x.open s.transaction (for.stands up) in
-          inl (leaves.each want store.0 store.1);
+      ends = λ want s for posed. Ends-behind_for meanings told len c d e x y leaves want s for faults r (ends want s for posed);
       same = same;
       keeps = keeps;
       runs = runs;
-    }
-
--- a session that is down
-pub Executed-down : {B D : Type 0} (meanings : B → Meanings) (told : D → Option Story) (len faults : D → ℕ) (c : Command) (d : D) (x : Session B) → CanRun meanings told len d x → x.down ≡ true
-    → Executed meanings told len faults c d d x x (Refused refusal.Down)
-Executed-down meanings told len faults c d x runs down =
-    let carried = Carried-down meanings told len faults d x runs c down in
-    record {
-      ends = λ want s for posed.
-          Ends-as (λ t. IsFor meanings told len want t d x) (λ t. StandsFor meanings told len t d x) (Lacks faults) (HasFailed faults d d) (extensions_of (meanings x.boxes)) s c
-          (λ t is. record { want = want; is = is }) (Refused refusal.Down) (carried.ends want s for);
-      any_moment = λ want s for posed up. absurd (false≢true (sym up ∙ sym for.down ∙ down));
-      same = same-boxes (meanings x.boxes);
-      keeps = carried.keeps;
-      runs = carried.runs;
     }
 
 -- neither the disk nor the store was touched
@@ -73,17 +42,22 @@ leaves_still {D = D} told len d e x y disk space =
     subst (λ (f : D). LeavesWanted (parts_of told len d x) (parts_of told len f y)) (sym disk)
     (subst (λ (a : Space). LeavesWanted (parts_of told len d x) (parts told len d a.store)) (sym space) (LeavesWanted-none (parts_of told len d x)))
 
+-- a session that is down
+pub Executed-down : {B D : Type 0} (meanings : B → Meanings) (told : D → Option Story) (len faults : D → ℕ) (c : Command) (d : D) (x : Session B) → CanRun meanings told len d x → x.down ≡ true
+    → Executed meanings told len faults c d d x x (Refused refusal.Down)
+Executed-down meanings told len faults c d x runs down =
+    let carried = Carried-down meanings told len faults d x runs c down in
+    Executed-kept meanings told len faults c d d x x (Refused refusal.Down) (same-boxes (meanings x.boxes)) carried.keeps carried.runs (λ want s for posed. carried.ends want s for)
+    (leaves_still told len d d x x refl refl)
+
 module _ {B D : Type 0} (meanings : B → Meanings) (told : D → Option Story) (len faults : D → ℕ) (c : Command) (d e : D) (x y : Session B) (r : Reply)
     (same : AreSameBoxes (meanings x.boxes) (meanings y.boxes)) (keeps : Keeps len faults d e x y r) (runs : CanRun meanings told len e y) where
   -- other pages may be wanted then
   pub Executed-moved : ((want : Wanted) (s : State) → IsFor meanings told len want s d x → IsPosedIn (meanings x.boxes) s c
-      → Ends (λ t. StandsFor meanings told len t e y) (Lacks faults) (HasFailed faults d e) (extensions_of (meanings x.boxes)) s c r)
-      → ((want : Wanted) (s : State) → IsFor meanings told len want s d x → IsPosedIn (meanings x.boxes) s c → s.down ≡ false
-      → LeavesOldOrNext (meanings x.boxes) x.place.root want (extensions_of (meanings x.boxes)) s c (parts_of told len d x) (parts_of told len e y))
+      → Ends (StandsBehind meanings told len want (extensions_of (meanings x.boxes)) s c d e x y) (Lacks faults) (HasFailed faults d e) (extensions_of (meanings x.boxes)) s c r)
       → Executed meanings told len faults c d e x y r
-  Executed-moved ends moments = record {
+  Executed-moved ends = record {
     ends = λ want s for posed. ends want s for posed;
-    any_moment = λ want s for posed up. moments want s for posed up;
     same = same;
     keeps = keeps;
     runs = runs;

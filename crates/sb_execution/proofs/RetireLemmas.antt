@@ -20,7 +20,7 @@ use Rattle.sb_vectors.specs.Vectors.{AreSameBoxes}
 use Rattle.sb_session.specs.declared.session.Open.{Open}
 use Rattle.sb_session.specs.declared.session.Session.{Session}
 use Rattle.sb_session.specs.Ends.{Ends}
-use Rattle.sb_session.specs.Sessions.{CanRun, HasFailed, IsFor, IsOpenFor, Keeps, Lacks, StandsFor, parts_of}
+use Rattle.sb_session.specs.Sessions.{CanRun, HasFailed, IsFor, IsOpenFor, Keeps, Lacks, StandsBehind, parts_of}
 use Rattle.sb_session.proofs.Carried.{CanRun-as, IsFor-as}
 use Rattle.sb_session.proofs.Commands.{outside_for}
 use Rattle.sb_execution.specs.Endings.{Executed, IsOf, Passes}
@@ -80,14 +80,15 @@ module _ {B D : Type 0} (meanings : B → Meanings) (told : D → Option Story) 
       → Executed meanings told len faults c d f x z r
   Executed-tested f z r disk same keeps runs_on ends = record {
     ends = λ want s for posed.
-        Ends-as (λ t. IsFor meanings told len want t f z) (λ t. StandsFor meanings told len t f z) (Lacks faults) (HasFailed faults d f) (extensions_of m) s c
-        (λ t is. record { want = want; is = is }) r
+        Ends-as (λ t. IsFor meanings told len want t f z) (StandsBehind meanings told len want (extensions_of m) s c d f x z) (Lacks faults) (HasFailed faults d f) (extensions_of m) s c
+        (λ t is. record {
+          stands = record { want = want; is = is };
+          leaves = λ on. inl (subst (λ (g : D). LeavesOnly (told d) (told g) (Restores x.space.store.pool.geometry want)) (sym disk) (passes.any_moment want s (of_state want s for)));
+        }) r
         (Ends-since (λ t. IsFor meanings told len want t f z) (Lacks faults) (HasFailed faults e f) (HasFailed faults d f) (extensions_of m) s c
         (Rose-later (faults d) (faults e) (faults f) passes.remains.later) r
         (subst (λ (b : B). Ends (λ t. IsFor meanings told len want t f z) (Lacks faults) (HasFailed faults e f) (extensions_of (meanings b)) s c r) boxes
         (ends want s (IsFor-tested want s for) (passes.passed want s (of_state want s for)))));
-    any_moment = λ want s for posed on.
-        inl (subst (λ (g : D). LeavesOnly (told d) (told g) (Restores x.space.store.pool.geometry want)) (sym disk) (passes.any_moment want s (of_state want s for)));
     same = subst (λ (b : B). AreSameBoxes (meanings b) (meanings z.boxes)) boxes same;
     keeps = Keeps-then len faults d e f x y z ok r up down keeps_tested keeps;
     runs = runs_on;

@@ -16,7 +16,7 @@ use Rattle.sb_execution.specs.Serving.{IsPosedIn}
 use Rattle.sb_session.specs.declared.session.Open.{Open}
 use Rattle.sb_session.specs.declared.session.Session.{Session}
 use Rattle.sb_session.specs.Ends.{Ends, ends_with}
-use Rattle.sb_session.specs.Sessions.{CanRun, HasFailed, IsFor, IsOpenFor, Keeps, Lacks, LeavesOldOrNext, StandsFor, parts_of}
+use Rattle.sb_session.specs.Sessions.{CanRun, HasFailed, IsFor, IsOpenFor, Keeps, Lacks, LeavesOldOrNext, StandsBehind, parts_of}
 use Rattle.sb_session.proofs.Carried.{CanRun-as, IsFor-as, leaves-for}
 use Rattle.sb_execution.specs.Endings.{EndsAlone, EndsInside, IsLeft, IsLeftSo, IsOf, reply_by}
 use Rattle.sb_execution.proofs.CallLemmas.{still_up}
@@ -88,21 +88,22 @@ module _ {B D : Type 0} (meanings : B → Meanings) (told : D → Option Story) 
 
     -- ---- outside of one
     module _ (none : x.open ≡ None) (still : y.open ≡ None) (ended : EndsAlone told len faults m x.place c d e x.space.store space.store result) where
+      abbrev Behind : Wanted → State → State → Type 0
+      Behind want s t = StandsBehind meanings told len want (extensions_of m) s c d e x y t
+
       pub ends_alone : (want : Wanted) (s : State) → IsFor meanings told len want s d x → IsPosedIn m s c
-          → Ends (λ t. StandsFor meanings told len t e y) (Lacks faults) (HasFailed faults d e) (extensions_of m) s c r
+          → Ends (Behind want s) (Lacks faults) (HasFailed faults d e) (extensions_of m) s c r
       ends_alone want s for posed =
-          subst (λ (r : Reply). Ends (λ t. StandsFor meanings told len t e y) (Lacks faults) (HasFailed faults d e) (extensions_of m) s c r) (sym replies)
-          (Ends-as (IsLeftSo m x.place s q None (reply_by result)) (λ t. StandsFor meanings told len t e y) (Lacks faults) (HasFailed faults d e) (extensions_of m) s c
+          subst (λ (r : Reply). Ends (Behind want s) (Lacks faults) (HasFailed faults d e) (extensions_of m) s c r) (sym replies)
+          (Ends-as (IsLeftSo m x.place want s c p q None (reply_by result)) (Behind want s) (Lacks faults) (HasFailed faults d e) (extensions_of m) s c
           (λ t left. record {
-            want = left.want;
-            is = IsFor-as meanings told len want s d e x y for left.want t None q same_boxes place still now (ends ∙ sym left.is.down) left.is.live left.is.spare left.is.stands;
+            stands = record {
+              want = left.now;
+              is = IsFor-as meanings told len want s d e x y for left.now t None q same_boxes place still now (ends ∙ sym left.is.down) left.is.live left.is.spare left.is.stands;
+            };
+            leaves = λ on. subst (λ (q : Parts). LeavesOldOrNext m x.place.root want (extensions_of m) s c t p q) (sym now) left.leaves;
           })
           (reply_by result) (ended.ends want s (of_state None none want s for) posed))
-
-      pub moments_alone : (want : Wanted) (s : State) → IsFor meanings told len want s d x → IsPosedIn m s c
-          → LeavesOldOrNext m x.place.root want (extensions_of m) s c p (parts_of told len e y)
-      moments_alone want s for posed =
-          subst (λ (q : Parts). LeavesOldOrNext m x.place.root want (extensions_of m) s c p q) (sym now) (ended.any_moment want s (of_state None none want s for) posed)
 
       pub runs_alone : CanRun meanings told len e y
       runs_alone = CanRun-as meanings told len d e x y None q runs same_boxes place still now remains.geometry remains.ready stays_up (λ on. ended.none (stays_up on))

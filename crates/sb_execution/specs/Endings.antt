@@ -28,7 +28,7 @@ use Rattle.sb_statements.specs.Statements.{answer_of}
 use Rattle.sb_session.specs.declared.session.Open.{Open}
 use Rattle.sb_session.specs.Ends.{Ends, ends_with}
 use Rattle.sb_session.specs.declared.session.Session.{Session}
-use Rattle.sb_session.specs.Sessions.{CanGoOn, CanRun, HasFailed, IsFor, IsOpenFor, Keeps, Lacks, LeavesOldOrNext, StandsFor, parts_of}
+use Rattle.sb_session.specs.Sessions.{CanGoOn, CanRun, HasFailed, IsFor, IsOpenFor, Keeps, Lacks, LeavesOldOrNext, StandsBehind}
 use Rattle.sb_execution.specs.declared.serving.Served.{Served}
 use Rattle.sb_execution.specs.declared.serving.Served.TheVariants as served
 
@@ -66,10 +66,12 @@ pub record IsLeft (m : Meanings) (place : Place) (want : Wanted) (s : State) (p 
   pub spare : t.spare ≡ s.spare
   pub stands : t.down ≡ false → IsOpenFor m place want (committed t) p o t.transaction
 
--- so it is with some pages wanted
-pub record IsLeftSo (m : Meanings) (place : Place) (s : State) (p : Parts) (o : Option Open) (reply : Reply) (t : State) : Type 0 where
-  pub want : Wanted
-  pub is : IsLeft m place want s p o reply t
+-- So it is with some pages wanted now; and on the way a crash left the pages that were wanted, or those that keep what is committed next.
+pub record IsLeftSo (m : Meanings) (place : Place) (want : Wanted) (s : State) (c : Command) (p q : Parts) (o : Option Open) (reply : Reply)
+    (t : State) : Type 0 where
+  pub now : Wanted
+  pub is : IsLeft m place now s q o reply t
+  pub leaves : LeavesOldOrNext m place.root want (extensions_of m) s c t p q
 
 -- ---- in an open transaction
 -- A command in it ends well, with its pages as they were wanted, and the transaction can be worked in unless the session ends.
@@ -83,14 +85,12 @@ pub record EndsInside {D : Type 0} (told : D → Option Story) (len faults : D �
   pub remains : Remains told len faults d e s t result
 
 -- ---- in a transaction of its own
--- A command in it ends well, and the transaction is over then. What a crash leaves is what was wanted, or what a step of it commits.
+-- A command in it ends well, and the transaction is over then. What a crash left on the way is told with the state to which the command leads.
 pub record EndsAlone {D : Type 0} (told : D → Option Story) (len faults : D → ℕ) (m : Meanings) (place : Place) (c : Command)
     (d e : D) (s t : StoreState) (result : Result Reply Refusal) : Type 0 where
   pub ends : (want : Wanted) (x : State) → IsOf m place want x (parts told len d s) None → IsPosedIn m x c
-      → Ends (IsLeftSo m place x (parts told len e t) None (reply_by result)) (Lacks faults) (HasFailed faults d e)
+      → Ends (IsLeftSo m place want x c (parts told len d s) (parts told len e t) None (reply_by result)) (Lacks faults) (HasFailed faults d e)
       (extensions_of m) x c (reply_by result)
-  pub any_moment : (want : Wanted) (x : State) → IsOf m place want x (parts told len d s) None → IsPosedIn m x c
-      → LeavesOldOrNext m place.root want (extensions_of m) x c (parts told len d s) (parts told len e t)
   pub none : t.book.down ≡ false → t.book.out ≡ []
   pub remains : Remains told len faults d e s t result
 
@@ -140,16 +140,13 @@ pub record Passes {D : Type 0} (told : D → Option Story) (len faults : D → �
   pub remains : Remains {T = Unit {0}} told len faults d e s t (Ok tt)
 
 -- ---- any command
--- A command of the session ends well with this reply, and the boxes are the same ones. What a crash leaves is what was wanted, or what a step of it
--- commits.
+-- A command of the session ends well with this reply, and the boxes are the same ones. What a crash left on the way is told with the state to which
+-- the command leads.
 pub record Executed {B D : Type 0} (meanings : B → Meanings) (told : D → Option Story) (len faults : D → ℕ) (c : Command)
     (d e : D) (x y : Session B) (r : Reply) : Type 0 where
   pub ends : (want : Wanted) (s : State) → IsFor meanings told len want s d x → IsPosedIn (meanings x.boxes) s c
-      → Ends (λ t. StandsFor meanings told len t e y) (Lacks faults) (HasFailed faults d e)
+      → Ends (StandsBehind meanings told len want (extensions_of (meanings x.boxes)) s c d e x y) (Lacks faults) (HasFailed faults d e)
       (extensions_of (meanings x.boxes)) s c r
-  pub any_moment : (want : Wanted) (s : State) → IsFor meanings told len want s d x → IsPosedIn (meanings x.boxes) s c
-      → s.down ≡ false
-      → LeavesOldOrNext (meanings x.boxes) x.place.root want (extensions_of (meanings x.boxes)) s c (parts_of told len d x) (parts_of told len e y)
   pub same : AreSameBoxes (meanings x.boxes) (meanings y.boxes)
   pub keeps : Keeps len faults d e x y r
   pub runs : CanRun meanings told len e y

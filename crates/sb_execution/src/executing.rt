@@ -9,7 +9,7 @@ ghost use Rattle.sb_execution.specs.Serving.{IsPosedIn};
 ghost use Rattle.sb_execution.specs.Endings.{Executed};
 ghost use Rattle.sb_session.specs.Ends.{Ends};
 ghost use Rattle.sb_session.specs.Ends as answers;
-ghost use Rattle.sb_session.specs.Sessions.{CanRun, HasFailed, IsFor, Keeps, Lacks, LeavesOldOrNext, StandsFor, parts_of};
+ghost use Rattle.sb_session.specs.Sessions.{CanRun, HasFailed, IsFor, Keeps, Lacks, StandsBehind};
 ghost use Rattle.sb_vectors.specs.Vectors.{AreSameBoxes};
 
 use crate::inside::exec_inside;
@@ -23,7 +23,8 @@ use sb_vectors::Vectors;
 use std::alloc::Global;
 
 /// Carries out a command. Its reply is that of a step of the plain database, and the session stands for what the step leads to. Where room or memory
-/// is wanting all stays as it was; where the disk fails a call the session is down.
+/// is wanting all stays as it was; where the disk fails a call the session is down. All along a crash leaves what was committed, or what the step commits;
+/// where the disk failed, it may leave what some other step of the command commits.
 pub fn exec<B: Vectors, D: Disk>(
     session: &mut Session<B>,
     disk: &mut D,
@@ -33,12 +34,8 @@ pub fn exec<B: Vectors, D: Disk>(
     requires runs { CanRun B.meanings D.told D.len disk.old session.old }
 
     ensures ends { (want : Wanted) (s : State) → IsFor B.meanings D.told D.len want s disk.old session.old → IsPosedIn (B.meanings session.old.boxes) s command.now
-        → Ends (λ t. StandsFor B.meanings D.told D.len t disk.new session.new) (Lacks D.faults) (HasFailed D.faults disk.old disk.new)
-        (extensions_of (B.meanings session.old.boxes)) s command.now result }
-    ensures any_moment { (want : Wanted) (s : State) → IsFor B.meanings D.told D.len want s disk.old session.old → IsPosedIn (B.meanings session.old.boxes) s command.now
-        → s.down ≡ false
-        → LeavesOldOrNext (B.meanings session.old.boxes) session.old.place.root want (extensions_of (B.meanings session.old.boxes)) s command.now
-        (parts_of D.told D.len disk.old session.old) (parts_of D.told D.len disk.new session.new) }
+        → Ends (StandsBehind B.meanings D.told D.len want (extensions_of (B.meanings session.old.boxes)) s command.now disk.old disk.new session.old session.new)
+        (Lacks D.faults) (HasFailed D.faults disk.old disk.new) (extensions_of (B.meanings session.old.boxes)) s command.now result }
     ensures same { AreSameBoxes (B.meanings session.old.boxes) (B.meanings session.new.boxes) }
     ensures keeps { Keeps D.len D.faults disk.old disk.new session.old session.new result }
     ensures runs { CanRun B.meanings D.told D.len disk.new session.new }

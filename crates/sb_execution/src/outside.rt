@@ -9,7 +9,7 @@ ghost use Rattle.sb_execution.specs.Serving.{IsPosedIn, is_managing};
 ghost use Rattle.sb_statements.specs.Statements.{answer_of};
 ghost use Rattle.sb_execution.specs.Endings.{EndsAlone, HasAnswered, Passes};
 ghost use Rattle.sb_session.specs.Ends.{Ends, MayWant};
-ghost use Rattle.sb_session.specs.Sessions.{CanRun, HasFailed, IsFor, Keeps, Lacks, LeavesOldOrNext, StandsFor, parts_of};
+ghost use Rattle.sb_session.specs.Sessions.{CanRun, HasFailed, IsFor, Keeps, Lacks, StandsBehind};
 ghost use Rattle.sb_transactions.specs.Transactions.{IsUsable};
 ghost use Rattle.sb_txn.specs.Clauses.{parts, IsReady};
 ghost use Rattle.sb_txn.specs.State.{State as StoreState};
@@ -40,11 +40,8 @@ pub(crate) fn exec_outside<B: Vectors, D: Disk>(
     requires works { is_managing command.now ≡ false }
 
     ensures ends { (want : Wanted) (s : State) → IsFor B.meanings D.told D.len want s disk.old session.old → IsPosedIn (B.meanings session.old.boxes) s command.now
-        → Ends (λ t. StandsFor B.meanings D.told D.len t disk.new session.new) (Lacks D.faults) (HasFailed D.faults disk.old disk.new)
-        (extensions_of (B.meanings session.old.boxes)) s command.now result }
-    ensures any_moment { (want : Wanted) (s : State) → IsFor B.meanings D.told D.len want s disk.old session.old → IsPosedIn (B.meanings session.old.boxes) s command.now
-        → LeavesOldOrNext (B.meanings session.old.boxes) session.old.place.root want (extensions_of (B.meanings session.old.boxes)) s command.now
-        (parts_of D.told D.len disk.old session.old) (parts_of D.told D.len disk.new session.new) }
+        → Ends (StandsBehind B.meanings D.told D.len want (extensions_of (B.meanings session.old.boxes)) s command.now disk.old disk.new session.old session.new)
+        (Lacks D.faults) (HasFailed D.faults disk.old disk.new) (extensions_of (B.meanings session.old.boxes)) s command.now result }
     ensures boxes { session.new.boxes ≡ session.old.boxes }
     ensures keeps { Keeps D.len D.faults disk.old disk.new session.old session.new result }
     ensures runs { CanRun B.meanings D.told D.len disk.new session.new }

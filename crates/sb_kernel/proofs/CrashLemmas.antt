@@ -3,18 +3,12 @@ use Rattle.std.proofs.Common.{◌≡◌, inl, inr, ⊎_elim, ℕ, ◌<◌, ◌�
 use Rattle.std.proofs.lemmas.Bool.{cases_lt, false≢true}
 use Rattle.sb_disk.specs.Disk.{Fits, Story}
 use Rattle.sb_disk.specs.Moments.{LeavesOnly, MayLeave, moment}
-use Rattle.sb_relation.specs.Db.{Db}
-use Rattle.sb_fold.specs.declared.refusal.Refusal.TheVariants as refusal
 use Rattle.sb_fold.specs.declared.refusal.Room.{Room}
-use Rattle.sb_plain.specs.declared.command.Command.{Command}
 use Rattle.sb_plain.specs.declared.reply.Reply.{Reply}
-use Rattle.sb_plain.specs.declared.reply.Reply.TheVariants.{Refused}
-use Rattle.sb_plain.specs.State.{State, committed, downed}
+use Rattle.sb_plain.specs.State.{State, committed}
 use Rattle.sb_grammar.specs.Columns.{Item, Says, Bad}
 use Rattle.sb_registry.specs.Boxes.{Meanings}
-use Rattle.sb_engine.specs.Working.{extensions_of}
-use Rattle.sb_session.specs.Ends.{Ends, IsStep}
-use Rattle.sb_kernel.specs.Plays.{AreBoxesOf, MovesBy, Plays, last_state}
+use Rattle.sb_kernel.specs.Plays.{MovesBy, Plays, last_state}
 use Rattle.sb_kernel.specs.Crashes.{Holds, IsLeft, LeavesAlong, next_start}
 use Rattle.sb_kernel.specs.Runs.{AreInOrder, BeginsAt, GoesOn}
 
@@ -65,7 +59,7 @@ GoesOn-then a b c P one two = record {
 -- ---- one item more
 module _ (m : Meanings) (old new : Option Story) where
   pub LeavesAlong-more : (c : ℕ) (item : Item) (t : State) → (is_some old ≡ true → c ≡ moment old) → (s : State) (items : List Item) (states : List State) (starts : List ℕ)
-      → (is_some old ≡ true → AreInOrder starts (moment old)) → LeavesOnly old new (IsLeft m (last_state s states) item)
+      → (is_some old ≡ true → AreInOrder starts (moment old)) → LeavesOnly old new (IsLeft m (last_state s states) item t)
       → LeavesAlong m old (suc (moment old)) s items states starts
       → LeavesAlong m new (suc (moment new)) s (items ++ item ∷ []) (states ++ t ∷ []) (starts ++ c ∷ [])
   LeavesAlong-more c item t at s [] [] [] order run along = (
@@ -90,31 +84,11 @@ module _ (m : Meanings) (old new : Option Story) where
   LeavesAlong-more c item t at s (i ∷ items) [] starts order run along = absurd along
   LeavesAlong-more c item t at s (i ∷ items) (u ∷ states) [] order run along = absurd along
 
--- ---- what holds the database behind an item may be left by it
-module _ (m : Meanings) (Lacks : Room → Type 0) (HasFailed : Type 0) (boxes : Meanings) (s : State) (are : AreBoxesOf m s boxes) (c : Command) (t : State) (image : List ℕ)
-    (holds : Holds m image (committed t)) where
-  step_left : (r : Reply) → IsStep (λ u. t ≡ u) (extensions_of boxes) s c r → IsLeft m s (Says c) image
-  step_left r step = inr (record {
-    db = committed t;
-    may = record { boxes = boxes; are = are; reply = r; after = step.after; steps = step.steps; is = ap (λ (u : State). committed u) step.stands };
-    holds = holds;
-  })
-
-  same_left : (now : State) → committed now ≡ committed s → t ≡ now → IsLeft m s (Says c) image
-  same_left now same is = inl (subst (λ (db : Db). Holds m image db) (ap (λ (u : State). committed u) is ∙ same) holds)
-
-  Ends-left : (r : Reply) → Ends (λ u. t ≡ u) Lacks HasFailed (extensions_of boxes) s c r → IsLeft m s (Says c) image
-  Ends-left (Refused (refusal.Room room)) ends = same_left s refl ends.stands
-  Ends-left (Refused refusal.NoMemory) ends = same_left s refl ends.stands
-  Ends-left (Refused refusal.Fault) ends = same_left (downed s) refl ends.stands
-  Ends-left (Refused (refusal.Damaged page)) ends = absurd ends
-  Ends-left (Refused r) ends = step_left (Refused r) ends
-  Ends-left r ends = step_left r ends
-
+-- what holds the database behind an item may be left by it
 MovesBy-left : (m : Meanings) (Lacks : Room → Type 0) (HasFailed : Type 0) (s : State) (item : Item) (reply : Reply) (t : State) (image : List ℕ)
-    → MovesBy m Lacks HasFailed s item reply t → Holds m image (committed t) → IsLeft m s item image
+    → MovesBy m Lacks HasFailed s item reply t → Holds m image (committed t) → IsLeft m s item t image
 MovesBy-left m Lacks HasFailed s (Bad column) reply t image moves holds = subst (λ (u : State). Holds m image (committed u)) moves.moves.1 holds
-MovesBy-left m Lacks HasFailed s (Says c) reply t image moves holds = Ends-left m Lacks HasFailed moves.boxes s moves.are c t image holds reply moves.moves
+MovesBy-left m Lacks HasFailed s (Says c) reply t image moves holds = inr (record { db = committed t; made = inl refl; holds = holds })
 
 -- ---- no item more
 module _ (m : Meanings) (Lacks : Room → Type 0) (HasFailed : Type 0) (old new : Option Story) where

@@ -25,13 +25,13 @@ use Rattle.sb_vectors.specs.Vectors.{AreSameBoxes}
 use Rattle.sb_opening.specs.Naming.{all_live}
 use Rattle.sb_session.specs.declared.session.Session.{Session}
 use Rattle.sb_session.specs.Ends.{Ends}
-use Rattle.sb_session.specs.Sessions.{HasFailed, IsFor, Keeps, Lacks, LeavesNext, LeavesOldOrNext, StandsFor, parts_of}
+use Rattle.sb_session.specs.Sessions.{HasFailed, IsFor, IsNext, Keeps, Lacks, LeavesNext, LeavesOldOrNext, StandsBehind, parts_of}
 use Rattle.sb_session.proofs.MoveLists.{found_more}
 use Rattle.sb_session.proofs.SameBoxes.{same-then}
 use Rattle.sb_execution.specs.Serving.{IsPosedIn}
 use Rattle.sb_kernel.specs.World.{World, IsNow}
 use Rattle.sb_kernel.specs.Plays.{AreBoxesOf}
-use Rattle.sb_kernel.specs.Crashes.{IsLeft}
+use Rattle.sb_kernel.specs.Crashes.{IsLeft, IsMade}
 use Rattle.sb_kernel.specs.Answering.{HasMoved, HasReplied}
 use Rattle.sb_kernel.proofs.PlayLemmas.{Comes, Ends-comes}
 use Rattle.sb_kernel.proofs.HeldLemmas.{Holds-last, Holds-restored, leaves-still}
@@ -75,9 +75,7 @@ HasReplied-bad w line column d x up is = record {
 -- ---- a command
 module _ {B D : Type 0} (w : World B D) (c : Command) (old new : D) (x y : Session B) (reply : Reply) (up : x.down ≡ false)
     (ends : (want : Wanted) (s : State) → IsFor w.meanings w.told w.len want s old x → IsPosedIn (w.meanings x.boxes) s c
-    → Ends (λ t. StandsFor w.meanings w.told w.len t new y) (Lacks w.faults) (HasFailed w.faults old new) (extensions_of (w.meanings x.boxes)) s c reply)
-    (any_moment : (want : Wanted) (s : State) → IsFor w.meanings w.told w.len want s old x → IsPosedIn (w.meanings x.boxes) s c → s.down ≡ false
-    → LeavesOldOrNext (w.meanings x.boxes) x.place.root want (extensions_of (w.meanings x.boxes)) s c (parts_of w.told w.len old x) (parts_of w.told w.len new y))
+    → Ends (StandsBehind w.meanings w.told w.len want (extensions_of (w.meanings x.boxes)) s c old new x y) (Lacks w.faults) (HasFailed w.faults old new) (extensions_of (w.meanings x.boxes)) s c reply)
     (same : AreSameBoxes (w.meanings x.boxes) (w.meanings y.boxes)) (keeps : Keeps w.len w.faults old new x y reply) where
   abbrev n : Meanings
   n = w.meanings x.boxes
@@ -85,26 +83,33 @@ module _ {B D : Type 0} (w : World B D) (c : Command) (old new : D) (x y : Sessi
   abbrev g : Geometry
   g = x.space.store.pool.geometry
 
-  -- what a step commits is held then
-  next_left : (m : Meanings) (s : State) (now : IsNow w m old x s) (are : AreBoxesOf m s n) (want : Wanted) → IsFor w.meanings w.told w.len want s old x → s.down ≡ false
-      → (next : LeavesNext n x.place.root want (extensions_of n) s c (parts_of w.told w.len old x) (parts_of w.told w.len new y))
-      → (image : List ℕ) → IsOldOrNew g want next.pages image → IsLeft m s (Says c) image
-  next_left m s now are want for up next image left = ⊎_elim
+  made_next : (m : Meanings) (s : State) (are : AreBoxesOf m s n) (t next : State) → IsNext (extensions_of n) s c t next → IsMade m s c t (committed next)
+  made_next m s are t next (inl same) = inl (ap (λ (u : State). committed u) same)
+  made_next m s are t next (inr failed) = inr (
+    failed.0,
+    record { boxes = n; are = are; reply = failed.1.reply; after = next; steps = failed.1.steps; is = refl },
+  )
+
+  -- what is committed next is held then
+  next_left : (m : Meanings) (s : State) (now : IsNow w m old x s) (are : AreBoxesOf m s n) (want : Wanted) → IsFor w.meanings w.told w.len want s old x → s.down ≡ false → (t : State)
+      → (next : LeavesNext n x.place.root want (extensions_of n) s c t (parts_of w.told w.len old x) (parts_of w.told w.len new y))
+      → (image : List ℕ) → IsOldOrNew g want next.pages image → IsLeft m s (Says c) t image
+  next_left m s now are want for up t next image left = ⊎_elim
       (λ (restores : Restores g want image). inl (Holds-last w m old x s now up want for image restores))
       (λ (restores : Restores g next.pages image). inr (record {
-        db = committed next.after;
-        may = record { boxes = n; are = are; reply = next.reply; after = next.after; steps = next.steps; is = refl };
-        holds = Holds-restored m n g x.place.root next.pages (committed next.after) now.same now.root next.commits image restores;
+        db = committed next.next;
+        made = made_next m s are t next.next next.is;
+        holds = Holds-restored m n g x.place.root next.pages (committed next.next) now.same now.root next.commits image restores;
       }))
       left
 
-  moments_left : (m : Meanings) (s : State) (now : IsNow w m old x s) (are : AreBoxesOf m s n) (want : Wanted) → IsFor w.meanings w.told w.len want s old x → s.down ≡ false
-      → LeavesOldOrNext n x.place.root want (extensions_of n) s c (parts_of w.told w.len old x) (parts_of w.told w.len new y)
-      → LeavesOnly (w.told old) (w.told new) (IsLeft m s (Says c))
-  moments_left m s now are want for up (inl still) =
-      weaker (w.told old) (w.told new) (Restores g want) (IsLeft m s (Says c)) (λ image restores. inl (Holds-last w m old x s now up want for image restores)) still
-  moments_left m s now are want for up (inr next) =
-      weaker (w.told old) (w.told new) (IsOldOrNew g want next.pages) (IsLeft m s (Says c)) (next_left m s now are want for up next) next.leaves
+  moments_left : (m : Meanings) (s : State) (now : IsNow w m old x s) (are : AreBoxesOf m s n) (want : Wanted) → IsFor w.meanings w.told w.len want s old x → s.down ≡ false → (t : State)
+      → LeavesOldOrNext n x.place.root want (extensions_of n) s c t (parts_of w.told w.len old x) (parts_of w.told w.len new y)
+      → LeavesOnly (w.told old) (w.told new) (IsLeft m s (Says c) t)
+  moments_left m s now are want for up t (inl still) =
+      weaker (w.told old) (w.told new) (Restores g want) (IsLeft m s (Says c) t) (λ image restores. inl (Holds-last w m old x s now up want for image restores)) still
+  moments_left m s now are want for up t (inr next) =
+      weaker (w.told old) (w.told new) (IsOldOrNew g want next.pages) (IsLeft m s (Says c) t) (next_left m s now are want for up t next) next.leaves
 
   moved : (line : List ℕ) → IsItem line (Says c) → (m : Meanings) (s : State) → IsNow w m old x s → AreSingle (all_live m) → HasMoved w m s (Says c) reply old new y
   moved line item m s now single =
@@ -112,17 +117,18 @@ module _ {B D : Type 0} (w : World B D) (c : Command) (old new : D) (x y : Sessi
       let for = now.stands.is in
       let are : AreBoxesOf m s n = record { same = now.same; live = for.live; spare = for.spare } in
       let posed : IsPosedIn n s c = read-posed n s line c (AreSingle-live m n now.same single) for.live item in
-      let comes : Comes (λ t. StandsFor w.meanings w.told w.len t new y) (Lacks w.faults) (HasFailed w.faults old new) (extensions_of n) s c reply =
-      Ends-comes (λ t. StandsFor w.meanings w.told w.len t new y) (Lacks w.faults) (HasFailed w.faults old new) (extensions_of n) s c reply (ends want s for posed) in
+      let Behind : State → Type 0 = StandsBehind w.meanings w.told w.len want (extensions_of n) s c old new x y in
+      let comes : Comes Behind (Lacks w.faults) (HasFailed w.faults old new) (extensions_of n) s c reply =
+      Ends-comes Behind (Lacks w.faults) (HasFailed w.faults old new) (extensions_of n) s c reply (ends want s for posed) in
       record {
         state = comes.state;
         moves = record { boxes = n; are = are; moves = comes.ends };
         now = record {
           same = same-then m n (w.meanings y.boxes) now.same same;
           root = ap (λ (p : Place). p.root) keeps.place ∙ now.root ∙ ap (λ (h : Geometry). table_len h.pages) (sym keeps.geometry);
-          stands = comes.stands;
+          stands = comes.stands.stands;
         };
-        leaves = moments_left m s now are want for (sym for.down ∙ up) (any_moment want s for posed (sym for.down ∙ up));
+        leaves = moments_left m s now are want for (sym for.down ∙ up) comes.state (comes.stands.leaves (sym for.down ∙ up));
       }
 
   pub HasReplied-command : (line : List ℕ) → IsItem line (Says c) → HasReplied w line old new x y reply

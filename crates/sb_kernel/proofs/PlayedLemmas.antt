@@ -55,7 +55,7 @@ PlaysOn-more w fits m items replies first disk new x y held held' starts line re
           (MovesBy-since m (Lacks w.faults) (Rose (w.faults disk) (w.faults new)) HasFailed
           (λ rose. Rose-later (w.faults first.disk) (w.faults disk) (w.faults new) before rose) last r.item reply moved.state moved.moves);
       now = subst (λ (t : State). IsNow w m new y t) (sym (last-more s played.states moved.state)) moved.now;
-      on = GoesOn-then (w.told first.disk) (w.told disk) (w.told new) (IsLeft m last r.item) played.on moved.leaves;
+      on = GoesOn-then (w.told first.disk) (w.told disk) (w.told new) (IsLeft m last r.item moved.state) played.on moved.leaves;
       begins = BeginsAt-more (w.told first.disk) (w.told disk) starts (w.clock disk) (moment (w.told new)) played.on.tells clock moved.leaves.later played.begins;
       leaves = LeavesAlong-more m (w.told disk) (w.told new) (w.clock disk) r.item moved.state clock s items played.states starts order moved.leaves played.leaves;
     }

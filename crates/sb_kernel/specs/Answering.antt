@@ -14,12 +14,12 @@ use Rattle.sb_kernel.specs.World.{World, IsNow}
 use Rattle.sb_kernel.specs.Plays.{MovesBy}
 use Rattle.sb_kernel.specs.Crashes.{Holds, IsLeft}
 
--- The item has this reply in this state, and leads to one that the session stands for. Meanwhile a crash leaves the last commit, or what the item commits.
+-- The item has this reply in this state, and leads to one that the session stands for. Meanwhile a crash leaves the last commit, or the next one.
 pub record HasMoved {B D : Type 0} (w : World B D) (m : Meanings) (s : State) (item : Item) (reply : Reply) (old new : D) (y : Session B) : Type 0 where
   pub state : State
   pub moves : MovesBy m (Lacks w.faults) (Rose (w.faults old) (w.faults new)) s item reply state
   pub now : IsNow w m new y state
-  pub leaves : LeavesOnly (w.told old) (w.told new) (IsLeft m s item)
+  pub leaves : LeavesOnly (w.told old) (w.told new) (IsLeft m s item state)
 
 -- So it is of what the line says, in every state that the session stands for, with boxes that live together.
 pub record HasReplied {B D : Type 0} (w : World B D) (line : List ℕ) (old new : D) (x y : Session B) (reply : Reply) : Type 0 where

@@ -1,5 +1,5 @@
 -- What a crash leaves of a play.
-use Rattle.std.specs.Prelude.{◌≡◌, ◌⊎◌, ℕ, ◌<◌, ◌≤◌, List, [], ◌∷◌, Option}
+use Rattle.std.specs.Prelude.{◌≡◌, ◌⊎◌, ℕ, ◌<◌, ◌≤◌, true, List, [], ◌∷◌, Option}
 use Rattle.sb_disk.specs.Disk.{Story}
 use Rattle.sb_disk.specs.Moments.{MayLeave}
 use Rattle.sb_images.specs.Images.{Restores}
@@ -34,15 +34,20 @@ pub record MayCommit (m : Meanings) (s : State) (c : Command) (db : Db) : Type 0
   pub steps : Steps (extensions_of boxes) s c reply after
   pub is : db ≡ committed after
 
-pub record HoldsNext (m : Meanings) (s : State) (c : Command) (image : List ℕ) : Type 0 where
+-- What may be found committed while a command is answered that leads to a state: what that state has committed; where the disk failed, and the
+-- session is down with it, what a step of the command commits.
+abbrev pub IsMade : Meanings → State → Command → State → Db → Type 0
+IsMade m s c t db = (db ≡ committed t) ⊎ ((t.down ≡ true) × MayCommit m s c db)
+
+pub record HoldsNext (m : Meanings) (s : State) (c : Command) (t : State) (image : List ℕ) : Type 0 where
   pub db : Db
-  pub may : MayCommit m s c db
+  pub made : IsMade m s c t db
   pub holds : Holds m image db
 
--- what a crash may leave while an item is answered: the last commit, or what a step of its command commits
-abbrev pub IsLeft : Meanings → State → Item → List ℕ → Type 0
-IsLeft m s (Bad column) image = Holds m image (committed s)
-IsLeft m s (Says c) image = Holds m image (committed s) ⊎ HoldsNext m s c image
+-- what a crash may leave while an item is answered that leads to a state: the last commit, or the next one
+abbrev pub IsLeft : Meanings → State → Item → State → List ℕ → Type 0
+IsLeft m s (Bad column) t image = Holds m image (committed s)
+IsLeft m s (Says c) t image = Holds m image (committed s) ⊎ HoldsNext m s c t image
 
 -- when the next item begins; behind the last one, this end
 abbrev pub next_start : List ℕ → ℕ → ℕ
@@ -53,6 +58,6 @@ next_start (start ∷ starts) end = start
 abbrev pub LeavesAlong : Meanings → Option Story → ℕ → State → List Item → List State → List ℕ → Type 0
 LeavesAlong m told end s [] [] [] = Unit {0}
 LeavesAlong m told end s (item ∷ items) (t ∷ states) (start ∷ starts) =
-    ((moment : ℕ) (image : List ℕ) → start ≤ moment → moment < next_start starts end → MayLeave told moment image → IsLeft m s item image)
+    ((moment : ℕ) (image : List ℕ) → start ≤ moment → moment < next_start starts end → MayLeave told moment image → IsLeft m s item t image)
     × LeavesAlong m told end t items states starts
 LeavesAlong m told end s _ _ _ = ⊥

@@ -1,5 +1,5 @@
 -- What becomes of a session, command by command.
-use Rattle.std.proofs.Common.{◌≡◌, ℕ, ◌+◌, ◌<◌, ◌≤◌, ◌||◌, nat_le, Bool, true, false, not, List, [], ◌∷◌, ◌++◌, length, take, get_or, All, Option, Some, None, Ok, Err, Result, IfErr, OnErr, OnOk, is_some, inl, refl, sym, ap, ◌∙◌, subst, arith}
+use Rattle.std.proofs.Common.{◌≡◌, ℕ, ◌+◌, ◌<◌, nat_le, true, false, not, List, [], ◌∷◌, ◌++◌, length, take, get_or, All, Option, Some, None, Ok, Err, Result, IfErr, OnErr, OnOk, is_some, inl, refl, sym, ap, ◌∙◌, subst, arith}
 use Rattle.std.proofs.lemmas.Bool.{false≢true, le-leb, lt-leb}
 use Rattle.std.specs.List.{list_any, position}
 use Rattle.std.proofs.lemmas.List.Quantifiers.{position-Some}
@@ -19,21 +19,21 @@ use Rattle.sb_plain.specs.Step.{first_spent, if_up, ok, with_savepoint}
 use Rattle.sb_registry.specs.Boxes.{Meanings}
 use Rattle.sb_drive.specs.Spaces.{Wanted}
 use Rattle.sb_map.specs.declared.place.Place.{Place}
-use Rattle.sb_txn.specs.Clauses.{Parts, parts, IsStoreOf, LeavesWanted}
+use Rattle.sb_txn.specs.Clauses.{Parts, parts}
 use Rattle.sb_engine.specs.Working.{extensions_of}
 use Rattle.sb_space.specs.declared.transactions.Space.{Space}
 use Rattle.sb_space.specs.declared.transactions.Tx.{Tx}
 use Rattle.sb_transactions.specs.declared.transactions.Point.{Point}
 use Rattle.sb_transactions.specs.declared.transactions.Transaction.{Transaction}
-use Rattle.sb_transactions.specs.Calls.{IsOnlyFault, Remains}
+use Rattle.sb_transactions.specs.Calls.{Remains}
 use Rattle.sb_transactions.specs.Transactions.{IsAt, IsFirst, IsNotBehind, IsPointOf, IsUsable, Rests, WasBegun, WasSo, unused}
 use Rattle.sb_session.specs.declared.session.Open.{Open}
 use Rattle.sb_session.specs.declared.session.Savepoint.{Savepoint}
 use Rattle.sb_session.specs.declared.session.Session.{Session}
 use Rattle.sb_session.specs.Ends.{reply_of}
-use Rattle.sb_session.specs.Points.{IsSaved, NotSaved, NotThere, is_named, with_store}
-use Rattle.sb_session.specs.Sessions.{AreInOrder, AreSavepoints, CanGoOn, CanRun, IsFor, IsInside, IsOpenFor, going_at, going_in, parts_of}
-use Rattle.sb_session.proofs.Carried.{Carried, Carried-fault, Carried-given, Carried-memory, Carried-ok, IsSame, IsSame-itself, SameOpen-none, SameOpen-put}
+use Rattle.sb_session.specs.Points.{IsSaved, NotSaved, NotThere, is_named}
+use Rattle.sb_session.specs.Sessions.{AreInOrder, AreSavepoints, CanGoOn, CanRun, IsFor, IsOpenFor, going_at, going_in, parts_of}
+use Rattle.sb_session.proofs.Carried.{Carried, Carried-given, Carried-memory, Carried-ok, IsSame, IsSame-itself, SameOpen-put}
 use Rattle.sb_session.proofs.OpenLemmas.{Inside, IsAt-same, Outside, inside, outside}
 use Rattle.sb_session.proofs.PointLemmas.{AreInOrder-push, AreInOrder-take, AreSavepoints-back, AreSavepoints-push, found, names_known, not_behind, same_length}
 use Rattle.sb_session.proofs.Stepped.{Stepped, Stepped-abort, Stepped-begin, Stepped-checkpoint, Stepped-rollback, Stepped-savepoint, at_point}

@@ -1,90 +1,48 @@
 -- What becomes of a session in a commit.
-use Rattle.std.proofs.Common.{◌≡◌, ⊎_elim, inl, inr, ◌⊎◌, ℕ, ◌+◌, ◌&&◌, ◌||◌, Bool, true, false, not, get_or, List, [], ◌∷◌, ◌++◌, All, Option, Some, None, Ok, Err, Result, is_some, refl, sym, ap, ◌∙◌, subst}
+use Rattle.std.proofs.Common.{◌≡◌, ⊎_elim, inl, inr, ◌⊎◌, ℕ, ◌||◌, Bool, true, false, not, get_or, List, [], All, Option, Some, None, Ok, Err, Result, refl, sym, ap, ◌∙◌, subst}
 use Rattle.std.proofs.lemmas.Bool.{false≢true}
 use Rattle.std.proofs.Math.Bool.{or-false}
-use Rattle.std.specs.List.{AllZip}
 use Rattle.sb_disk.specs.Causes.{Rose}
 use Rattle.sb_disk.specs.Disk.{Story}
 use Rattle.sb_disk.specs.Moments.{LeavesOnly}
 use Rattle.sb_images.specs.Images.{Restores}
+use Rattle.sb_log.specs.declared.geometry.Geometry.{Geometry}
 use Rattle.sb_relation.specs.Db.{Key, Db}
 use Rattle.sb_fold.specs.declared.refusal.Refusal.{Refusal}
 use Rattle.sb_fold.specs.declared.refusal.Refusal.TheVariants as refusal
 use Rattle.sb_fold.specs.declared.refusal.Room.{Room}
 use Rattle.sb_fold.specs.Extensions.{Extensions}
 use Rattle.sb_fold.specs.Finish.{finish}
-use Rattle.sb_rule.specs.declared.action.Action.{Action}
-use Rattle.sb_fold.specs.Outcome.{Entry, Going, Queue, Trail, Work}
+use Rattle.sb_fold.specs.Outcome.{Going, Trail, Work}
 use Rattle.sb_cascade.specs.Runs.{EndsBy, RefusedFrom, StopsFrom, is_free}
-use Rattle.sb_deferred.specs.Waiting.{nothing}
-use Rattle.sb_plain.specs.declared.command.Command.{Command}
 use Rattle.sb_plain.specs.declared.command.Command.TheVariants as command
 use Rattle.sb_plain.specs.declared.reply.Reply.{Reply}
 use Rattle.sb_plain.specs.declared.reply.Reply.TheVariants as reply
 use Rattle.sb_plain.specs.State.{downed}
 use Rattle.sb_plain.specs.Step.{Steps}
-use Rattle.sb_plain.specs.State.{Point as PlainPoint, State, Transaction as PlainTransaction, committed}
+use Rattle.sb_plain.specs.State.{State, Transaction as PlainTransaction, committed}
 use Rattle.sb_registry.specs.Boxes.{Meanings}
 use Rattle.sb_drive.specs.Spaces.{Wanted}
-use Rattle.sb_map.specs.declared.place.Place.{Place}
-use Rattle.sb_txn.specs.Clauses.{Parts, parts, IsStoreOf, LeavesWanted}
+use Rattle.sb_txn.specs.Clauses.{Parts, parts, LeavesWanted}
 use Rattle.sb_engine.specs.Refusals.{HasCause}
 use Rattle.sb_engine.specs.Working.{extensions_of}
 use Rattle.sb_engine.specs.declared.running.Work.{Work as EngineWork}
 use Rattle.sb_space.specs.declared.transactions.Space.{Space}
 use Rattle.sb_space.specs.declared.transactions.Tx.{Tx}
-use Rattle.sb_transactions.specs.declared.transactions.Point.{Point}
 use Rattle.sb_transactions.specs.declared.transactions.Transaction.{Transaction}
 use Rattle.sb_transactions.specs.Calls.{IsOnlyFault, Remains}
 use Rattle.sb_transactions.specs.Commits.{FailsOn, Finishes, IsDone, LeavesEither, LeavesOldOrFinished, Mounted, StaysOpen, StopsAt, is_wanting}
-use Rattle.sb_transactions.specs.Transactions.{HasNothingLeft, IsAt, IsCommitted, IsPointOf, IsUsable, Rests, WasBegun, WasSo, unused}
+use Rattle.sb_transactions.specs.Transactions.{HasNothingLeft, IsAt, IsCommitted, IsPointOf, IsUsable, Rests, WasBegun}
 use Rattle.sb_session.specs.declared.session.Open.{Open}
-use Rattle.sb_session.specs.declared.session.Savepoint.{Savepoint}
 use Rattle.sb_session.specs.declared.session.Session.{Session}
-use Rattle.sb_session.specs.Ends.{Ends, IsFree, IsStep, MayWant, ends_with, is_end}
-use Rattle.sb_session.specs.Sessions.{AreInOrder, AreSavepoints, CanGoOn, CanRun, HasFailed, IsFor, IsInside, IsOpenFor, Keeps, Lacks, LeavesNext, LeavesOldOrNext, StandsFor, going_in, parts_of}
+use Rattle.sb_session.specs.Ends.{Ends, IsFree, IsStep, ends_with, is_end}
+use Rattle.sb_session.specs.Sessions.{AreSavepoints, CanGoOn, CanRun, HasFailed, IsFor, IsInside, IsOpenFor, Keeps, Lacks, LeavesNext, LeavesOldOrNext, StandsBehind, StandsFor, going_in, parts_of}
+use Rattle.sb_session.proofs.Behind.{Ends-behind_for}
 use Rattle.sb_session.proofs.Carried.{CanRun-as, Carried, Ends-given, IsFor-as, end_of_given}
 use Rattle.sb_session.proofs.Commands.{inside_for}
 use Rattle.sb_session.proofs.CommitSteps.{Steps-committed, Steps-refused_commit, committed-push, going_on, with_committed, without_transaction}
 use Rattle.sb_session.proofs.OpenLemmas.{Inside, IsAt-same}
 use Rattle.sb_session.proofs.PointLemmas.{AreSavepoints-kept}
-
--- ---- ends of other states
-module _ (S T : State → Type 0) (Lacks : Room → Type 0) (HasFailed : Type 0) (ext : Extensions) (s : State) (c : Command) (wider : (t : State) → S t → T t) where
-  step-wider : (r : Reply) → IsStep S ext s c r → IsStep T ext s c r
-  step-wider r step = record { after = step.after; steps = step.steps; stands = wider step.after step.stands }
-
-  free-wider : (Cause : Type 0) (now : State) → IsFree S Cause s now → IsFree T Cause s now
-  free-wider Cause now free = record { up = free.up; cause = free.cause; stands = wider now free.stands }
-
-  pub Ends-wider : (r : Reply) → Ends S Lacks HasFailed ext s c r → Ends T Lacks HasFailed ext s c r
-  Ends-wider (reply.Refused (refusal.Room room)) ends = free-wider (Lacks room) s ends
-  Ends-wider (reply.Refused refusal.NoMemory) ends = free-wider (MayWant s c) s ends
-  Ends-wider (reply.Refused refusal.Fault) ends = free-wider HasFailed (downed s) ends
-  Ends-wider (reply.Refused (refusal.Damaged page)) ends = ends
-  Ends-wider (reply.Refused (refusal.Syntax column)) ends = step-wider (reply.Refused (refusal.Syntax column)) ends
-  Ends-wider (reply.Refused refusal.Down) ends = step-wider (reply.Refused refusal.Down) ends
-  Ends-wider (reply.Refused refusal.State) ends = step-wider (reply.Refused refusal.State) ends
-  Ends-wider (reply.Refused (refusal.NoRelation name)) ends = step-wider (reply.Refused (refusal.NoRelation name)) ends
-  Ends-wider (reply.Refused (refusal.Exists name)) ends = step-wider (reply.Refused (refusal.Exists name)) ends
-  Ends-wider (reply.Refused (refusal.NoName name)) ends = step-wider (reply.Refused (refusal.NoName name)) ends
-  Ends-wider (reply.Refused (refusal.NoExtension code)) ends = step-wider (reply.Refused (refusal.NoExtension code)) ends
-  Ends-wider (reply.Refused (refusal.InUse relation name)) ends = step-wider (reply.Refused (refusal.InUse relation name)) ends
-  Ends-wider (reply.Refused refusal.Mistyped) ends = step-wider (reply.Refused refusal.Mistyped) ends
-  Ends-wider (reply.Refused (refusal.TooLong relation)) ends = step-wider (reply.Refused (refusal.TooLong relation)) ends
-  Ends-wider (reply.Refused refusal.Mixed) ends = step-wider (reply.Refused refusal.Mixed) ends
-  Ends-wider (reply.Refused refusal.Limit) ends = step-wider (reply.Refused refusal.Limit) ends
-  Ends-wider (reply.Refused (refusal.NoRecord relation)) ends = step-wider (reply.Refused (refusal.NoRecord relation)) ends
-  Ends-wider (reply.Refused (refusal.Duplicate relation)) ends = step-wider (reply.Refused (refusal.Duplicate relation)) ends
-  Ends-wider (reply.Refused (refusal.Veto relation name)) ends = step-wider (reply.Refused (refusal.Veto relation name)) ends
-  Ends-wider (reply.Refused (refusal.Range relation)) ends = step-wider (reply.Refused (refusal.Range relation)) ends
-  Ends-wider (reply.Refused refusal.Depth) ends = step-wider (reply.Refused refusal.Depth) ends
-  Ends-wider (reply.Refused refusal.DeferLimit) ends = step-wider (reply.Refused refusal.DeferLimit) ends
-  Ends-wider (reply.Done key picks) ends = step-wider (reply.Done key picks) ends
-  Ends-wider (reply.Count count picks) ends = step-wider (reply.Count count picks) ends
-  Ends-wider (reply.Rows rows) ends = step-wider (reply.Rows rows) ends
-  Ends-wider (reply.Entries image) ends = step-wider (reply.Entries image) ends
-  Ends-wider (reply.Lines lines) ends = step-wider (reply.Lines lines) ends
 
 -- ---- refusals by kind
 -- what the definition gives, a fault, damage, or want of room or memory
@@ -182,17 +140,16 @@ module _ {D : Type 0} (faults : D → ℕ) (work : Work (Unit {0})) (g : Going) 
 -- what is said of it
 pub record Committed {B D : Type 0} (meanings : B → Meanings) (told : D → Option Story) (len faults : D → ℕ) (d e : D) (x y : Session B) (r : Reply) : Type 0 where
   pub ends : (want : Wanted) (s : State) → IsFor meanings told len want s d x
-      → Ends (λ t. StandsFor meanings told len t e y) (Lacks faults) (HasFailed faults d e) (extensions_of (meanings x.boxes)) s command.Commit r
+      → Ends (StandsBehind meanings told len want (extensions_of (meanings x.boxes)) s command.Commit d e x y) (Lacks faults) (HasFailed faults d e) (extensions_of (meanings x.boxes)) s command.Commit r
   pub keeps : Keeps len faults d e x y r
   pub runs : CanRun meanings told len e y
 
 module _ {B D : Type 0} (meanings : B → Meanings) (told : D → Option Story) (len faults : D → ℕ) where
   -- one that changed nothing
-  pub Committed-carried : (d e : D) (x y : Session B) (r : Reply) → Carried meanings told len faults command.Commit d e x y r → Committed meanings told len faults d e x y r
-  Committed-carried d e x y r carried = record {
-    ends = λ want s for.
-        Ends-wider (λ t. IsFor meanings told len want t e y) (λ t. StandsFor meanings told len t e y) (Lacks faults) (HasFailed faults d e) (extensions_of (meanings x.boxes)) s command.Commit
-        (λ t is. record { want = want; is = is }) r (carried.ends want s for);
+  pub Committed-carried : (d e : D) (x y : Session B) (r : Reply) → LeavesWanted (parts_of told len d x) (parts_of told len e y) → Carried meanings told len faults command.Commit d e x y r
+      → Committed meanings told len faults d e x y r
+  Committed-carried d e x y r leaves carried = record {
+    ends = λ want s for. Ends-behind_for meanings told len command.Commit d e x y leaves want s for faults r (carried.ends want s for);
     keeps = carried.keeps;
     runs = carried.runs;
   }
@@ -235,21 +192,40 @@ module _ {B D : Type 0} (meanings : B → Meanings) (told : D → Option Story) 
     ended : {A : Type 0} → x.down ≡ true → A
     ended down = absurd (false≢true (sym up ∙ down))
 
+    abbrev Behind : Wanted → State → State → Type 0
+    Behind want s t = StandsBehind meanings told len want ext s command.Commit d e x y t
+
     -- ---- what a crash leaves
-    pub LeavesOldOrNext-commit : ((want : Wanted) (g : Going) → IsAt m x.place want tx g p w → LeavesOldOrFinished m x.place.root want g p q)
-        → (want : Wanted) (s : State) → IsFor meanings told len want s d x → LeavesOldOrNext m x.place.root want ext s command.Commit p (parts_of told len e y)
-    LeavesOldOrNext-commit moments want s for =
-        subst (λ (r : Parts). LeavesOldOrNext m x.place.root want ext s command.Commit p r) (sym now)
-        (⊎_elim
+    -- the same, by the pages of the store
+    abbrev Left : Wanted → State → State → Type 0
+    Left want s t = LeavesOldOrNext m x.place.root want ext s command.Commit t p q
+
+    left_now : (want : Wanted) (s t : State) → Left want s t → LeavesOldOrNext m x.place.root want ext s command.Commit t p (parts_of told len e y)
+    left_now want s t left = subst (λ (r : Parts). LeavesOldOrNext m x.place.root want ext s command.Commit t p r) (sym now) left
+
+    -- what was wanted
+    left_wanted : LeavesWanted p q → (want : Wanted) (s : State) → IsFor meanings told len want s d x → (t : State) → Left want s t
+    left_wanted leaves want s for t = let at = at_commit want s for in inl (leaves.each want at.has.now at.has.stands.store)
+
+    -- where the disk failed, the database of some step
+    left_failed : ((want : Wanted) (g : Going) → IsAt m x.place want tx g p w → LeavesOldOrFinished m x.place.root want g p q)
+        → (want : Wanted) (s : State) → IsFor meanings told len want s d x → Left want s (downed s)
+    left_failed moments want s for =
+        ⊎_elim
         (λ (old : LeavesOnly p.told q.told (Restores p.store.pool.geometry want)). inl old)
         (λ (run : Finishes m (going_on (within want s for).of) (LeavesEither m x.place.root want p) q). inr (next run))
-        (moments want (going_on (within want s for).of) (at_commit want s for)))
+        (moments want (going_on (within want s for).of) (at_commit want s for))
       where
-        next : Finishes m (going_on (within want s for).of) (LeavesEither m x.place.root want p) q → LeavesNext m x.place.root want ext s command.Commit p q
+        next : Finishes m (going_on (within want s for).of) (LeavesEither m x.place.root want p) q → LeavesNext m x.place.root want ext s command.Commit (downed s) p q
         next run = record {
-          reply = reply.Done None run.after.used;
-          after = with_committed s run.after.db;
-          steps = Steps-committed ext s (within want s for).of (within want s for).is (up_for want s for) run.picks run.after run.leads;
+          next = with_committed s run.after.db;
+          is = inr (
+            refl,
+            record {
+              reply = reply.Done None run.after.used;
+              steps = Steps-committed ext s (within want s for).of (within want s for).is (up_for want s for) run.picks run.after run.leads;
+            },
+          );
           pages = run.stands.pages;
           commits = subst (λ (db : Db). IsCommitted m x.place.root p.store.pool.geometry.pages run.stands.pages db) (sym (committed-push s run.after.db)) run.stands.committed;
           leaves = run.stands.leaves;
@@ -272,7 +248,7 @@ module _ {B D : Type 0} (meanings : B → Meanings) (told : D → Option Story) 
 
     -- ---- a commit that goes through
     pub Committed-ok : {T : Type 0} (value : T) (picks : List Key) → Remains told len faults d e x.space.store space.store (Ok value) → y.down ≡ x.down → y.open ≡ None
-        → ((want : Wanted) (g : Going) → IsAt m x.place want tx g p w → Finishes m g (IsDone m x.place.root picks) q)
+        → ((want : Wanted) (g : Going) → IsAt m x.place want tx g p w → Finishes m g (IsDone m x.place.root want picks p) q)
         → (space.store.book.down ≡ false → space.store.book.out ≡ [])
         → Committed meanings told len faults d e x y (reply.Done None picks)
     Committed-ok value picks remains down none done out = record {
@@ -285,22 +261,33 @@ module _ {B D : Type 0} (meanings : B → Meanings) (told : D → Option Story) 
         still_up false is = is
         still_up true is = absurd (let e : Ok value ≡ Err refusal.Fault = remains.up is in cc)
 
-        step : (want : Wanted) (s : State) (for : IsFor meanings told len want s d x) → Finishes m (going_on (within want s for).of) (IsDone m x.place.root picks) q
-            → IsStep (λ t. StandsFor meanings told len t e y) ext s command.Commit (reply.Done None picks)
+        step : (want : Wanted) (s : State) (for : IsFor meanings told len want s d x) → Finishes m (going_on (within want s for).of) (IsDone m x.place.root want picks p) q
+            → IsStep (Behind want s) ext s command.Commit (reply.Done None picks)
         step want s for run = record {
           after = with_committed s run.after.db;
           steps = subst (λ (used : List Key). Steps ext s command.Commit (reply.Done None used) (with_committed s run.after.db)) (sym run.stands.picked)
               (Steps-committed ext s (within want s for).of (within want s for).is (up_for want s for) run.picks run.after run.leads);
           stands = record {
-            want = run.stands.want;
-            is = IsFor-as meanings told len want s d e x y for run.stands.want (with_committed s run.after.db) None q boxes place none now (down ∙ up) refl refl
-                (λ on. subst (λ (db : Db). Rests m x.place.root run.stands.want db q) (sym (committed-push s run.after.db)) run.stands.rests);
+            stands = record {
+              want = run.stands.now;
+              is = IsFor-as meanings told len want s d e x y for run.stands.now (with_committed s run.after.db) None q boxes place none now (down ∙ up) refl refl
+                  (λ on. subst (λ (db : Db). Rests m x.place.root run.stands.now db q) (sym (committed-push s run.after.db)) run.stands.rests);
+            };
+            leaves = λ on. left_now want s (with_committed s run.after.db) (inr (record {
+              next = with_committed s run.after.db;
+              is = inl refl;
+              pages = run.stands.now;
+              commits = subst (λ (db : Db). IsCommitted m x.place.root p.store.pool.geometry.pages run.stands.now db) (sym (committed-push s run.after.db))
+                  (subst (λ (g : Geometry). IsCommitted m x.place.root g.pages run.stands.now run.after.db) remains.geometry run.stands.rests.committed);
+              leaves = run.stands.leaves;
+            }));
           };
         }
 
     -- ---- one that is refused
     module _ (T : Type 0) (r : Refusal) (remains : Remains {T = T} told len faults d e x.space.store space.store (Err r)) (down : y.down ≡ (x.down || is_end r))
-        (stopped : (want : Wanted) (g : Going) → IsAt m x.place want tx g p w → StopsAt told len faults ext tx g r (record { disk = d; store = x.space.store })) where
+        (stopped : (want : Wanted) (g : Going) → IsAt m x.place want tx g p w → StopsAt told len faults ext tx g r (record { disk = d; store = x.space.store }))
+        (kept : (r ≡ refusal.Fault → ⊥) → LeavesWanted p q) (moments : (want : Wanted) (g : Going) → IsAt m x.place want tx g p w → LeavesOldOrFinished m x.place.root want g p q) where
       stays_up : (b : Bool) → space.store.book.down ≡ b → y.down ≡ false → space.store.book.down ≡ false
       stays_up false is on = is
       stays_up true is on =
@@ -311,12 +298,16 @@ module _ {B D : Type 0} (meanings : B → Meanings) (told : D → Option Story) 
       not_end : is_end r ≡ false → y.down ≡ false
       not_end is = down ∙ ap (λ (b : Bool). x.down || b) is ∙ or-false x.down ∙ up
 
+      -- what stands where the disk didn't fail
+      kept_behind : (r ≡ refusal.Fault → ⊥) → (want : Wanted) (s t : State) → IsFor meanings told len want s d x → StandsFor meanings told len t e y → Behind want s t
+      kept_behind not want s t for stands = record { stands = stands; leaves = λ on. left_now want s t (left_wanted (kept not) want s for t) }
+
       -- ---- and is over
       module _ (over : is_wanting r ≡ false) (none : y.open ≡ None)
           (faulted : r ≡ refusal.Fault → (want : Wanted) (g : Going) → IsAt m x.place want tx g p w → space.store.book.down ≡ true)
           (aborted : space.store.book.down ≡ false → (m : Meanings) (root : ℕ) (want : Wanted) (db : Db) → WasBegun m root want db tx p → Rests m root want db q)
           (out : space.store.book.down ≡ false → space.store.book.out ≡ []) where
-        given_step : is_free r ≡ false → (want : Wanted) (s : State) (for : IsFor meanings told len want s d x) → IsStep (λ t. StandsFor meanings told len t e y) ext s command.Commit (reply.Refused r)
+        given_step : is_free r ≡ false → (want : Wanted) (s : State) (for : IsFor meanings told len want s d x) → IsStep (Behind want s) ext s command.Commit (reply.Refused r)
         given_step given want s for =
             let stops : StopsFrom (λ refusal trail x. HasCause (FailsOn faults) refusal x) (finish ext) (going_on (within want s for).of) r (stopped want (going_on (within want s for).of) (at_commit want s for)).there =
             (stopped want (going_on (within want s for).of) (at_commit want s for)).stops in
@@ -324,14 +315,14 @@ module _ {B D : Type 0} (meanings : B → Meanings) (told : D → Option Story) 
             record {
               after = without_transaction s;
               steps = Steps-refused_commit ext s (within want s for).of (within want s for).is (up_for want s for) run.picks run.after r run.leads;
-              stands = record {
+              stands = kept_behind (λ fault. false≢true (sym given ∙ ap is_free fault)) want s (without_transaction s) for (record {
                 want = want;
                 is = IsFor-as meanings told len want s d e x y for want (without_transaction s) None q boxes place none now (not_end (end_of_given r given)) refl refl
                     (λ on. aborted (stays_up space.store.book.down refl (not_end (end_of_given r given))) m x.place.root want (committed s) (within want s for).inside.begun);
-              };
+              });
             }
 
-        fault_free : r ≡ refusal.Fault → (want : Wanted) (s : State) (for : IsFor meanings told len want s d x) → IsFree (λ t. StandsFor meanings told len t e y) (HasFailed faults d e) s (downed s)
+        fault_free : r ≡ refusal.Fault → (want : Wanted) (s : State) (for : IsFor meanings told len want s d x) → IsFree (Behind want s) (HasFailed faults d e) s (downed s)
         fault_free is want s for =
             let off : y.down ≡ true = down ∙ ap (λ (b : Bool). b || is_end r) up ∙ ap is_end is in
             record {
@@ -339,15 +330,18 @@ module _ {B D : Type 0} (meanings : B → Meanings) (told : D → Option Story) 
               cause = ⊎_elim (λ (was : x.space.store.book.down ≡ true). absurd (false≢true (sym (runs.up up) ∙ was))) (λ (rose : Rose (faults d) (faults e)). rose)
                   (remains.fell (faulted is want (going_on (within want s for).of) (at_commit want s for)));
               stands = record {
-                want = want;
-                is = IsFor-as meanings told len want s d e x y for want (downed s) y.open (parts_of told len e y) boxes place refl refl off refl refl (λ on. absurd (false≢true (sym on)));
+                stands = record {
+                  want = want;
+                  is = IsFor-as meanings told len want s d e x y for want (downed s) y.open (parts_of told len e y) boxes place refl refl off refl refl (λ on. absurd (false≢true (sym on)));
+                };
+                leaves = λ on. left_now want s (downed s) (left_failed moments want s for);
               };
             }
 
-        over_ends : (want : Wanted) (s : State) (for : IsFor meanings told len want s d x) → Ends (λ t. StandsFor meanings told len t e y) (Lacks faults) (HasFailed faults d e) ext s command.Commit (reply.Refused r)
+        over_ends : (want : Wanted) (s : State) (for : IsFor meanings told len want s d x) → Ends (Behind want s) (Lacks faults) (HasFailed faults d e) ext s command.Commit (reply.Refused r)
         over_ends want s for =
             let stops = stopped want (going_on (within want s for).of) (at_commit want s for) in
-            over_by (λ t. StandsFor meanings told len t e y) (Lacks faults) (HasFailed faults d e) ext s r (kind_of r) over (λ given. given_step given want s for) (λ is. fault_free is want s for)
+            over_by (Behind want s) (Lacks faults) (HasFailed faults d e) ext s r (kind_of r) over (λ given. given_step given want s for) (λ is. fault_free is want s for)
             (λ page is. damage_stops faults (finish ext) (going_on (within want s for).of) page r is stops.there stops.stops)
 
         pub Committed-over : Committed meanings told len faults d e x y (reply.Refused r)
@@ -387,23 +381,23 @@ module _ {B D : Type 0} (meanings : B → Meanings) (told : D → Option Story) 
                   (AreSavepoints-kept m x.place want tx p q w t.work (stays.was m x.place want) o.points.items u.points inside.points);
             }
 
-        still_for : (want : Wanted) (s : State) → IsFor meanings told len want s d x → StandsFor meanings told len s e y
-        still_for want s for = record {
+        still_for : (want : Wanted) (s : State) → IsFor meanings told len want s d x → Behind want s s
+        still_for want s for = kept_behind (λ fault. false≢true (sym (ap is_wanting fault) ∙ wanting)) want s s for (record {
           want = want;
           is = IsFor-as meanings told len want s d e x y for want s (Some new) q boxes place is now (goes_on ∙ sym (up_for want s for)) refl refl
               (λ on. subst (λ (a : Option PlainTransaction). IsOpenFor m x.place want (committed s) q (Some new) a) (sym (within want s for).is) (still_inside want s for));
-        }
+        })
 
         wanting_ends : (want : Wanted) (s : State) (for : IsFor meanings told len want s d x)
             → ((room : Room) × (r ≡ refusal.Room room)) ⊎ (r ≡ refusal.NoMemory)
-            → Ends (λ t. StandsFor meanings told len t e y) (Lacks faults) (HasFailed faults d e) ext s command.Commit (reply.Refused r)
+            → Ends (Behind want s) (Lacks faults) (HasFailed faults d e) ext s command.Commit (reply.Refused r)
         wanting_ends want s for = ⊎_elim
             (λ (a : (room : Room) × (r ≡ refusal.Room room)).
             let stops = stopped want (going_on (within want s for).of) (at_commit want s for) in
-            subst (λ (r : Refusal). Ends (λ t. StandsFor meanings told len t e y) (Lacks faults) (HasFailed faults d e) ext s command.Commit (reply.Refused r)) (sym a.1)
+            subst (λ (r : Refusal). Ends (Behind want s) (Lacks faults) (HasFailed faults d e) ext s command.Commit (reply.Refused r)) (sym a.1)
             (record { up = up_for want s for; cause = record { at = stops.there; cause = room_stops faults (finish ext) (going_on (within want s for).of) a.0 r a.1 stops.there stops.stops }; stands = still_for want s for }))
             (λ (a : r ≡ refusal.NoMemory).
-            subst (λ (r : Refusal). Ends (λ t. StandsFor meanings told len t e y) (Lacks faults) (HasFailed faults d e) ext s command.Commit (reply.Refused r)) (sym a)
+            subst (λ (r : Refusal). Ends (Behind want s) (Lacks faults) (HasFailed faults d e) ext s command.Commit (reply.Refused r)) (sym a)
             (record { up = up_for want s for; cause = tt; stands = still_for want s for }))
 
         -- memory is wanting only where something is left

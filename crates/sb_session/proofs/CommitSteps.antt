@@ -1,17 +1,17 @@
 -- The steps of a commit.
-use Rattle.std.proofs.Common.{◌≡◌, ℕ, ◌+◌, Bool, true, false, List, [], ◌∷◌, ◌++◌, Option, Some, None, refl, ap, ◌∙◌}
+use Rattle.std.proofs.Common.{◌≡◌, ◌+◌, false, List, [], ◌∷◌, ◌++◌, Option, Some, None, refl, ap}
 use Rattle.std.specs.List.{last_or}
 use Rattle.sb_relation.specs.Db.{Key, Db}
 use Rattle.sb_fold.specs.declared.refusal.Refusal.{Refusal}
 use Rattle.sb_fold.specs.Extensions.{Extensions}
 use Rattle.sb_fold.specs.Finish.{finish}
-use Rattle.sb_fold.specs.Outcome.{Going, Outcome, Work, begun, continue, made, refuse, Leads}
+use Rattle.sb_fold.specs.Outcome.{Going, Outcome, begun, continue, made, refuse, Leads}
 use Rattle.sb_fold.proofs.LeadsLemmas.{leads_whole}
 use Rattle.sb_plain.specs.declared.command.Command.TheVariants as command
 use Rattle.sb_plain.specs.declared.reply.Reply.TheVariants.{Done, Refused}
 use Rattle.sb_plain.specs.Step.{Steps}
 use Rattle.sb_plain.specs.State.{State, Transaction, committed, db_or_empty, ended, paid}
-use Rattle.sb_plain.specs.Step.{Answer, Plain, Turn, commit_of, step, turn_of}
+use Rattle.sb_plain.specs.Step.{Plain, Turn, commit_of, step, turn_of}
 use Rattle.sb_session.proofs.StepLemmas.{at_fields}
 
 -- work that finishes a transaction, once the commit itself was paid for

@@ -4,6 +4,7 @@ pub mod OpenLemmas
 pub mod PointLemmas
 pub mod Stepped
 pub mod Carried
+pub mod Behind
 pub mod Commands
 pub mod MoveLists
 pub mod MoveBoxes

@@ -1,14 +1,14 @@
 -- The states that steps lead to, each with its transaction.
-use Rattle.std.proofs.Common.{◌≡◌, ℕ, ◌+◌, nat_le, Bool, true, false, List, [], ◌∷◌, length, Option, Some, None, is_some, refl, sym, ap, ◌∙◌, subst}
+use Rattle.std.proofs.Common.{◌≡◌, ◌+◌, nat_le, true, false, length, Option, Some, None, refl, sym, subst}
 use Rattle.std.specs.List.{list_any}
-use Rattle.sb_relation.specs.Db.{Name, Db}
+use Rattle.sb_relation.specs.Db.{Name}
 use Rattle.sb_fold.specs.Extensions.{Extensions}
 use Rattle.sb_plain.specs.declared.command.Command.{Command}
 use Rattle.sb_plain.specs.declared.command.Command.TheVariants as command
 use Rattle.sb_plain.specs.declared.reply.Reply.{Reply}
 use Rattle.sb_plain.specs.Step.{Steps}
-use Rattle.sb_plain.specs.State.{Codes, Point as PlainPoint, State, Transaction as PlainTransaction, committed, is_point, points_to}
-use Rattle.sb_plain.specs.Step.{back_to, begin, first_spent, managed, ok, with_savepoint}
+use Rattle.sb_plain.specs.State.{Point as PlainPoint, State, Transaction as PlainTransaction, committed, is_point, points_to}
+use Rattle.sb_plain.specs.Step.{back_to, begin, first_spent, ok, with_savepoint}
 use Rattle.sb_registry.specs.Boxes.{Meanings}
 use Rattle.sb_drive.specs.Spaces.{Wanted}
 use Rattle.sb_map.specs.declared.place.Place.{Place}

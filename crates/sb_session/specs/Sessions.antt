@@ -1,5 +1,5 @@
 -- What a session stands for.
-use Rattle.std.specs.Prelude.{◌≡◌, ◌⊎◌, ◌||◌, ℕ, ◌≤◌, Bool, true, false, List, [], ◌∷◌, All, Option, Some, None}
+use Rattle.std.specs.Prelude.{◌≡◌, ◌⊎◌, ◌||◌, ℕ, ◌≤◌, true, false, List, [], ◌∷◌, All, Option, Some, None}
 use Rattle.std.specs.List.{AllZip}
 use Rattle.sb_disk.specs.Causes.{Rose}
 use Rattle.sb_disk.specs.Disk.{Story}
@@ -129,16 +129,34 @@ pub record Lacks {D : Type 0} (faults : D → ℕ) (room : Room) : Type 0 where
   pub cause : HasCause (FailsOn faults) (refusal.Room room) at
 
 -- ---- what a crash leaves
--- At each moment it leaves the pages that were wanted, or those that keep what some step of the command commits.
-pub record LeavesNext (m : Meanings) (root : ℕ) (want : Wanted) (ext : Extensions) (s : State) (c : Command) (old new : Parts) : Type 0 where
+-- some step of the command leads to the state
+pub record StepsTo (ext : Extensions) (s : State) (c : Command) (t : State) : Type 0 where
   pub reply : Reply
-  pub after : State
-  pub steps : Steps ext s c reply after
+  pub steps : Steps ext s c reply t
+
+-- What may be found committed along a command that leads to a state: what that state has committed; where the disk failed, and the session is down
+-- with it, what some step of the command commits.
+abbrev pub IsNext : Extensions → State → Command → State → State → Type 0
+IsNext ext s c t next = (next ≡ t) ⊎ ((t.down ≡ true) × StepsTo ext s c next)
+
+-- At each moment a crash leaves the pages that were wanted, or those that keep what is committed next.
+pub record LeavesNext (m : Meanings) (root : ℕ) (want : Wanted) (ext : Extensions) (s : State) (c : Command) (t : State) (old new : Parts)
+    : Type 0 where
+  pub next : State
+  pub is : IsNext ext s c t next
   pub pages : ℕ → List ℕ
-  pub commits : IsCommitted m root old.store.pool.geometry.pages pages (committed after)
+  pub commits : IsCommitted m root old.store.pool.geometry.pages pages (committed next)
   pub leaves : LeavesOnly old.told new.told (IsOldOrNew old.store.pool.geometry want pages)
 
--- at each moment it leaves the pages that were wanted, and may leave others only where a step of the command commits them
-abbrev pub LeavesOldOrNext : Meanings → ℕ → Wanted → Extensions → State → Command → Parts → Parts → Type 0
-LeavesOldOrNext m root want ext s c old new =
-    LeavesOnly old.told new.told (Restores old.store.pool.geometry want) ⊎ LeavesNext m root want ext s c old new
+-- at each moment it leaves the pages that were wanted, and may leave others only where those are committed next
+abbrev pub LeavesOldOrNext : Meanings → ℕ → Wanted → Extensions → State → Command → State → Parts → Parts → Type 0
+LeavesOldOrNext m root want ext s c t old new =
+    LeavesOnly old.told new.told (Restores old.store.pool.geometry want) ⊎ LeavesNext m root want ext s c t old new
+
+-- What stands behind a command that led to a state: the session stands for that state, and meanwhile a crash left what had been committed, or what
+-- is next.
+pub record StandsBehind {B D : Type 0} (meanings : B → Meanings) (told : D → Option Story) (len : D → ℕ) (want : Wanted) (ext : Extensions)
+    (s : State) (c : Command) (d e : D) (x y : Session B) (t : State) : Type 0 where
+  pub stands : StandsFor meanings told len t e y
+  pub leaves : s.down ≡ false
+      → LeavesOldOrNext (meanings x.boxes) x.place.root want ext s c t (parts_of told len d x) (parts_of told len e y)

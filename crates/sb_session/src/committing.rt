@@ -1,12 +1,12 @@
 //! The commit of the open transaction.
 
-ghost use Rattle.std.specs.Prelude.{◌≡◌, false, IsErrOf, Result};
+ghost use Rattle.std.specs.Prelude.{◌≡◌, IsErrOf};
 ghost use Rattle.sb_drive.specs.Spaces.{Wanted};
 ghost use Rattle.sb_engine.specs.Working.{extensions_of};
 ghost use Rattle.sb_plain.specs.State.{State};
 ghost use Rattle.sb_plain.specs.declared.command.Command.TheVariants as command;
 ghost use Rattle.sb_session.specs.Ends.{Ends, picked_reply};
-ghost use Rattle.sb_session.specs.Sessions.{CanRun, HasFailed, HasWork, IsFor, Keeps, Lacks, LeavesOldOrNext, StandsFor, parts_of};
+ghost use Rattle.sb_session.specs.Sessions.{CanRun, HasFailed, HasWork, IsFor, Keeps, Lacks, StandsBehind};
 
 use crate::session::{Open, Session};
 use sb_disk::Disk;
@@ -22,11 +22,8 @@ impl<B: Vectors> Session<B> {
         requires runs { CanRun B.meanings D.told D.len disk.old self.old }
 
         ensures ends { (want : Wanted) (s : State) → IsFor B.meanings D.told D.len want s disk.old self.old
-            → Ends (λ t. StandsFor B.meanings D.told D.len t disk.new self.new) (Lacks D.faults) (HasFailed D.faults disk.old disk.new)
-            (extensions_of (B.meanings self.old.boxes)) s command.Commit (picked_reply result) }
-        ensures any_moment { (want : Wanted) (s : State) → IsFor B.meanings D.told D.len want s disk.old self.old → s.down ≡ false
-            → LeavesOldOrNext (B.meanings self.old.boxes) self.old.place.root want (extensions_of (B.meanings self.old.boxes)) s command.Commit
-            (parts_of D.told D.len disk.old self.old) (parts_of D.told D.len disk.new self.new) }
+            → Ends (StandsBehind B.meanings D.told D.len want (extensions_of (B.meanings self.old.boxes)) s command.Commit disk.old disk.new self.old self.new)
+            (Lacks D.faults) (HasFailed D.faults disk.old disk.new) (extensions_of (B.meanings self.old.boxes)) s command.Commit (picked_reply result) }
         ensures memory { IsErrOf result Refusal.NoMemory → HasWork self.old.open }
         ensures boxes { self.new.boxes ≡ self.old.boxes }
         ensures keeps { Keeps D.len D.faults disk.old disk.new self.old self.new (picked_reply result) }

@@ -50,14 +50,16 @@ module _ (m : Meanings) (place : Place) (want : Wanted) (tx : ℕ) (g : Going) (
   pub LeavesEither-commit : (q : Parts) → ((want : Wanted) (s : Slots) (has : HasPages want s p) → LeavesOnly p.told q.told (IsOldOrNew p.store.pool.geometry want has.now)) → LeavesEither m place.root want p g q
   LeavesEither-commit q leaves = record { pages = at.has.now; committed = IsCommitted-now; leaves = leaves want at.slots at.has }
 
-  pub IsDone-commit : (q : Parts) → q.store.pool.geometry ≡ p.store.pool.geometry → ((want : Wanted) (s : Slots) (has : HasPages want s p) → HasPages has.now s q) → IsDone m place.root w.picks.items g q
-  IsDone-commit q sizes commits =
+  pub IsDone-commit : (q : Parts) → q.store.pool.geometry ≡ p.store.pool.geometry → ((want : Wanted) (s : Slots) (has : HasPages want s p) → HasPages has.now s q)
+      → ((want : Wanted) (s : Slots) (has : HasPages want s p) → LeavesOnly p.told q.told (IsOldOrNew p.store.pool.geometry want has.now)) → IsDone m place.root want w.picks.items p g q
+  IsDone-commit q sizes commits leaves =
       let same : p.store.pool.geometry.pages ≡ q.store.pool.geometry.pages = ap (λ (g : Geometry). g.pages) (sym sizes) in
       record {
-        want = at.has.now;
+        now = at.has.now;
         rests = record {
           has = subst (λ (n : ℕ). HasPages at.has.now (slots_in n at.has.now) q) same (subst (λ (s : Slots). HasPages at.has.now s q) at.has.slots (commits want at.slots at.has));
           committed = subst (λ (n : ℕ). IsCommitted m place.root n at.has.now g.db) same IsCommitted-now;
         };
         picked = at.picked;
+        leaves = leaves want at.slots at.has;
       }

@@ -85,10 +85,10 @@ module _ (m : Meanings) (place : Place) (want : Wanted) (tx : ℕ) (g : Going) (
 -- ---- by what the commit of the pages answers
 module _ (m : Meanings) (place : Place) (tx : ℕ) (p q : Parts) (w : Work) (left : HasNothingLeft w) where
   pub done-left : {T : Type 0} (r : Result T Refusal) (items : T → List Key)
-      → IfOk r (λ picks. (m : Meanings) (place : Place) (want : Wanted) (g : Going) → IsAt m place want tx g p w → IsFinished m g w → IsDone m place.root (items picks) g q)
-      → IfOk (ended r) (λ picks. (want : Wanted) (g : Going) → IsAt m place want tx g p w → Finishes m g (IsDone m place.root (items picks)) q)
+      → IfOk r (λ picks. (m : Meanings) (place : Place) (want : Wanted) (g : Going) → IsAt m place want tx g p w → IsFinished m g w → IsDone m place.root want (items picks) p g q)
+      → IfOk (ended r) (λ picks. (want : Wanted) (g : Going) → IsAt m place want tx g p w → Finishes m g (IsDone m place.root want (items picks) p) q)
   done-left (Ok picks) items done = λ want g at.
-      finished-left m place want tx g p w at left (IsDone m place.root (items picks)) q (done m place want g at (IsFinished-left m place want tx g p w at left))
+      finished-left m place want tx g p w at left (IsDone m place.root want (items picks) p) q (done m place want g at (IsFinished-left m place want tx g p w at left))
   done-left (Err e) items done = tt
 
   pub leaves-left : ((m : Meanings) (place : Place) (want : Wanted) (g : Going) → IsAt m place want tx g p w → IsFinished m g w → LeavesEither m place.root want p g q)
@@ -155,6 +155,19 @@ module _ {D : Type 0} (told : D → Option Story) (len faults : D → ℕ) (m : 
       → LeavesOnly (told d) (told f) (Restores s.pool.geometry want)
   still_down r remains on want leaves = subst (λ (x : D). LeavesOnly (told d) (told x) (Restores s.pool.geometry want)) (sym (remains.down on).disk) leaves
 
+  -- where the work was refused, and the transaction was stopped, a crash left what was wanted
+  pub LeavesWanted-stopped : {T : Type 0} (r : Result T Refusal) → Remains told len faults e f t u r → LeavesWanted mid new → LeavesWanted old new
+  LeavesWanted-stopped r remains leaves = by t.book.down refl
+    where
+      by : (b : Bool) → t.book.down ≡ b → LeavesWanted old new
+      by true on = record { each = λ want now store. still_down r remains on want (works.leaves.each want now store) }
+      by false off = record {
+        each = λ want now store.
+            let turns = (works.makes off).pages want now store in
+            and_then (told d) (told e) (told f) (Restores s.pool.geometry want) (works.leaves.each want now store)
+            (subst (λ (x : Geometry). LeavesOnly (told e) (told f) (Restores x want)) works.geometry (leaves.each want turns.pages turns.store));
+      }
+
   -- ---- a commit
   module _ (want : Wanted) (g : Going) (at : (v : Work) × IsAt m place want tx g old v) (finished : Finishes m g (ComesTo m place want tx w) mid) (none : w.gone.items ≡ []) where
     abbrev ext : Extensions
@@ -166,20 +179,28 @@ module _ {D : Type 0} (told : D → Option Story) (len faults : D → ℕ) (m : 
     before : LeavesOnly (told d) (told e) (Restores s.pool.geometry want)
     before = works.leaves.each want at.1.has.now store
 
+    -- what the commit of the pages leaves, over the work too
+    over : (pages : Wanted) → LeavesOnly (told e) (told f) (IsOldOrNew t.pool.geometry want pages) → LeavesOnly (told d) (told f) (IsOldOrNew s.pool.geometry want pages)
+    over pages leaves =
+        and_then (told d) (told e) (told f) (IsOldOrNew s.pool.geometry want pages)
+        (weaker (told d) (told e) (Restores s.pool.geometry want) (IsOldOrNew s.pool.geometry want pages) (λ image is. inl is) before)
+        (subst (λ (x : Geometry). LeavesOnly (told e) (told f) (IsOldOrNew x want pages)) works.geometry leaves)
+
+    IsDone-over : (picks : List Key) (h : Going) → IsDone m place.root want picks mid h new → IsDone m place.root want picks old h new
+    IsDone-over picks h done = record { now = done.now; rests = done.rests; picked = done.picked; leaves = over done.now done.leaves }
+
     pub IsDone-behind : (picks : List Key) (tx' : ℕ) → tx' ≡ tx → t.book.down ≡ false
-        → ((m : Meanings) (place : Place) (want : Wanted) (g : Going) → IsAt m place want tx' g mid w → IsFinished m g w → IsDone m place.root picks g new)
-        → Finishes m g (IsDone m place.root picks) new
+        → ((m : Meanings) (place : Place) (want : Wanted) (g : Going) → IsAt m place want tx' g mid w → IsFinished m g w → IsDone m place.root want picks mid g new)
+        → Finishes m g (IsDone m place.root want picks old) new
     IsDone-behind picks tx' same up done =
-        finish-map (ComesTo m place want tx w) (IsDone m place.root picks) ext g mid new
-        (λ h holds comes. done m place want h (subst (λ (n : ℕ). IsAt m place want n h mid w) (sym same) (comes up)) (record { gone = none; holds = holds })) finished
+        finish-map (ComesTo m place want tx w) (IsDone m place.root want picks old) ext g mid new
+        (λ h holds comes. IsDone-over picks h (done m place want h (subst (λ (n : ℕ). IsAt m place want n h mid w) (sym same) (comes up)) (record { gone = none; holds = holds }))) finished
 
     wider : (h : Going) → LeavesEither m place.root want mid h new → LeavesEither m place.root want old h new
     wider h either = record {
       pages = either.pages;
       committed = subst (λ (n : ℕ). IsCommitted m place.root n either.pages h.db) (ap (λ (x : Geometry). x.pages) works.geometry) either.committed;
-      leaves = and_then (told d) (told e) (told f) (IsOldOrNew s.pool.geometry want either.pages)
-          (weaker (told d) (told e) (Restores s.pool.geometry want) (IsOldOrNew s.pool.geometry want either.pages) (λ image is. inl is) before)
-          (subst (λ (x : Geometry). LeavesOnly (told e) (told f) (IsOldOrNew x want either.pages)) works.geometry either.leaves);
+      leaves = over either.pages either.leaves;
     }
 
     pub LeavesOldOrFinished-commit : {T : Type 0} (r : Result T Refusal) (tx' : ℕ) → tx' ≡ tx → Remains told len faults e f t u r
@@ -203,8 +224,8 @@ module _ {D : Type 0} (told : D → Option Story) (len faults : D → ℕ) (m : 
   -- ---- by what the commit of the pages answers
   module _ (v : Work) (finished : (want : Wanted) (g : Going) → IsAt m place want tx g old v → Finishes m g (ComesTo m place want tx w) mid) (none : w.gone.items ≡ []) where
     pub done-commit : {T : Type 0} (r : Result T Refusal) (items : T → List Key) (tx' : ℕ) → tx' ≡ tx → OnOk r (t.book.down ≡ false)
-        → IfOk r (λ picks. (m : Meanings) (place : Place) (want : Wanted) (g : Going) → IsAt m place want tx' g mid w → IsFinished m g w → IsDone m place.root (items picks) g new)
-        → IfOk (ended r) (λ picks. (want : Wanted) (g : Going) → IsAt m place want tx g old v → Finishes m g (IsDone m place.root (items picks)) new)
+        → IfOk r (λ picks. (m : Meanings) (place : Place) (want : Wanted) (g : Going) → IsAt m place want tx' g mid w → IsFinished m g w → IsDone m place.root want (items picks) mid g new)
+        → IfOk (ended r) (λ picks. (want : Wanted) (g : Going) → IsAt m place want tx g old v → Finishes m g (IsDone m place.root want (items picks) old) new)
     done-commit (Ok picks) items tx' same up done = λ want g at. IsDone-behind want g (v, at) (finished want g at) none (items picks) tx' same up done
     done-commit (Err e) items tx' same up done = tt
 
@@ -215,18 +236,8 @@ module _ {D : Type 0} (told : D → Option Story) (len faults : D → ℕ) (m : 
 
   -- ---- an abort
   module _ (want : Wanted) (g : Going) (at : (v : Work) × IsAt m place want tx g old v) where
-    first : LeavesOnly (told d) (told e) (Restores s.pool.geometry want)
-    first = works.leaves.each want at.1.has.now at.1.has.stands.store
-
     pub LeavesOldOrFinished-abort : {T : Type 0} (r : Result T Refusal) → Remains told len faults e f t u r → LeavesWanted mid new → LeavesOldOrFinished m place.root want g old new
-    LeavesOldOrFinished-abort r remains leaves = by t.book.down refl
-      where
-        by : (b : Bool) → t.book.down ≡ b → LeavesOldOrFinished m place.root want g old new
-        by true on = inl (still_down r remains on want first)
-        by false off =
-            let turns = (works.makes off).pages want at.1.has.now at.1.has.stands.store in
-            inl (and_then (told d) (told e) (told f) (Restores s.pool.geometry want) first
-            (subst (λ (x : Geometry). LeavesOnly (told e) (told f) (Restores x want)) works.geometry (leaves.each want turns.pages turns.store)))
+    LeavesOldOrFinished-abort r remains leaves = inl ((LeavesWanted-stopped r remains leaves).each want at.1.has.now at.1.has.stands.store)
 
   module _ (g : Going) (r : Refusal) (stops : StopsFrom (λ refusal trail x. HasCause (FailsOn faults) refusal x) (finish (extensions_of m)) g r (record { disk = e; store = t })) where
     pub StopsAt-abort : StopsAt told len faults (extensions_of m) tx g r (record { disk = d; store = s })

@@ -26,11 +26,13 @@ use Rattle.sb_transactions.specs.Calls.{IsOnlyFault}
 use Rattle.sb_transactions.specs.Transactions.{IsAt, IsCommitted, IsPointOf, IsUsable, Rests, WasBegun, WasSo, unused}
 
 -- ---- what is committed
--- the work's database is committed, and these are the picks that it used
-pub record IsDone (m : Meanings) (root : ℕ) (picks : List Key) (g : Going) (p : Parts) : Type 0 where
-  pub want : Wanted
-  pub rests : Rests m root want g.db p
+-- The work's database is committed, in the pages that are wanted from then on, and these are the picks that it used. At each moment a crash left the
+-- pages that were wanted, or these.
+pub record IsDone (m : Meanings) (root : ℕ) (want : Wanted) (picks : List Key) (old : Parts) (g : Going) (new : Parts) : Type 0 where
+  pub now : Wanted
+  pub rests : Rests m root now g.db new
   pub picked : picks ≡ g.used
+  pub leaves : LeavesOnly old.told new.told (IsOldOrNew old.store.pool.geometry want now)
 
 -- at each moment a crash leaves the pages that were wanted, or those that keep the work's database
 pub record LeavesEither (m : Meanings) (root : ℕ) (want : Wanted) (old : Parts) (g : Going) (new : Parts) : Type 0 where

@@ -7,7 +7,7 @@ ghost use Rattle.sb_registry.specs.Boxes.{Meanings};
 ghost use Rattle.sb_drive.specs.Spaces.{Wanted};
 ghost use Rattle.sb_map.specs.declared.place.Place.{Place};
 ghost use Rattle.sb_txn.specs.Book.{Out, out_with};
-ghost use Rattle.sb_txn.specs.Clauses.{parts, IsIdle};
+ghost use Rattle.sb_txn.specs.Clauses.{parts, IsIdle, LeavesWanted};
 ghost use Rattle.sb_space.specs.Works.{Serves};
 ghost use Rattle.sb_engine.specs.Refusals.{HasCause};
 ghost use Rattle.sb_engine.specs.Working.{extensions_of};
@@ -43,7 +43,8 @@ pub fn commit<B: Boxes, D: Disk>(
 
     ensures done { IfOk result (λ picks. (want : Wanted) (g : Going)
         → IsAt (B.meanings boxes.now) place want transaction.tx.store.number g (parts D.told D.len disk.old space.old.store) transaction.work
-        → Finishes (B.meanings boxes.now) g (IsDone (B.meanings boxes.now) place.root picks.items) (parts D.told D.len disk.new space.new.store)) }
+        → Finishes (B.meanings boxes.now) g (IsDone (B.meanings boxes.now) place.root want picks.items (parts D.told D.len disk.old space.old.store))
+        (parts D.told D.len disk.new space.new.store)) }
     ensures refused { IfErr result (λ e. (want : Wanted) (g : Going)
         → IsAt (B.meanings boxes.now) place want transaction.tx.store.number g (parts D.told D.len disk.old space.old.store) transaction.work
         → StopsAt D.told D.len D.faults (extensions_of (B.meanings boxes.now)) transaction.tx.store.number g e.refusal
@@ -65,6 +66,8 @@ pub fn commit<B: Boxes, D: Disk>(
     ensures any_moment { (want : Wanted) (g : Going)
         → IsAt (B.meanings boxes.now) place want transaction.tx.store.number g (parts D.told D.len disk.old space.old.store) transaction.work
         → LeavesOldOrFinished (B.meanings boxes.now) place.root want g (parts D.told D.len disk.old space.old.store) (parts D.told D.len disk.new space.new.store) }
+    ensures kept { IfErr result (λ e. (e.refusal ≡ Refusal.Fault → ⊥)
+        → LeavesWanted (parts D.told D.len disk.old space.old.store) (parts D.told D.len disk.new space.new.store)) }
 
     // Where nothing waits and no owner is to go it takes no memory, and makes no call on the disk where no page was changed.
     ensures quiet { HasNothingLeft transaction.work → IfErr result (λ e. IsOnlyFault e.refusal space.new.store) }
@@ -93,7 +96,8 @@ pub fn commit_pages<D: Disk>(
 
     ensures done { IfOk result (λ picks. (m : Meanings) (place : Place) (want : Wanted) (g : Going)
         → IsAt m place want transaction.tx.store.number g (parts D.told D.len disk.old space.old.store) transaction.work
-        → IsFinished m g transaction.work → IsDone m place.root picks.items g (parts D.told D.len disk.new space.new.store)) }
+        → IsFinished m g transaction.work
+        → IsDone m place.root want picks.items (parts D.told D.len disk.old space.old.store) g (parts D.told D.len disk.new space.new.store)) }
     ensures any_moment { (m : Meanings) (place : Place) (want : Wanted) (g : Going)
         → IsAt m place want transaction.tx.store.number g (parts D.told D.len disk.old space.old.store) transaction.work
         → IsFinished m g transaction.work

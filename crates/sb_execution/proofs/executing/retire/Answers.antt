@@ -16,7 +16,7 @@ use Rattle.sb_statements.proofs.PassedLemmas.{passed}
 use Rattle.sb_execution.specs.Endings.{Executed}
 use Rattle.sb_execution.proofs.ExecLemmas.{Executed-kept, Executed-moved, leaves_still}
 use Rattle.sb_execution.proofs.RetireLemmas.{Executed-tested}
-use Rattle.sb_execution.proofs.SessionLemmas.{ends_alone, keeps_session, moments_alone, runs_alone}
+use Rattle.sb_execution.proofs.SessionLemmas.{ends_alone, keeps_session, runs_alone}
 use Rattle.sb_execution.proofs.executing.retire.Goals as goal
 
 -- in a transaction it has no place
@@ -81,5 +81,3 @@ returns-in-Err g c =
     (keeps_session meanings told len faults k d e x y c.requires.runs c.requires.up space did.space did.boxes did.place result c.told.result did.reply did.down ended.remains)
     (runs_alone meanings told len faults k d e x y c.requires.runs c.requires.up space did.space did.boxes did.place result c.told.result did.reply did.down ended.remains none still ended)
     (ends_alone meanings told len faults k d e x y c.requires.runs c.requires.up space did.space did.boxes did.place result c.told.result did.reply did.down ended.remains none still ended)
-    (λ want s for posed on.
-    moments_alone meanings told len faults k d e x y c.requires.runs c.requires.up space did.space did.boxes did.place result c.told.result did.reply did.down ended.remains none still ended want s for posed)

@@ -115,7 +115,7 @@ returns-in-Commit g c =
     let did = c.commit.ensures in
     subst (λ (k : Command). Executed meanings told len faults k d e x y c.picked_reply.result) (sym c.in-Commit.is)
     (subst (λ (r : Reply). Executed meanings told len faults command.Commit d e x y r) (sym c.picked_reply.ensures)
-    (Executed-moved meanings told len faults command.Commit d e x y (picked_reply c.commit.result) (same-stays (meanings x.boxes) (meanings y.boxes) (ap meanings did.boxes)) did.keeps did.runs (λ want s for posed. did.ends want s for) (λ want s for posed up. did.any_moment want s for up)))
+    (Executed-moved meanings told len faults command.Commit d e x y (picked_reply c.commit.result) (same-stays (meanings x.boxes) (meanings y.boxes) (ap meanings did.boxes)) did.keeps did.runs (λ want s for posed. did.ends want s for)))
 
 pub returns-then-is_some : goal.returns-then-is_some
 returns-then-is_some g c =
@@ -139,5 +139,4 @@ returns-else-is_some g c =
     let d = c.args.disk.now in
     let y = c.exec_outside.new.session in
     let did = c.exec_outside.ensures in
-    Executed-moved meanings told len faults c.args.command.now d c.exec_outside.new.disk x y c.exec_outside.result (same-stays (meanings x.boxes) (meanings y.boxes) (ap meanings did.boxes)) did.keeps did.runs
-    did.ends (λ want s for posed up. did.any_moment want s for posed)
+    Executed-moved meanings told len faults c.args.command.now d c.exec_outside.new.disk x y c.exec_outside.result (same-stays (meanings x.boxes) (meanings y.boxes) (ap meanings did.boxes)) did.keeps did.runs did.ends

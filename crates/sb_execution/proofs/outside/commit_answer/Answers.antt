@@ -26,7 +26,7 @@ returns-in-Ok g c =
     let vs = c.commit.new.space.store in
     λ k d s has.
     subst (λ (r : Reply). EndsAlone told len faults m place k d v s vs (Ok r)) (sym c.replied.ensures)
-    (EndsAlone-committed told len faults m place k d e s t tx w (answer_of c.args.answer) has v vs c.in-Ok.picks c.in-Ok.picks.items c.in-Ok.ensures.remains c.in-Ok.ensures.any_moment
+    (EndsAlone-committed told len faults m place k d e s t tx w (answer_of c.args.answer) has v vs c.in-Ok.picks c.in-Ok.picks.items c.in-Ok.ensures.remains
     (c.in-Ok.ensures.none tt) c.in-Ok.ensures.done)
 
 pub abort-requires : goal.abort-requires
@@ -100,4 +100,4 @@ returns g c =
     let vs = c.commit.new.space.store in
     λ k d s has.
     EndsAlone-over told len faults m place k d e v s t vs tx w (answer_of c.args.answer) has c.in-Err.uncommitted.refusal c.in-Err.ensures.remains c.in-Err.ensures.refused
-    c.in-Err.ensures.any_moment (c.in-Err.ensures.none c.in-None.is) (c.in-Err.ensures.aborted c.in-None.is) c.in-Err.ensures.faulted
+    c.in-Err.ensures.any_moment c.in-Err.ensures.kept (c.in-Err.ensures.none c.in-None.is) (c.in-Err.ensures.aborted c.in-None.is) c.in-Err.ensures.faulted

@@ -2,7 +2,7 @@ use Rattle.std.proofs.Common.{Option, ◌∙◌, subst}
 use Rattle.sb_txn.specs.Clauses.{parts}
 use Rattle.sb_session.specs.declared.session.Open.{Open}
 use Rattle.sb_session.specs.Sessions.{CanGoOn}
-use Rattle.sb_execution.proofs.SessionLemmas.{ends_alone, keeps_session, moments_alone, runs_alone}
+use Rattle.sb_execution.proofs.SessionLemmas.{ends_alone, keeps_session, runs_alone}
 use Rattle.sb_execution.proofs.outside.exec_outside.Goals as goal
 
 pub work_outside-result-requires-clause-none : goal.work_outside-result-requires-clause-none
@@ -14,13 +14,6 @@ pub returns-clause-ends : goal.returns-clause-ends
 returns-clause-ends g c =
     let x = c.args.session.now in
     ends_alone g.B.Boxes.meanings g.D.Disk.told g.D.Disk.len g.D.Disk.faults c.args.command.now c.args.disk.now c.work_outside-result.new.disk x c.told.new.session c.requires.runs c.requires.up
-    c.work_outside-result.new.space c.told.ensures.space c.told.ensures.boxes c.told.ensures.place c.work_outside-result.result c.told.result c.told.ensures.reply c.told.ensures.down
-    c.work_outside-result.ensures.remains c.requires.none (c.told.ensures.current ∙ c.requires.none) c.work_outside-result.ensures
-
-pub returns-clause-any_moment : goal.returns-clause-any_moment
-returns-clause-any_moment g c =
-    let x = c.args.session.now in
-    moments_alone g.B.Boxes.meanings g.D.Disk.told g.D.Disk.len g.D.Disk.faults c.args.command.now c.args.disk.now c.work_outside-result.new.disk x c.told.new.session c.requires.runs c.requires.up
     c.work_outside-result.new.space c.told.ensures.space c.told.ensures.boxes c.told.ensures.place c.work_outside-result.result c.told.result c.told.ensures.reply c.told.ensures.down
     c.work_outside-result.ensures.remains c.requires.none (c.told.ensures.current ∙ c.requires.none) c.work_outside-result.ensures
 

@@ -1,4 +1,4 @@
-use Rattle.std.proofs.Common.{◌≡◌, ℕ, ◌≤◌, ◌<◌, ◌∷◌, ◌++◌, [], Result, Ok, OnOk, length, refl, sym, ap, ◌∙◌, subst}
+use Rattle.std.proofs.Common.{ℕ, ◌≤◌, ◌<◌, ◌∷◌, ◌++◌, [], Result, OnOk, sym, ap, ◌∙◌, subst}
 use Rattle.sb_fold.specs.declared.refusal.Refusal.{Refusal}
 use Rattle.sb_relation.specs.Db.{Name}
 use Rattle.sb_session.specs.declared.session.Open.{Open}

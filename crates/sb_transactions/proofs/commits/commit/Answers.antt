@@ -6,7 +6,7 @@ use Rattle.sb_transactions.specs.Calls.{Remains}
 use Rattle.sb_transactions.specs.Commits.{is_wanting}
 use Rattle.sb_transactions.specs.Transactions.{IsPointOf, WasBegun}
 use Rattle.sb_transactions.proofs.CallLemmas.{up-earlier}
-use Rattle.sb_transactions.proofs.EndLemmas.{LeavesOldOrFinished-abort, LeavesOldOrFinished-commit, Remains-behind, Remains-stopped, StopsAt-stopped, done-commit, done-left, down-stopped, leaves-left, none-ended, only-ended, remains-ended, stops-commit, stops-left}
+use Rattle.sb_transactions.proofs.EndLemmas.{LeavesOldOrFinished-abort, LeavesOldOrFinished-commit, LeavesWanted-stopped, Remains-behind, Remains-stopped, StopsAt-stopped, done-commit, done-left, down-stopped, leaves-left, none-ended, only-ended, remains-ended, stops-commit, stops-left}
 use Rattle.sb_transactions.proofs.OpenLemmas.{same-open, stays-open}
 use Rattle.sb_transactions.proofs.commits.commit.Goals as goal
 
@@ -153,6 +153,10 @@ returns-then-is_idle-clause-any_moment g c =
     let r = c.commit_pages.result in
     let left = c.is_idle.ensures.0 c.if-is_idle.true in
     leaves-left m c.args.place tx (parts told len d s) (parts told len f u) v left c.commit_pages.ensures.any_moment
+
+pub returns-then-is_idle-clause-kept : goal.returns-then-is_idle-clause-kept
+returns-then-is_idle-clause-kept g c =
+    rw c.ended.ensures (only-ended c.commit_pages.result c.commit_pages.new.space.store _ (λ q only not. absurd (not only.is)) c.commit_pages.ensures.err)
 
 pub returns-then-is_idle-clause-quiet : goal.returns-then-is_idle-clause-quiet
 returns-then-is_idle-clause-quiet g c =
@@ -375,6 +379,10 @@ returns-in-Ok-clause-any_moment g c =
     let r = c.commit_pages-in-Ok.result in
     λ want h at. LeavesOldOrFinished-commit told len faults m c.args.place tx d e f s t u w led want h (v, at) (c.in-Ok.ensures.finished want h at) c.in-Ok.ensures.none r next same c.commit_pages-in-Ok.ensures.remains c.commit_pages-in-Ok.ensures.any_moment
 
+pub returns-in-Ok-clause-kept : goal.returns-in-Ok-clause-kept
+returns-in-Ok-clause-kept g c =
+    rw c.ended-in-Ok.ensures (only-ended c.commit_pages-in-Ok.result c.commit_pages-in-Ok.new.space.store _ (λ q only not. absurd (not only.is)) c.commit_pages-in-Ok.ensures.err)
+
 pub returns-in-Ok-clause-remains : goal.returns-in-Ok-clause-remains
 returns-in-Ok-clause-remains g c =
     let told = g.D.Disk.told in
@@ -525,6 +533,23 @@ returns-in-Err-clause-any_moment g c =
     let u = c.stop.new.space.store in
     let q = c.stop.result.refusal in
     λ want h at. LeavesOldOrFinished-abort told len faults m c.args.place tx d e f s t u w led want h (v, at) _ c.stop.ensures.remains c.stop.ensures.any_moment
+
+pub returns-in-Err-clause-kept : goal.returns-in-Err-clause-kept
+returns-in-Err-clause-kept g c =
+    let told = g.D.Disk.told in
+    let len = g.D.Disk.len in
+    let faults = g.D.Disk.faults in
+    let m = g.B.Boxes.meanings c.args.boxes.now in
+    let tx = c.args.transaction.tx.store.number in
+    let d = c.args.disk.now in
+    let s = c.args.space.now.store in
+    let e = c.finish_work.new.disk in
+    let t = c.finish_work.new.space.store in
+    let w = c.finish_work.new.transaction.work in
+    let led = c.finish_work.ensures.led in
+    let f = c.stop.new.disk in
+    let u = c.stop.new.space.store in
+    λ not. LeavesWanted-stopped told len faults m c.args.place tx d e f s t u w led _ c.stop.ensures.remains c.stop.ensures.any_moment
 
 pub returns-in-Err-clause-remains : goal.returns-in-Err-clause-remains
 returns-in-Err-clause-remains g c =

@@ -8,7 +8,7 @@ returns-in-Ok-clause-done g c = λ m place want h at finished.
     let told = g.D.Disk.told in
     let len = g.D.Disk.len in
     IsDone-commit m place want c.args.transaction.tx.store.number h (parts told len c.args.disk.now c.args.space.now.store) c.args.transaction.work at finished
-    (parts told len c.commit.new.disk c.commit.new.self.store) c.in-Ok.ensures.keeps.geometry c.in-Ok.ensures.commits
+    (parts told len c.commit.new.disk c.commit.new.self.store) c.in-Ok.ensures.keeps.geometry c.in-Ok.ensures.commits c.in-Ok.ensures.any_moment
 
 pub returns-in-Ok-clause-any_moment : goal.returns-in-Ok-clause-any_moment
 returns-in-Ok-clause-any_moment g c = λ m place want h at finished.

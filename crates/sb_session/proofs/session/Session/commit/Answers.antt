@@ -1,12 +1,11 @@
-use Rattle.std.proofs.Common.{◌≡◌, Bool, List, Option, Some, None, Err, IfSome, Result, false, true, position, inl, is_some, refl, sym, ap, ◌∙◌, subst}
+use Rattle.std.proofs.Common.{◌≡◌, List, Option, None, IfSome, not, is_some, refl, sym, ap, ◌∙◌, subst}
 use Rattle.sb_plain.specs.declared.command.Command.TheVariants as command
 use Rattle.sb_txn.specs.Clauses.{parts}
 use Rattle.sb_txn.proofs.KeepsLemmas.{LeavesWanted-none}
-use Rattle.sb_session.specs.declared.session.Open.{Open}
-use Rattle.sb_session.specs.declared.session.Savepoint.{Savepoint}
 use Rattle.sb_session.specs.declared.session.Session.{Session}
 use Rattle.sb_relation.specs.Db.{Key}
 use Rattle.sb_fold.specs.declared.refusal.Refusal.{Refusal}
+use Rattle.sb_fold.specs.declared.refusal.Refusal.TheVariants as refusal
 use Rattle.sb_plain.specs.declared.reply.Reply.TheVariants.{Done, Refused}
 use Rattle.sb_plain.specs.State.{State}
 use Rattle.sb_drive.specs.Spaces.{Wanted}
@@ -14,22 +13,35 @@ use Rattle.sb_engine.specs.Working.{extensions_of}
 use Rattle.sb_transactions.specs.declared.transactions.Transaction.{Transaction}
 use Rattle.sb_transactions.specs.Commits.{StaysOpen}
 use Rattle.sb_session.specs.Ends.{Ends, IsStep}
-use Rattle.sb_session.specs.Sessions.{HasFailed, IsFor, Lacks, StandsFor}
-use Rattle.sb_session.proofs.Commands.{outside_for}
-use Rattle.sb_session.proofs.CommitLemmas.{Committed-ok, Committed-over, Committed-wanting, LeavesOldOrNext-commit}
+use Rattle.sb_session.specs.Sessions.{HasFailed, IsFor, Lacks, StandsBehind}
+use Rattle.sb_session.proofs.Carried.{IsSame, SameOpen-none}
+use Rattle.sb_session.proofs.Commands.{Carried-down, Carried-misplaced}
+use Rattle.sb_session.proofs.CommitLemmas.{Committed-carried, Committed-ok, Committed-over, Committed-wanting}
 use Rattle.sb_session.proofs.session.Session.commit.Goals as goal
 
-pub returns-in_default-clause-any_moment : goal.returns-in_default-clause-any_moment
-returns-in_default-clause-any_moment g c =
+pub returns-then-self-clause-ends : goal.returns-then-self-clause-ends
+returns-then-self-clause-ends g c =
     let meanings = g.B.Boxes.meanings in
     let told = g.D.Disk.told in
     let len = g.D.Disk.len in
     let faults = g.D.Disk.faults in
     let x = c.args.self.now in
     let d = c.args.disk.now in
-    λ want s for up.
-    let rests = (outside_for meanings told len faults d x c.requires.runs c.if-self.false (sym c.take.ensures.value ∙ c.in_default.is) want s for).rests in
-    inl ((LeavesWanted-none (parts told len d x.space.store)).each want rests.has.now rests.has.stands.store)
+    (Committed-carried meanings told len faults d d x x (Refused refusal.Down) (LeavesWanted-none (parts told len d x.space.store)) (Carried-down meanings told len faults d x c.requires.runs command.Commit c.if-self.true)).ends
+
+pub returns-in_default-clause-ends : goal.returns-in_default-clause-ends
+returns-in_default-clause-ends g c =
+    let meanings = g.B.Boxes.meanings in
+    let told = g.D.Disk.told in
+    let len = g.D.Disk.len in
+    let faults = g.D.Disk.faults in
+    let x = c.args.self.now in
+    let d = c.args.disk.now in
+    let y : Session g.row.B.Denot = record { boxes = x.boxes; space = x.space; place = x.place; «open» = c.take.new.self; down = x.down } in
+    let none : x.open ≡ None = sym c.take.ensures.value ∙ c.in_default.is in
+    let same : IsSame meanings x y = record { boxes = refl; space = refl; place = refl; down = refl; opened = SameOpen-none x.open y.open none c.take.ensures.after } in
+    (Committed-carried meanings told len faults d d x y (Refused refusal.State) (LeavesWanted-none (parts told len d x.space.store))
+    (Carried-misplaced meanings told len faults d x c.requires.runs c.if-self.false command.Commit y same (λ s inside. ap not (inside ∙ ap is_some none)))).ends
 
 pub returns-in-Ok-clause-ends : goal.returns-in-Ok-clause-ends
 returns-in-Ok-clause-ends g c =
@@ -41,19 +53,8 @@ returns-in-Ok-clause-ends g c =
     let d = c.args.disk.now in
     let y : Session g.row.B.Denot = record { boxes = x.boxes; space = c.commit.new.space; place = x.place; «open» = c.take.new.self; down = x.down } in
     subst (λ (picks : List Key). (want : Wanted) (s : State) → IsFor meanings told len want s d x
-    → IsStep (λ t. StandsFor meanings told len t c.commit.new.disk y) (extensions_of (meanings x.boxes)) s command.Commit (Done None picks)) (sym c.from_vec.ensures)
+    → IsStep (StandsBehind meanings told len want (extensions_of (meanings x.boxes)) s command.Commit d c.commit.new.disk x y) (extensions_of (meanings x.boxes)) s command.Commit (Done None picks)) (sym c.from_vec.ensures)
     (Committed-ok meanings told len faults d c.commit.new.disk x y c.requires.runs c.if-self.false c.in-Some.current (sym c.take.ensures.value ∙ c.in-Some.is) c.commit.new.space refl refl refl c.in-Ok.picks c.in-Ok.picks.items c.in-Ok.ensures.remains refl c.take.ensures.after c.in-Ok.ensures.done (c.in-Ok.ensures.none tt)).ends
-
-pub returns-in-Ok-clause-any_moment : goal.returns-in-Ok-clause-any_moment
-returns-in-Ok-clause-any_moment g c =
-    let meanings = g.B.Boxes.meanings in
-    let told = g.D.Disk.told in
-    let len = g.D.Disk.len in
-    let faults = g.D.Disk.faults in
-    let x = c.args.self.now in
-    let d = c.args.disk.now in
-    let y : Session g.row.B.Denot = record { boxes = x.boxes; space = c.commit.new.space; place = x.place; «open» = c.take.new.self; down = x.down } in
-    λ want s for up. LeavesOldOrNext-commit meanings told len faults d c.commit.new.disk x y c.requires.runs c.if-self.false c.in-Some.current (sym c.take.ensures.value ∙ c.in-Some.is) c.commit.new.space refl refl refl c.in-Ok.ensures.any_moment want s for
 
 pub returns-in-Some-transaction-clause-ends : goal.returns-in-Some-transaction-clause-ends
 returns-in-Some-transaction-clause-ends g c =
@@ -65,23 +66,12 @@ returns-in-Some-transaction-clause-ends g c =
     let d = c.args.disk.now in
     let y = c.refused.new.self in
     subst (λ (r : Refusal). (want : Wanted) (s : State) → IsFor meanings told len want s d x
-    → Ends (λ t. StandsFor meanings told len t c.commit.new.disk y) (Lacks faults) (HasFailed faults d c.commit.new.disk) (extensions_of (meanings x.boxes)) s command.Commit (Refused r)) (sym c.refused.ensures.same)
-    (Committed-wanting meanings told len faults d c.commit.new.disk x y c.requires.runs c.if-self.false c.in-Some.current (sym c.take.ensures.value ∙ c.in-Some.is) c.commit.new.space c.refused.ensures.space (ap meanings c.refused.ensures.boxes) c.refused.ensures.place _ c.in-Err.uncommitted.refusal c.in-Err.ensures.remains c.refused.ensures.down c.in-Err.ensures.refused
+    → Ends (StandsBehind meanings told len want (extensions_of (meanings x.boxes)) s command.Commit d c.commit.new.disk x y) (Lacks faults) (HasFailed faults d c.commit.new.disk) (extensions_of (meanings x.boxes)) s command.Commit (Refused r)) (sym c.refused.ensures.same)
+    (Committed-wanting meanings told len faults d c.commit.new.disk x y c.requires.runs c.if-self.false c.in-Some.current (sym c.take.ensures.value ∙ c.in-Some.is) c.commit.new.space c.refused.ensures.space (ap meanings c.refused.ensures.boxes) c.refused.ensures.place _ c.in-Err.uncommitted.refusal c.in-Err.ensures.remains c.refused.ensures.down c.in-Err.ensures.refused c.in-Err.ensures.kept c.in-Err.ensures.any_moment
     (sym c.in-Err.ensures.wanting ∙ ap is_some c.in-Some-transaction.is) c.in-Some-transaction.transaction c.refused.ensures.open
     (subst (λ (o : Option Transaction). IfSome o (λ t. t.tx ≡ c.in-Some.current.transaction.tx)) c.in-Some-transaction.is c.in-Err.ensures.tx)
     (subst (λ (o : Option Transaction). IfSome o (λ t. StaysOpen c.in-Some.current.transaction.tx.store.number (parts told len d x.space.store) (parts told len c.commit.new.disk c.commit.new.space.store)
     c.in-Some.current.transaction.work t.work)) c.in-Some-transaction.is c.in-Err.ensures.stays)).ends
-
-pub returns-in-Some-transaction-clause-any_moment : goal.returns-in-Some-transaction-clause-any_moment
-returns-in-Some-transaction-clause-any_moment g c =
-    let meanings = g.B.Boxes.meanings in
-    let told = g.D.Disk.told in
-    let len = g.D.Disk.len in
-    let faults = g.D.Disk.faults in
-    let x = c.args.self.now in
-    let d = c.args.disk.now in
-    let y = c.refused.new.self in
-    λ want s for up. LeavesOldOrNext-commit meanings told len faults d c.commit.new.disk x y c.requires.runs c.if-self.false c.in-Some.current (sym c.take.ensures.value ∙ c.in-Some.is) c.commit.new.space c.refused.ensures.space (ap meanings c.refused.ensures.boxes) c.refused.ensures.place c.in-Err.ensures.any_moment want s for
 
 pub returns-in-Some-transaction-clause-runs : goal.returns-in-Some-transaction-clause-runs
 returns-in-Some-transaction-clause-runs g c =
@@ -92,7 +82,7 @@ returns-in-Some-transaction-clause-runs g c =
     let x = c.args.self.now in
     let d = c.args.disk.now in
     let y = c.refused.new.self in
-    (Committed-wanting meanings told len faults d c.commit.new.disk x y c.requires.runs c.if-self.false c.in-Some.current (sym c.take.ensures.value ∙ c.in-Some.is) c.commit.new.space c.refused.ensures.space (ap meanings c.refused.ensures.boxes) c.refused.ensures.place _ c.in-Err.uncommitted.refusal c.in-Err.ensures.remains c.refused.ensures.down c.in-Err.ensures.refused
+    (Committed-wanting meanings told len faults d c.commit.new.disk x y c.requires.runs c.if-self.false c.in-Some.current (sym c.take.ensures.value ∙ c.in-Some.is) c.commit.new.space c.refused.ensures.space (ap meanings c.refused.ensures.boxes) c.refused.ensures.place _ c.in-Err.uncommitted.refusal c.in-Err.ensures.remains c.refused.ensures.down c.in-Err.ensures.refused c.in-Err.ensures.kept c.in-Err.ensures.any_moment
     (sym c.in-Err.ensures.wanting ∙ ap is_some c.in-Some-transaction.is) c.in-Some-transaction.transaction c.refused.ensures.open
     (subst (λ (o : Option Transaction). IfSome o (λ t. t.tx ≡ c.in-Some.current.transaction.tx)) c.in-Some-transaction.is c.in-Err.ensures.tx)
     (subst (λ (o : Option Transaction). IfSome o (λ t. StaysOpen c.in-Some.current.transaction.tx.store.number (parts told len d x.space.store) (parts told len c.commit.new.disk c.commit.new.space.store)
@@ -108,18 +98,7 @@ returns-in-None-clause-ends g c =
     let d = c.args.disk.now in
     let y = c.refused-in-None.new.self in
     subst (λ (r : Refusal). (want : Wanted) (s : State) → IsFor meanings told len want s d x
-    → Ends (λ t. StandsFor meanings told len t c.commit.new.disk y) (Lacks faults) (HasFailed faults d c.commit.new.disk) (extensions_of (meanings x.boxes)) s command.Commit (Refused r)) (sym c.refused-in-None.ensures.same)
-    (Committed-over meanings told len faults d c.commit.new.disk x y c.requires.runs c.if-self.false c.in-Some.current (sym c.take.ensures.value ∙ c.in-Some.is) c.commit.new.space c.refused-in-None.ensures.space (ap meanings c.refused-in-None.ensures.boxes) c.refused-in-None.ensures.place _ c.in-Err.uncommitted.refusal c.in-Err.ensures.remains c.refused-in-None.ensures.down c.in-Err.ensures.refused
+    → Ends (StandsBehind meanings told len want (extensions_of (meanings x.boxes)) s command.Commit d c.commit.new.disk x y) (Lacks faults) (HasFailed faults d c.commit.new.disk) (extensions_of (meanings x.boxes)) s command.Commit (Refused r)) (sym c.refused-in-None.ensures.same)
+    (Committed-over meanings told len faults d c.commit.new.disk x y c.requires.runs c.if-self.false c.in-Some.current (sym c.take.ensures.value ∙ c.in-Some.is) c.commit.new.space c.refused-in-None.ensures.space (ap meanings c.refused-in-None.ensures.boxes) c.refused-in-None.ensures.place _ c.in-Err.uncommitted.refusal c.in-Err.ensures.remains c.refused-in-None.ensures.down c.in-Err.ensures.refused c.in-Err.ensures.kept c.in-Err.ensures.any_moment
     (sym c.in-Err.ensures.wanting ∙ ap is_some c.in-None.is) (c.refused-in-None.ensures.open ∙ c.take.ensures.after) c.in-Err.ensures.faulted (c.in-Err.ensures.aborted c.in-None.is)
     (c.in-Err.ensures.none c.in-None.is)).ends
-
-pub returns-in-None-clause-any_moment : goal.returns-in-None-clause-any_moment
-returns-in-None-clause-any_moment g c =
-    let meanings = g.B.Boxes.meanings in
-    let told = g.D.Disk.told in
-    let len = g.D.Disk.len in
-    let faults = g.D.Disk.faults in
-    let x = c.args.self.now in
-    let d = c.args.disk.now in
-    let y = c.refused-in-None.new.self in
-    λ want s for up. LeavesOldOrNext-commit meanings told len faults d c.commit.new.disk x y c.requires.runs c.if-self.false c.in-Some.current (sym c.take.ensures.value ∙ c.in-Some.is) c.commit.new.space c.refused-in-None.ensures.space (ap meanings c.refused-in-None.ensures.boxes) c.refused-in-None.ensures.place c.in-Err.ensures.any_moment want s for

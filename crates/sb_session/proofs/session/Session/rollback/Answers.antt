@@ -1,5 +1,4 @@
-use Rattle.std.proofs.Common.{◌≡◌, ℕ, Bool, List, Option, Some, None, Err, IfSome, Result, false, true, position, inl, is_some, refl, sym, ap, ◌∙◌, subst}
-use Rattle.sb_plain.specs.declared.command.Command.TheVariants as command
+use Rattle.std.proofs.Common.{◌≡◌, ℕ, Bool, List, Option, Some, position, is_some, refl, sym, ap, ◌∙◌}
 use Rattle.sb_txn.specs.Clauses.{parts}
 use Rattle.sb_txn.proofs.KeepsLemmas.{LeavesWanted-none}
 use Rattle.sb_session.specs.declared.session.Open.{Open}

@@ -1,9 +1,4 @@
-use Rattle.std.proofs.Common.{◌≡◌, Bool, List, Option, Some, None, Err, IfSome, Result, false, true, position, inl, is_some, refl, sym, ap, ◌∙◌, subst}
-use Rattle.sb_plain.specs.declared.command.Command.TheVariants as command
-use Rattle.sb_txn.specs.Clauses.{parts}
-use Rattle.sb_txn.proofs.KeepsLemmas.{LeavesWanted-none}
-use Rattle.sb_session.specs.declared.session.Open.{Open}
-use Rattle.sb_session.specs.declared.session.Savepoint.{Savepoint}
+use Rattle.std.proofs.Common.{Some, refl, sym, ◌∙◌}
 use Rattle.sb_session.specs.declared.session.Session.{Session}
 use Rattle.sb_session.proofs.Commands.{Carried-saved}
 use Rattle.sb_session.proofs.session.Session.savepoint.Goals as goal
