@@ -1,0 +1,4 @@
+pub mod Found
+pub mod Checker
+pub mod Heights
+pub mod Pairs
