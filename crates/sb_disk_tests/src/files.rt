@@ -196,8 +196,11 @@ fn a_file_cut_short_is_refused(rt: HostRuntime) -> Result<(), Fail> {
 fn is_moved_whole(rt: &HostRuntime) -> Result<bool, Failed> {
     let plan = Plan::new(99);
     let mut disk = mounted(Slow { rt, plan: &plan }, b"sb_filedisk_slow/disk", 4)?;
+    plan.interrupts.set(1);
     disk.write_at(1, b"abc")?;
-    Ok(reads(&mut disk, 0, *b"\0abc"))
+    plan.interrupts.set(1);
+    let read = reads(&mut disk, 0, *b"\0abc");
+    Ok(read && plan.interrupts.get() == 0)
 }
 
 #[test]
@@ -211,6 +214,27 @@ fn a_slow_file_is_read_and_written_whole(rt: HostRuntime) -> Result<(), Fail> {
     };
     assert!(rt; mounted(unsynced, b"sb_filedisk_slow/disk", 4).is_err());
     fs::remove_dir_all(&rt, "sb_filedisk_slow")?;
+    Ok(())
+}
+
+/// How many syncs a mount makes, how many of them are of the bytes alone, and how many such there are behind a sync.
+fn count_syncs(rt: &HostRuntime, size: Option<u64>) -> Result<[u32; 3], Failed> {
+    let plan = Plan::new(99);
+    let mut disk = FileDisk::new(Slow { rt, plan: &plan });
+    disk.mount(b"sb_filedisk_syncs/disk", size)?;
+    let mounting = plan.syncs.get();
+    let of_bytes = plan.data_syncs.get();
+    disk.sync()?;
+    Ok([mounting, of_bytes, plan.data_syncs.get()])
+}
+
+/// A mount that may make the file syncs it and its folder, another one the file; a sync is one of the bytes.
+#[test]
+fn a_mount_syncs_what_it_makes(rt: HostRuntime) -> Result<(), Fail> {
+    make_folder(&rt, "sb_filedisk_syncs")?;
+    assert_eq!(rt; count_syncs(&rt, Some(4))?, [2, 0, 1]);
+    assert_eq!(rt; count_syncs(&rt, None)?, [1, 0, 1]);
+    fs::remove_dir_all(&rt, "sb_filedisk_syncs")?;
     Ok(())
 }
 

@@ -6,19 +6,33 @@ use std::fs::{File, Metadata, OpenFile, OpenOptions};
 use std::io::{self, Read, Seek, SeekFrom, Write};
 use std::rt::Files;
 
-/// How many calls of write and sync the files still carry out, and the syncs that have reached them.
+/// How many calls of write and sync the files still carry out, how many reads and writes are interrupted before that, and the syncs that have reached
+/// them: all, and those of the bytes alone.
 #[derive(Drop)]
 pub struct Plan {
     pub left: Cell<u32>,
+    pub interrupts: Cell<u32>,
     pub syncs: Cell<u32>,
+    pub data_syncs: Cell<u32>,
 }
 
 impl Plan {
     pub fn new(left: u32) -> Plan {
         Plan {
             left: Cell::new(left),
+            interrupts: Cell::new(0),
             syncs: Cell::new(0),
+            data_syncs: Cell::new(0),
         }
+    }
+
+    fn interrupt(&self) -> io::Result<()> {
+        let interrupts = self.interrupts.get();
+        if interrupts == 0 {
+            return Ok(());
+        }
+        self.interrupts.set(interrupts - 1);
+        Err(io::ErrorKind::Interrupted.into())
     }
 
     fn count_call(&self) -> io::Result<()> {
@@ -46,6 +60,7 @@ pub struct SlowFile<'a> {
 
 impl<'a> Read for SlowFile<'a> {
     fn read(&mut self, buf: &mut [u8]) -> io::Result<usize> {
+        self.plan.interrupt()?;
         let count = buf.len().min(1);
         self.file.read(&mut buf[..count])
     }
@@ -53,6 +68,7 @@ impl<'a> Read for SlowFile<'a> {
 
 impl<'a> Write for SlowFile<'a> {
     fn write(&mut self, buf: &[u8]) -> io::Result<usize> {
+        self.plan.interrupt()?;
         self.plan.count_call()?;
         self.file.write(&buf[..buf.len().min(1)])
     }
@@ -84,6 +100,9 @@ impl<'a> OpenFile for SlowFile<'a> {
     }
 
     fn sync_data(&self) -> io::Result<()> {
+        self.plan
+            .data_syncs
+            .set(self.plan.data_syncs.get().saturating_add(1));
         self.sync_all()
     }
 }
