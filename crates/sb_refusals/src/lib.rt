@@ -16,6 +16,3 @@ mod uses;
 
 pub use catalogue::Catalogue;
 pub use refusing::refuse;
-
-#[cfg(test)]
-mod tests;

@@ -3,11 +3,11 @@
 ghost use Rattle.std.specs.Prelude.{[], refl};
 ghost use Rattle.sb_plain.specs.State.{State};
 
-use crate::{Catalogue, refuse};
 use sb_catalog::{Attached, AttachedList, Descriptor};
 use sb_fold::Refusal;
 use sb_plain::Command;
 use sb_pred::{Op, Pred, Term};
+use sb_refusals::{Catalogue, refuse};
 use sb_rule::{Action, Event, Mode, Pairs, Rule, Side, Terms};
 use sb_value::{Bytes, Column, Kind, Names, Schema, Str, Tuple, Value};
 use std::alloc::{AllocError, Global};

@@ -1,0 +1,5 @@
+//! Tests of refusals over their library.
+#![tactic(auto)]
+
+#[cfg(test)]
+mod refusing;
