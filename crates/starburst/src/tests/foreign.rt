@@ -1,18 +1,18 @@
 //! Runs with boxes of another author beside those of the program.
 
-use super::{MemorySink, MemorySource, OPENED, Row, SIZE, SMALLEST, run_row, words_of};
+use super::{OPENED, PIECE, Row, SIZE, SMALLEST, run_row, words_of};
 use crate::report::Report;
 use crate::run;
-use sb_foreign::{Limit, Strip};
+use sb_foreign::{Count, Limit, Once, Strip};
 use sb_heap::Heap;
-use sb_memdisk::MemDisk;
+use sb_memdisk::{MemDisk, MemSink, MemSource};
 use sb_registry::Extensions;
 use sb_rules::{Check, Trigger};
 use sb_treemethod::TreeMethod;
 use std::alloc::{AllocError, Global};
 use std::test::Fail;
 
-const ROWS: [Row; 2] = [
+const ROWS: [Row<'static>; 4] = [
     // The boxes serve once they are registered. A row of f is a byte of its page, under its place, and most vetoes what is above its desc.
     Row {
         words: &SMALLEST,
@@ -70,23 +70,84 @@ const ROWS: [Row; 2] = [
         begun: 2,
         ..OPENED
     },
+    // At most one row has the number of a new row, and at most one has each number of the desc: it asks eight times which rows have one. The count
+    // is kept in a page.
+    Row {
+        words: &SMALLEST,
+        script: b"? no command\n",
+        output: b"? alreadystore\n",
+        status: 6,
+        ..OPENED
+    },
+    Row {
+        script: b"register attachment 1001\n\
+            register attachment 1002\n\
+            create s using heap (k int)\n\
+            insert s values (4)\n\
+            insert s values (4)\n\
+            attach code 1002 many on s desc @\n\
+            attach code 1001 once on s desc @01020305060708\n\
+            delete s @000000050001\n\
+            attach code 1001 once on s desc @01020305060708\n\
+            entries many on s\n\
+            insert s values (8)\n\
+            insert s values (8)\n\
+            entries many on s\n\
+            begin\n\
+            delete s where k = 8\n\
+            insert s values (9)\n\
+            insert s values (8)\n\
+            insert s values (8)\n\
+            entries many on s\n\
+            abort\n\
+            entries many on s\n",
+        output: b"ok\n\
+            ok\n\
+            ok\n\
+            ok @000000050000\n\
+            ok @000000050001\n\
+            ok\n\
+            ! veto s once\n\
+            ok\n\
+            ok\n\
+            sum 1\nok 0\n\
+            ok @000000050001\n\
+            ! veto s once\n\
+            sum 2\nok 0\n\
+            ok\n\
+            ok 1\n\
+            ok @000000050001\n\
+            ok @000000050002\n\
+            ! veto s once\n\
+            sum 3\nok 0\n\
+            ok\n\
+            sum 2\nok 0\n",
+        begun: 21,
+        ..OPENED
+    },
 ];
 
+/// The line that counts the rows that stand, and those behind it.
+const COUNTING: &str = "attach code 1002 many on r desc @\n\
+    entries many on r\n\
+    insert r values (-1)\n\
+    insert r values (-1)\n\
+    entries many on r\n";
+
 /// Where no box has the code.
-const LACKING: Row = Row {
+const LACKING: Row<'static> = Row {
     script: b"scan f\n",
     output: b"? missingextension 1000\n",
     status: 6,
     ..OPENED
 };
 
-/// Runs what a row says, with spare boxes of code 1000 beside those of the program.
+/// Runs what a row says, with spare boxes of another author beside those of the program.
 fn run_foreign(
     alloc: Global,
     row: &Row,
-    sink: &mut MemorySink,
     disk: &mut MemDisk,
-) -> Result<Report, AllocError> {
+) -> Result<(MemSink, Report), AllocError> {
     let words = words_of(alloc, row.words)?;
     let mut exts = Extensions {
         methods: Vec::new(alloc),
@@ -100,8 +161,12 @@ fn run_foreign(
     exts.attachments.push(Box::new(alloc, Trigger::new())?)?;
     exts.spare_methods.push(Box::new(alloc, Strip {})?)?;
     exts.spare_attachments.push(Box::new(alloc, Limit {})?)?;
-    let mut source = MemorySource { left: row.script };
-    Ok(run(alloc, &words, exts, &mut source, sink, disk))
+    exts.spare_attachments.push(Box::new(alloc, Once {})?)?;
+    exts.spare_attachments.push(Box::new(alloc, Count {})?)?;
+    let mut source = MemSource::new(alloc, row.script, PIECE, None)?;
+    let mut sink = MemSink::new(alloc, PIECE, None);
+    let report = run(alloc, &words, exts, &mut source, &mut sink, disk);
+    Ok((sink, report))
 }
 
 #[test]
@@ -109,21 +174,48 @@ fn boxes_of_another_author_serve(rt: HostRuntime) -> Result<(), Fail> {
     let alloc = rt.alloc();
     let mut disk = MemDisk::new(alloc, SIZE)?;
     for (number, row) in ROWS.iter().enumerate() {
-        let mut sink = MemorySink {
-            held: Vec::new(alloc),
-            faults: 0,
-        };
-        let report = run_foreign(alloc, row, &mut sink, &mut disk)?;
-        assert_eq!(rt; sink.held.as_slice(), row.output, "row {number}");
+        let (sink, report) = run_foreign(alloc, row, &mut disk)?;
+        assert_eq!(rt; sink.held(), row.output, "row {number}");
         assert_eq!(rt; report.status, row.status, "row {number}");
         assert_eq!(rt; report.starts.as_slice().len(), row.begun, "row {number}");
     }
-    let mut sink = MemorySink {
-        held: Vec::new(alloc),
-        faults: 0,
-    };
-    let report = run_row(alloc, &LACKING, &mut sink, &mut disk)?;
-    assert_eq!(rt; sink.held.as_slice(), LACKING.output);
+    let (sink, report) = run_row(alloc, &LACKING, &mut disk)?;
+    assert_eq!(rt; sink.held(), LACKING.output);
     assert_eq!(rt; report.status, LACKING.status);
+    Ok(())
+}
+
+/// An attachment is built over a thousand rows that stand, and its page is there in the next run.
+#[test]
+fn a_thousand_rows_are_counted(rt: HostRuntime) -> Result<(), Fail> {
+    let alloc = rt.alloc();
+    let mut script = String::from_str(
+        alloc,
+        "register attachment 1002\ncreate r using tree (k int) key (k)\n",
+    )?;
+    for number in 0..1000 {
+        script.push_str("insert r values (")?;
+        script.push_str(&number.to_string(alloc)?)?;
+        script.push_str(")\n")?;
+    }
+    script.push_str(COUNTING)?;
+    let row = Row {
+        words: &SMALLEST,
+        script: script.as_bytes(),
+        ..OPENED
+    };
+    let mut disk = MemDisk::new(alloc, SIZE)?;
+    let (sink, _) = run_foreign(alloc, &row, &mut disk)?;
+    assert!(rt;
+        sink.held().ends_with(
+            b"ok @80000000000003e7\nok\nsum 1000\nok 0\nok @7fffffffffffffff\n! duplicate r\nsum 1001\nok 0\n"
+        )
+    );
+    let again = Row {
+        script: b"entries many on r\n",
+        ..OPENED
+    };
+    let (sink, _) = run_foreign(alloc, &again, &mut disk)?;
+    assert_eq!(rt; sink.held(), b"sum 1001\nok 0\n".as_slice());
     Ok(())
 }
