@@ -12,7 +12,7 @@ use Rattle.sb_relation.specs.Fits.{is_empty}
 use Rattle.sb_ctx.specs.declared.held.Use.{Use}
 use Rattle.sb_ctx.specs.declared.held.Use.TheVariants.{Given, Edited, Freed, Fresh, Taken}
 use Rattle.sb_ctx.specs.Uses.{is_fresh_use, IsKept}
-use Rattle.sb_ctx.specs.View.{HeldPage, View, bytes_put, with_page, page_of, free_page, as_given, dropped}
+use Rattle.sb_ctx.specs.View.{HeldPage, View, bytes_put, with_page, page_of, holds_fresh, free_page, as_given, dropped}
 use Rattle.sb_ctx.specs.Sound.{AreSound}
 use Rattle.sb_ctx.proofs.SoundLaws.{AreSound-bytes_put}
 use Rattle.sb_ctx.specs.Held.{Entries, has_number, with_bytes, each, Rises}
@@ -77,6 +77,15 @@ page_of-first seen n i e at = ap (λ (v : View). page_of v n) (sym seen) ∙ ap 
 
 pub page_of-none : {d c : View} → d ≡ c → (n : ℕ) → position (has_number n) d.held ≡ None → page_of c n ≡ None
 page_of-none {d} seen n none = ap (λ (v : View). page_of v n) (sym seen) ∙ ap now_of (first_none (has_number n) d.held none)
+
+abbrev fresh_in : Option (ℕ × HeldPage) → Bool
+fresh_in o = elim (option_map (λ (x : ℕ × HeldPage). x.1) o) [ None ↦ false | Some h ↦ h.fresh ]
+
+pub holds_fresh-first : {d c : View} → d ≡ c → (n i : ℕ) (e : ℕ × HeldPage) → IsFirst (has_number n) d.held i e → holds_fresh c n ≡ e.1.fresh
+holds_fresh-first seen n i e at = ap (λ (v : View). holds_fresh v n) (sym seen) ∙ ap fresh_in at.first
+
+pub holds_fresh-none : {d c : View} → d ≡ c → (n : ℕ) → position (has_number n) d.held ≡ None → holds_fresh c n ≡ false
+holds_fresh-none {d} seen n none = ap (λ (v : View). holds_fresh v n) (sym seen) ∙ ap fresh_in (first_none (has_number n) d.held none)
 
 -- a fresh page that isn't taken
 abbrev pub is_free : ℕ × HeldPage → Bool

@@ -48,6 +48,10 @@ given_at c n = option_map (λ h. h.given) (held_at c n)
 abbrev pub page_of : View → ℕ → Option (List ℕ)
 page_of c n = option_map (λ h. h.now) (held_at c n)
 
+-- whether a page is held as a fresh one, taken or not
+abbrev pub holds_fresh : View → ℕ → Bool
+holds_fresh c n = elim (held_at c n) [ None ↦ false | Some h ↦ h.fresh ]
+
 -- how many bytes it has
 abbrev pub room_of : View → ℕ → ℕ
 room_of c n = elim (page_of c n) [ None ↦ 0 | Some bytes ↦ length bytes ]

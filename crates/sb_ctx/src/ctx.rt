@@ -8,7 +8,7 @@ ghost use Rattle.sb_relation.specs.Fits.{is_empty};
 ghost use Rattle.sb_forms.specs.Pages.{zeros};
 ghost use Rattle.sb_ctx.specs.Sized.{IsSized, IsCtx};
 ghost use Rattle.sb_ctx.specs.Sound.{IsSound, MayBeHeld};
-ghost use Rattle.sb_ctx.specs.View.{nothing, page_of, next_of, found_of, with_page, free_page, as_given, dropped, edited_pages, fresh_pages, freed_pages, with_held, given_page, fresh_page, with_next, with_found, spliced, room_of};
+ghost use Rattle.sb_ctx.specs.View.{nothing, page_of, next_of, found_of, with_page, free_page, as_given, dropped, edited_pages, fresh_pages, freed_pages, with_held, given_page, fresh_page, holds_fresh, with_next, with_found, spliced, room_of};
 
 use crate::Keys;
 use crate::held::{Found, Held};
@@ -186,6 +186,16 @@ impl Ctx {
         self.found.insert(0, found)?;
         self.asks = self.asks.saturating_add(1);
         Ok(())
+    }
+
+    /// Whether the page is held as a fresh one, taken or not.
+    pub fn holds_fresh(&self, n: u32) -> bool
+        ensures { result ≡ holds_fresh self.now n }
+    {
+        match place_of(&self.held, n) {
+            Some(i) => self.held[i].is_fresh(),
+            None => false,
+        }
     }
 
     /// Drops what the call made: taken pages are free again, and freed ones are back.
