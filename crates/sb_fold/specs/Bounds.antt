@@ -1,5 +1,5 @@
 -- The most pages that an instance takes.
-use Rattle.std.specs.Prelude.{ℕ, ◌+◌, ◌*◌, List, length, Option, Some, None}
+use Rattle.std.specs.Prelude.{ℕ, ◌+◌, ◌*◌, cond, nat_lt, List, length, Option, Some, None}
 use Rattle.sb_rule.specs.declared.rule.Side.TheVariants.{Main}
 use Rattle.sb_rule.specs.declared.rule.Rule.{Rule}
 use Rattle.sb_rule.specs.declared.rule.Rule.TheVariants.{TreeIndex, HashIndex, JoinIndex, Stats, Foreign}
@@ -15,9 +15,9 @@ abbrev pub foreign_method_bound : Option MethodRoom → ℕ → ℕ
 foreign_method_bound None n = plain_bound n
 foreign_method_bound (Some room) n = room.bound n
 
--- of a relation's rows
+-- of a relation's rows; a code below 1,000 is none of a foreign box
 abbrev pub method_bound : Extensions → Relation → ℕ
-method_bound ext r = foreign_method_bound (method_room ext r.method) (length r.rows)
+method_bound ext r = foreign_method_bound (cond (nat_lt r.method 1000) None (method_room ext r.method)) (length r.rows)
 
 abbrev pub foreign_bound : Option AttachRoom → List ℕ → Db → Name → ℕ
 foreign_bound None desc db name = 0

@@ -1,5 +1,5 @@
 -- Relations and attachments that come and go.
-use Rattle.std.specs.Prelude.{ℕ, ◌+◌, ◌*◌, Bool, true, false, not, cond, List, [], ◌∷◌, ◌++◌, Option, Some, None, map, filter, length}
+use Rattle.std.specs.Prelude.{ℕ, ◌+◌, ◌*◌, max, Bool, true, false, not, cond, List, [], ◌∷◌, ◌++◌, Option, Some, None, map, filter, length}
 use Rattle.std.specs.List.{list_any, find}
 use Rattle.std.specs.Str.{bytes_eq}
 use Rattle.std.specs.FinMap.Entries.{where_key}
@@ -45,26 +45,29 @@ create ext name method schema key =
 abbrev pub built_bound : Extensions → Db → Name → Rule → ℕ → Rows → ℕ
 built_bound ext db name rule buckets rows = rule_bound ext (with_rows db name rows) name rule buckets
 
-abbrev pub built_point : Extensions → Name → Rule → ℕ → Rows → ℕ → Going → Going
-built_point ext name rule buckets rows cost going =
-    let aside : Gone = with_gone (is_durable_at ext going.db name) (built_bound ext going.db name rule buckets rows ∷ []) going.gone in
+-- so many pages are held aside for it
+abbrev pub built_point : Extensions → Name → ℕ → ℕ → Going → Going
+built_point ext name pages cost going =
+    let aside : Gone = with_gone (is_durable_at ext going.db name) (pages ∷ []) going.gone in
     record going { trail = at_point going.db aside (if_durable ext going.db name cost) going.trail }
 
--- the rows that stand are built one by one, each as an insert behind those that were built
+-- The rows that stand are built one by one, each as an insert behind those that were built. A row takes the greater of the pages before it and with it.
 abbrev pub build_rows : Extensions → Name → Rule → ℕ → Rows → Rows → Going → Going
 build_rows ext name rule buckets built [] going = going
 build_rows ext name rule buckets built (row ∷ rows) going =
     let insert : Change = change.Insert row.0 row.1 in
     let more : Rows = built ++ row ∷ [] in
     let grown : ℕ = next_buckets rule insert more buckets in
+    let pages : ℕ = max (built_bound ext going.db name rule buckets built) (built_bound ext going.db name rule grown more) in
     build_rows ext name rule grown more rows
-    (built_point ext name rule grown more (rule_cost ext (with_rows going.db name built) name rule buckets insert) going)
+    (built_point ext name pages (rule_cost ext (with_rows going.db name built) name rule buckets insert) going)
 
 -- the points of a build; one that is refused may have come as far as the last row
 abbrev pub reach_build : Extensions → Name → Rule → Going → Going
 reach_build ext name rule going =
     let buckets : ℕ = first_buckets rule in
-    let prepared : Going = built_point ext name rule buckets [] (prepare_cost rule + descriptors_of rule * descriptor_cost ext going.db) going in
+    let pages : ℕ = built_bound ext going.db name rule buckets [] in
+    let prepared : Going = built_point ext name pages (prepare_cost rule + descriptors_of rule * descriptor_cost ext going.db) going in
     build_rows ext name rule buckets [] (rows_at going.db name) prepared
 
 -- some row that stands has too long a code in the columns

@@ -144,6 +144,9 @@ a_mirror_has_its_main_instance is =
 attachments_are_in_call_order : Lawful (heap (named i hash ∷ named (codes "j") index ∷ []) []) → ⊥
 attachments_are_in_call_order is = untrue is.in_order
 
+no_two_attachments_have_one_name : Lawful (heap (named i index ∷ named i index ∷ []) []) → ⊥
+no_two_attachments_have_one_name is = some_is_not_none i is.apart
+
 rows_are_in_order : Lawful (heap [] ((slot 1, two 1 1) ∷ (slot 0, two 2 2) ∷ [])) → ⊥
 rows_are_in_order is = is.rising
 

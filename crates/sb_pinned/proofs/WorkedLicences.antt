@@ -111,16 +111,16 @@ not_of_another_number_in_memory lacks = omega (arith, lacks.lacks.1)
 
 -- ---- bytes of the log: twice 12,400 for each page that was edited, and 2,048
 the_log_may_be_wanting_at_1 : Lacks 0 0 0 (sizes 64 28895) (Log 28000 896 28895)
-the_log_may_be_wanting_at_1 = record { wants = refl; picks = []; lacks = (omega arith, refl, (0, point 1 (aside 0 0), omega arith, refl, omega arith)) }
+the_log_may_be_wanting_at_1 = let spent : IsSpent 28895 1 = omega arith in record { wants = refl; picks = []; lacks = (omega arith, refl, spent) }
 
 not_with_a_byte_more_at_1 : Lacks 0 0 0 (sizes 64 28896) (Log 28896 1 28896) → ⊥
-not_with_a_byte_more_at_1 lacks = omega (arith, of_one (IsSpent 28896) (point 1 (aside 0 0)) lacks.lacks.2)
+not_with_a_byte_more_at_1 lacks = let spent : IsSpent 28896 1 = lacks.lacks.2 in omega (arith, spent)
 
 the_log_may_be_wanting_at_85 : Lacks 0 0 84 (sizes 64 2112095) (Log 2112095 1 2112095)
-the_log_may_be_wanting_at_85 = record { wants = refl; picks = []; lacks = (omega arith, refl, (0, point 85 (aside 0 0), omega arith, refl, omega arith)) }
+the_log_may_be_wanting_at_85 = let spent : IsSpent 2112095 85 = omega arith in record { wants = refl; picks = []; lacks = (omega arith, refl, spent) }
 
 not_with_a_byte_more_at_85 : Lacks 0 0 84 (sizes 64 2112096) (Log 2112096 1 2112096) → ⊥
-not_with_a_byte_more_at_85 lacks = omega (arith, of_one (IsSpent 2112096) (point 85 (aside 0 0)) lacks.lacks.2)
+not_with_a_byte_more_at_85 lacks = let spent : IsSpent 2112096 85 = lacks.lacks.2 in omega (arith, spent)
 
 not_where_it_would_go_in : Lacks 0 0 0 (sizes 64 28895) (Log 28000 895 28895) → ⊥
 not_where_it_would_go_in lacks = omega (arith, lacks.lacks.0)
@@ -129,30 +129,21 @@ not_of_another_log : Lacks 0 0 0 (sizes 64 28895) (Log 28895 1 28894) → ⊥
 not_of_another_log lacks = omega (arith, lacks.lacks.1)
 
 -- what the work itself edits counts: an insertion into a tree without rows is 9 more
-abbrev tree_point : Reached
-tree_point = record {
-  before = with_rows [] [];
-  after = with_rows ((key 1, two 1 1) ∷ []) [];
-  change = Some (t, Insert (key 1) (two 1 1));
-  aside = aside 0 0;
-  spent = 10;
-}
-
 abbrev TreeLacks : ℕ → Type 0
 TreeLacks log = LacksRoom none (sizes 64 log) (open_with 0 (aside 0 0) no_queue) (command.Insert t (two 1 1)) (Log log 1 log)
 
 the_log_may_be_wanting_for_its_work : TreeLacks 252095
-the_log_may_be_wanting_for_its_work = record { wants = refl; picks = []; lacks = (omega arith, refl, (0, tree_point, omega arith, refl, omega arith)) }
+the_log_may_be_wanting_for_its_work = let spent : IsSpent 252095 10 = omega arith in record { wants = refl; picks = []; lacks = (omega arith, refl, spent) }
 
 not_with_a_byte_more_for_its_work : TreeLacks 252096 → ⊥
-not_with_a_byte_more_for_its_work lacks = omega (arith, of_one (IsSpent 252096) tree_point lacks.lacks.2)
+not_with_a_byte_more_for_its_work lacks = let spent : IsSpent 252096 10 = lacks.lacks.2 in omega (arith, spent)
 
 -- ---- gates: all but two are used, and more than 10,000 pages were edited
 gates_may_be_wanting : Lacks 0 0 10000 (sizes 64 0) (Gates 65535 65536)
-gates_may_be_wanting = record { wants = refl; picks = []; lacks = (omega arith, refl, (0, point 10001 (aside 0 0), omega arith, refl, omega arith)) }
+gates_may_be_wanting = let spent : IsForced 10001 = omega arith in record { wants = refl; picks = []; lacks = (omega arith, refl, spent) }
 
 not_with_10000_pages : Lacks 0 0 9999 (sizes 64 0) (Gates 65535 65536) → ⊥
-not_with_10000_pages lacks = omega (arith, of_one IsForced (point 10000 (aside 0 0)) lacks.lacks.2)
+not_with_10000_pages lacks = let spent : IsForced 10000 = lacks.lacks.2 in omega (arith, spent)
 
 not_with_65534_gates : Lacks 0 0 10000 (sizes 64 0) (Gates 65534 65536) → ⊥
 not_with_65534_gates lacks = omega (arith, lacks.lacks.0)
@@ -200,7 +191,17 @@ entry = record { relation = t; name = codes "c"; entry = [] }
 
 -- a commit does the work that waits
 a_commit_may_want_room_for_what_waits : LacksRoom none (sizes 64 28895) (open_with 0 (aside 0 0) (waiting (later ∷ []) [])) command.Commit (Log 28895 1 28895)
-a_commit_may_want_room_for_what_waits = record { wants = refl; picks = []; lacks = (omega arith, refl, (0, point 1 (aside 0 0), omega arith, refl, omega arith)) }
+a_commit_may_want_room_for_what_waits = let spent : IsSpent 28895 1 = omega arith in record { wants = refl; picks = []; lacks = (omega arith, refl, spent) }
+
+-- one that only frees reaches no point, and has spent what its transaction spent
+a_commit_may_want_the_log_for_what_is_gone : LacksRoom none (sizes 64 28895) (open_with 0 (aside 3 0) no_queue) command.Commit (Log 28895 1 28895)
+a_commit_may_want_the_log_for_what_is_gone = let spent : IsSpent 28895 1 = omega arith in record { wants = refl; picks = []; lacks = (omega arith, refl, spent) }
+
+not_with_a_byte_more_for_what_is_gone : LacksRoom none (sizes 64 28896) (open_with 0 (aside 3 0) no_queue) command.Commit (Log 28896 1 28896) → ⊥
+not_with_a_byte_more_for_what_is_gone lacks = let spent : IsSpent 28896 1 = lacks.lacks.2 in omega (arith, spent)
+
+a_commit_may_want_gates_for_what_is_gone : LacksRoom none (sizes 64 0) (open_with 10000 (aside 3 0) no_queue) command.Commit (Gates 65535 65536)
+a_commit_may_want_gates_for_what_is_gone = let spent : IsForced 10001 = omega arith in record { wants = refl; picks = []; lacks = (omega arith, refl, spent) }
 
 a_scan_lacks_no_room : LacksRoom none (sizes 64 0) (open_with 0 (aside 55 0) no_queue) (command.Scan t None None) (Data 64 64) → ⊥
 a_scan_lacks_no_room lacks = true≢false (sym lacks.wants)

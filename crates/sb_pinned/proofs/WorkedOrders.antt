@@ -47,7 +47,7 @@ all_commands_are_refused_by_a_kernel_that_is_down = refl
 
 -- nothing is paid and nothing changes
 a_kernel_that_is_down_stays_as_it_is :
-    map (λ c. step none down c []) commands ≡ replicate 10 (record { reply = Some (no refusal.Down); state = down; points = [] })
+    map (λ c. step none down c []) commands ≡ replicate 10 (record { reply = Some (no refusal.Down); state = down; points = []; spent = 7 })
 a_kernel_that_is_down_stays_as_it_is = refl
 
 -- ---- a place, and what isn't there or is in use: actions wait

@@ -1,5 +1,5 @@
 -- The points that work reaches, with the database before and after each, what is held aside and what was spent.
-use Rattle.std.specs.Prelude.{◌≡◌, refl, ℕ, ◌+◌, false, codes, List, [], ◌∷◌, Option, Some, None}
+use Rattle.std.specs.Prelude.{◌≡◌, refl, ℕ, ◌+◌, ◌-◌, length, false, codes, List, [], ◌∷◌, Option, Some, None}
 use Rattle.sb_pred.specs.declared.predicate.Op.TheVariants.{Lt}
 use Rattle.sb_pred.specs.declared.predicate.Term.TheVariants.{Const, New}
 use Rattle.sb_pred.specs.Tree.{Always, Compare, Fails}
@@ -10,10 +10,12 @@ use Rattle.sb_rule.specs.declared.rule.Event.TheVariants as event
 use Rattle.sb_rule.specs.declared.rule.Mode.TheVariants.{Restrict}
 use Rattle.sb_rule.specs.declared.rule.Side.TheVariants.{Main, Mirror}
 use Rattle.sb_rule.specs.declared.rule.Rule.{Rule}
-use Rattle.sb_rule.specs.declared.rule.Rule.TheVariants.{TreeIndex, HashIndex, JoinIndex, Check, Refers, Trigger}
+use Rattle.sb_rule.specs.declared.rule.Rule.TheVariants.{TreeIndex, HashIndex, JoinIndex, Check, Refers, Trigger, Foreign}
 use Rattle.sb_relation.specs.Db.{Name, Rows, Attached, Relation, Db}
 use Rattle.sb_fold.specs.declared.refusal.Refusal.TheVariants.{Veto}
+use Rattle.sb_fold.specs.Bounds.{method_bound}
 use Rattle.sb_fold.specs.Building.{build, detach, drop_relation}
+use Rattle.sb_fold.specs.Extensions.{Extensions}
 use Rattle.sb_fold.specs.Fold.{first_change}
 use Rattle.sb_fold.specs.Outcome.{Gone, Reached, Outcome, Gives, Stopped, NoStep, Work, begun, trail_of}
 use Rattle.sb_fold.specs.Wishes.{Put, Remove, Replace}
@@ -197,6 +199,23 @@ a_hash_index_is_built_row_by_row :
     points_of (build none l (codes "x") (HashIndex (a ∷ []))) tied
     ≡ resting tied (lasting_aside 11) 55 ∷ resting tied (lasting_aside 13) 75 ∷ resting tied (lasting_aside 15) 95 ∷ []
 a_hash_index_is_built_row_by_row = refl
+
+-- one that takes fewer pages for more rows: those before a row are the more
+abbrev falling : Extensions
+falling = record {
+  boxes = record { methods = []; attachments = [] };
+  methods = record { code = 2; bound = λ n. 1; cost = λ n c. 1 } ∷ [];
+  attachments = record { code = 1000; bound = λ desc schema rows. 9 - length rows; cost = λ desc schema rows c. 1 } ∷ [];
+}
+
+the_pages_before_a_row_are_held_aside_where_they_are_more :
+    points_of (build falling l (codes "x") (Foreign 1000 [])) tied
+    ≡ resting tied (lasting_aside 9) 36 ∷ resting tied (lasting_aside 9) 37 ∷ resting tied (lasting_aside 8) 38 ∷ []
+the_pages_before_a_row_are_held_aside_where_they_are_more = refl
+
+-- a code below 1,000 is ours, whatever an extension says of its pages
+a_tree_takes_the_pages_of_a_tree : method_bound falling (tree [] ((key 1, two 1 1) ∷ [])) ≡ 5
+a_tree_takes_the_pages_of_a_tree = refl
 
 -- what ends with the run is built for nothing, and beside the others
 an_index_of_what_ends_with_the_run :

@@ -132,6 +132,10 @@ order-unbucketed [] = refl
 order-unbucketed (a ∷ []) = refl
 order-unbucketed (a ∷ b ∷ items) = ap (λ (t : Bool). nat_le (rule_code a.rule) (rule_code b.rule) && t) (order-unbucketed (b ∷ items))
 
+names-unbucketed : (items : List Attached) → map (λ a. a.name) (map unbucketed items) ≡ map (λ a. a.name) items
+names-unbucketed [] = refl
+names-unbucketed (a ∷ items) = ap (λ (names : List Name). a.name ∷ names) (names-unbucketed items)
+
 grown-unbucketed : (c : Change) (rows : Rows) (items : List Attached) → map unbucketed items ≡ map unbucketed (map (grown c rows) items)
 grown-unbucketed c rows [] = refl
 grown-unbucketed c rows (a ∷ items) = ap (λ (l : List Attached). unbucketed a ∷ l) (grown-unbucketed c rows items)
@@ -205,6 +209,7 @@ lawful_relation ext db db' name r rows items e alike rises each is = record {
       (All-weaker (λ (a : Attached). is_mirror a.rule ≡ true → IsMirrorOf db name a) (λ (a : Attached). is_mirror a.rule ≡ true → IsMirrorOf db' name (unbucketed a))
       (λ a of mirror. mirror_in db db' e name a (of mirror)) r.attachments is.mirrors));
   in_order = sym (order-unbucketed items) ∙ ap is_in_order (sym alike) ∙ order-unbucketed r.attachments ∙ is.in_order;
+  apart = ap first_twice (sym (names-unbucketed items) ∙ ap (map (λ (a : Attached). a.name)) (sym alike) ∙ names-unbucketed r.attachments) ∙ is.apart;
   rising = rises;
   rows = All-weaker (λ (row : Key × Row). IsRowOf r row.0 row.1) (λ (row : Key × Row). IsRowOf (turned r rows items) row.0 row.1) (λ row. row_of r rows items alike row.0 row.1) rows each;
 }

@@ -64,6 +64,7 @@ dept_is = record {
   mirrors = All-cons (λ a. is_mirror a.rule ≡ true → IsMirrorOf company (codes "dept") a) mirror []
       (λ is. record { other = codes "emp"; main = named (codes "w") works; stands = refl; label = refl; mirror = refl }) (All-nil _);
   in_order = refl;
+  apart = refl;
   rising = tt;
   rows = All-cons (λ row. IsRowOf dept row.0 row.1) (key 1, int 1 ∷ []) [] (record {
     stored = record { tuple = record { some = omega arith; few = omega arith; storable = search rules }; fits = refl; short = refl };
@@ -84,6 +85,7 @@ emp_is = record {
   mirrored = all_three (λ a. HasMirror company (mirror_name (codes "emp") a.name) (mirror_of (codes "emp") a.rule)) {a = named (codes "i") index} {b = named (codes "c") positive} {c = named (codes "w") works} tt tt (mirror, refl, refl);
   mirrors = all_three (λ a. is_mirror a.rule ≡ true → IsMirrorOf company (codes "emp") a) {a = named (codes "i") index} {b = named (codes "c") positive} {c = named (codes "w") works} (λ is. absurd (cc)) (λ is. absurd (cc)) (λ is. absurd (cc));
   in_order = refl;
+  apart = refl;
   rising = tt;
   rows = All-cons (λ row. IsRowOf emp row.0 row.1) (slot 2 0, int 10 ∷ int 1 ∷ []) [] (record {
     stored = record { tuple = record { some = omega arith; few = omega arith; storable = search rules }; fits = refl; short = refl };

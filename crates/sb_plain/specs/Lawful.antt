@@ -1,5 +1,5 @@
 -- Which databases are lawful, and which are sound.
-use Rattle.std.specs.Prelude.{◌≡◌, nat_le, Bool, true, false, not, ◌&&◌, T, List, [], ◌∷◌, All, Option, Some, None}
+use Rattle.std.specs.Prelude.{◌≡◌, nat_le, Bool, true, false, not, ◌&&◌, T, List, [], ◌∷◌, map, All, Option, Some, None}
 use Rattle.std.specs.FinMap.Entries.{is_sorted}
 use Rattle.sb_value.specs.Order.{bytes_cmp}
 use Rattle.sb_value.specs.Spelling.{IsStorable}
@@ -22,7 +22,7 @@ use Rattle.sb_fold.specs.Extensions.{Extensions, box_of}
 use Rattle.sb_plain.specs.declared.command.Command.{Command}
 use Rattle.sb_plain.specs.declared.command.Command.TheVariants as command
 use Rattle.sb_plain.specs.Printing.{is_mirror}
-use Rattle.sb_plain.specs.Refusing.{relations_of, first_existing, first_absent, is_well_kinded, is_mixed, passes_limits}
+use Rattle.sb_plain.specs.Refusing.{relations_of, first_twice, first_existing, first_absent, is_well_kinded, is_mixed, passes_limits}
 use Rattle.sb_plain.specs.State.{State, Codes, Point, Transaction}
 use Rattle.sb_relation.specs.Fits.{first_missing}
 
@@ -86,6 +86,7 @@ pub record IsLawfulRelation (ext : Extensions) (db : Db) (name : Name) (r : Rela
   pub mirrored : All (λ a. HasMirror db (mirror_name name a.name) (mirror_of name a.rule)) r.attachments
   pub mirrors : All (λ a. is_mirror a.rule ≡ true → IsMirrorOf db name a) r.attachments
   pub in_order : is_in_order r.attachments ≡ true
+  pub apart : first_twice (map (λ a. a.name) r.attachments) ≡ None
   pub rising : T (is_sorted bytes_cmp r.rows)
   pub rows : All (λ row. IsRowOf r row.0 row.1) r.rows
 

@@ -25,20 +25,20 @@ table_pages sizes = (sizes.pages + 2047) / 2048
 abbrev pub IsFull : Extensions → Bool → ℕ → ℕ → Reached → Type 0
 IsFull ext durable table total at = total ≤ table + need ext durable at
 
--- a point at which so many bytes of the log may not be enough
-abbrev pub IsSpent : ℕ → Reached → Type 0
-IsSpent total at = total < 2 * (12400 * at.spent + 2048)
+-- so much is spent that so many bytes of the log may not be enough
+abbrev pub IsSpent : ℕ → ℕ → Type 0
+IsSpent total spent = total < 2 * (12400 * spent + 2048)
 
--- a point at which the gates of the log may not be enough
-abbrev pub IsForced : Reached → Type 0
-IsForced at = 10000 < at.spent
+-- so much is spent that the gates of the log may not be enough
+abbrev pub IsForced : ℕ → Type 0
+IsForced spent = 10000 < spent
 
--- so much of a total is used, and at some point that is reached more may be wanted
-abbrev pub MayLack : Extensions → Sizes → List Reached → Room → Type 0
-MayLack ext sizes points (Data used total) = (used ≡ total) × (total ≡ sizes.pages) × Any (IsFull ext true (table_pages sizes) total) points
-MayLack ext sizes points (Temp used total) = (used ≡ total) × (total ≡ 16384) × Any (IsFull ext false 0 total) points
-MayLack ext sizes points (Log used more total) = (total < used + more) × (total ≡ sizes.log) × Any (IsSpent total) points
-MayLack ext sizes points (Gates used total) = (65534 < used) × (total ≡ 65536) × Any IsForced points
+-- So much of a total is used, and more may be wanted: of pages at some point that is reached, of the log with what is spent. A commit that only frees reaches no point.
+abbrev pub MayLack : Extensions → Sizes → List Reached → ℕ → Room → Type 0
+MayLack ext sizes points spent (Data used total) = (used ≡ total) × (total ≡ sizes.pages) × Any (IsFull ext true (table_pages sizes) total) points
+MayLack ext sizes points spent (Temp used total) = (used ≡ total) × (total ≡ 16384) × Any (IsFull ext false 0 total) points
+MayLack ext sizes points spent (Log used more total) = (total < used + more) × (total ≡ sizes.log) × IsSpent total spent
+MayLack ext sizes points spent (Gates used total) = (65534 < used) × (total ≡ 65536) × IsForced spent
 
 -- ---- commands that may want room
 abbrev pub is_none_gone : Gone → Bool
@@ -70,7 +70,7 @@ may_want_room s _ = false
 pub record LacksRoom (ext : Extensions) (sizes : Sizes) (s : State) (c : Command) (room : Room) : Type 0 where
   pub wants : may_want_room s c ≡ true
   pub picks : List Key
-  pub lacks : MayLack ext sizes (step ext s c picks).points room
+  pub lacks : MayLack ext sizes (step ext s c picks).points (step ext s c picks).spent room
 
 -- ---- commands that may want memory
 -- all but an abort, a rollback to a point that is there, and a commit with nothing queued, dropped or detached

@@ -15,7 +15,7 @@ use Rattle.sb_plain.specs.declared.reply.Reply.{Reply}
 use Rattle.sb_plain.specs.declared.reply.Reply.TheVariants as reply
 use Rattle.sb_plain.specs.Reading.{read}
 use Rattle.sb_plain.specs.Refusing.{refused}
-use Rattle.sb_plain.specs.State.{Point, Transaction, State, committed, view, is_point, points_of, points_to, no_queue, none_gone, with_code, without_code, going_of, with_transaction, kept, ended, with_commit, with_spent, paid}
+use Rattle.sb_plain.specs.State.{Point, Transaction, State, committed, view, is_point, points_of, points_to, no_queue, none_gone, with_code, without_code, going_of, with_transaction, kept, ended, with_commit, with_spent, paid, spent_in}
 
 -- ---- what a changing command does
 -- what it answers, but for the picks: nothing more, the record key of its row (which may be the first pick), or how many rows it changed
@@ -60,11 +60,12 @@ work_of ext (command.Act action) = Some (act (first_change ext) action >>= λ n.
 work_of ext _ = None
 
 -- ---- turns
--- a reply, or none where these picks give no step; the state after it; and the points that the work reached
+-- a reply, or none where these picks give no step; the state after it; the points that the work reached; and what was spent
 pub record Turn : Type 0 where
   pub reply : Option Reply
   pub state : State
   pub points : List Reached
+  pub spent : ℕ
 
 -- all picks are to be used
 abbrev pub if_used : List Key → Reply → Option Reply
@@ -75,13 +76,13 @@ if_used (pick ∷ picks) reply = None
 -- what was spent.
 abbrev pub turn_of : (Going → State) → State → Outcome Answer → Turn
 turn_of leave otherwise (Gives answer going) =
-    record { reply = if_used going.picks (answered answer going.used); state = leave going; points = going.trail.points }
-turn_of leave otherwise (Stopped r trail) = record { reply = Some (reply.Refused r); state = with_spent trail.spent otherwise; points = trail.points }
-turn_of leave otherwise (NoStep trail) = record { reply = None; state = otherwise; points = trail.points }
+    record { reply = if_used going.picks (answered answer going.used); state = leave going; points = going.trail.points; spent = going.trail.spent }
+turn_of leave otherwise (Stopped r trail) = record { reply = Some (reply.Refused r); state = with_spent trail.spent otherwise; points = trail.points; spent = trail.spent }
+turn_of leave otherwise (NoStep trail) = record { reply = None; state = otherwise; points = trail.points; spent = trail.spent }
 
 -- a refusal, whatever the picks
 abbrev pub refusing : State → Refusal → Turn
-refusing s r = record { reply = Some (reply.Refused r); state = s; points = [] }
+refusing s r = record { reply = Some (reply.Refused r); state = s; points = []; spent = spent_in s }
 
 -- a reply that wants no picks
 abbrev pub reply_without : List Key → Reply → Option Reply
@@ -89,7 +90,7 @@ reply_without picks (reply.Refused r) = Some (reply.Refused r)
 reply_without picks reply = if_used picks reply
 
 abbrev pub answering : State → List Key → Reply → Turn
-answering s picks reply = record { reply = reply_without picks reply; state = s; points = [] }
+answering s picks reply = record { reply = reply_without picks reply; state = s; points = []; spent = spent_in s }
 
 -- ---- commands that change databases
 -- work and what waits, before a commit
