@@ -5,9 +5,10 @@ ghost use Rattle.sb_ctx.specs.AttachAnswers.{AsksFor as AsksForAttached};
 ghost use Rattle.sb_ctx.specs.Attachment.{plain_attachment};
 ghost use Rattle.sb_ctx.specs.Method.{plain_method};
 ghost use Rattle.sb_ctx.specs.MethodAnswers.{AsksFor};
-ghost use Rattle.sb_ctx.specs.View.{HoldsPart, IsClean, dropped};
+ghost use Rattle.sb_ctx.specs.View.{IsClean, dropped};
 ghost use Rattle.sb_drive.specs.Examples.{IsPlain, IsMade, IsFindOrNoMemory};
-ghost use Rattle.sb_drive.specs.Slots.{pages_of};
+ghost use Rattle.sb_drive.specs.Slots.{slots};
+ghost use Rattle.sb_drive.specs.Spaces.{HoldsOf};
 ghost use Rattle.sb_relation.specs.Images.{no_image};
 
 use sb_ctx::{AttachCall, Attachment, Ctx, Instance, Keys, MethodCall, Move, StorageMethod};
@@ -380,7 +381,7 @@ fn finds(
 ) -> Result<u32, DriveFault>
     requires inst { IsPlain inst.now }
     requires clean { IsClean ctx.old }
-    requires part { HoldsPart ctx.old (pages_of memory.old.now inst.now.owner) }
+    requires holds { HoldsOf (slots memory.old.now) inst.now.owner ctx.old }
 {
     for answered in 0..9 {
         let call = AttachCall::Late(Bytes::new(alloc));

@@ -2,11 +2,11 @@
 use Rattle.std.proofs.Common.{◌≡◌, ℕ, [], refl, sym, ap, subst, ◌∙◌}
 use Rattle.sb_forms.specs.Pages.{Pages}
 use Rattle.sb_ctx.specs.declared.moves.Move.{Move}
-use Rattle.sb_ctx.specs.View.{View, HoldsPart}
+use Rattle.sb_ctx.specs.View.{View}
 use Rattle.sb_drive.specs.AttachCalls.{HandsUp, HandsUpIn}
 use Rattle.sb_drive.specs.MemorySpaces.{HasPages, IsChanged}
 use Rattle.sb_drive.specs.Slots.{Contents, Keeps, Slots, owned, pages_of, slots}
-use Rattle.sb_drive.specs.Spaces.{Leaves, LeadsOn, Wanted}
+use Rattle.sb_drive.specs.Spaces.{HoldsOf, Leaves, LeadsOn, Wanted}
 
 abbrev pub Has : Wanted → Slots → Contents → Type 0
 Has want s m = HasPages s m
@@ -31,6 +31,6 @@ HandsUp-in owner old new c move has up =
     record {
       same = same;
       clean = up.clean;
-      part = subst (λ (m : Contents). HoldsPart c (pages_of m.now owner)) (sym same) (up.part no_want (slots old.now) has);
+      holds = subst (λ (m : Contents). HoldsOf (slots m.now) owner c) (sym same) (up.holds no_want (slots old.now) has);
       asks = up.asks;
     }

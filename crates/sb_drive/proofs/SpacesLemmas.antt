@@ -1,11 +1,14 @@
 -- What calls over a space leave, whatever the space is.
-use Rattle.std.proofs.Common.{◌≡◌, inr, ℕ, ◌+◌, ◌≤◌, Result, Ok, Err, IfErr, sym, subst, arith}
+use Rattle.std.proofs.Common.{◌≡◌, inr, ℕ, ◌+◌, ◌≤◌, Bool, Result, Ok, Err, IfErr, refl, sym, subst, arith}
 use Rattle.std.specs.Result.{IsErrAnd}
 use Rattle.sb_forms.specs.Pages.{Pages, ArePages}
 use Rattle.sb_drive.specs.declared.space.SpaceFault.{SpaceFault}
-use Rattle.sb_drive.specs.declared.space.SpaceFault.TheVariants.{Fault, Damaged, Down, NoMemory}
+use Rattle.sb_ctx.specs.View.{View, dropped}
+use Rattle.sb_drive.specs.declared.space.SpaceFault.TheVariants.{Fault, DataFull, TempFull, Damaged, Down, NoMemory}
+use Rattle.sb_drive.specs.declared.turns.Ask.{Ask}
+use Rattle.sb_drive.specs.declared.turns.Ask.TheVariants.{Page, Fresh, After}
 use Rattle.sb_drive.specs.Slots.{AreWhole, Slots, owned}
-use Rattle.sb_drive.specs.Spaces.{IsRefused, IsStoreFault, Leaves, LeadsWithin, UnlessDown, Wanted}
+use Rattle.sb_drive.specs.Spaces.{HoldsOf, IsFull, IsFullFor, IsReadFault, IsRefused, IsStoreFault, Leaves, LeadsWithin, UnlessDown, Wanted, WhereFull}
 use Rattle.sb_drive.proofs.OwnedLemmas.{bytes_for-free}
 use Rattle.sb_drive.proofs.WholeLemmas.{bytes_for-whole}
 
@@ -47,6 +50,36 @@ pub IsRefused-store : (Same Fails : Type 0) (e : SpaceFault) → IsStoreFault e 
 IsRefused-store Same Fails (Damaged n) is fails = absurd is
 IsRefused-store Same Fails NoMemory is fails = inr fails
 IsRefused-store Same Fails e is fails = fails
+
+-- no page is wanting to a call that only reads, nor to a store
+pub WhereFull-reads : (e : SpaceFault) (IsSo : Type 0) → IsReadFault e → WhereFull e IsSo
+WhereFull-reads (DataFull used total) IsSo reads = absurd reads
+WhereFull-reads (TempFull used total) IsSo reads = absurd reads
+WhereFull-reads e IsSo reads = tt
+
+pub WhereFull-store : (e : SpaceFault) (IsSo : Type 0) → IsStoreFault e → WhereFull e IsSo
+WhereFull-store (DataFull used total) IsSo is = absurd is
+WhereFull-store (TempFull used total) IsSo is = absurd is
+WhereFull-store e IsSo is = tt
+
+-- it is where a fresh one is asked for
+pub WhereFull-asked : {S : Type 0} (Leads : ℕ → S → S → Type 0) (durable : S → Bool) (total : S → ℕ) (owner : ℕ) (IsWithin : View → Type 0) (old space : S) (s : Slots) (c : View) (ask : Ask) (e : SpaceFault) →
+    Leads 0 old space → HoldsOf s owner (dropped c) → (ask ≡ Fresh → IsWithin c) → IsFull (durable space) (total space) s (dropped c) ask e → WhereFull e (IsFullFor Leads durable total owner IsWithin old s e)
+WhereFull-asked Leads durable total owner IsWithin old space s c ask e leads holds within full = by ask e within full
+  where
+    so : (e : SpaceFault) → IsWithin c → IsFull (durable space) (total space) s (dropped c) Fresh e → IsFullFor Leads durable total owner IsWithin old s e
+    so e within full = record { space = space; ctx = c; leads = leads; holds = holds; within = within; full = full }
+
+    by : (ask : Ask) (e : SpaceFault) → (ask ≡ Fresh → IsWithin c) → IsFull (durable space) (total space) s (dropped c) ask e → WhereFull e (IsFullFor Leads durable total owner IsWithin old s e)
+    by Fresh (DataFull used of) within full = so (DataFull used of) (within refl) full
+    by Fresh (TempFull used of) within full = so (TempFull used of) (within refl) full
+    by Fresh e within full = tt
+    by (Page n) (DataFull used of) within full = absurd full
+    by (Page n) (TempFull used of) within full = absurd full
+    by (Page n) e within full = tt
+    by (After low) (DataFull used of) within full = absurd full
+    by (After low) (TempFull used of) within full = absurd full
+    by (After low) e within full = tt
 
 -- ---- what is left unless a call on the disk has failed
 UnlessDown-err : (T U : Type 0) (e : SpaceFault) (A B : Type 0) → (A → B) → UnlessDown {T = T} (Err e) A → UnlessDown {T = U} (Err e) B

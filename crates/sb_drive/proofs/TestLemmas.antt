@@ -24,13 +24,14 @@ use Rattle.sb_ctx.specs.MethodAnswers.{Answers, AsksFor, Changes, IsBroken, MayE
 use Rattle.sb_ctx.proofs.BoundLaws.{IsBoundless, IsBoundlessFor, Spends-boundless, Spends-boundless_for}
 use Rattle.sb_ctx.specs.Attachment.{Attachment, IsOwned, keeps_pages, IsInstance as IsAttached}
 use Rattle.sb_ctx.specs.Method.{Method, IsInstance}
-use Rattle.sb_ctx.specs.View.{HeldPage, View, HeldPages, held_at, given_at, page_of, with_page, dropped, stored, with_found, HoldsPart, IsClean}
+use Rattle.sb_ctx.specs.View.{HeldPage, View, HeldPages, held_at, given_at, page_of, with_page, dropped, stored, with_found, IsClean}
 use Rattle.sb_ctx.proofs.ViewLaws.{dropped-with_page}
 use Rattle.sb_value.specs.declared.value.Value.{Value}
 use Rattle.sb_ctx.specs.declared.held.Found.{Found}
 use Rattle.sb_ctx.proofs.DrivingLaws.{HoldsPart-with_found, IsClean-with_found}
 use Rattle.sb_drive.specs.AttachCalls.{HandsUp}
-use Rattle.sb_drive.specs.Slots.{Contents, pages_of}
+use Rattle.sb_drive.specs.Slots.{Contents, pages_of, slots}
+use Rattle.sb_drive.specs.Spaces.{HoldsOf}
 use Rattle.sb_drive.specs.Turns.{OnFind}
 use Rattle.sb_drive.specs.Examples.{IsPlain, IsMade, IsFindOrNoMemory}
 
@@ -218,10 +219,10 @@ Looks-unformed a inst entry c none = record {
 
 -- ---- a find that is handed up and answered with no rows
 pub found-answered : (owner : ℕ) (before after : Contents) (c new : View) (move : Move) (relation : Name) (columns : List Name) (values : List Value) (f : Found) → move ≡ Find relation columns values →
-    OnFind move (HandsUp owner before after c move) → f.keys ≡ [] → new ≡ with_found f c → IsClean new × HoldsPart new (pages_of after.now owner)
+    OnFind move (HandsUp owner before after c move) → f.keys ≡ [] → new ≡ with_found f c → IsClean new × HoldsOf (slots after.now) owner new
 found-answered owner before after c new move relation columns values f is handed none made = (
   subst IsClean (sym made) (IsClean-with_found c f (subst (λ keys. All (λ k. is_record_key k ≡ true) keys) (sym none) (All-nil (λ k. is_record_key k ≡ true))) up.clean),
-  subst (λ (v : View). HoldsPart v (pages_of after.now owner)) (sym made) (HoldsPart-with_found c (pages_of after.now owner) f up.part),
+  subst (λ (v : View). HoldsOf (slots after.now) owner v) (sym made) (record { part = HoldsPart-with_found c (pages_of after.now owner) f up.holds.part; free = up.holds.free }),
 )
   where
     of : (m : Move) → m ≡ Find relation columns values → OnFind m (HandsUp owner before after c move) → HandsUp owner before after c move

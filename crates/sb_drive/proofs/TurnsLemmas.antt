@@ -1,5 +1,5 @@
 -- What an answer means to a driver.
-use Rattle.std.proofs.Common.{◌≡◌, subst}
+use Rattle.std.proofs.Common.{◌≡◌, refl, subst}
 use Rattle.sb_ctx.specs.declared.moves.Move.{Move}
 use Rattle.sb_ctx.specs.declared.moves.Move.TheVariants.{Need, Fresh, After, Find, Broken, NoMemory}
 use Rattle.sb_ctx.specs.declared.calls.AttachCall.{AttachCall}
@@ -25,6 +25,15 @@ IsAsked-method c move a is asks = cc
 pub IsAsked-attachment : (c : View) (move : Move) (a : Ask) → turn_of move ≡ Give a → AttachAsksFor c move → IsAsked c a
 IsAsked-attachment c (Find relation columns values) a is asks = cc
 IsAsked-attachment c move a is asks = IsAsked-method c move a is asks
+
+-- and a fresh page only by the move that asks for one
+pub Fresh-asked : (move : Move) → turn_of move ≡ Give ask.Fresh → move ≡ Fresh
+Fresh-asked (Need n) is = cc
+Fresh-asked Fresh is = refl
+Fresh-asked (After low) is = cc
+Fresh-asked (Broken n) is = cc
+Fresh-asked NoMemory is = cc
+Fresh-asked move is = cc
 
 -- an end is the answer itself
 pub end-is : (move end : Move) → turn_of move ≡ Ends end → move ≡ end

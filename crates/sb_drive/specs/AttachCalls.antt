@@ -6,15 +6,15 @@ use Rattle.sb_ctx.specs.declared.instance.Instance.{Instance}
 use Rattle.sb_ctx.specs.declared.calls.AttachCall.{AttachCall}
 use Rattle.sb_ctx.specs.declared.calls.AttachCall.TheVariants as call
 use Rattle.sb_ctx.specs.declared.moves.Move.{Move}
-use Rattle.sb_ctx.specs.View.{View, HeldPages, AreSomeOf, HoldsPart, IsClean, edits_of}
+use Rattle.sb_ctx.specs.View.{View, HeldPages, AreSomeOf, IsClean, edits_of}
 use Rattle.sb_ctx.specs.Attachment.{Attachment, MayHold, MayMeet}
 use Rattle.sb_ctx.specs.AttachAnswers.{AsksFor, NotNew, Spends}
 use Rattle.sb_drive.specs.declared.space.SpaceFault.{SpaceFault}
 use Rattle.sb_drive.specs.declared.space.SpaceFault.TheVariants as space
 use Rattle.sb_drive.specs.declared.turns.DriveFault.{DriveFault}
 use Rattle.sb_drive.specs.declared.turns.DriveFault.TheVariants.{Damaged, NoMemory}
-use Rattle.sb_drive.specs.Slots.{Contents, Slots, owned, pages_of}
-use Rattle.sb_drive.specs.Spaces.{LeadsWithin, Wanted}
+use Rattle.sb_drive.specs.Slots.{Contents, Slots, owned, slots}
+use Rattle.sb_drive.specs.Spaces.{HoldsOf, LeadsWithin, Wanted}
 
 -- what the box wants of the arguments of its call
 abbrev pub Fits : Attachment → Instance → AttachCall → Type 0
@@ -33,7 +33,7 @@ IsReading c = ⊥
 pub record HandsUp (owner : ℕ) (before after : Contents) (c : View) (move : Move) : Type 0 where
   pub same : after ≡ before
   pub clean : IsClean c
-  pub part : HoldsPart c (pages_of after.now owner)
+  pub holds : HoldsOf (slots after.now) owner c
   pub asks : AsksFor c move
 
 -- The same over a space, which keeps the pages that it has.
@@ -42,7 +42,7 @@ pub record HandsUpIn {S : Type 0} (Has : Wanted → Slots → S → Type 0) (Lea
   pub same : Leads 0 before after
   pub clean : IsClean c
   pub has : (want : Wanted) (s : Slots) → Has want s before → Has want s after
-  pub part : (want : Wanted) (s : Slots) → Has want s before → HoldsPart c (owned s owner)
+  pub holds : (want : Wanted) (s : Slots) → Has want s before → HoldsOf s owner c
   pub asks : AsksFor c move
 
 -- At most as many changes are made as some Ctx has edits, with which the box spends what it may over all pages that the space has.

@@ -1,6 +1,8 @@
 -- A memory as a space of pages.
 use Rattle.std.specs.Prelude.{◌≡◌, ℕ, ◌+◌, ◌≤◌, refl}
 use Rattle.std.proofs.Common.{◌∙◌, arith}
+use Rattle.sb_drive.specs.declared.space.SpaceFault.{SpaceFault}
+use Rattle.sb_drive.specs.declared.space.SpaceFault.TheVariants.{TempFull, NoMemory}
 use Rattle.sb_drive.specs.Slots.{AreWhole, Contents, Slots, slots}
 
 -- these are its pages, at most 65,536, each of them whole
@@ -13,6 +15,12 @@ pub record HasPages (s : Slots) (m : Contents) : Type 0 where
 pub record IsChanged (changes : ℕ) (old new : Contents) : Type 0 where
   pub was : new.was ≡ old.was
   pub none : changes ≡ 0 → new ≡ old
+
+-- a memory refuses nothing but for want of a page or of memory
+abbrev pub IsMemoryFault : SpaceFault → Type 0
+IsMemoryFault (TempFull used total) = Unit {0}
+IsMemoryFault NoMemory = Unit {0}
+IsMemoryFault e = ⊥
 
 -- ---- laws
 pub IsChanged-same : (m : Contents) → IsChanged 0 m m

@@ -1,12 +1,14 @@
 -- Driven calls of a storage method.
-use Rattle.std.specs.Prelude.{◌≡◌, ℕ, true}
+use Rattle.std.specs.Prelude.{◌≡◌, ℕ, true, length}
+use Rattle.sb_relation.specs.Db.{Rows}
 use Rattle.sb_forms.specs.Pages.{Pages}
 use Rattle.sb_ctx.specs.declared.instance.Instance.{Instance}
 use Rattle.sb_ctx.specs.declared.calls.MethodCall.{MethodCall}
 use Rattle.sb_ctx.specs.declared.calls.MethodCall.TheVariants as call
-use Rattle.sb_ctx.specs.View.{HeldPages, AreSomeOf}
+use Rattle.sb_ctx.specs.declared.moves.Move.TheVariants.{Fresh}
+use Rattle.sb_ctx.specs.View.{View, HeldPages, AreSomeOf}
 use Rattle.sb_ctx.specs.Method.{Method, MayHold}
-use Rattle.sb_ctx.specs.MethodAnswers.{NotNew}
+use Rattle.sb_ctx.specs.MethodAnswers.{Before, HasRoom, NotNew, most_pages}
 use Rattle.sb_drive.specs.declared.space.SpaceFault.{SpaceFault}
 use Rattle.sb_drive.specs.declared.space.SpaceFault.TheVariants as space
 use Rattle.sb_drive.specs.declared.turns.DriveFault.{DriveFault}
@@ -23,6 +25,10 @@ abbrev pub IsReading : MethodCall → Type 0
 IsReading (call.Get key) = Unit {0}
 IsReading (call.Next low) = Unit {0}
 IsReading c = ⊥
+
+-- over pages that hold rows a fresh page is within the room of the call
+abbrev pub HasRoomFor : Method → Instance → MethodCall → Pages → View → Type 0
+HasRoomFor m inst call P c = (rows : Rows) → Before m inst call P rows → HasRoom (most_pages m call (length rows)) P c Fresh
 
 -- A page that the box may call broken, of some of these pages that it was given; when an instance is prepared, they aren't those of a new one.
 pub record IsDamaged (m : Method) (inst : Instance) (c : MethodCall) (P : Pages) (n : ℕ) : Type 0 where

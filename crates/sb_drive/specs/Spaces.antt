@@ -1,7 +1,7 @@
 -- Spaces of pages: what a driver reads and stores, wherever the pages are.
-use Rattle.std.specs.Prelude.{◌≡◌, ◌⊎◌, ℕ, ◌^◌, ◌<◌, ◌≤◌, Bool, true, false, List, All, Option, None, IsSome, Result, Ok, Err}
+use Rattle.std.specs.Prelude.{◌≡◌, ◌⊎◌, ℕ, ◌^◌, ◌<◌, ◌≤◌, Bool, true, false, List, All, Option, Result, Ok, Err}
 use Rattle.sb_forms.specs.Pages.{Pages, IsNext}
-use Rattle.sb_ctx.specs.View.{View, page_of, with_held, given_page, fresh_page, with_next}
+use Rattle.sb_ctx.specs.View.{View, HoldsPart, holds_fresh, dropped, with_held, given_page, fresh_page, with_next}
 use Rattle.sb_drive.specs.declared.space.SpaceFault.{SpaceFault}
 use Rattle.sb_drive.specs.declared.space.SpaceFault.TheVariants.{Fault, DataFull, TempFull, LogFull, GatesFull, Damaged, Down, NoMemory}
 use Rattle.sb_drive.specs.declared.turns.Ask.{Ask}
@@ -12,19 +12,29 @@ use Rattle.sb_drive.specs.Slots.{Slots, owned}
 abbrev pub Wanted : Type 0
 Wanted = ℕ → List ℕ
 
+-- ---- what a Ctx holds of the pages
+-- fresh pages that are held are nobody's
+abbrev pub AreFree : Slots → View → Type 0
+AreFree s c = (n : ℕ) → holds_fresh c n ≡ true → (s n).0 ≡ 0
+
+-- A Ctx that was given an owner's pages: it holds a part of them, and fresh pages that are nobody's.
+pub record HoldsOf (s : Slots) (owner : ℕ) (c : View) : Type 0 where
+  pub part : HoldsPart c (owned s owner)
+  pub free : AreFree s c
+
 -- ---- what a question is answered with, whatever the pages are
 abbrev pub IsGift : View → Ask → View → Type 0
 IsGift old (Page n) new = (n < 2 ^ 32) × ((bytes : List ℕ) × All (λ b. b < 256) bytes × (new ≡ with_held n (given_page bytes) old))
-IsGift old Fresh new = (n : ℕ) × (n < 65536) × (page_of old n ≡ None) × (new ≡ with_held n fresh_page old)
+IsGift old Fresh new = (n : ℕ) × (n < 65536) × (holds_fresh old n ≡ false) × (new ≡ with_held n fresh_page old)
 IsGift old (After low) new = (next : Option ℕ) × (new ≡ with_next low next old)
 
 -- ---- and with these pages, of which there are so many
--- the least page that is nobody's and isn't held
+-- the least page that is nobody's and isn't held as a fresh one
 pub record IsFreshIn (total : ℕ) (s : Slots) (c : View) (page : ℕ) : Type 0 where
   pub below : page < total
   pub free : (s page).0 ≡ 0
-  pub unheld : page_of c page ≡ None
-  pub least : (m : ℕ) → m < page → (s m).0 ≡ 0 → IsSome (page_of c m)
+  pub new : holds_fresh c page ≡ false
+  pub least : (m : ℕ) → m < page → (s m).0 ≡ 0 → holds_fresh c m ≡ true
 
 -- the owner's page of this number, a fresh page, or the number of the owner's next page
 abbrev pub IsGivenIn : ℕ → Slots → ℕ → View → Ask → View → Type 0
@@ -37,7 +47,7 @@ IsGivenIn total s owner old (After low) new = (next : Option ℕ) × IsNext (own
 pub record AreUsed (total : ℕ) (s : Slots) (c : View) (used of : ℕ) : Type 0 where
   pub total_is : of ≡ total
   pub all : used ≡ of
-  pub each : (m : ℕ) → m < total → (s m).0 ≡ 0 → IsSome (page_of c m)
+  pub each : (m : ℕ) → m < total → (s m).0 ≡ 0 → holds_fresh c m ≡ true
 
 -- that no page is left is answered where a fresh one is asked for, by a durable space as DataFull and by another one as TempFull
 abbrev pub IsFull : Bool → ℕ → Slots → View → Ask → SpaceFault → Type 0
@@ -99,13 +109,22 @@ pub record LeadsWithin {S : Type 0} (Leads : ℕ → S → S → Type 0) (most :
 abbrev pub LeadsOn : {S : Type 0} → (ℕ → S → S → Type 0) → S → S → Type 0
 LeadsOn Leads old new = (k : ℕ) × Leads k old new
 
--- That no page is left is so at a moment before any change, with what a Ctx holds then.
-pub record IsFullFor {S : Type 0} (Leads : ℕ → S → S → Type 0) (durable : S → Bool) (total : S → ℕ)
+-- a fact of want of a page, where that is the refusal
+abbrev pub WhereFull : SpaceFault → Type 0 → Type 0
+WhereFull (DataFull used total) IsSo = IsSo
+WhereFull (TempFull used total) IsSo = IsSo
+WhereFull e IsSo = Unit {0}
+
+-- That no page is left is so at a moment before any change: the Ctx, as the call left it when it asked for a fresh page, holds a part of the
+-- owner's pages and is within its room, and all pages that are nobody's are among its fresh ones.
+pub record IsFullFor {S : Type 0} (Leads : ℕ → S → S → Type 0) (durable : S → Bool) (total : S → ℕ) (owner : ℕ) (IsWithin : View → Type 0)
     (old : S) (s : Slots) (e : SpaceFault) : Type 0 where
   pub space : S
   pub ctx : View
   pub leads : Leads 0 old space
-  pub full : IsFull (durable space) (total space) s ctx Fresh e
+  pub holds : HoldsOf s owner (dropped ctx)
+  pub within : IsWithin ctx
+  pub full : IsFull (durable space) (total space) s (dropped ctx) Fresh e
 
 -- A refused call of a box: where the box called a page broken all is as it was; where memory is wanting, it may be so too; else the space has refused.
 abbrev pub IsRefused : Type 0 → Type 0 → SpaceFault → Type 0

@@ -1,7 +1,8 @@
 //! Giving a call what it asks for of the pages in memory.
 
-ghost use Rattle.std.specs.Prelude.{◌≡◌, ℕ, ◌<◌, false, OnOk, OnErr, IfErr, IfSome, IfNone, IsSome};
-ghost use Rattle.sb_ctx.specs.View.{dropped, page_of};
+ghost use Rattle.std.specs.Prelude.{◌≡◌, ℕ, ◌<◌, false, true, OnOk, OnErr, IfErr, IfSome, IfNone};
+ghost use Rattle.sb_ctx.specs.View.{dropped, holds_fresh};
+ghost use Rattle.sb_drive.specs.MemorySpaces.{IsMemoryFault};
 ghost use Rattle.sb_drive.specs.Slots.{slots};
 ghost use Rattle.sb_drive.specs.Spaces.{IsAnswerFault, IsAskFault, IsFreshIn, IsFull, IsGift, IsGivenIn};
 
@@ -23,6 +24,7 @@ pub fn answer(memory: &Memory, owner: u16, ctx: &mut Ctx, ask: Ask) -> Result<()
     ensures kept { OnErr result (ctx.new ≡ dropped ctx.old) }
     ensures undamaged { IfErr result IsAnswerFault }
     ensures looks { IfErr result (IsAskFault ask) }
+    ensures cause { IfErr result IsMemoryFault }
     ensures full { IfErr result (IsFull false 65536 (slots memory.now.now) (dropped ctx.old) ask) }
 {
     memory.are_pages();
@@ -38,13 +40,13 @@ pub fn answer(memory: &Memory, owner: u16, ctx: &mut Ctx, ask: Ask) -> Result<()
     Ok(())
 }
 
-/// The least page that is nobody's and isn't held.
+/// The least page that is nobody's and isn't held as a fresh one.
 fn fresh_page(memory: &Memory, ctx: &Ctx) -> Option<u32>
     ensures some { IfSome result (IsFreshIn 65536 (slots memory.now.now) ctx.now) }
-    ensures none { IfNone result ((m : ℕ) → m < 65536 → (slots memory.now.now m).0 ≡ 0 → IsSome (page_of ctx.now m)) }
+    ensures none { IfNone result ((m : ℕ) → m < 65536 → (slots memory.now.now m).0 ≡ 0 → holds_fresh ctx.now m ≡ true) }
 {
     for n in 0..MOST_PAGES {
-        if memory.owner_of(n) == 0 && ctx.page(n).is_none() {
+        if memory.owner_of(n) == 0 && !ctx.holds_fresh(n) {
             return Some(n);
         }
     }

@@ -2,11 +2,12 @@
 
 ghost use Rattle.std.specs.Prelude.{◌≡◌, IsTrue, ◌↔◌, IfOk, IfErr};
 ghost use Rattle.sb_ctx.specs.Attachment.{IsInstance};
-ghost use Rattle.sb_ctx.specs.AttachAnswers.{Answers, Changes, MayEnd, Reads};
-ghost use Rattle.sb_ctx.specs.View.{IsClean, HoldsPart};
+ghost use Rattle.sb_ctx.specs.AttachAnswers.{Answers, Changes, MayEnd, Reads, Spends};
+ghost use Rattle.sb_ctx.specs.View.{IsClean};
+ghost use Rattle.sb_ctx.specs.declared.moves.Move.TheVariants.{Fresh};
 ghost use Rattle.sb_drive.specs.AttachCalls.{CostsIn, Fits, IsReading, HandsUpIn, HasSpaceCause};
 ghost use Rattle.sb_drive.specs.Slots.{Slots, owned};
-ghost use Rattle.sb_drive.specs.Spaces.{IsFullFor, IsReadFault, IsRefused, Leaves, LeadsOn, UnlessDown, Wanted};
+ghost use Rattle.sb_drive.specs.Spaces.{HoldsOf, IsFullFor, IsReadFault, IsRefused, Leaves, LeadsOn, UnlessDown, Wanted, WhereFull};
 ghost use Rattle.sb_drive.specs.Turns.{IsEnd, OnFind};
 
 use crate::space::{PageSpace, SpaceFault, store_edits};
@@ -28,7 +29,7 @@ pub fn run_attachment<S: PageSpace>(
     requires inst { IsInstance (attachment boxed.now) inst.now }
     requires fits { Fits (attachment boxed.now) inst.now call.now }
     requires clean { IsClean ctx.old }
-    requires part { (want : Wanted) (s : Slots) → S.has want s space.old → HoldsPart ctx.old (owned s inst.now.owner) }
+    requires holds { (want : Wanted) (s : Slots) → S.has want s space.old → HoldsOf s inst.now.owner ctx.old }
 
     ensures answers { IfOk result (λ move. (want : Wanted) (s : Slots) → S.has want s space.old
         → Leaves S.has inst.now.owner want s space.new
@@ -44,7 +45,8 @@ pub fn run_attachment<S: PageSpace>(
     ensures damaged { IfErr result (λ e. (want : Wanted) (s : Slots) → S.has want s space.old
         → HasSpaceCause (attachment boxed.now) inst.now call.now (owned s inst.now.owner) e) }
     ensures full { IfErr result (λ e. (want : Wanted) (s : Slots) → S.has want s space.old
-        → IsFullFor S.leads S.durable S.total space.old s e) }
+        → WhereFull e (IsFullFor S.leads S.durable S.total inst.now.owner
+        (λ c. Spends (attachment boxed.now) inst.now call.now ctx.old (owned s inst.now.owner) c Fresh) space.old s e)) }
 
     ensures leads { LeadsOn S.leads space.old space.new }
     ensures costs { CostsIn S.has S.leads (attachment boxed.now) inst.now call.now space.old space.new ctx.old }

@@ -5,10 +5,11 @@ ghost use Rattle.sb_ctx.specs.Attachment.{IsInstance as IsAttached};
 ghost use Rattle.sb_ctx.specs.AttachAnswers.{Answers as AnswersFor, MayEnd as MayEndFor};
 ghost use Rattle.sb_ctx.specs.Method.{IsInstance};
 ghost use Rattle.sb_ctx.specs.MethodAnswers.{Answers, MayEnd};
-ghost use Rattle.sb_ctx.specs.View.{IsClean, HoldsPart};
+ghost use Rattle.sb_ctx.specs.View.{IsClean};
 ghost use Rattle.sb_drive.specs.AttachCalls.{Fits as FitsFor, IsReading as IsReadingFor, HandsUp, HasCause as HasCauseFor};
 ghost use Rattle.sb_drive.specs.MethodCalls.{Fits, IsReading, HasCause};
-ghost use Rattle.sb_drive.specs.Slots.{Keeps, pages_of};
+ghost use Rattle.sb_drive.specs.Slots.{Keeps, pages_of, slots};
+ghost use Rattle.sb_drive.specs.Spaces.{HoldsOf};
 ghost use Rattle.sb_drive.specs.Turns.{IsEnd, OnFind};
 
 use crate::asks::answer;
@@ -24,7 +25,7 @@ use std::alloc::Global;
 impl PageSpace for Memory {
     ghost use Rattle.std.specs.Prelude.{◌≡◌, false, refl};
     ghost use Rattle.std.proofs.Common.{◌∙◌};
-    ghost use Rattle.sb_drive.specs.MemorySpaces.{HasPages, IsChanged, IsChanged-same, IsChanged-on};
+    ghost use Rattle.sb_drive.specs.MemorySpaces.{HasPages, IsChanged, IsMemoryFault, IsChanged-same, IsChanged-on};
 
     ghost is_ready = { λ m. Unit {0} };
 
@@ -36,13 +37,13 @@ impl PageSpace for Memory {
 
     ghost leads = { λ k a b. IsChanged k a b };
 
-    ghost fails = { λ e a b. b ≡ a };
+    ghost fails = { λ e a b. (b ≡ a) × IsMemoryFault e };
 
     ghost stays = { λ a. IsChanged-same a };
 
     ghost goes_on = { λ k l a b c first second. IsChanged-on k l a b c first second };
 
-    ghost fails_on = { λ e a b c first second. second ∙ first.none refl };
+    ghost fails_on = { λ e a b c first second. (second.0 ∙ first.none refl, second.1) };
 
     ghost whole = { λ want s a there. there.whole };
 
@@ -95,7 +96,7 @@ pub fn drive_attachment(
     requires inst { IsAttached (attachment boxed.now) inst.now }
     requires fits { FitsFor (attachment boxed.now) inst.now call.now }
     requires clean { IsClean ctx.old }
-    requires part { HoldsPart ctx.old (pages_of memory.old.now inst.now.owner) }
+    requires holds { HoldsOf (slots memory.old.now) inst.now.owner ctx.old }
     ensures answers { IfOk result (λ move. AnswersFor (attachment boxed.now) inst.now call.now ctx.old
         (pages_of memory.old.now inst.now.owner) (pages_of memory.new.now inst.now.owner) move) }
     ensures may { IfOk result (MayEndFor call.now) }

@@ -63,7 +63,7 @@ pub trait PageSpace {
     ghost fails: { SpaceFault → Self → Self → Type 0 };
 
     /// Drops the edits of the Ctx, and gives it what is asked for: of a page that isn't the owner's no bytes. A fresh page is
-    /// the least one that is nobody's and isn't held.
+    /// the least one that is nobody's and isn't held as a fresh one.
     fn answer(&mut self, owner: u16, ctx: &mut Ctx, ask: Ask) -> Result<(), SpaceFault>
         requires ready { is_ready self.old }
 

@@ -2,6 +2,7 @@
 
 ghost use Rattle.std.specs.Prelude.{◌≡◌, ◌<◌, false, IfOk, OnOk, OnErr};
 ghost use Rattle.sb_ctx.specs.View.{nothing};
+ghost use Rattle.sb_drive.specs.MemorySpaces.{IsMemoryFault};
 ghost use Rattle.sb_drive.specs.Slots.{slots};
 ghost use Rattle.sb_drive.specs.Spaces.{IsFull};
 ghost use Rattle.sb_drive.specs.declared.turns.Ask.TheVariants.{Fresh};
@@ -37,6 +38,7 @@ impl Owners for Memory {
 fn refusal(memory: &Memory, alloc: Global) -> SpaceFault
     ensures full { IsFull false 65536 (slots memory.now.now) nothing Fresh result }
     ensures undamaged { IsUnbroken result }
+    ensures cause { IsMemoryFault result }
 {
     let mut ctx = Ctx::new(alloc);
     match answer(memory, 0, &mut ctx, Ask::Fresh) {

@@ -9,4 +9,4 @@ pub loop-answered-preserved : goal.loop-answered-preserved
 loop-answered-preserved c =
     let both = found-answered c.args.inst.now.owner c.loop-answered.memory c.drive_attachment.new.memory c.drive_attachment.new.ctx c.give_found-in-Find.new.self c.in_ok-relation.field-0 _ _ _ _
     c.in-Find.is c.in_ok-relation.ensures.find c.new-in-Find.ensures c.in_ok-give_found-in-Find.ensures.ok in
-    record { clean = both.0; part = both.1 }
+    record { clean = both.0; holds = both.1 }

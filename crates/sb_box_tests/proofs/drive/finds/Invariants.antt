@@ -1,9 +1,10 @@
-use Rattle.sb_ctx.specs.View.{HoldsPart, IsClean}
-use Rattle.sb_drive.specs.Slots.{pages_of}
+use Rattle.sb_ctx.specs.View.{IsClean}
+use Rattle.sb_drive.specs.Slots.{slots}
+use Rattle.sb_drive.specs.Spaces.{HoldsOf}
 use Rattle.sb_box_tests.proofs.drive.finds.Given as goal
 
 abbrev pub invariant-loop-answered : goal.invariant-loop-answered
 invariant-loop-answered l = record {
   clean : IsClean l.ctx;
-  part : HoldsPart l.ctx (pages_of l.memory.now l.inst.owner);
+  holds : HoldsOf (slots l.memory.now) l.inst.owner l.ctx;
 }

@@ -1,17 +1,19 @@
 use Rattle.std.proofs.Common.{◌≡◌, ◌<◌, ◌∙◌, Err, true≢false, ap, sym, subst}
 use Rattle.sb_ctx.proofs.ViewLaws.{HoldsPart-from_dropped}
 use Rattle.sb_ctx.specs.declared.moves.Move.{Move}
-use Rattle.sb_ctx.specs.AttachAnswers.{Answers}
+use Rattle.sb_ctx.specs.declared.moves.Move.TheVariants.{Fresh}
+use Rattle.sb_ctx.specs.AttachAnswers.{Answers, Spends}
 use Rattle.sb_ctx.specs.View.{View, HoldsPart, IsClean, dropped, edits_of, stored}
 use Rattle.sb_drive.specs.Slots.{Slots, owned}
-use Rattle.sb_drive.specs.Spaces.{IsReadFault, Leaves, Wanted}
+use Rattle.sb_drive.specs.Spaces.{HoldsOf, IsFullFor, IsReadFault, Leaves, Wanted, WhereFull}
 use Rattle.sb_drive.specs.Turns.{AsksNumbered}
-use Rattle.sb_drive.proofs.AsksLemmas.{IsAsked-dropped, IsClean-IsGift, HoldsPart-IsGivenIn, found-IsGift, to_ask-IsGift}
+use Rattle.sb_drive.specs.declared.turns.Turn.TheVariants.{Give}
+use Rattle.sb_drive.proofs.AsksLemmas.{IsAsked-dropped, IsClean-IsGift, HoldsOf-IsGivenIn, found-IsGift, to_ask-IsGift}
 use Rattle.sb_drive.proofs.AttachLemmas.{HasSpaceCause-stop, Answers-end, Answers-found, Spends-found}
 use Rattle.sb_drive.proofs.MeasureLemmas.{to_ask}
-use Rattle.sb_drive.proofs.SpacesLemmas.{LeadsWithin-none, LeadsWithin-on, LeadsWithin-zero, Leaves-so, IfErr-passed, UnlessDown-passed, UnlessDown-so}
+use Rattle.sb_drive.proofs.SpacesLemmas.{LeadsWithin-none, LeadsWithin-on, LeadsWithin-zero, Leaves-so, IfErr-passed, UnlessDown-passed, UnlessDown-so, WhereFull-asked}
 use Rattle.sb_drive.proofs.StoresLemmas.{edits_of-clean}
-use Rattle.sb_drive.proofs.TurnsLemmas.{IsAsked-attachment, IsReadFault-asked, IsReadFault-stop, Reads-attachment, end-is}
+use Rattle.sb_drive.proofs.TurnsLemmas.{Fresh-asked, IsAsked-attachment, IsReadFault-asked, IsReadFault-stop, Reads-attachment, end-is}
 use Rattle.sb_drive.proofs.attachments.run_attachment.Goals as goal
 
 pub loop-ask-smaller : goal.loop-ask-smaller
@@ -36,11 +38,32 @@ loop-ask-preserved g c =
       found = found-IsGift (dropped ctx) c.answer.new.ctx c.in-Give.ask answer.gift ∙ ap (λ (v : View). v.found) given ∙ before.found;
       leads = g.met.S.PageSpace.goes_on 0 0 c.args.space.now c.loop-ask.space c.answer.new.self before.leads answer.leads;
       has = λ want s has. answer.pages want s (before.has want s has);
-      part = λ want s has. HoldsPart-IsGivenIn (g.S.PageSpace.total c.loop-ask.space) s owner (dropped ctx) c.answer.new.ctx c.in-Give.ask answer.gift (answer.given want s (before.has want s has))
-          (subst (λ (v : View). HoldsPart v (owned s owner)) (sym given) (before.part want s has));
+      holds = λ want s has. HoldsOf-IsGivenIn (g.S.PageSpace.total c.loop-ask.space) s owner (dropped ctx) c.answer.new.ctx c.in-Give.ask answer.gift (answer.given want s (before.has want s has))
+          (subst (λ (v : View). HoldsOf s owner v) (sym given) (before.holds want s has));
     }
 
 -- ---- a page is refused
+pub returns-in_err-answer-in-Give-clause-full : goal.returns-in_err-answer-in-Give-clause-full
+returns-in_err-answer-in-Give-clause-full g c =
+    let a = (goal.Attachment-dyn g c.args.boxed.now).attachment c.args.boxed.now.1 in
+    let inst = c.args.inst.now in
+    let call = c.args.call.now in
+    let ctx = c.make_call-made.new.ctx in
+    let changes = c.make_call-made.ensures.changes in
+    let fault = c.in_err-answer-in-Give.field-0.0 in
+    IfErr-passed c.from_residual.result fault
+    (λ e. (want : Wanted) (s : Slots) → g.S.PageSpace.has want s c.args.space.now
+    → WhereFull e (IsFullFor g.S.PageSpace.leads g.S.PageSpace.durable g.S.PageSpace.total inst.owner (λ v. Spends a inst call c.args.ctx.now (owned s inst.owner) v Fresh) c.args.space.now s e))
+    c.from_residual.ensures.1
+    (λ want s has.
+    let P = owned s inst.owner in
+    let holds = c.loop-ask.invariant.holds want s has in
+    WhereFull-asked g.S.PageSpace.leads g.S.PageSpace.durable g.S.PageSpace.total inst.owner (λ v. Spends a inst call c.args.ctx.now P v Fresh) c.args.space.now c.loop-ask.space s ctx c.in-Give.ask fault c.loop-ask.invariant.leads
+    (subst (λ (v : View). HoldsOf s inst.owner v) (sym changes.given) holds)
+    (λ fresh. subst (λ (move : Move). Spends a inst call c.args.ctx.now P ctx move) (Fresh-asked c.make_call-made.result (sym c.turn_of.ensures.turn ∙ c.in-Give.is ∙ ap Give fresh))
+    (Spends-found a inst call c.loop-ask.ctx c.args.ctx.now P ctx c.make_call-made.result c.loop-ask.invariant.found (changes.spends c.is_ctx.ensures P holds.part)))
+    (c.in_err-answer-in-Give.ensures.full want s (c.loop-ask.invariant.has want s has)))
+
 pub returns-in_err-answer-in-Give-clause-leads : goal.returns-in_err-answer-in-Give-clause-leads
 returns-in_err-answer-in-Give-clause-leads g c =
     (0, g.met.S.PageSpace.goes_on 0 0 c.args.space.now c.loop-ask.space c.answer.new.self c.loop-ask.invariant.leads c.in_err-answer-in-Give.ensures.leads)
@@ -56,7 +79,7 @@ returns-in_err-answer-in-Give-clause-costs g c =
       move = c.make_call-made.result;
       leads = LeadsWithin-none g.S.PageSpace.leads (edits_of ctx) c.args.space.now c.answer.new.self leads;
       spends = λ want s has. Spends-found a inst c.args.call.now c.loop-ask.ctx c.args.ctx.now (owned s inst.owner) ctx c.make_call-made.result c.loop-ask.invariant.found
-          (c.make_call-made.ensures.changes.spends c.is_ctx.ensures (owned s inst.owner) (c.loop-ask.invariant.part want s has));
+          (c.make_call-made.ensures.changes.spends c.is_ctx.ensures (owned s inst.owner) (c.loop-ask.invariant.holds want s has).part);
     }
 
 pub returns-in_err-answer-in-Give-clause-reads : goal.returns-in_err-answer-in-Give-clause-reads
@@ -69,7 +92,7 @@ returns-in-Stop-clause-damaged g c = λ want s has.
     let a = (goal.Attachment-dyn g c.args.boxed.now).attachment c.args.boxed.now.1 in
     let inst = c.args.inst.now in
     let P = owned s inst.owner in
-    let part = c.loop-ask.invariant.part want s has in
+    let part = (c.loop-ask.invariant.holds want s has).part in
     let changes = c.make_call-made.ensures.changes in
     HasSpaceCause-stop a inst c.args.call.now c.loop-ask.ctx P (stored c.make_call-made.new.ctx P) c.make_call-made.result c.in-Stop.fault (sym c.turn_of.ensures.turn ∙ c.in-Stop.is) part
     changes.broken (changes.answers P part)
@@ -84,7 +107,7 @@ returns-in-Stop-clause-costs g c =
       move = c.make_call-made.result;
       leads = LeadsWithin-none g.S.PageSpace.leads (edits_of ctx) c.args.space.now c.loop-ask.space c.loop-ask.invariant.leads;
       spends = λ want s has. Spends-found a inst c.args.call.now c.loop-ask.ctx c.args.ctx.now (owned s inst.owner) ctx c.make_call-made.result c.loop-ask.invariant.found
-          (c.make_call-made.ensures.changes.spends c.is_ctx.ensures (owned s inst.owner) (c.loop-ask.invariant.part want s has));
+          (c.make_call-made.ensures.changes.spends c.is_ctx.ensures (owned s inst.owner) (c.loop-ask.invariant.holds want s has).part);
     }
 
 -- ---- a find is handed up
@@ -98,7 +121,7 @@ returns-then-is_find-clause-costs g c =
       move = c.make_call-made.result;
       leads = LeadsWithin-none g.S.PageSpace.leads (edits_of ctx) c.args.space.now c.loop-ask.space c.loop-ask.invariant.leads;
       spends = λ want s has. Spends-found a inst c.args.call.now c.loop-ask.ctx c.args.ctx.now (owned s inst.owner) ctx c.make_call-made.result c.loop-ask.invariant.found
-          (c.make_call-made.ensures.changes.spends c.is_ctx.ensures (owned s inst.owner) (c.loop-ask.invariant.part want s has));
+          (c.make_call-made.ensures.changes.spends c.is_ctx.ensures (owned s inst.owner) (c.loop-ask.invariant.holds want s has).part);
     }
 
 -- ---- the edits are refused
@@ -111,7 +134,7 @@ returns-in_err-store_edits-in-End-clause-others g c =
     ((want : Wanted) (s : Slots) → g.S.PageSpace.has want s c.args.space.now → Leaves g.S.PageSpace.has owner want s c.store_edits.new.space (λ after. Unit {0}))
     c.from_residual-in_err-store_edits-in-End.ensures.1
     (λ left want s has. left want s (c.loop-ask.invariant.has want s has)
-    (HoldsPart-from_dropped ctx c.loop-ask.ctx (owned s owner) c.make_call-made.ensures.changes.given (c.loop-ask.invariant.part want s has)))
+    (HoldsPart-from_dropped ctx c.loop-ask.ctx (owned s owner) c.make_call-made.ensures.changes.given (c.loop-ask.invariant.holds want s has).part))
     c.in_err-store_edits-in-End.ensures.pages
 
 pub returns-in_err-store_edits-in-End-clause-leads : goal.returns-in_err-store_edits-in-End-clause-leads
@@ -129,7 +152,7 @@ returns-in_err-store_edits-in-End-clause-costs g c =
       move = c.make_call-made.result;
       leads = LeadsWithin-on g.S.PageSpace.leads (edits_of ctx) c.args.space.now c.loop-ask.space c.store_edits.new.space g.met.S.PageSpace.goes_on c.loop-ask.invariant.leads c.in_err-store_edits-in-End.ensures.leads;
       spends = λ want s has. Spends-found a inst c.args.call.now c.loop-ask.ctx c.args.ctx.now (owned s inst.owner) ctx c.make_call-made.result c.loop-ask.invariant.found
-          (c.make_call-made.ensures.changes.spends c.is_ctx.ensures (owned s inst.owner) (c.loop-ask.invariant.part want s has));
+          (c.make_call-made.ensures.changes.spends c.is_ctx.ensures (owned s inst.owner) (c.loop-ask.invariant.holds want s has).part);
     }
 
 pub returns-in_err-store_edits-in-End-clause-reads : goal.returns-in_err-store_edits-in-End-clause-reads
@@ -148,7 +171,7 @@ returns-in-End-clause-answers g c = λ want s has.
     let P = owned s inst.owner in
     let ctx = c.make_call-made.new.ctx in
     let changes = c.make_call-made.ensures.changes in
-    let part = c.loop-ask.invariant.part want s has in
+    let part = (c.loop-ask.invariant.holds want s has).part in
     let answers = Answers-found a inst call c.loop-ask.ctx c.args.ctx.now P (stored ctx P) c.make_call-made.result c.loop-ask.invariant.found (changes.answers P part) in
     Leaves-so g.S.PageSpace.has inst.owner want s c.store_edits.new.space (λ after. after ≡ stored ctx P) (λ after. Answers a inst call c.args.ctx.now P after c.in-End.end)
     (λ after same. Answers-end a inst call c.args.ctx.now P (stored ctx P) after c.make_call-made.result c.in-End.end (end-is c.make_call-made.result c.in-End.end (sym c.turn_of.ensures.turn ∙ c.in-End.is)) same answers)
@@ -158,7 +181,7 @@ pub returns-in-End-clause-others : goal.returns-in-End-clause-others
 returns-in-End-clause-others g c = λ want s has.
     let P = owned s c.args.inst.now.owner in
     let ctx = c.make_call-made.new.ctx in
-    let part = HoldsPart-from_dropped ctx c.loop-ask.ctx P c.make_call-made.ensures.changes.given (c.loop-ask.invariant.part want s has) in
+    let part = HoldsPart-from_dropped ctx c.loop-ask.ctx P c.make_call-made.ensures.changes.given (c.loop-ask.invariant.holds want s has).part in
     Leaves-so g.S.PageSpace.has c.args.inst.now.owner want s c.store_edits.new.space (λ after. after ≡ stored ctx P) (λ after. Unit {0}) (λ after so. tt)
     (c.in_ok-store_edits-in-End.ensures.pages want s (c.loop-ask.invariant.has want s has) part)
 
@@ -177,7 +200,7 @@ returns-in-End-clause-costs g c =
       move = c.make_call-made.result;
       leads = LeadsWithin-on g.S.PageSpace.leads (edits_of ctx) c.args.space.now c.loop-ask.space c.store_edits.new.space g.met.S.PageSpace.goes_on c.loop-ask.invariant.leads c.in_ok-store_edits-in-End.ensures.leads;
       spends = λ want s has. Spends-found a inst c.args.call.now c.loop-ask.ctx c.args.ctx.now (owned s inst.owner) ctx c.make_call-made.result c.loop-ask.invariant.found
-          (c.make_call-made.ensures.changes.spends c.is_ctx.ensures (owned s inst.owner) (c.loop-ask.invariant.part want s has));
+          (c.make_call-made.ensures.changes.spends c.is_ctx.ensures (owned s inst.owner) (c.loop-ask.invariant.holds want s has).part);
     }
 
 pub returns-in-End-clause-reads : goal.returns-in-End-clause-reads

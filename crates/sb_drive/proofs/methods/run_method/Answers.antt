@@ -1,18 +1,20 @@
-use Rattle.std.proofs.Common.{◌≡◌, ◌<◌, ◌∙◌, Err, true≢false, sym, subst}
-use Rattle.sb_ctx.proofs.DrivingLaws.{HoldsPart-nothing, IsClean-nothing}
+use Rattle.std.proofs.Common.{◌≡◌, ◌<◌, ◌∙◌, length, Err, true≢false, ap, sym, subst}
+use Rattle.sb_ctx.proofs.DrivingLaws.{IsClean-nothing}
 use Rattle.sb_ctx.proofs.ViewLaws.{HoldsPart-from_dropped}
 use Rattle.sb_ctx.specs.declared.moves.Move.{Move}
-use Rattle.sb_ctx.specs.MethodAnswers.{Answers}
+use Rattle.sb_ctx.specs.MethodAnswers.{Answers, HasRoom, most_pages}
 use Rattle.sb_ctx.specs.View.{View, HoldsPart, IsClean, dropped, edits_of, stored}
 use Rattle.sb_drive.specs.Slots.{Slots, owned}
-use Rattle.sb_drive.specs.Spaces.{IsReadFault, IsRefused, Leaves, Wanted}
+use Rattle.sb_drive.specs.MethodCalls.{HasRoomFor}
+use Rattle.sb_drive.specs.Spaces.{HoldsOf, IsFullFor, IsReadFault, IsRefused, Leaves, Wanted, WhereFull}
 use Rattle.sb_drive.specs.Turns.{AsksNumbered}
-use Rattle.sb_drive.proofs.AsksLemmas.{IsAsked-dropped, IsClean-IsGift, HoldsPart-IsGivenIn, to_ask-IsGift}
+use Rattle.sb_drive.specs.declared.turns.Turn.TheVariants.{Give}
+use Rattle.sb_drive.proofs.AsksLemmas.{IsAsked-dropped, IsClean-IsGift, HoldsOf-nothing, HoldsOf-IsGivenIn, to_ask-IsGift}
 use Rattle.sb_drive.proofs.MeasureLemmas.{to_ask}
 use Rattle.sb_drive.proofs.MethodLemmas.{HasSpaceCause-stop, Answers-end}
-use Rattle.sb_drive.proofs.SpacesLemmas.{ArePages-few, LeadsWithin-more, LeadsWithin-none, LeadsWithin-on, LeadsWithin-zero, Leaves-so, UnlessDown-passed, UnlessDown-so, IfErr-passed, IsRefused-store}
+use Rattle.sb_drive.proofs.SpacesLemmas.{ArePages-few, LeadsWithin-more, LeadsWithin-none, LeadsWithin-on, LeadsWithin-zero, Leaves-so, UnlessDown-passed, UnlessDown-so, IfErr-passed, IsRefused-store, WhereFull-asked}
 use Rattle.sb_drive.proofs.StoresLemmas.{edits_of-clean}
-use Rattle.sb_drive.proofs.TurnsLemmas.{IsAsked-method, IsReadFault-asked, IsReadFault-stop, end-is}
+use Rattle.sb_drive.proofs.TurnsLemmas.{Fresh-asked, IsAsked-method, IsReadFault-asked, IsReadFault-stop, end-is}
 use Rattle.sb_drive.proofs.methods.run_method.Goals as goal
 
 pub loop-ask-init : goal.loop-ask-init
@@ -21,10 +23,10 @@ loop-ask-init g c = record {
   clean = subst IsClean (sym c.new-ctx.ensures) IsClean-nothing;
   leads = g.met.S.PageSpace.stays c.args.space.now;
   has = λ want s has. has;
-  part = λ want s has.
-      let P = owned s c.args.inst.now.owner in
-      let pages = ArePages-few s c.args.inst.now.owner (g.met.S.PageSpace.whole want s c.args.space.now has) (g.met.S.PageSpace.few want s c.args.space.now has) in
-      subst (λ (v : View). HoldsPart v P) (sym c.new-ctx.ensures) (HoldsPart-nothing P pages);
+  holds = λ want s has.
+      let owner = c.args.inst.now.owner in
+      let pages = ArePages-few s owner (g.met.S.PageSpace.whole want s c.args.space.now has) (g.met.S.PageSpace.few want s c.args.space.now has) in
+      subst (λ (v : View). HoldsOf s owner v) (sym c.new-ctx.ensures) (HoldsOf-nothing s owner pages);
 }
 
 pub loop-ask-smaller : goal.loop-ask-smaller
@@ -48,9 +50,30 @@ loop-ask-preserved g c =
       clean = IsClean-IsGift (dropped ctx) c.answer.new.ctx c.in-Give.ask answer.gift (subst IsClean same before.clean);
       leads = g.met.S.PageSpace.goes_on 0 0 c.args.space.now c.loop-ask.space c.answer.new.self before.leads answer.leads;
       has = λ want s has. answer.pages want s (before.has want s has);
-      part = λ want s has. HoldsPart-IsGivenIn (g.S.PageSpace.total c.loop-ask.space) s owner (dropped ctx) c.answer.new.ctx c.in-Give.ask answer.gift (answer.given want s (before.has want s has))
-          (subst (λ (v : View). HoldsPart v (owned s owner)) same (before.part want s has));
+      holds = λ want s has. HoldsOf-IsGivenIn (g.S.PageSpace.total c.loop-ask.space) s owner (dropped ctx) c.answer.new.ctx c.in-Give.ask answer.gift (answer.given want s (before.has want s has))
+          (subst (λ (v : View). HoldsOf s owner v) same (before.holds want s has));
     }
+
+pub returns-in_err-answer-in-Give-clause-full : goal.returns-in_err-answer-in-Give-clause-full
+returns-in_err-answer-in-Give-clause-full g c =
+    let m = (goal.StorageMethod-dyn g c.args.boxed.now).method c.args.boxed.now.1 in
+    let inst = c.args.inst.now in
+    let call = c.args.call.now in
+    let ctx = c.make_call-made.new.ctx in
+    let changes = c.make_call-made.ensures.changes in
+    let fault = c.in_err-answer-in-Give.field-0.0 in
+    IfErr-passed c.from_residual.result fault
+    (λ e. (want : Wanted) (s : Slots) → g.S.PageSpace.has want s c.args.space.now
+    → WhereFull e (IsFullFor g.S.PageSpace.leads g.S.PageSpace.durable g.S.PageSpace.total inst.owner (HasRoomFor m inst call (owned s inst.owner)) c.args.space.now s e))
+    c.from_residual.ensures.1
+    (λ want s has.
+    let P = owned s inst.owner in
+    let holds = c.loop-ask.invariant.holds want s has in
+    WhereFull-asked g.S.PageSpace.leads g.S.PageSpace.durable g.S.PageSpace.total inst.owner (HasRoomFor m inst call P) c.args.space.now c.loop-ask.space s ctx c.in-Give.ask fault c.loop-ask.invariant.leads
+    (subst (λ (v : View). HoldsOf s inst.owner v) (sym changes.given) holds)
+    (λ fresh rows before. subst (λ (move : Move). HasRoom (most_pages m call (length rows)) P ctx move) (Fresh-asked c.make_call-made.result (sym c.turn_of.ensures.turn ∙ c.in-Give.is ∙ ap Give fresh))
+    (changes.spends c.is_ctx.ensures P holds.part rows before).room)
+    (c.in_err-answer-in-Give.ensures.full want s (c.loop-ask.invariant.has want s has)))
 
 pub returns-in_err-answer-in-Give-clause-leads : goal.returns-in_err-answer-in-Give-clause-leads
 returns-in_err-answer-in-Give-clause-leads g c =
@@ -71,7 +94,7 @@ returns-in-Stop-clause-damaged g c = λ want s has.
     let m = (goal.StorageMethod-dyn g c.args.boxed.now).method c.args.boxed.now.1 in
     let inst = c.args.inst.now in
     let P = owned s inst.owner in
-    let part = c.loop-ask.invariant.part want s has in
+    let part = (c.loop-ask.invariant.holds want s has).part in
     let changes = c.make_call-made.ensures.changes in
     HasSpaceCause-stop m inst c.args.call.now c.loop-ask.ctx P (stored c.make_call-made.new.ctx P) c.make_call-made.result c.in-Stop.fault (sym c.turn_of.ensures.turn ∙ c.in-Stop.is) part
     changes.broken (changes.answers P part)
@@ -86,7 +109,7 @@ returns-in_err-store_edits-in-End-clause-others g c =
     c.from_residual-in_err-store_edits-in-End.ensures.1
     (λ left want s has.
     Leaves-so g.S.PageSpace.has owner want s c.store_edits.new.space (λ after. Unit {0}) (λ after. Unit {0}) (λ after so. so)
-    (left want s (c.loop-ask.invariant.has want s has) (HoldsPart-from_dropped ctx c.loop-ask.ctx (owned s owner) c.make_call-made.ensures.changes.given (c.loop-ask.invariant.part want s has))))
+    (left want s (c.loop-ask.invariant.has want s has) (HoldsPart-from_dropped ctx c.loop-ask.ctx (owned s owner) c.make_call-made.ensures.changes.given (c.loop-ask.invariant.holds want s has).part)))
     c.in_err-store_edits-in-End.ensures.pages
 
 pub returns-in_err-store_edits-in-End-clause-refused : goal.returns-in_err-store_edits-in-End-clause-refused
@@ -105,7 +128,7 @@ returns-in-End-clause-answers g c = λ want s has.
     let P = owned s inst.owner in
     let ctx = c.make_call-made.new.ctx in
     let changes = c.make_call-made.ensures.changes in
-    let part = c.loop-ask.invariant.part want s has in
+    let part = (c.loop-ask.invariant.holds want s has).part in
     let left = c.in_ok-store_edits-in-End.ensures.pages want s (c.loop-ask.invariant.has want s has) (HoldsPart-from_dropped ctx c.loop-ask.ctx P changes.given part) in
     Leaves-so g.S.PageSpace.has inst.owner want s c.store_edits.new.space (λ after. after ≡ stored ctx P) (λ after. Answers m inst call P after c.in-End.end)
     (λ after same. Answers-end m inst call P (stored ctx P) after c.make_call-made.result c.in-End.end (end-is c.make_call-made.result c.in-End.end (sym c.turn_of.ensures.turn ∙ c.in-End.is)) same
@@ -115,7 +138,7 @@ pub returns-in-End-clause-others : goal.returns-in-End-clause-others
 returns-in-End-clause-others g c = λ want s has.
     let P = owned s c.args.inst.now.owner in
     let ctx = c.make_call-made.new.ctx in
-    let part = HoldsPart-from_dropped ctx c.loop-ask.ctx P c.make_call-made.ensures.changes.given (c.loop-ask.invariant.part want s has) in
+    let part = HoldsPart-from_dropped ctx c.loop-ask.ctx P c.make_call-made.ensures.changes.given (c.loop-ask.invariant.holds want s has).part in
     Leaves-so g.S.PageSpace.has c.args.inst.now.owner want s c.store_edits.new.space (λ after. after ≡ stored ctx P) (λ after. Unit {0}) (λ after so. tt)
     (c.in_ok-store_edits-in-End.ensures.pages want s (c.loop-ask.invariant.has want s has) part)
 
@@ -128,7 +151,7 @@ pub returns-in-End-clause-costs : goal.returns-in-End-clause-costs
 returns-in-End-clause-costs g c = λ want s rows has before.
     let m = (goal.StorageMethod-dyn g c.args.boxed.now).method c.args.boxed.now.1 in
     let ctx = c.make_call-made.new.ctx in
-    let spends = c.make_call-made.ensures.changes.spends c.is_ctx.ensures (owned s c.args.inst.now.owner) (c.loop-ask.invariant.part want s has) rows before in
+    let spends = c.make_call-made.ensures.changes.spends c.is_ctx.ensures (owned s c.args.inst.now.owner) (c.loop-ask.invariant.holds want s has).part rows before in
     LeadsWithin-more g.S.PageSpace.leads (edits_of ctx) (m.cost c.args.call.now rows) c.args.space.now c.store_edits.new.space spends.edits
     (LeadsWithin-on g.S.PageSpace.leads (edits_of ctx) c.args.space.now c.loop-ask.space c.store_edits.new.space g.met.S.PageSpace.goes_on c.loop-ask.invariant.leads c.in_ok-store_edits-in-End.ensures.leads)
 
@@ -148,7 +171,7 @@ pub returns-in_err-store_edits-in-End-clause-costs : goal.returns-in_err-store_e
 returns-in_err-store_edits-in-End-clause-costs g c = λ want s rows has before.
     let m = (goal.StorageMethod-dyn g c.args.boxed.now).method c.args.boxed.now.1 in
     let ctx = c.make_call-made.new.ctx in
-    let spends = c.make_call-made.ensures.changes.spends c.is_ctx.ensures (owned s c.args.inst.now.owner) (c.loop-ask.invariant.part want s has) rows before in
+    let spends = c.make_call-made.ensures.changes.spends c.is_ctx.ensures (owned s c.args.inst.now.owner) (c.loop-ask.invariant.holds want s has).part rows before in
     LeadsWithin-more g.S.PageSpace.leads (edits_of ctx) (m.cost c.args.call.now rows) c.args.space.now c.store_edits.new.space spends.edits
     (LeadsWithin-on g.S.PageSpace.leads (edits_of ctx) c.args.space.now c.loop-ask.space c.store_edits.new.space g.met.S.PageSpace.goes_on c.loop-ask.invariant.leads c.in_err-store_edits-in-End.ensures.leads)
 

@@ -1,6 +1,6 @@
-use Rattle.sb_ctx.specs.View.{HoldsPart, IsClean}
-use Rattle.sb_drive.specs.Slots.{Slots, owned}
-use Rattle.sb_drive.specs.Spaces.{Wanted}
+use Rattle.sb_ctx.specs.View.{IsClean}
+use Rattle.sb_drive.specs.Slots.{Slots}
+use Rattle.sb_drive.specs.Spaces.{HoldsOf, Wanted}
 use Rattle.sb_drive.proofs.MeasureLemmas.{to_ask}
 use Rattle.sb_drive.proofs.methods.run_method.Given as goal
 
@@ -10,7 +10,7 @@ invariant-loop-ask g l = record {
   clean : IsClean l.ctx;
   leads : g.S.PageSpace.leads 0 l.fn.space l.space;
   has : (want : Wanted) (s : Slots) → g.S.PageSpace.has want s l.fn.space → g.S.PageSpace.has want s l.space;
-  part : (want : Wanted) (s : Slots) → g.S.PageSpace.has want s l.fn.space → HoldsPart l.ctx (owned s l.inst.owner);
+  holds : (want : Wanted) (s : Slots) → g.S.PageSpace.has want s l.fn.space → HoldsOf s l.inst.owner l.ctx;
 }
 
 -- what may still be asked for
