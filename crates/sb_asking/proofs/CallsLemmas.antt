@@ -1,12 +1,12 @@
 -- What reading calls before a changing one leave, and answers to finds.
-use Rattle.std.proofs.Common.{◌≡◌, inl, inr, ℕ, ◌+◌, ◌-◌, ◌<◌, ◌≤◌, Bool, true, List, [], ◌∷◌, ◌++◌, length, length-append, suc, All, Result, Ok, Err, IfErr, refl, sym, ap, subst, ◌∙◌, arith}
+use Rattle.std.proofs.Common.{◌≡◌, inl, inr, ℕ, ◌+◌, ◌-◌, ◌<◌, ◌≤◌, Bool, true, false, true≢false, List, [], ◌∷◌, ◌++◌, length, length-append, suc, All, Result, Ok, Err, IfErr, refl, sym, ap, subst, ◌∙◌, arith}
 use Rattle.std.specs.Result.{IsErrAnd}
 use Rattle.std.proofs.lemmas.List.Elements.{All-nil, All-cons, All-head, All-tail}
 use Rattle.sb_value.specs.declared.value.Value.{Value}
 use Rattle.sb_relation.specs.Db.{Db, Name}
 use Rattle.sb_relation.specs.Keys.{is_record_key}
 use Rattle.sb_forms.specs.Pages.{Pages, ArePages}
-use Rattle.sb_ctx.specs.View.{View, FoundIn, HoldsPart, IsClean, keys_with, nothing}
+use Rattle.sb_ctx.specs.View.{View, FoundIn, HoldsPart, IsClean, keys_with, holds_fresh}
 use Rattle.sb_ctx.specs.declared.instance.Instance.{Instance}
 use Rattle.sb_ctx.specs.declared.calls.AttachCall.{AttachCall}
 use Rattle.sb_ctx.specs.declared.moves.Move.{Move}
@@ -17,11 +17,10 @@ use Rattle.sb_ctx.proofs.DrivingLaws.{FoundIn-nothing, FoundIn-with_found, Holds
 use Rattle.sb_drive.specs.declared.space.SpaceFault.{SpaceFault}
 use Rattle.sb_drive.specs.declared.space.SpaceFault.TheVariants.{Fault, DataFull, TempFull, LogFull, GatesFull, Damaged, Down, NoMemory}
 use Rattle.sb_drive.specs.Slots.{AreWhole, Slots, owned}
-use Rattle.sb_drive.specs.Spaces.{IsFull, IsFullFor, IsReadFault, IsRefused, Leaves, UnlessDown, Wanted}
+use Rattle.sb_drive.specs.Spaces.{HoldsOf, IsReadFault, IsRefused, Leaves, UnlessDown, Wanted}
 use Rattle.sb_drive.specs.Turns.{IsEnd}
-use Rattle.sb_drive.specs.declared.turns.Ask.TheVariants.{Fresh}
 use Rattle.sb_drive.proofs.SpacesLemmas.{ArePages-few, GoesOn}
-use Rattle.sb_registry.specs.Runs.{Looks, Works}
+use Rattle.sb_registry.specs.Runs.{IsFullOf, Looks, WasFull, Works}
 use Rattle.sb_rows.proofs.CallsLemmas.{FailsOn, Works-passed}
 use Rattle.sb_asking.specs.declared.calls.Answer.{Answer}
 use Rattle.sb_asking.specs.Calls.{IsAsked, IsLast, found_of, knowing}
@@ -53,23 +52,18 @@ Works-later {S} {T} Has Leads Fails Durable Total owner a b c r goes_on fails_on
     then (Err Down) left = tt
     then (Err e) left = λ want s there. left want s (has want s there)
 
-    full : (r : Result T SpaceFault) → IfErr r (λ e. (want : Wanted) (s : Slots) → Has want s b → IsFullFor Leads Durable Total b s e) → IfErr r (λ e. (want : Wanted) (s : Slots) → Has want s a → IsFullFor Leads Durable Total a s e)
+    full : (r : Result T SpaceFault) → IfErr r (λ e. (want : Wanted) (s : Slots) → Has want s b → WasFull Leads Durable Total b e) → IfErr r (λ e. (want : Wanted) (s : Slots) → Has want s a → WasFull Leads Durable Total a e)
     full (Ok x) is = tt
-    full (Err e) is = λ want s there. let at = is want s (has want s there) in record { space = at.space; ctx = at.ctx; leads = goes_on 0 0 a b at.space first at.leads; full = at.full }
+    full (Err e) is = λ want s there. let at = is want s (has want s there) in record { space = at.space; leads = goes_on 0 0 a b at.space first at.leads; full = at.full }
 
     refused : (r : Result T SpaceFault) → IfErr r (λ e. IsRefused (Leads 0 b c) (Fails e b c) e) → IfErr r (λ e. IsRefused (Leads 0 a c) (Fails e a c) e)
     refused (Ok x) is = tt
     refused (Err e) is = IsRefused-later e (λ leads. goes_on 0 0 a b c first leads) (λ fails. fails_on e a b c first fails) is
 
-IsFull-read : (durable : Bool) (total : ℕ) (s : Slots) (c : View) (e : SpaceFault) → IsReadFault e → IsFull durable total s c Fresh e
-IsFull-read durable total s c (DataFull used of) is = absurd is
-IsFull-read durable total s c (TempFull used of) is = absurd is
-IsFull-read durable total s c Fault is = tt
-IsFull-read durable total s c (LogFull used need of) is = tt
-IsFull-read durable total s c (GatesFull used of) is = tt
-IsFull-read durable total s c (Damaged page) is = tt
-IsFull-read durable total s c Down is = tt
-IsFull-read durable total s c NoMemory is = tt
+IsFullOf-read : (durable : Bool) (total : ℕ) (e : SpaceFault) → IsReadFault e → IsFullOf durable total e
+IsFullOf-read durable total (DataFull used of) is = absurd is
+IsFullOf-read durable total (TempFull used of) is = absurd is
+IsFullOf-read durable total e is = tt
 
 -- a reading call that is refused
 pub Works-looked : {S T : Type 0} (Has : Wanted → Slots → S → Type 0) (Leads : ℕ → S → S → Type 0) (Fails : SpaceFault → S → S → Type 0) (Durable : S → Bool) (Total : S → ℕ) (owner : ℕ)
@@ -77,7 +71,7 @@ pub Works-looked : {S T : Type 0} (Has : Wanted → Slots → S → Type 0) (Lea
 Works-looked {S} {T} Has Leads Fails Durable Total owner old new e stays looks = record {
   others = others e looks.same;
   leads = (0, looks.leads);
-  full = λ want s has. record { space = old; ctx = nothing; leads = stays; full = IsFull-read (Durable old) (Total old) s nothing e looks.fault };
+  full = λ want s has. record { space = old; leads = stays; full = IsFullOf-read (Durable old) (Total old) e looks.fault };
   refused = looks.refused;
 }
   where
@@ -137,9 +131,16 @@ All-pushed P old new a is all one = subst (All P) (sym is) (by old all)
     by (x ∷ xs) all = All-cons P x (xs ++ a ∷ []) (All-head P x xs all) (by xs (All-tail P x xs all))
 
 -- ---- a call that knows them
--- its Ctx holds a part of all pages that the space has
-pub HoldsPart-known : (answers : List Answer) (ctx : View) (s : Slots) (owner : ℕ) → ctx ≡ knowing answers → AreWhole s → ((n : ℕ) → 65536 ≤ n → (s n).0 ≡ 0) → HoldsPart ctx (owned s owner)
-HoldsPart-known answers ctx s owner is whole few = subst (λ (c : View). HoldsPart c (owned s owner)) (sym is) (HoldsPart-knowing answers (owned s owner) (ArePages-few s owner whole few))
+-- its Ctx holds a part of all pages that the space has, and no fresh one
+holds_fresh-knowing : (answers : List Answer) (n : ℕ) → holds_fresh (knowing answers) n ≡ false
+holds_fresh-knowing [] n = refl
+holds_fresh-knowing (a ∷ answers) n = holds_fresh-knowing answers n
+
+pub HoldsOf-known : (answers : List Answer) (ctx : View) (s : Slots) (owner : ℕ) → ctx ≡ knowing answers → AreWhole s → ((n : ℕ) → 65536 ≤ n → (s n).0 ≡ 0) → HoldsOf s owner ctx
+HoldsOf-known answers ctx s owner is whole few = subst (HoldsOf s owner) (sym is) (record {
+  part = HoldsPart-knowing answers (owned s owner) (ArePages-few s owner whole few);
+  free = λ n fresh. absurd (true≢false (sym fresh ∙ holds_fresh-knowing answers n));
+})
 
 pub IsClean-known : (answers : List Answer) (ctx : View) → ctx ≡ knowing answers → All AreKeys answers → IsClean ctx
 IsClean-known answers ctx is keys = subst IsClean (sym is) (IsClean-knowing answers keys)

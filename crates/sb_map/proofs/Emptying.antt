@@ -69,4 +69,4 @@ pub whole_new : {S U : Type 0} (Has : Wanted → Slots → S → Type 0) (Leads 
     → IfErr r (λ x. OverPages Has place first (λ P. IsNew place.root P → IsUndamaged x))
 whole_new Has Leads place first now c walked w r e before given prepares asks is stops =
     IfErr-passed r e (λ x. OverPages Has place first (λ P. IsNew place.root P → IsUndamaged x)) is
-    (λ want s has. IsUndamaged-new place.root (owned s place.owner) c walked w e before.clean.unchanged (before.part want s has) given prepares asks (stops want s (before.has want s has)))
+    (λ want s has. IsUndamaged-new place.root (owned s place.owner) c walked w e before.clean.unchanged (before.holds want s has).part given prepares asks (stops want s (before.has want s has)))

@@ -1,20 +1,28 @@
 -- Why a walk over the pages of an owner stops.
-use Rattle.std.proofs.Common.{◌≡◌, ℕ, Bool, true≢false, List, Some, Result, Ok, Err, IfErr, sym, subst, ◌∙◌}
+use Rattle.std.proofs.Common.{◌≡◌, ℕ, ◌+◌, ◌*◌, ◌<◌, Bool, true≢false, List, length, Some, Result, Ok, Err, IfErr, sym, ap, subst, ◌∙◌, arith}
 use Rattle.std.specs.Result.{IsErrAnd}
 use Rattle.sb_node.specs.Entries.{Entry}
 use Rattle.sb_forms.specs.Pages.{Pages}
 use Rattle.sb_forms.specs.Read.{read_tree}
-use Rattle.sb_ctx.specs.View.{View, HoldsPart, dropped, page_of}
-use Rattle.sb_ctx.proofs.ViewLaws.{given-page}
+use Rattle.sb_forms.specs.TreePages.{tree_met}
+use Rattle.sb_ctx.specs.Sound.{IsSound}
+use Rattle.sb_ctx.specs.View.{View, HoldsPart, dropped, page_of, stored}
+use Rattle.sb_ctx.proofs.ViewLaws.{given-page, stored-clean}
 use Rattle.sb_btree.specs.Broken.{breaks}
+use Rattle.sb_btree.specs.Inserts.{MayAsk, OverTrees}
+use Rattle.sb_btree.specs.Spending.{AsksWithin, taken_of}
 use Rattle.sb_btree.specs.Walks.{Breaks}
 use Rattle.sb_btree.specs.declared.walk.Walk.{Walk}
+use Rattle.sb_btree.specs.declared.walk.Walk.TheVariants as walk
 use Rattle.sb_btree.proofs.Whole.{trees_are_whole}
 use Rattle.sb_drive.specs.declared.space.SpaceFault.{SpaceFault}
-use Rattle.sb_drive.specs.declared.space.SpaceFault.TheVariants.{Damaged}
+use Rattle.sb_drive.specs.declared.space.SpaceFault.TheVariants.{DataFull, TempFull, Damaged}
+use Rattle.sb_drive.specs.declared.turns.Ask.TheVariants as ask
 use Rattle.sb_drive.specs.Slots.{Slots, owned}
-use Rattle.sb_drive.specs.Spaces.{IsFullFor, Wanted}
-use Rattle.sb_drive.proofs.SpacesLemmas.{GoesOn, IfErr-passed}
+use Rattle.sb_drive.specs.Spaces.{HoldsOf, IsFull, IsFullFor, Wanted, WhereFull}
+use Rattle.sb_drive.proofs.SpacesLemmas.{IfErr-passed}
+use Rattle.sb_drive.proofs.StoresLemmas.{edits_of-clean}
+use Rattle.sb_map.specs.Calls.{IsWithin}
 use Rattle.sb_map.specs.declared.place.Place.{Place}
 use Rattle.sb_map.specs.Maps.{OverMap, OverPages}
 use Rattle.sb_map.specs.Refusals.{HasCause, IsUndamaged}
@@ -39,7 +47,7 @@ pub damaged : {S T U : Type 0} (Has : Wanted → Slots → S → Type 0) (Leads 
     → IfErr r (λ x. OverPages Has place first (λ P. HasCause place.root P x))
 damaged Has Leads place first now c w r e before broken is stops =
     IfErr-passed r e (λ x. OverPages Has place first (λ P. HasCause place.root P x)) is
-    (λ want s has. HasCause-stop place.root (owned s place.owner) c w e before.clean.unchanged (before.part want s has) broken (stops want s (before.has want s has)))
+    (λ want s has. HasCause-stop place.root (owned s place.owner) c w e before.clean.unchanged (before.holds want s has).part broken (stops want s (before.has want s has)))
 
 -- pages that are a tree have no such page
 pub whole : {S U : Type 0} (Has : Wanted → Slots → S → Type 0) (place : Place) (first : S) (r : Result U SpaceFault)
@@ -48,11 +56,44 @@ whole Has place first (Ok u) cause = tt
 whole Has place first (Err e) cause = λ want s has es read. IsUndamaged-tree place.root (owned s place.owner) es e read (cause want s has)
 
 -- ---- a page that is wanting
-pub full : {S U : Type 0} (Has : Wanted → Slots → S → Type 0) (Leads : ℕ → S → S → Type 0) (durable : S → Bool) (total : S → ℕ) (owner : ℕ) (first now : S) (c : View) (r : Result U SpaceFault) (e : SpaceFault)
-    → GoesOn Leads → Walking Has Leads owner first now c → IsErrAnd r (λ x. x ≡ e) → ((want : Wanted) (s : Slots) → Has want s now → IsFullFor Leads durable total now s e)
-    → IfErr r (λ x. (want : Wanted) (s : Slots) → Has want s first → IsFullFor Leads durable total first s x)
-full Has Leads durable total owner first now c r e goes_on before is fulls =
-    IfErr-passed r e (λ x. (want : Wanted) (s : Slots) → Has want s first → IsFullFor Leads durable total first s x) is
-    (λ want s has.
-    let then = fulls want s (before.has want s has) in
-    record { space = then.space; ctx = then.ctx; leads = goes_on 0 0 first now then.space before.leads then.leads; full = then.full })
+-- a walk that asks for a fresh page is within its room
+within : {T : Type 0} (root : ℕ) (P : Pages) (c walked : View) (w : Walk T) → w ≡ walk.Fresh → dropped c ≡ c → IsSound c → HoldsPart c P → MayAsk walked w
+    → OverTrees c root (λ Q es. AsksWithin (2 * length es) (length (tree_met root (stored c Q))) c walked w) → IsWithin root P walked
+within {T} root P c walked w is clean sound part asks room = record {
+  taken = subst (λ (v : Walk T). MayAsk walked v) is asks;
+  few = λ es read.
+      let still : read_tree root (stored c P) ≡ Some es = ap (read_tree root) (stored-clean c P clean part) ∙ read in
+      let few = subst (λ (v : Walk T). AsksWithin (2 * length es) (length (tree_met root P)) c walked v) is
+      (subst (λ (Q : Pages). AsksWithin (2 * length es) (length (tree_met root Q)) c walked w) (stored-clean c P clean part) (room P es still)) in
+      let none : taken_of c ≡ 0 = omega (arith, edits_of-clean c sound clean) in
+      omega (arith, few, none);
+}
+
+-- where it stops for want of a page, it asked for one
+WhereFull-stop : {T : Type 0} (w : Walk T) (IsSo : SpaceFault → Type 0) (e : SpaceFault) → StopsBy w e → (w ≡ walk.Fresh → IsSo e) → WhereFull e (IsSo e)
+WhereFull-stop w IsSo (DataFull used of) fresh so = so fresh
+WhereFull-stop w IsSo (TempFull used of) fresh so = so fresh
+WhereFull-stop w IsSo e fresh so = tt
+
+pub full : {S T U : Type 0} (Has : Wanted → Slots → S → Type 0) (Leads : ℕ → S → S → Type 0) (durable : S → Bool) (total : S → ℕ) (place : Place) (first now : S) (c walked : View) (w : Walk T) (r : Result U SpaceFault) (e : SpaceFault)
+    → Walking Has Leads place.owner first now c → IsSound c → dropped walked ≡ dropped c → MayAsk walked w → OverTrees c place.root (λ Q es. AsksWithin (2 * length es) (length (tree_met place.root (stored c Q))) c walked w)
+    → IsErrAnd r (λ x. x ≡ e) → StopsBy w e → ((want : Wanted) (s : Slots) → Has want s now → IsFull (durable now) (total now) s (dropped walked) ask.Fresh e)
+    → IfErr r (λ x. (want : Wanted) (s : Slots) → Has want s first → WhereFull x (IsFullFor Leads durable total place.owner (IsWithin place.root (owned s place.owner)) first s x))
+full Has Leads durable total place first now c walked w r e before sound given asks room is stops fulls =
+    let owner = place.owner in
+    IfErr-passed r e (λ x. (want : Wanted) (s : Slots) → Has want s first → WhereFull x (IsFullFor Leads durable total owner (IsWithin place.root (owned s owner)) first s x)) is
+    (λ want s has. WhereFull-stop w (λ x. IsFullFor Leads durable total owner (IsWithin place.root (owned s owner)) first s x) e stops
+    (λ fresh. record {
+      space = now;
+      ctx = walked;
+      leads = before.leads;
+      holds = subst (HoldsOf s owner) (sym (given ∙ before.clean.unchanged)) (before.holds want s has);
+      within = within place.root (owned s owner) c walked w fresh before.clean.unchanged sound (before.holds want s has).part asks room;
+      full = fulls want s (before.has want s has);
+    }))
+
+-- a walk that asks for no fresh page doesn't
+pub never_full : {S T U : Type 0} (Has : Wanted → Slots → S → Type 0) (first : S) (IsSo : Slots → SpaceFault → Type 0) (w : Walk T) (r : Result U SpaceFault) (e : SpaceFault) → (w ≡ walk.Fresh → ⊥) → IsErrAnd r (λ x. x ≡ e) → StopsBy w e
+    → IfErr r (λ x. (want : Wanted) (s : Slots) → Has want s first → WhereFull x (IsSo s x))
+never_full Has first IsSo w r e never is stops =
+    IfErr-passed r e (λ x. (want : Wanted) (s : Slots) → Has want s first → WhereFull x (IsSo s x)) is (λ want s has. WhereFull-stop w (IsSo s) e stops (λ fresh. absurd (never fresh)))

@@ -9,11 +9,10 @@ use Rattle.sb_ctx.specs.View.{View, HoldsPart, edits_of, stored}
 use Rattle.sb_drive.specs.declared.space.SpaceFault.{SpaceFault}
 use Rattle.sb_drive.specs.declared.space.SpaceFault.TheVariants.{DataFull, TempFull}
 use Rattle.sb_drive.specs.Slots.{Slots, owned}
-use Rattle.sb_drive.specs.Spaces.{IsFull, IsFullFor, IsRefused, IsStoreFault, Leaves, LeadsWithin, UnlessDown, Wanted}
-use Rattle.sb_drive.specs.declared.turns.Ask.TheVariants.{Fresh}
+use Rattle.sb_drive.specs.Spaces.{IsFullFor, IsRefused, IsStoreFault, Leaves, LeadsWithin, UnlessDown, Wanted, WhereFull}
 use Rattle.sb_drive.proofs.SpacesLemmas.{GoesOn, IfErr-passed, IsRefused-store, LeadsWithin-more, LeadsWithin-on, Leaves-so, UnlessDown-passed}
 use Rattle.sb_map.specs.declared.place.Place.{Place}
-use Rattle.sb_map.specs.Calls.{Looks, Works}
+use Rattle.sb_map.specs.Calls.{IsWithin, Looks, Works}
 use Rattle.sb_map.specs.Changes.{RemovesKey, changed, is_change}
 use Rattle.sb_map.specs.Maps.{Becomes, OverMap, OverPages, OverTree}
 use Rattle.sb_map.proofs.Changing.{changed-none}
@@ -55,10 +54,10 @@ Becomes-stored Has Leads Fails place first now new c x change looks part tree st
     (λ after so. ap (read_tree place.root) so ∙ tree want s has es read) (stores want s (looks.same want s has) (part want s has))
 
 -- or isn't, where the space refuses it
-IsFull-stored : (durable : Bool) (total : ℕ) (s : Slots) (c : View) (e : SpaceFault) → IsStoreFault e → IsFull durable total s c Fresh e
-IsFull-stored durable total s c (DataFull used of) is = absurd is
-IsFull-stored durable total s c (TempFull used of) is = absurd is
-IsFull-stored durable total s c e is = tt
+WhereFull-stored : (IsSo : Type 0) (e : SpaceFault) → IsStoreFault e → WhereFull e IsSo
+WhereFull-stored IsSo (DataFull used of) is = absurd is
+WhereFull-stored IsSo (TempFull used of) is = absurd is
+WhereFull-stored IsSo e is = tt
 
 pub Works-unstored : {S T U : Type 0} (Has : Wanted → Slots → S → Type 0) (Leads : ℕ → S → S → Type 0) (Fails : SpaceFault → S → S → Type 0) (durable : S → Bool) (total : S → ℕ) (place : Place) (first now new : S) (c : View) (x : T)
     (r : Result U SpaceFault) (e : SpaceFault) → GoesOn Leads → FailsOn Leads Fails → IsErrAnd r (λ y. y ≡ e) → Looks {T = T} Has Leads Fails first now (Ok x) → OverPages Has place first (HoldsPart c)
@@ -69,8 +68,8 @@ Works-unstored {S} {T} {U} Has Leads Fails durable total place first now new c x
     record {
       others = UnlessDown-passed (Unit {0}) U r e (Stores Has place.owner now new c (λ P after. Unit {0})) ((want : Wanted) (s : Slots) → Has want s first → Leaves Has place.owner want s new (λ after. Unit {0})) is
           (λ stores want s has. stores want s (looks.same want s has) (part want s has)) stores;
-      full = IfErr-passed r e (λ y. (want : Wanted) (s : Slots) → Has want s first → IsFullFor Leads durable total first s y) is
-          (λ want s has. record { space = now; ctx = c; leads = looks.leads; full = IsFull-stored (durable now) (total now) s c e undamaged });
+      full = IfErr-passed r e (λ y. (want : Wanted) (s : Slots) → Has want s first → WhereFull y (IsFullFor Leads durable total place.owner (IsWithin place.root (owned s place.owner)) first s y)) is
+          (λ want s has. WhereFull-stored (IsFullFor Leads durable total place.owner (IsWithin place.root (owned s place.owner)) first s e) e undamaged);
       leads = (within.changes, within.leads);
       costs = λ want s has es read. LeadsWithin-more Leads (edits_of c) (tree_cost (length es)) first new (cheap want s has es read) within;
       refused = IfErr-passed r e (λ y. IsRefused (Leads 0 first new) (Fails y first new) y) is

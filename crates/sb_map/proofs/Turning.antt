@@ -9,9 +9,9 @@ use Rattle.sb_drive.specs.declared.space.SpaceFault.TheVariants.{DataFull, TempF
 use Rattle.sb_drive.specs.declared.turns.Ask.{Ask}
 use Rattle.sb_drive.specs.declared.turns.Ask.TheVariants.{Page, Fresh}
 use Rattle.sb_drive.specs.Slots.{Slots}
-use Rattle.sb_drive.specs.Spaces.{IsFull, IsFullFor, IsGift, IsGivenIn, Wanted}
+use Rattle.sb_drive.specs.Spaces.{IsFull, IsGift, IsGivenIn, Wanted}
 use Rattle.sb_drive.specs.Turns.{IsNumbered}
-use Rattle.sb_drive.proofs.AsksLemmas.{HoldsPart-IsGivenIn, IsAsked, IsAsked-dropped, IsClean-IsGift, to_ask-IsGift}
+use Rattle.sb_drive.proofs.AsksLemmas.{HoldsOf-IsGivenIn, IsAsked, IsAsked-dropped, IsClean-IsGift, to_ask-IsGift}
 use Rattle.sb_map.specs.Turns.{IsAnswered}
 
 pub IsAnswered-gift : {S : Type 0} (Has : Wanted → Slots → S → Type 0) (total owner : ℕ) (old : S) (c d : View) (ask : Ask) → IsNumbered ask → IsAsked c ask → IsGift (dropped c) ask d
@@ -19,22 +19,14 @@ pub IsAnswered-gift : {S : Type 0} (Has : Wanted → Slots → S → Type 0) (to
 IsAnswered-gift Has total owner old c d ask numbered asked gift given = record {
   less = to_ask-IsGift (dropped c) d ask numbered (IsAsked-dropped c ask asked) gift;
   clean = IsClean-IsGift (dropped c) d ask gift;
-  part = λ want s has part. HoldsPart-IsGivenIn total s owner (dropped c) d ask gift (given want s has) part;
+  holds = λ want s has holds. HoldsOf-IsGivenIn total s owner (dropped c) d ask gift (given want s has) holds;
 }
 
 -- ---- a question that is refused
-IsFull-page : (durable : Bool) (total : ℕ) (s : Slots) (c : View) (n : ℕ) (e : SpaceFault) → IsFull durable total s c (Page n) e → IsFull durable total s c Fresh e
+pub IsFull-page : (durable : Bool) (total : ℕ) (s : Slots) (c : View) (n : ℕ) (e : SpaceFault) → IsFull durable total s c (Page n) e → IsFull durable total s c Fresh e
 IsFull-page durable total s c n (DataFull used of) full = absurd full
 IsFull-page durable total s c n (TempFull used of) full = absurd full
 IsFull-page durable total s c n e full = tt
-
-pub IsFullFor-now : {S : Type 0} (Leads : ℕ → S → S → Type 0) (durable : S → Bool) (total : S → ℕ) (a : S) (s : Slots) (c : View) (e : SpaceFault) → Leads 0 a a → IsFull (durable a) (total a) s c Fresh e
-    → IsFullFor Leads durable total a s e
-IsFullFor-now Leads durable total a s c e stays full = record { space = a; ctx = c; leads = stays; full = full }
-
-pub IsFullFor-page : {S : Type 0} (Leads : ℕ → S → S → Type 0) (durable : S → Bool) (total : S → ℕ) (a : S) (s : Slots) (c : View) (n : ℕ) (e : SpaceFault) → Leads 0 a a → IsFull (durable a) (total a) s c (Page n) e
-    → IsFullFor Leads durable total a s e
-IsFullFor-page Leads durable total a s c n e stays full = IsFullFor-now Leads durable total a s c e stays (IsFull-page (durable a) (total a) s c n e full)
 
 -- a page that is asked for isn't held
 pub asked_page : {T : Type 0} (c : View) (w : Walk T) (n : ℕ) → w ≡ walk.Need n → MayAsk c w → page_of c n ≡ None

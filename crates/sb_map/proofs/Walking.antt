@@ -4,21 +4,22 @@ use Rattle.std.specs.Result.{IsErrAnd}
 use Rattle.sb_ctx.specs.View.{View, nothing, dropped, HoldsPart, IsClean}
 use Rattle.sb_ctx.proofs.ViewLaws.{HoldsPart-from_dropped}
 use Rattle.sb_btree.specs.declared.walk.Walk.{Walk}
-use Rattle.sb_ctx.proofs.DrivingLaws.{HoldsPart-nothing, IsClean-nothing}
+use Rattle.sb_ctx.proofs.DrivingLaws.{IsClean-nothing}
+use Rattle.sb_drive.proofs.AsksLemmas.{HoldsOf-nothing}
 use Rattle.sb_drive.specs.declared.space.SpaceFault.{SpaceFault}
 use Rattle.sb_drive.specs.declared.space.SpaceFault.TheVariants.{Damaged, NoMemory}
 use Rattle.sb_drive.specs.Slots.{AreWhole, Slots, owned}
-use Rattle.sb_drive.specs.Spaces.{IsRefused, Wanted}
+use Rattle.sb_drive.specs.Spaces.{HoldsOf, IsRefused, Wanted}
 use Rattle.sb_drive.proofs.SpacesLemmas.{ArePages-few, GoesOn, IfErr-passed, UnlessDown-passed}
 use Rattle.sb_map.specs.Calls.{Looks}
 use Rattle.sb_map.specs.Turns.{HasEnded, IsAnswered, Turned}
 
--- No change leads here, what the space had it has still, and a part of the owner's pages is held as it is.
+-- No change leads here, what the space had it has still, and a part of the owner's pages is held as it is, with fresh ones that are nobody's.
 pub record Walking {S : Type 0} (Has : Wanted → Slots → S → Type 0) (Leads : ℕ → S → S → Type 0) (owner : ℕ) (first now : S) (c : View) : Type 0 where
   pub clean : IsClean c
   pub leads : Leads 0 first now
   pub has : (want : Wanted) (s : Slots) → Has want s first → Has want s now
-  pub part : (want : Wanted) (s : Slots) → Has want s first → HoldsPart c (owned s owner)
+  pub holds : (want : Wanted) (s : Slots) → Has want s first → HoldsOf s owner c
 
 pub Walking-begins : {S : Type 0} (Has : Wanted → Slots → S → Type 0) (Leads : ℕ → S → S → Type 0) (owner : ℕ) (a : S) (c : View) → c ≡ nothing → Leads 0 a a
     → ((want : Wanted) (s : Slots) (b : S) → Has want s b → AreWhole s) → ((want : Wanted) (s : Slots) (b : S) → Has want s b → (n : ℕ) → 65536 ≤ n → (s n).0 ≡ 0) → Walking Has Leads owner a a c
@@ -26,7 +27,7 @@ Walking-begins Has Leads owner a c new stays whole few = record {
   clean = subst IsClean (sym new) IsClean-nothing;
   leads = stays;
   has = λ want s has. has;
-  part = λ want s has. subst (λ (v : View). HoldsPart v (owned s owner)) (sym new) (HoldsPart-nothing (owned s owner) (ArePages-few s owner (whole want s a has) (few want s a has)));
+  holds = λ want s has. subst (HoldsOf s owner) (sym new) (HoldsOf-nothing s owner (ArePages-few s owner (whole want s a has) (few want s a has)));
 }
 
 -- once a question is answered
@@ -38,14 +39,14 @@ Walking-on Has Leads owner first now new c walked d goes_on before given answere
       clean = answered.clean (subst IsClean (sym back) before.clean);
       leads = goes_on 0 0 first now new before.leads leads;
       has = λ want s has. same want s (before.has want s has);
-      part = λ want s has. answered.part want s (before.has want s has) (subst (λ (v : View). HoldsPart v (owned s owner)) (sym back) (before.part want s has));
+      holds = λ want s has. answered.holds want s (before.has want s has) (subst (HoldsOf s owner) (sym back) (before.holds want s has));
     }
 
 -- once a walk has come to its end
 pub HoldsPart-ended : {S : Type 0} (Has : Wanted → Slots → S → Type 0) (Leads : ℕ → S → S → Type 0) (owner : ℕ) (first now : S) (c walked d : View) → Walking Has Leads owner first now c → dropped walked ≡ dropped c → d ≡ walked
     → (want : Wanted) (s : Slots) → Has want s first → HoldsPart d (owned s owner)
 HoldsPart-ended Has Leads owner first now c walked d before given same want s has =
-    subst (λ (v : View). HoldsPart v (owned s owner)) (sym same) (HoldsPart-from_dropped walked c (owned s owner) (given ∙ before.clean.unchanged) (before.part want s has))
+    subst (λ (v : View). HoldsPart v (owned s owner)) (sym same) (HoldsPart-from_dropped walked c (owned s owner) (given ∙ before.clean.unchanged) (before.holds want s has).part)
 
 -- ---- a turn
 pub Turned-ended : {S T : Type 0} (Has : Wanted → Slots → S → Type 0) (owner : ℕ) (old new : S) (c d : View) (w : Walk T) (o : Option T) (end : T) → o ≡ Some end → Turned Has owner old new c d w o → HasEnded old new c d w end

@@ -1,19 +1,19 @@
 -- What becomes of a walk in one turn.
 use Rattle.std.specs.Prelude.{◌≡◌, ℕ, ◌<◌, Option, Some, None}
-use Rattle.sb_ctx.specs.View.{View, dropped, HoldsPart, IsClean}
+use Rattle.sb_ctx.specs.View.{View, dropped, IsClean}
 use Rattle.sb_btree.specs.declared.walk.Walk.{Walk}
 use Rattle.sb_btree.specs.declared.walk.Walk.TheVariants.{Ready, Fresh, Broken}
 use Rattle.sb_drive.specs.declared.space.SpaceFault.{SpaceFault}
 use Rattle.sb_drive.specs.declared.space.SpaceFault.TheVariants.{DataFull, TempFull, LogFull, GatesFull, Damaged}
-use Rattle.sb_drive.specs.Slots.{Slots, owned}
-use Rattle.sb_drive.specs.Spaces.{Wanted}
+use Rattle.sb_drive.specs.Slots.{Slots}
+use Rattle.sb_drive.specs.Spaces.{HoldsOf, Wanted}
 use Rattle.sb_drive.proofs.MeasureLemmas.{to_ask}
 
--- A question is answered: less may be asked for than before, and what is held is still a part of the owner's pages.
+-- A question is answered: less may be asked for than before, and what is held is still a part of the owner's pages, with fresh ones that are nobody's.
 pub record IsAnswered {S : Type 0} (Has : Wanted → Slots → S → Type 0) (owner : ℕ) (old : S) (c d : View) : Type 0 where
   pub less : to_ask d < to_ask (dropped c)
   pub clean : IsClean (dropped c) → IsClean d
-  pub part : (want : Wanted) (s : Slots) → Has want s old → HoldsPart (dropped c) (owned s owner) → HoldsPart d (owned s owner)
+  pub holds : (want : Wanted) (s : Slots) → Has want s old → HoldsOf s owner (dropped c) → HoldsOf s owner d
 
 -- the walk has come to its end, and nothing is changed
 pub record HasEnded {S T : Type 0} (old new : S) (c d : View) (walk : Walk T) (end : T) : Type 0 where

@@ -1,15 +1,17 @@
 //! Changes: another value for a key, or none.
 
-ghost use Rattle.std.specs.Prelude.{◌≡◌, ◌+◌, ◌≤◌, length, IfErr, IfOk, IfSome, OnOk, Some, false, option_map};
+ghost use Rattle.std.specs.Prelude.{◌≡◌, ◌+◌, ◌*◌, ◌≤◌, length, IfErr, IfOk, IfSome, OnOk, Some, false, option_map};
 ghost use Rattle.std.specs.FinMap.Entries.{put};
 ghost use Rattle.sb_btree.specs.Broken.{breaks};
 ghost use Rattle.sb_btree.specs.Inserts.{MayAsk, OverTrees};
+ghost use Rattle.sb_btree.specs.Spending.{AsksWithin};
 ghost use Rattle.sb_btree.specs.Walks.{Breaks};
-ghost use Rattle.sb_ctx.specs.View.{HoldsPart, dropped, edits_of, page_of};
-ghost use Rattle.sb_drive.specs.Slots.{Slots};
-ghost use Rattle.sb_drive.specs.Spaces.{IsFullFor, Wanted};
+ghost use Rattle.sb_ctx.specs.View.{HoldsPart, dropped, edits_of, page_of, stored};
+ghost use Rattle.sb_forms.specs.TreePages.{tree_met};
+ghost use Rattle.sb_drive.specs.Slots.{Slots, owned};
+ghost use Rattle.sb_drive.specs.Spaces.{IsFullFor, Wanted, WhereFull};
 ghost use Rattle.sb_fold.specs.Costs.{tree_cost};
-ghost use Rattle.sb_map.specs.Calls.{Looks, Works};
+ghost use Rattle.sb_map.specs.Calls.{IsWithin, Looks, Works};
 ghost use Rattle.sb_map.specs.Changes.{IsMade, IsSmall, Makes, RemovesKey, changed, is_change};
 ghost use Rattle.sb_map.specs.Maps.{Becomes, OverMap, OverPages, OverTree};
 ghost use Rattle.sb_map.specs.Refusals.{HasCause, IsUndamaged};
@@ -107,7 +109,7 @@ fn make_change<S: PageSpace>(
         (λ P es. IsMade key.now (option_map (λ value. value.now) value.entry) place.root P es made.0 made.1)) }
     ensures damaged { IfErr result (λ e. OverPages S.has place space.old (λ P. HasCause place.root P e)) }
     ensures full { IfErr result (λ e. (want : Wanted) (s : Slots) → S.has want s space.old
-        → IsFullFor S.leads S.durable S.total space.old s e) }
+        → WhereFull e (IsFullFor S.leads S.durable S.total place.owner (IsWithin place.root (owned s place.owner)) space.old s e)) }
     ensures looks { Looks S.has S.leads S.fails space.old space.new result }
     ensures ready { S.is_ready space.new }
 {
@@ -137,6 +139,7 @@ fn change_walk(
     ensures makes { OverTrees ctx.old root
         (λ P es. Makes key.now (option_map (λ value. value.now) value.entry) root P es ctx.new result) }
     ensures edits { OverTrees ctx.old root (λ P es. edits_of ctx.new ≤ edits_of ctx.old + tree_cost (length es)) }
+    ensures room { OverTrees ctx.old root (λ P es. AsksWithin (2 * length es) (length (tree_met root (stored ctx.old P))) ctx.old ctx.new result) }
 {
     match value {
         Some(value) => put_walk(alloc, ctx, root, key, value),
@@ -153,6 +156,7 @@ fn put_walk(alloc: Global, ctx: &mut Ctx, root: u32, key: &[u8], value: &[u8]) -
     ensures broken { Breaks (breaks root (page_of ctx.old)) result }
     ensures makes { OverTrees ctx.old root (λ P es. Makes key.now (Some value.now) root P es ctx.new result) }
     ensures edits { OverTrees ctx.old root (λ P es. edits_of ctx.new ≤ edits_of ctx.old + tree_cost (length es)) }
+    ensures room { OverTrees ctx.old root (λ P es. AsksWithin (2 * length es) (length (tree_met root (stored ctx.old P))) ctx.old ctx.new result) }
 {
     match insert(alloc, ctx, root, key, value) {
         Walk::Ready(false) => {

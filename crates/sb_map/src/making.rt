@@ -2,9 +2,9 @@
 
 ghost use Rattle.std.specs.Prelude.{◌≤◌, IfErr, IfOk, OnOk};
 ghost use Rattle.sb_ctx.specs.View.{HoldsPart, edits_of};
-ghost use Rattle.sb_drive.specs.Slots.{Slots};
-ghost use Rattle.sb_drive.specs.Spaces.{IsFullFor, LeadsWithin, Wanted};
-ghost use Rattle.sb_map.specs.Calls.{Looks, Works};
+ghost use Rattle.sb_drive.specs.Slots.{Slots, owned};
+ghost use Rattle.sb_drive.specs.Spaces.{IsFullFor, LeadsWithin, Wanted, WhereFull};
+ghost use Rattle.sb_map.specs.Calls.{IsWithin, Looks, Works};
 ghost use Rattle.sb_map.specs.Making.{Begins, IsNew, MakesEmpty};
 ghost use Rattle.sb_map.specs.Maps.{OverPages};
 ghost use Rattle.sb_map.specs.Refusals.{HasCause, IsUndamaged};
@@ -43,7 +43,7 @@ fn make_root<S: PageSpace>(space: &mut S, alloc: Global, place: Place) -> Result
     ensures damaged { IfErr result (λ e. OverPages S.has place space.old (λ P. HasCause place.root P e)) }
     ensures whole { IfErr result (λ e. OverPages S.has place space.old (λ P. IsNew place.root P → IsUndamaged e)) }
     ensures full { IfErr result (λ e. (want : Wanted) (s : Slots) → S.has want s space.old
-        → IsFullFor S.leads S.durable S.total space.old s e) }
+        → WhereFull e (IsFullFor S.leads S.durable S.total place.owner (IsWithin place.root (owned s place.owner)) space.old s e)) }
     ensures looks { Looks S.has S.leads S.fails space.old space.new result }
     ensures ready { S.is_ready space.new }
 {

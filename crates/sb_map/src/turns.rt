@@ -3,7 +3,9 @@
 ghost use Rattle.std.specs.Prelude.{IfOk, IfErr};
 ghost use Rattle.sb_btree.specs.Inserts.{MayAsk};
 ghost use Rattle.sb_drive.specs.Slots.{Slots};
-ghost use Rattle.sb_drive.specs.Spaces.{IsFullFor, Wanted};
+ghost use Rattle.sb_ctx.specs.View.{dropped};
+ghost use Rattle.sb_drive.specs.Spaces.{IsFull, Wanted};
+ghost use Rattle.sb_drive.specs.declared.turns.Ask.TheVariants as ask;
 ghost use Rattle.sb_map.specs.Calls.{Looks};
 ghost use Rattle.sb_map.specs.Turns.{StopsBy, Turned};
 
@@ -24,7 +26,7 @@ pub fn turn<S: PageSpace, T>(
     ensures looks { Looks S.has S.leads S.fails space.old space.new result }
     ensures stops { IfErr result (StopsBy walk) }
     ensures full { IfErr result (λ e. (want : Wanted) (s : Slots) → S.has want s space.old
-        → IsFullFor S.leads S.durable S.total space.old s e) }
+        → IsFull (S.durable space.old) (S.total space.old) s (dropped ctx.old) ask.Fresh e) }
     ensures ready { S.is_ready space.new }
 {
     match walk {

@@ -1,5 +1,5 @@
 -- Calls of live boxes over a space.
-use Rattle.std.proofs.Common.{◌≡◌, Result, Ok, Err, IfErr, Some, sym, subst, ◌∙◌, true≢false}
+use Rattle.std.proofs.Common.{◌≡◌, ℕ, Bool, Result, Ok, Err, IfErr, Some, sym, subst, ◌∙◌, true≢false}
 use Rattle.sb_relation.specs.Content.{Content}
 use Rattle.sb_relation.specs.Db.{Rows}
 use Rattle.sb_forms.specs.Pages.{Pages}
@@ -9,20 +9,21 @@ use Rattle.sb_ctx.specs.declared.calls.MethodCall.TheVariants as calls
 use Rattle.sb_ctx.specs.declared.calls.AttachCall.{AttachCall}
 use Rattle.sb_ctx.specs.declared.calls.AttachCall.TheVariants as attach
 use Rattle.sb_ctx.specs.declared.moves.Move.{Move}
+use Rattle.sb_ctx.specs.View.{View}
 use Rattle.sb_ctx.specs.Method.{Method}
 use Rattle.sb_ctx.specs.MethodAnswers.{Before}
 use Rattle.sb_ctx.specs.Attachment.{Attachment}
 use Rattle.sb_ctx.specs.AttachAnswers.{Holds}
 use Rattle.sb_ctx.specs.Laws.{IsMethod, IsAttachment}
 use Rattle.sb_drive.specs.declared.space.SpaceFault.{SpaceFault}
-use Rattle.sb_drive.specs.declared.space.SpaceFault.TheVariants.{Damaged}
+use Rattle.sb_drive.specs.declared.space.SpaceFault.TheVariants.{DataFull, TempFull, Damaged}
 use Rattle.sb_drive.specs.AttachCalls.{Fits, HasSpaceCause as HasSpaceCauseFor}
 use Rattle.sb_drive.specs.MethodCalls.{HasSpaceCause}
 use Rattle.sb_drive.specs.Slots.{Slots, owned}
-use Rattle.sb_drive.specs.Spaces.{Wanted}
+use Rattle.sb_drive.specs.Spaces.{IsFullFor, Wanted, WhereFull}
 use Rattle.sb_registry.specs.Boxes.{Meanings, attachment_of}
 use Rattle.sb_registry.specs.Live.{IsLiveRule}
-use Rattle.sb_registry.specs.Runs.{IsNewFor, IsSound}
+use Rattle.sb_registry.specs.Runs.{IsNewFor, IsSound, WasFull}
 
 -- ---- no page is called damaged
 -- over pages with rows, or of a new instance that is prepared
@@ -58,6 +59,19 @@ pub sound-new : {S : Type 0} (Has : Wanted → Slots → S → Type 0) (a : Atta
     → IfErr result (λ e. (want : Wanted) (s : Slots) → Has want s old → IsNewFor a inst call (owned s inst.owner) → IsSound e)
 sound-new Has a inst call old (Ok move) cause = tt
 sound-new Has a inst call old (Err e) cause = λ want s has new. IsSound-new a inst call (owned s inst.owner) e new (cause want s has)
+
+-- ---- no page is left
+WasFull-from : {S : Type 0} (Leads : ℕ → S → S → Type 0) (Durable : S → Bool) (Total : S → ℕ) (owner : ℕ) (IsWithin : View → Type 0) (old : S) (s : Slots) (e : SpaceFault) → Leads 0 old old
+    → WhereFull e (IsFullFor Leads Durable Total owner IsWithin old s e) → WasFull Leads Durable Total old e
+WasFull-from Leads Durable Total owner IsWithin old s (DataFull used of) stays at = record { space = at.space; leads = at.leads; full = (at.full.0, at.full.1.total_is, at.full.1.all) }
+WasFull-from Leads Durable Total owner IsWithin old s (TempFull used of) stays at = record { space = at.space; leads = at.leads; full = (at.full.0, at.full.1.total_is, at.full.1.all) }
+WasFull-from Leads Durable Total owner IsWithin old s e stays at = record { space = old; leads = stays; full = tt }
+
+pub WasFull-each : {S : Type 0} (Has : Wanted → Slots → S → Type 0) (Leads : ℕ → S → S → Type 0) (Durable : S → Bool) (Total : S → ℕ) (owner : ℕ) (IsWithin : Slots → View → Type 0) (old : S) (result : Result Move SpaceFault)
+    → Leads 0 old old → IfErr result (λ e. (want : Wanted) (s : Slots) → Has want s old → WhereFull e (IsFullFor Leads Durable Total owner (IsWithin s) old s e))
+    → IfErr result (λ e. (want : Wanted) (s : Slots) → Has want s old → WasFull Leads Durable Total old e)
+WasFull-each Has Leads Durable Total owner IsWithin old (Ok move) stays full = tt
+WasFull-each Has Leads Durable Total owner IsWithin old (Err e) stays full = λ want s has. WasFull-from Leads Durable Total owner (IsWithin s) old s e stays (full want s has)
 
 -- ---- the live attachment of a code is the one that is found
 pub Fits-live : (m : Meanings) (inst : Instance) (call : AttachCall) (a : Attachment) → Some a ≡ attachment_of inst.code m.attachments → IsLiveRule m inst

@@ -7,11 +7,11 @@ ghost use Rattle.sb_ctx.specs.AttachAnswers.{MayEnd as MayEndFor};
 ghost use Rattle.sb_ctx.specs.Laws.{IsMethod, IsAttachment};
 ghost use Rattle.sb_ctx.specs.Method.{Method, IsInstance};
 ghost use Rattle.sb_ctx.specs.MethodAnswers.{MayEnd};
-ghost use Rattle.sb_ctx.specs.View.{HoldsPart, IsClean};
+ghost use Rattle.sb_ctx.specs.View.{IsClean};
 ghost use Rattle.sb_drive.specs.AttachCalls.{Fits as FitsFor, IsReading as IsReadingFor};
 ghost use Rattle.sb_drive.specs.MethodCalls.{Fits, IsReading};
-ghost use Rattle.sb_drive.specs.Slots.{Slots, owned};
-ghost use Rattle.sb_drive.specs.Spaces.{Wanted};
+ghost use Rattle.sb_drive.specs.Slots.{Slots};
+ghost use Rattle.sb_drive.specs.Spaces.{HoldsOf, Wanted};
 ghost use Rattle.sb_drive.specs.Turns.{IsEnd};
 ghost use Rattle.sb_registry.specs.Boxes.{attachment_of, method_of};
 ghost use Rattle.sb_registry.specs.Live.{IsLive, IsLiveRule, MayAsk};
@@ -73,7 +73,7 @@ pub trait Boxes {
         requires fits { MayAsk inst.now call.now }
 
         ensures runs { (live : IsLive (meanings self.now) inst.now)
-            → Runs S.has S.leads live.box inst.now call.now space.old space.new result }
+            → Runs S.has S.leads S.durable S.total live.box inst.now call.now space.old space.new result }
         ensures may { IfOk result (MayEnd inst.now call.now) }
         ensures ends { IfOk result IsEnd }
         ensures works { Works S.has S.leads S.fails S.durable S.total inst.now.owner space.old space.new result }
@@ -94,10 +94,10 @@ pub trait Boxes {
         requires live { IsLiveRule (meanings self.now) inst.now }
         requires fits { (live : IsLiveRule (meanings self.now) inst.now) → FitsFor live.box inst.now call.now }
         requires clean { IsClean ctx.old }
-        requires part { (want : Wanted) (s : Slots) → S.has want s space.old → HoldsPart ctx.old (owned s inst.now.owner) }
+        requires holds { (want : Wanted) (s : Slots) → S.has want s space.old → HoldsOf s inst.now.owner ctx.old }
 
         ensures runs { (live : IsLiveRule (meanings self.now) inst.now)
-            → RunsRule S.has S.leads live.box inst.now call.now ctx.old ctx.new space.old space.new result }
+            → RunsRule S.has S.leads S.durable S.total live.box inst.now call.now ctx.old ctx.new space.old space.new result }
         ensures may { IfOk result (MayEndFor call.now) }
         ensures ends { IfOk result IsEnd }
         ensures found { ctx.new.found ≡ ctx.old.found }
@@ -237,7 +237,7 @@ fn call_method<S: PageSpace>(
     requires inst { IsInstance (method boxed.now) inst.now }
     requires fits { Fits (method boxed.now) inst.now call.now }
 
-    ensures runs { Runs S.has S.leads (method boxed.now) inst.now call.now space.old space.new result }
+    ensures runs { Runs S.has S.leads S.durable S.total (method boxed.now) inst.now call.now space.old space.new result }
     ensures may { IfOk result (MayEnd inst.now call.now) }
     ensures ends { IfOk result IsEnd }
     ensures works { Works S.has S.leads S.fails S.durable S.total inst.now.owner space.old space.new result }
@@ -261,9 +261,9 @@ fn call_attachment<S: PageSpace>(
     requires inst { IsAttached (attachment boxed.now) inst.now }
     requires fits { FitsFor (attachment boxed.now) inst.now call.now }
     requires clean { IsClean ctx.old }
-    requires part { (want : Wanted) (s : Slots) → S.has want s space.old → HoldsPart ctx.old (owned s inst.now.owner) }
+    requires holds { (want : Wanted) (s : Slots) → S.has want s space.old → HoldsOf s inst.now.owner ctx.old }
 
-    ensures runs { RunsRule S.has S.leads (attachment boxed.now) inst.now call.now ctx.old ctx.new space.old space.new result }
+    ensures runs { RunsRule S.has S.leads S.durable S.total (attachment boxed.now) inst.now call.now ctx.old ctx.new space.old space.new result }
     ensures may { IfOk result (MayEndFor call.now) }
     ensures ends { IfOk result IsEnd }
     ensures found { ctx.new.found ≡ ctx.old.found }

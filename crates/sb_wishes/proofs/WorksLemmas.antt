@@ -1,15 +1,12 @@
 -- What a changing call leaves of a space, behind reading ones and where it isn't made.
 use Rattle.std.proofs.Common.{◌≡◌, ℕ, ◌+◌, Bool, Result, Ok, Err, IfErr, inl, inr, refl}
 use Rattle.std.specs.Result.{IsErrAnd}
-use Rattle.sb_ctx.specs.View.{nothing}
 use Rattle.sb_drive.specs.declared.space.SpaceFault.{SpaceFault}
 use Rattle.sb_drive.specs.declared.space.SpaceFault.TheVariants.{Fault, DataFull, TempFull, Damaged, Down, NoMemory}
-use Rattle.sb_ctx.specs.View.{View}
 use Rattle.sb_drive.specs.Slots.{Slots}
-use Rattle.sb_drive.specs.Spaces.{IsFull, IsFullFor, IsReadFault, IsRefused, Leaves, UnlessDown, Wanted}
-use Rattle.sb_drive.specs.declared.turns.Ask.TheVariants.{Fresh}
+use Rattle.sb_drive.specs.Spaces.{IsReadFault, IsRefused, Leaves, UnlessDown, Wanted}
 use Rattle.sb_drive.proofs.SpacesLemmas.{GoesOn, UnlessDown-passed}
-use Rattle.sb_registry.specs.Runs.{Looks, Works}
+use Rattle.sb_registry.specs.Runs.{IsFullOf, Looks, WasFull, Works}
 use Rattle.sb_rows.proofs.CallsLemmas.{FailsOn, Works-passed}
 
 -- the same pages leave those of all other owners
@@ -25,10 +22,10 @@ pub Works-same : {S T : Type 0} (Has : Wanted → Slots → S → Type 0) (Ways 
 Works-same Has Ways Fails Durable Total owner old new x ways same = record { others = Leaves-same Has owner old new same; leads = (0, ways); full = tt; refused = tt }
 
 -- a reading call was refused
-not_full : (durable : Bool) (total : ℕ) (s : Slots) (c : View) (e : SpaceFault) → IsReadFault e → IsFull durable total s c Fresh e
-not_full durable total s c (DataFull used of) is = absurd is
-not_full durable total s c (TempFull used of) is = absurd is
-not_full durable total s c e is = tt
+not_full : (durable : Bool) (total : ℕ) (e : SpaceFault) → IsReadFault e → IsFullOf durable total e
+not_full durable total (DataFull used of) is = absurd is
+not_full durable total (TempFull used of) is = absurd is
+not_full durable total e is = tt
 
 looked : {S T : Type 0} (Has : Wanted → Slots → S → Type 0) (Ways : ℕ → S → S → Type 0) (Fails : SpaceFault → S → S → Type 0) (Durable : S → Bool) (Total : S → ℕ) (owner : ℕ)
     (old new : S) (e : SpaceFault) → Ways 0 old old → Looks {T = T} Has Ways Fails old new (Err e) → Works {T = T} Has Ways Fails Durable Total owner old new (Err e)
@@ -36,7 +33,7 @@ looked {S} {T} Has Ways Fails Durable Total owner old new e stays looks = record
   others = UnlessDown-passed T T (Err e) e (KeepsAll Has old new) ((want : Wanted) (s : Slots) → Has want s old → Leaves Has owner want s new (λ after. Unit {0})) refl
       (λ same. Leaves-same Has owner old new same) looks.same;
   leads = (0, looks.leads);
-  full = λ want s has. record { space = old; ctx = nothing; leads = stays; full = not_full (Durable old) (Total old) s nothing e looks.fault };
+  full = λ want s has. record { space = old; leads = stays; full = not_full (Durable old) (Total old) e looks.fault };
   refused = looks.refused;
 }
 
@@ -73,9 +70,9 @@ Works-later {S} {T} Has Ways Fails Durable Total owner a b c r goes_on fails_on 
     others (Err Down) left = tt
     others (Err e) left = λ want s there. left want s (has want s there)
 
-    full : (r : Result T SpaceFault) → IfErr r (λ e. (want : Wanted) (s : Slots) → Has want s b → IsFullFor Ways Durable Total b s e) → IfErr r (λ e. (want : Wanted) (s : Slots) → Has want s a → IsFullFor Ways Durable Total a s e)
+    full : (r : Result T SpaceFault) → IfErr r (λ e. (want : Wanted) (s : Slots) → Has want s b → WasFull Ways Durable Total b e) → IfErr r (λ e. (want : Wanted) (s : Slots) → Has want s a → WasFull Ways Durable Total a e)
     full (Ok x) is = tt
-    full (Err e) is = λ want s there. let at = is want s (has want s there) in record { space = at.space; ctx = at.ctx; leads = goes_on 0 0 a b at.space first at.leads; full = at.full }
+    full (Err e) is = λ want s there. let at = is want s (has want s there) in record { space = at.space; leads = goes_on 0 0 a b at.space first at.leads; full = at.full }
 
     refused : (r : Result T SpaceFault) → IfErr r (λ e. IsRefused (Ways 0 b c) (Fails e b c) e) → IfErr r (λ e. IsRefused (Ways 0 a c) (Fails e a c) e)
     refused (Ok x) is = tt

@@ -10,7 +10,7 @@ use Rattle.sb_rows.proofs.CallsLemmas.{Looks-later, Looks-no_memory, Looks-passe
 use Rattle.sb_standing.specs.Tables.{db_of}
 use Rattle.sb_asking.specs.declared.calls.Answer.{Answer}
 use Rattle.sb_asking.specs.Calls.{IsAsked, knowing}
-use Rattle.sb_asking.proofs.CallsLemmas.{AreKeys, All-pushed, HoldsPart-known, IsAsked-known, IsClean-known, IsLast-end, IsOver, Works-later, Works-looked, Works-no_memory, few-known, fewer-left}
+use Rattle.sb_asking.proofs.CallsLemmas.{AreKeys, All-pushed, HoldsOf-known, IsAsked-known, IsClean-known, IsLast-end, IsOver, Works-later, Works-looked, Works-no_memory, few-known, fewer-left}
 use Rattle.sb_asking.proofs.calls.ask.Goals as goal
 
 -- ---- no memory for the Ctx
@@ -24,9 +24,9 @@ returns-in_err-ctx-clause-works g c =
 pub run_attachment-requires-clause-clean : goal.run_attachment-requires-clause-clean
 run_attachment-requires-clause-clean g c = IsClean-known c.finds.answers.items c.in_ok-ctx.ctx (c.in_ok-ctx.ensures ∙ ap knowing c.deref.ensures.value) c.finds.invariant.keys
 
-pub run_attachment-requires-clause-part : goal.run_attachment-requires-clause-part
-run_attachment-requires-clause-part g c = λ want s has.
-    HoldsPart-known c.finds.answers.items c.in_ok-ctx.ctx s c.args.inst.now.owner (c.in_ok-ctx.ensures ∙ ap knowing c.deref.ensures.value)
+pub run_attachment-requires-clause-holds : goal.run_attachment-requires-clause-holds
+run_attachment-requires-clause-holds g c = λ want s has.
+    HoldsOf-known c.finds.answers.items c.in_ok-ctx.ctx s c.args.inst.now.owner (c.in_ok-ctx.ensures ∙ ap knowing c.deref.ensures.value)
     (g.met.S.PageSpace.whole want s c.finds.space has) (g.met.S.PageSpace.few want s c.finds.space has)
 
 pub returns-in_err-made-clause-works : goal.returns-in_err-made-clause-works

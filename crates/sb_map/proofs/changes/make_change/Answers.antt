@@ -40,8 +40,9 @@ returns-in-Some-clause-part g c =
 
 pub returns-in_err-done-clause-full : goal.returns-in_err-done-clause-full
 returns-in_err-done-clause-full g c =
-    full g.S.PageSpace.has g.S.PageSpace.leads g.S.PageSpace.durable g.S.PageSpace.total c.args.place.owner c.args.space.now c.loop-ctx.space c.loop-ctx.ctx c.from_residual.result c.in_err-done.field-0.0
-    g.met.S.PageSpace.goes_on c.loop-ctx.invariant.walking c.from_residual.ensures.1 c.in_err-done.ensures.full
+    let walk = c.change_walk-walk.ensures in
+    full g.S.PageSpace.has g.S.PageSpace.leads g.S.PageSpace.durable g.S.PageSpace.total c.args.place c.args.space.now c.loop-ctx.space c.loop-ctx.ctx c.change_walk-walk.new.ctx c.change_walk-walk.result c.from_residual.result
+    c.in_err-done.field-0.0 c.loop-ctx.invariant.walking c.is_ctx.ensures.sound walk.given walk.asks walk.room c.from_residual.ensures.1 c.in_err-done.ensures.stops c.in_err-done.ensures.full
 
 pub returns-in-Some-clause-made : goal.returns-in-Some-clause-made
 returns-in-Some-clause-made g c = λ want s has es read.
@@ -51,4 +52,4 @@ returns-in-Some-clause-made g c = λ want s has es read.
     let P = owned s c.args.place.owner in
     let value = option_map (λ (value : Bor (List ℕ)). value.now) c.args.value in
     subst (λ (v : View). IsMade c.args.key.now value c.args.place.root P es v c.in-Some.done) (sym ended.ctx)
-    (IsMade-ended c.args.key.now value c.args.place.root P es c.loop-ctx.ctx c.change_walk-walk.new.ctx c.change_walk-walk.result c.in-Some.done c.is_ctx.ensures.sound walking.clean.unchanged (walking.part want s has) walk.makes walk.edits ended.is read)
+    (IsMade-ended c.args.key.now value c.args.place.root P es c.loop-ctx.ctx c.change_walk-walk.new.ctx c.change_walk-walk.result c.in-Some.done c.is_ctx.ensures.sound walking.clean.unchanged (walking.holds want s has).part walk.makes walk.edits ended.is read)

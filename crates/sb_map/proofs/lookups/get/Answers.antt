@@ -41,4 +41,4 @@ pub returns-in-Some-clause-value : goal.returns-in-Some-clause-value
 returns-in-Some-clause-value g c = λ want s has es read.
     let ended = Turned-ended g.S.PageSpace.has c.args.place.owner c.loop-ctx.space c.turn.new.space c.loop-ctx.ctx c.turn.new.ctx c.find-walk.result c.in_ok-found.field-0 c.in-Some.found c.in-Some.is c.in_ok-found.ensures.turned in
     let walking = c.loop-ctx.invariant.walking in
-    c.value_in.ensures ∙ got c.args.place.root (owned s c.args.place.owner) c.loop-ctx.ctx c.args.key.now es c.find-walk.result c.in-Some.found walking.clean.unchanged (walking.part want s has) c.find-walk.ensures.gives ended.is read
+    c.value_in.ensures ∙ got c.args.place.root (owned s c.args.place.owner) c.loop-ctx.ctx c.args.key.now es c.find-walk.result c.in-Some.found walking.clean.unchanged (walking.holds want s has).part c.find-walk.ensures.gives ended.is read

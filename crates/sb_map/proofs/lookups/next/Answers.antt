@@ -41,4 +41,4 @@ pub returns-in-Some-clause-entry : goal.returns-in-Some-clause-entry
 returns-in-Some-clause-entry g c = λ want s has es read.
     let ended = Turned-ended g.S.PageSpace.has c.args.place.owner c.loop-ctx.space c.turn.new.space c.loop-ctx.ctx c.turn.new.ctx c.next-walk.result c.in_ok-found.field-0 c.in-Some.found c.in-Some.is c.in_ok-found.ensures.turned in
     let walking = c.loop-ctx.invariant.walking in
-    c.pair_in.ensures ∙ stepped c.args.place.root (owned s c.args.place.owner) c.loop-ctx.ctx (option_map (λ (key : Bor (List ℕ)). key.now) c.args.after) es c.next-walk.result c.in-Some.found walking.clean.unchanged (walking.part want s has) c.next-walk.ensures.gives ended.is read
+    c.pair_in.ensures ∙ stepped c.args.place.root (owned s c.args.place.owner) c.loop-ctx.ctx (option_map (λ (key : Bor (List ℕ)). key.now) c.args.after) es c.next-walk.result c.in-Some.found walking.clean.unchanged (walking.holds want s has).part c.next-walk.ensures.gives ended.is read
