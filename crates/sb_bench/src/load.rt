@@ -2,7 +2,7 @@
 
 ghost use Rattle.std.specs.Prelude.{OnOk};
 ghost use Rattle.sb_txn.specs.Clauses.{parts};
-ghost use Rattle.sb_bench.specs.Load.{IsIdle, IsBusy};
+ghost use Rattle.sb_bench.specs.Load.{IsAtRest, IsBusy};
 
 use sb_disk::Disk;
 use sb_txn::{Store, StoreFault, Tx};
@@ -39,7 +39,7 @@ fn change_all<D: Disk>(
     Ok(())
 }
 
-/// Commits what was done, or takes it out again.
+/// Commits what was done, or undoes it.
 fn finish<D: Disk>(
     store: &mut Store,
     disk: &mut D,
@@ -47,7 +47,7 @@ fn finish<D: Disk>(
     done: Result<(), StoreFault>,
 ) -> Result<(), StoreFault>
     requires { IsBusy tx.number (parts D.told D.len disk.old store.old) }
-    ensures { OnOk result (IsIdle (parts D.told D.len disk.new store.new)) }
+    ensures { OnOk result (IsAtRest (parts D.told D.len disk.new store.new)) }
 {
     if let Err(fault) = done {
         let _ended = store.abort(disk, tx).is_ok();
@@ -64,8 +64,8 @@ fn commit_changes<D: Disk>(
     from: u32,
     to: u32,
 ) -> Result<(), StoreFault>
-    requires { IsIdle (parts D.told D.len disk.old store.old) }
-    ensures { OnOk result (IsIdle (parts D.told D.len disk.new store.new)) }
+    requires { IsAtRest (parts D.told D.len disk.old store.old) }
+    ensures { OnOk result (IsAtRest (parts D.told D.len disk.new store.new)) }
 {
     let tx = store.begin(disk)?;
     let done = change_all(store, disk, &tx, from, to);
@@ -74,8 +74,8 @@ fn commit_changes<D: Disk>(
 
 /// Commits each of 1,000 changes by itself.
 pub fn commit_each<D: Disk>(store: &mut Store, disk: &mut D) -> Result<(), StoreFault>
-    requires { IsIdle (parts D.told D.len disk.old store.old) }
-    ensures { OnOk result (IsIdle (parts D.told D.len disk.new store.new)) }
+    requires { IsAtRest (parts D.told D.len disk.old store.old) }
+    ensures { OnOk result (IsAtRest (parts D.told D.len disk.new store.new)) }
 {
     for number in 0..CHANGES {
         commit_changes(store, disk, number, number + 1)?;
@@ -85,16 +85,16 @@ pub fn commit_each<D: Disk>(store: &mut Store, disk: &mut D) -> Result<(), Store
 
 /// Takes a checkpoint.
 pub fn checkpoint<D: Disk>(store: &mut Store, disk: &mut D) -> Result<(), StoreFault>
-    requires { IsIdle (parts D.told D.len disk.old store.old) }
-    ensures { OnOk result (IsIdle (parts D.told D.len disk.new store.new)) }
+    requires { IsAtRest (parts D.told D.len disk.old store.old) }
+    ensures { OnOk result (IsAtRest (parts D.told D.len disk.new store.new)) }
 {
     store.checkpoint(disk)
 }
 
 /// Commits 1,000 changes together.
 pub fn commit_all<D: Disk>(store: &mut Store, disk: &mut D) -> Result<(), StoreFault>
-    requires { IsIdle (parts D.told D.len disk.old store.old) }
-    ensures { OnOk result (IsIdle (parts D.told D.len disk.new store.new)) }
+    requires { IsAtRest (parts D.told D.len disk.old store.old) }
+    ensures { OnOk result (IsAtRest (parts D.told D.len disk.new store.new)) }
 {
     commit_changes(store, disk, 0, CHANGES)
 }

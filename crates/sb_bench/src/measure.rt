@@ -2,7 +2,7 @@
 
 ghost use Rattle.std.specs.Prelude.{IfSome};
 ghost use Rattle.sb_txn.specs.Clauses.{parts};
-ghost use Rattle.sb_bench.specs.Load.{IsIdle};
+ghost use Rattle.sb_bench.specs.Load.{IsAtRest};
 
 use crate::counted::{Cost, Counted};
 use crate::load::{PAGES, checkpoint, commit_all, commit_each};
@@ -28,7 +28,7 @@ pub struct Costs {
 
 /// Makes a store on the disk, and opens it.
 fn new_store<D: Disk>(alloc: Global, disk: &mut D) -> Option<Store>
-    ensures { IfSome result (λ store. IsIdle (parts D.told D.len disk.new store)) }
+    ensures { IfSome result (λ store. IsAtRest (parts D.told D.len disk.new store)) }
 {
     format(alloc, disk, PAGES, LOG).ok()?;
     let store = Store::open(alloc, disk, 8).ok()?;
@@ -40,7 +40,7 @@ fn new_store<D: Disk>(alloc: Global, disk: &mut D) -> Option<Store>
 
 /// Runs the three loads, one after the other, and counts what each costs.
 fn run_loads<D: Disk + Drop>(store: &mut Store, disk: D) -> Result<Costs, StoreFault>
-    requires { IsIdle (parts D.told D.len disk store.old) }
+    requires { IsAtRest (parts D.told D.len disk store.old) }
 {
     let mut disk = Counted {
         disk,

@@ -1,8 +1,10 @@
 //! The outside of the kernel: the disk that it stands on, and what it reads from and writes to.
 #![tactic(auto)]
 
+mod bytes;
 mod disk;
 mod streams;
 
+pub use bytes::splice;
 pub use disk::Disk;
 pub use streams::{Failed, Sink, Source};

@@ -4,9 +4,17 @@ use Rattle.sb_bytes.specs.Field.{number_at}
 use Rattle.sb_disk.specs.Disk.{Range}
 use Rattle.sb_log.specs.declared.geometry.Geometry.{Geometry}
 
+-- where the gates of the chunks begin, behind the super page
+abbrev pub gates_start : ℕ
+gates_start = 4096
+
+-- where the log begins, behind the gates
+abbrev pub log_start : ℕ
+log_start = 69632
+
 -- the bytes that a store of so many pages takes of a disk, with a log of so many bytes
 abbrev pub need : ℕ → ℕ → ℕ
-need pages log = 69632 + log + 4096 * pages
+need pages log = log_start + log + 4096 * pages
 
 -- the sizes that a store may have
 pub record IsGeometry (g : Geometry) : Type 0 where
@@ -14,17 +22,21 @@ pub record IsGeometry (g : Geometry) : Type 0 where
   pub pages : (64 ≤ g.pages) × (g.pages ≤ 65536)
   pub log : (2097152 ≤ g.log) × (g.log ≤ 16777216)
 
+-- the sizes of a store of so many pages, with a log of so many bytes
+abbrev pub geometry_of : ℕ → ℕ → Geometry
+geometry_of pages log = record { pages = pages; log = log; version = 1 }
+
 -- the gates of the chunks
 abbrev pub gates_of : Geometry → Range
-gates_of g = record { start = 4096; len = 65536 }
+gates_of g = record { start = gates_start; len = 65536 }
 
 -- the region of the log, behind them
 abbrev pub log_of : Geometry → Range
-log_of g = record { start = 69632; len = g.log }
+log_of g = record { start = log_start; len = g.log }
 
 -- where page p begins, behind the log
 abbrev pub place_of : Geometry → ℕ → ℕ
-place_of g p = 69632 + g.log + 4096 * p
+place_of g p = log_start + g.log + 4096 * p
 
 -- page p of an image
 abbrev pub page_at : Geometry → ℕ → List ℕ → List ℕ

@@ -10,7 +10,7 @@ use Rattle.sb_log.specs.Standing.{keep, standing, own_changes}
 use Rattle.sb_log.specs.Restored.{over, counting, restored, imaged, IsCovered, AreHarmless}
 use Rattle.sb_log.specs.Views.{Active}
 use Rattle.sb_log.specs.Whole.{IsWhole}
-use Rattle.sb_images.specs.Layout.{gates_of, log_of, place_of, page_at, IsStoreOf}
+use Rattle.sb_images.specs.Layout.{gates_start, log_start, gates_of, log_of, place_of, page_at, IsStoreOf}
 use Rattle.sb_images.specs.Images.{Restores}
 
 -- The contents are a store of these sizes, whose super page isn't pending. A journal that hasn't failed stands in its regions.
@@ -126,4 +126,4 @@ AreChunks (Some s) j chunks = chunks ≡ chunks_of j s.now.reads
 -- no gate is open
 abbrev pub AreShut : Option Story → Geometry → Type 0
 AreShut None g = Unit {0}
-AreShut (Some s) g = (i : ℕ) → 4096 ≤ i → i < 69632 → ¬ IsOpen s.now.reads i
+AreShut (Some s) g = (i : ℕ) → gates_start ≤ i → i < log_start → ¬ IsOpen s.now.reads i

@@ -1,9 +1,14 @@
-//! The images of a store: what each of them restores, and what the steps of log and pages leave at their moments.
+//! The images of a store: where its parts stand, what each image restores, and what the steps of log and pages leave at their moments.
 #![tactic(auto)]
 
 mod laws;
+mod layout;
 
 pub use laws::{one_geometry, restores_one_way};
+pub use layout::{
+    GATES, GATES_START, LOG_START, MOST_PAGES, gate_region, is_geometry, log_region, need, place_of,
+};
+pub use sb_log::PAGE_LEN;
 
 #[cfg(test)]
 mod tests;

@@ -20,7 +20,7 @@ pub record IsDown {D T : Type 0} (old new : D) (j k : State) (result : Result T 
 
 -- What each call keeps: the disk's length, the two regions, that the state is sound and that the journal stands until a call fails. Its Fault means
 -- that the disk failed a call, now or earlier.
-pub record Keeps {D T : Type 0} (told : D → Option Story) (len faults : D → ℕ)
+pub record KeepsJournal {D T : Type 0} (told : D → Option Story) (len faults : D → ℕ)
     (old new : D) (j k : State) (result : Result T JournalFault) : Type 0 where
   pub size : len new ≡ len old
   pub later : faults old ≤ faults new

@@ -6,11 +6,12 @@ ghost use Rattle.sb_disk.specs.Disk.{WhereTold, wrote, FailedWrite};
 ghost use Rattle.sb_disk.specs.Moments.{LeavesOnly, LeavesTorn};
 ghost use Rattle.sb_journal.specs.Closing.{Zeroed};
 
+use crate::journal::MAX_GATES;
 use sb_disk::{Disk, Failed};
 
 /// Writes so many zeros at this place in one go, and syncs.
 pub(crate) fn zero<D: Disk>(disk: &mut D, at: u64, count: u64) -> Result<(), Failed>
-    requires few { count ≤ 65536 }
+    requires few { count ≤ MAX_GATES }
     requires len { at + count ≤ D.len disk.old }
 
     ensures zeroed { OnOk result (WhereTold (D.told disk.old) (D.told disk.new) (Zeroed at count)) }
@@ -27,13 +28,13 @@ pub(crate) fn zero<D: Disk>(disk: &mut D, at: u64, count: u64) -> Result<(), Fai
 
 // Writes so many zeros in one call.
 fn write_zeros<D: Disk>(disk: &mut D, at: u64, count: u64) -> Result<(), Failed>
-    requires few { count ≤ 65536 }
+    requires few { count ≤ MAX_GATES }
     requires len { at + count ≤ D.len disk.old }
     ensures ok { OnOk result (D.told disk.new ≡ wrote at (replicate count 0) (D.told disk.old)) }
     ensures err { OnErr result (FailedWrite at count (D.told disk.old) (D.told disk.new)) }
     ensures len { D.len disk.new ≡ D.len disk.old }
     ensures cause { HasCause (D.faults disk.old) (D.faults disk.new) result }
 {
-    let zeros = [0u8; 65536];
+    let zeros = [0u8; MAX_GATES];
     disk.write_at(at, &zeros[..count as usize])
 }

@@ -4,7 +4,7 @@ ghost use Rattle.std.specs.Prelude.{◌≡◌, ◌↔◌, IsTrue, ◌+◌, ◌-�
 ghost use Rattle.sb_disk.specs.Causes.{HasCause, Rose};
 ghost use Rattle.sb_disk.specs.Disk.{WhereTold};
 ghost use Rattle.sb_disk.specs.Moments.{LeavesOnly, IsSettled};
-ghost use Rattle.sb_journal.specs.Calls.{Keeps, IsDown, IsLogFull, IsGatesFull, log_full, gates_full, AppendErr, ForceErr, OnlyFault, ReadsChunk, OpenErr};
+ghost use Rattle.sb_journal.specs.Calls.{KeepsJournal, IsDown, IsLogFull, IsGatesFull, log_full, gates_full, AppendErr, ForceErr, OnlyFault, ReadsChunk, OpenErr};
 ghost use Rattle.sb_journal.specs.Opening.{Opened, OnlyReads};
 ghost use Rattle.sb_journal.specs.State.{Lies, Sound, StandsOn, IsKeptOn, IsForcedOn, IsClosingOn, Appended, Forced, Closed, after_append, after_force, after_close, after_fault, room_of, need_of, used_of};
 ghost use Rattle.sb_journal.specs.View.{range_of};
@@ -18,8 +18,8 @@ use sb_disk::{Disk, Failed};
 use std::alloc::Global;
 use std::marker::Model;
 
-/// The most gates that a journal may have.
-const MAX_GATES: usize = 65536;
+/// The most gates that a journal may have. A store, which stands above, has so many.
+pub const MAX_GATES: usize = 65536;
 
 /// So many bytes of a disk, from a place on.
 #[derive(Clone, Copy, Debug, PartialEq, Eq, Drop)]
@@ -116,7 +116,7 @@ impl Journal {
         ensures refused { IfErr result (λ e.
             AppendErr e (length bytes.now) disk.old disk.new self.old self.new) }
         ensures down { self.old.failed ≡ true → IsDown disk.old disk.new self.old self.new result }
-        ensures keeps { Keeps D.told D.len D.faults disk.old disk.new self.old self.new result }
+        ensures keeps { KeepsJournal D.told D.len D.faults disk.old disk.new self.old self.new result }
     {
         if self.failed {
             return Err(JournalFault::Fault);
@@ -156,7 +156,7 @@ impl Journal {
         ensures refused { IfErr result (λ e. ForceErr e disk.old disk.new self.old self.new) }
         ensures down { self.old.failed ≡ true → IsDown disk.old disk.new self.old self.new result }
         ensures idle { self.old.pending ≡ 0 → disk.new ≡ disk.old }
-        ensures keeps { Keeps D.told D.len D.faults disk.old disk.new self.old self.new result }
+        ensures keeps { KeepsJournal D.told D.len D.faults disk.old disk.new self.old self.new result }
     {
         if self.failed {
             return Err(JournalFault::Fault);
@@ -199,7 +199,7 @@ impl Journal {
 
         ensures refused { IfErr result (λ e. OnlyFault e self.old self.new) }
         ensures down { self.old.failed ≡ true → IsDown disk.old disk.new self.old self.new result }
-        ensures keeps { Keeps D.told D.len D.faults disk.old disk.new self.old self.new result }
+        ensures keeps { KeepsJournal D.told D.len D.faults disk.old disk.new self.old self.new result }
     {
         if self.failed {
             return Err(JournalFault::Fault);
@@ -236,7 +236,7 @@ impl Journal {
 
         ensures refused { IfErr result (λ e. OnlyFault e self.old self.new) }
         ensures down { self.old.failed ≡ true → IsDown disk.old disk.new self.old self.new result }
-        ensures keeps { Keeps D.told D.len D.faults disk.old disk.new self.old self.new result }
+        ensures keeps { KeepsJournal D.told D.len D.faults disk.old disk.new self.old self.new result }
     {
         if self.failed {
             return Err(JournalFault::Fault);

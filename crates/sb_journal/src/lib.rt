@@ -10,5 +10,5 @@ mod reading;
 mod sealing;
 
 pub use fault::JournalFault;
-pub use journal::{Journal, Region};
+pub use journal::{Journal, MAX_GATES, Region};
 pub use laws::{one_reading, past_is_one, past_is_unread};

@@ -7,7 +7,7 @@ use Rattle.sb_log.specs.Records.{Change, Record}
 use Rattle.sb_log.specs.Standing.{keep, standing, committed}
 use Rattle.sb_log.specs.Restored.{base, over, counting, restored}
 use Rattle.sb_log.specs.Undoing.{AreApart, IsClearOf, AreUndoable}
-use Rattle.sb_log.specs.Views.{Active, ending, is_active, cut, counts, changes, IsIdle, AreActive, IsPage}
+use Rattle.sb_log.specs.Views.{Active, ending, is_active, cut, counts, changes, IsInactive, AreActive, IsPage}
 use Rattle.sb_log.proofs.StandingLemmas.{or_false}
 use Rattle.sb_log.proofs.RestoredLemmas.{counting-keep, counting-agree}
 use Rattle.sb_log.proofs.ViewLemmas.{restored-ending}
@@ -95,7 +95,7 @@ is_of o tx = o.tx == tx
 abbrev pub ours : List Record → Active → ℕ → Bool
 ours recs o tx = committed recs tx || (o.tx == tx)
 
-AreOff-rest : (recs : List Record) (o : Active) (rest : List Active) → IsIdle o.tx rest → AreActive recs rest → AreOff (ours recs o) rest
+AreOff-rest : (recs : List Record) (o : Active) (rest : List Active) → IsInactive o.tx rest → AreActive recs rest → AreOff (ours recs o) rest
 AreOff-rest recs o [] not out = tt
 AreOff-rest recs o (q ∷ rest) not out = (rw (out.0, ne_eqb o.tx q.tx (λ e. not.0 (sym e))) refl, AreOff-rest recs o rest not.1 out.2)
 
@@ -132,6 +132,6 @@ restored-commit_over recs o rest p disk now out page =
     sub_own tx false true d is = refl
     sub_own tx false false d is = absurd (both_ways false refl is)
 
-    off_own : (active : List Active) → IsIdle o.tx active → AreOff (is_of o) active
+    off_own : (active : List Active) → IsInactive o.tx active → AreOff (is_of o) active
     off_own [] not = tt
     off_own (q ∷ active) not = (ne_eqb o.tx q.tx (λ e. not.0 (sym e)), off_own active not.1)

@@ -7,7 +7,7 @@ use Rattle.sb_log.specs.Records.{Change, Record, Changed, Back}
 use Rattle.sb_log.specs.Standing.{keep, standing, committed, count_of}
 use Rattle.sb_log.specs.Restored.{over}
 use Rattle.sb_log.specs.Undoing.{IsBeneath, AreUndoable, IsFree}
-use Rattle.sb_log.specs.Views.{Active, active_with, ending, is_active, cut, counts, changes, IsIdle, IsPage}
+use Rattle.sb_log.specs.Views.{Active, active_with, ending, is_active, cut, counts, changes, IsInactive, IsPage}
 use Rattle.sb_log.proofs.RestoredLemmas.{over-append}
 use Rattle.sb_log.proofs.UndoLemmas.{over-undo, AreUndoable-less, AreUndoable-more, AreUndoable-fewer, length-over}
 use Rattle.sb_log.proofs.ViewLemmas.{IsLastOf, HasLast, cut-last, counting-last, counting-elsewhere, changes-back, changes-changed, changes-commit, changes-drop}
@@ -26,7 +26,7 @@ IsPage-as recs more active then_active bytes now p same fewer page = record {
 }
 
 -- ---- a change, on its page and on every other page
-pub IsPage-change : (recs : List Record) (c : Change) (n : ℕ) (rest : List Active) (bytes now : List ℕ) → count_of c.tx (standing recs) ≤ n → IsIdle c.tx rest → c.offset + length c.after ≤ 4096 → IsBeneath now c
+pub IsPage-change : (recs : List Record) (c : Change) (n : ℕ) (rest : List Active) (bytes now : List ℕ) → count_of c.tx (standing recs) ≤ n → IsInactive c.tx rest → c.offset + length c.after ≤ 4096 → IsBeneath now c
     → IsFree (is_active (active_with c.tx n ∷ rest)) c (changes recs (active_with c.tx n ∷ rest) c.page)
     → IsPage recs (active_with c.tx n ∷ rest) bytes now c.page
     → IsPage (recs ++ Changed c ∷ []) (active_with c.tx (suc n) ∷ rest) bytes (splice c.offset c.after now) c.page
@@ -48,7 +48,7 @@ IsPage-change recs c n rest bytes now few not fits beneath free page = record {
     more = changes-changed recs c n rest c.page few not
         ∙ ap (λ (cs : List Change). changes recs (active_with c.tx n ∷ rest) c.page ++ cs) (rw (counted, eq-eqb c.page c.page refl) refl)
 
-pub IsPage-change_elsewhere : (recs : List Record) (c : Change) (n : ℕ) (rest : List Active) (bytes now : List ℕ) (p : ℕ) → count_of c.tx (standing recs) ≤ n → IsIdle c.tx rest → (c.page ≡ p → ⊥)
+pub IsPage-change_elsewhere : (recs : List Record) (c : Change) (n : ℕ) (rest : List Active) (bytes now : List ℕ) (p : ℕ) → count_of c.tx (standing recs) ≤ n → IsInactive c.tx rest → (c.page ≡ p → ⊥)
     → IsPage recs (active_with c.tx n ∷ rest) bytes now p → IsPage (recs ++ Changed c ∷ []) (active_with c.tx (suc n) ∷ rest) bytes now p
 IsPage-change_elsewhere recs c n rest bytes now p few not there page =
     IsPage-as recs (recs ++ Changed c ∷ []) (active_with c.tx n ∷ rest) (active_with c.tx (suc n) ∷ rest) bytes now p
@@ -62,7 +62,7 @@ IsPage-change_elsewhere recs c n rest bytes now p few not there page =
     by_test false = refl
 
 -- ---- the last standing change of a transaction undone, on its page and on every other page
-pub IsPage-undo : (recs : List Record) (tx n : ℕ) (rest : List Active) (bytes now : List ℕ) (last : HasLast tx n (standing recs)) → IsIdle tx rest
+pub IsPage-undo : (recs : List Record) (tx n : ℕ) (rest : List Active) (bytes now : List ℕ) (last : HasLast tx n (standing recs)) → IsInactive tx rest
     → IsPage recs (active_with tx (suc n) ∷ rest) bytes now last.c.page
     → IsPage recs (active_with tx n ∷ rest) bytes (splice last.c.offset last.c.before now) last.c.page
 IsPage-undo recs tx n rest bytes now last not page = go page.is page.undo
@@ -82,7 +82,7 @@ IsPage-undo recs tx n rest bytes now last not page = go page.is page.undo
 
     s : IsLastOf last.c (changes recs (active_with tx (suc n) ∷ rest) last.c.page) (changes recs (active_with tx n ∷ rest) last.c.page)
     s = counting-last (counts recs (active_with tx n ∷ rest)) last.c.page last.c (cut rest (keep tx (suc n) (standing recs))) (cut rest (keep tx n (standing recs))) counted refl
-        (cut-last rest last.c (keep tx (suc n) (standing recs)) (keep tx n (standing recs)) (subst (λ (t : ℕ). IsIdle t rest) (sym last.own) not) last.split)
+        (cut-last rest last.c (keep tx (suc n) (standing recs)) (keep tx n (standing recs)) (subst (λ (t : ℕ). IsInactive t rest) (sym last.own) not) last.split)
 
     go : over (changes recs (active_with tx (suc n) ∷ rest) last.c.page) bytes ≡ now → AreUndoable (is_active (active_with tx (suc n) ∷ rest)) 4096 bytes (changes recs (active_with tx (suc n) ∷ rest) last.c.page)
         → IsPage recs (active_with tx n ∷ rest) bytes (splice last.c.offset last.c.before now) last.c.page
@@ -97,12 +97,12 @@ IsPage-undo recs tx n rest bytes now last not page = go page.is page.undo
               (AreUndoable-less (is_active (active_with tx (suc n) ∷ rest)) s.a last.c s.b 4096 bytes page.long out_now s.none fine);
         }
 
-pub IsPage-undo_elsewhere : (recs : List Record) (tx n : ℕ) (rest : List Active) (bytes now : List ℕ) (p : ℕ) (last : HasLast tx n (standing recs)) → IsIdle tx rest → (last.c.page ≡ p → ⊥)
+pub IsPage-undo_elsewhere : (recs : List Record) (tx n : ℕ) (rest : List Active) (bytes now : List ℕ) (p : ℕ) (last : HasLast tx n (standing recs)) → IsInactive tx rest → (last.c.page ≡ p → ⊥)
     → IsPage recs (active_with tx (suc n) ∷ rest) bytes now p → IsPage recs (active_with tx n ∷ rest) bytes now p
 IsPage-undo_elsewhere recs tx n rest bytes now p last not there page =
     IsPage-as recs recs (active_with tx (suc n) ∷ rest) (active_with tx n ∷ rest) bytes now p
     (sym (counting-elsewhere (counts recs (active_with tx n ∷ rest)) p last.c (cut rest (keep tx (suc n) (standing recs))) (cut rest (keep tx n (standing recs))) there
-    (cut-last rest last.c (keep tx (suc n) (standing recs)) (keep tx n (standing recs)) (subst (λ (t : ℕ). IsIdle t rest) (sym last.own) not) last.split)))
+    (cut-last rest last.c (keep tx (suc n) (standing recs)) (keep tx n (standing recs)) (subst (λ (t : ℕ). IsInactive t rest) (sym last.own) not) last.split)))
     (λ t is. is) page
 
 -- ---- a Back, a commit, and the end of an abort
@@ -116,7 +116,7 @@ IsPage-commit recs o rest bytes now p page = IsPage-as recs (recs ++ ending (o �
     or_true true = refl
     or_true false = refl
 
-pub IsPage-drop : (recs : List Record) (tx : ℕ) (rest : List Active) (bytes now : List ℕ) (p : ℕ) → committed recs tx ≡ false → IsIdle tx rest → IsPage recs (active_with tx 0 ∷ rest) bytes now p → IsPage recs rest bytes now p
+pub IsPage-drop : (recs : List Record) (tx : ℕ) (rest : List Active) (bytes now : List ℕ) (p : ℕ) → committed recs tx ≡ false → IsInactive tx rest → IsPage recs (active_with tx 0 ∷ rest) bytes now p → IsPage recs rest bytes now p
 IsPage-drop recs tx rest bytes now p off not page = IsPage-as recs recs (active_with tx 0 ∷ rest) rest bytes now p (sym (changes-drop recs tx rest p off not)) (λ t is. rw is (or_true (tx == t))) page
   where
     or_true : (x : Bool) → (x || true) ≡ true

@@ -7,7 +7,7 @@ use Rattle.sb_log.specs.Records.{Change, Record, Changed, Back}
 use Rattle.sb_log.specs.Standing.{keep, stood, stood_all, standing, committed, count_of, NoneOf, own_changes}
 use Rattle.sb_log.specs.Restored.{base, over, counting, restored}
 use Rattle.sb_log.specs.Undoing.{IsFree}
-use Rattle.sb_log.specs.Views.{Active, active_with, ending, is_active, cut, counts, changes, IsIdle, AreActive}
+use Rattle.sb_log.specs.Views.{Active, active_with, ending, is_active, cut, counts, changes, IsInactive, AreActive}
 use Rattle.sb_log.proofs.StandingLemmas.{or_false, stood_all-append, committed-append, keep-enough, keep-again, keep-own, keep-own_none, keep-other, NoneOf-keep, NoneOf-keep_none, keep-append_other, count_of-append, keep-swap}
 use Rattle.sb_log.proofs.RestoredLemmas.{counting-append, counting-keep, counting-agree, restored-append}
 
@@ -81,7 +81,7 @@ HasLast-own tx n cs last =
     ap (λ (l : List Change). own_changes tx l) last.split.xs_is ∙ front ∙ ap (λ (l : List Change). own_changes tx a ++ l) (rw (eq-eqb last.c.tx tx last.own, none) refl)
     ∙ ap (λ (l : List Change). l ++ last.c ∷ []) (sym others ∙ ap (λ (l : List Change). own_changes tx l) (sym last.split.ys_is))
 
-pub cut-last : (active : List Active) (c : Change) (xs ys : List Change) → IsIdle c.tx active → IsLastOf c xs ys → IsLastOf c (cut active xs) (cut active ys)
+pub cut-last : (active : List Active) (c : Change) (xs ys : List Change) → IsInactive c.tx active → IsLastOf c xs ys → IsLastOf c (cut active xs) (cut active ys)
 cut-last [] c xs ys not s = s
 cut-last (o ∷ active) c xs ys not s = cut-last active c (keep o.tx o.n xs) (keep o.tx o.n ys) not.1
     (IsLastOf-as c (keep o.tx o.n (s.a ++ c ∷ s.b)) (keep o.tx o.n (s.a ++ s.b)) (keep o.tx o.n xs) (keep o.tx o.n ys)
@@ -122,12 +122,12 @@ changes-back recs o rest p =
     ∙ ap (λ (cs : List Change). counting (counts recs (o ∷ rest)) p (cut rest (keep o.tx o.n cs))) (stood_all-append [] recs (Back o.tx o.n ∷ []))
     ∙ ap (λ (cs : List Change). counting (counts recs (o ∷ rest)) p (cut rest cs)) (keep-again o.tx o.n (standing recs))
 
-cut-append : (active : List Active) (cs : List Change) (c : Change) → IsIdle c.tx active → cut active (cs ++ c ∷ []) ≡ cut active cs ++ c ∷ []
+cut-append : (active : List Active) (cs : List Change) (c : Change) → IsInactive c.tx active → cut active (cs ++ c ∷ []) ≡ cut active cs ++ c ∷ []
 cut-append [] cs c not = refl
 cut-append (o ∷ active) cs c not = ap (λ (l : List Change). cut active l) (keep-append_other o.tx o.n cs c (λ e. not.0 (sym e))) ∙ cut-append active (keep o.tx o.n cs) c not.1
 
 -- a change is added where its transaction counts, and it is of the page
-pub changes-changed : (recs : List Record) (c : Change) (n : ℕ) (rest : List Active) (p : ℕ) → count_of c.tx (standing recs) ≤ n → IsIdle c.tx rest
+pub changes-changed : (recs : List Record) (c : Change) (n : ℕ) (rest : List Active) (p : ℕ) → count_of c.tx (standing recs) ≤ n → IsInactive c.tx rest
     → changes (recs ++ Changed c ∷ []) (active_with c.tx (suc n) ∷ rest) p ≡ changes recs (active_with c.tx n ∷ rest) p ++ counting (counts recs (active_with c.tx n ∷ rest)) p (c ∷ [])
 changes-changed recs c n rest p few not =
     counting-uncommitted recs (Changed c ∷ []) (active_with c.tx (suc n) ∷ rest) p (cut rest (keep c.tx (suc n) (standing (recs ++ Changed c ∷ [])))) (λ tx. refl)
@@ -180,11 +180,11 @@ counting-elsewhere f p c xs ys there s =
     ∙ ap (λ (l : List Change). counting f p s.a ++ l) (rw (ne_eqb c.page p there, and_false (f c.tx)) refl)
     ∙ sym (counting-append f p s.a s.b) ∙ sym (ap (λ (l : List Change). counting f p l) s.ys_is)
 
-cut-keep : (active : List Active) (t n : ℕ) (cs : List Change) → IsIdle t active → cut active (keep t n cs) ≡ keep t n (cut active cs)
+cut-keep : (active : List Active) (t n : ℕ) (cs : List Change) → IsInactive t active → cut active (keep t n cs) ≡ keep t n (cut active cs)
 cut-keep [] t n cs not = refl
 cut-keep (o ∷ active) t n cs not = ap (λ (l : List Change). cut active l) (keep-swap o.tx o.n t n cs not.0) ∙ cut-keep active t n (keep o.tx o.n cs) not.1
 
-pub is_active-idle : (tx : ℕ) (active : List Active) → IsIdle tx active → is_active active tx ≡ false
+pub is_active-idle : (tx : ℕ) (active : List Active) → IsInactive tx active → is_active active tx ≡ false
 is_active-idle tx [] not = refl
 is_active-idle tx (o ∷ active) not = rw (ne_eqb o.tx tx not.0) (is_active-idle tx active not.1)
 
@@ -193,7 +193,7 @@ counting-none_of f h p tx [] same none = refl
 counting-none_of f h p tx (c ∷ cs) same none = rw (same c.tx none.0) (ap (λ (l : List Change). cond (h c.tx && (c.page == p)) (c ∷ l) l) (counting-none_of f h p tx cs same none.1))
 
 -- a transaction of which no change stands may be active or not
-pub changes-drop : (recs : List Record) (tx : ℕ) (rest : List Active) (p : ℕ) → committed recs tx ≡ false → IsIdle tx rest → changes recs (active_with tx 0 ∷ rest) p ≡ changes recs rest p
+pub changes-drop : (recs : List Record) (tx : ℕ) (rest : List Active) (p : ℕ) → committed recs tx ≡ false → IsInactive tx rest → changes recs (active_with tx 0 ∷ rest) p ≡ changes recs rest p
 changes-drop recs tx rest p off not =
     ap (λ (cs : List Change). counting (counts recs (active_with tx 0 ∷ rest)) p cs) (cut-keep rest tx 0 (standing recs) not)
     ∙ counting-none_of (counts recs (active_with tx 0 ∷ rest)) (counts recs rest) p tx (keep tx 0 (cut rest (standing recs))) (λ t other_tx. ap (λ (x : Bool). committed recs t || (x || is_active rest t)) (ne_eqb tx t (λ e. other_tx (sym e)))) (NoneOf-keep_none tx (cut rest (standing recs)))
@@ -223,7 +223,7 @@ AreActive-more recs r [] none are = tt
 AreActive-more recs r (o ∷ active) none are = (committed-more recs r o.tx (none o.tx) are.0, are.1, AreActive-more recs r active none are.2)
 
 -- one of them commits
-pub AreActive-commit : (recs : List Record) (a : Active) (rest : List Active) → IsIdle a.tx rest → AreActive recs rest → AreActive (recs ++ ending (a ∷ [])) rest
+pub AreActive-commit : (recs : List Record) (a : Active) (rest : List Active) → IsInactive a.tx rest → AreActive recs rest → AreActive (recs ++ ending (a ∷ [])) rest
 AreActive-commit recs a [] idle are = tt
 AreActive-commit recs a (b ∷ rest) idle are = (
   committed-append recs (ending (a ∷ [])) b.tx ∙ rw (are.0, ne_eqb a.tx b.tx (λ e. idle.0 (sym e))) refl,
@@ -232,25 +232,25 @@ AreActive-commit recs a (b ∷ rest) idle are = (
 )
 
 -- any of them comes to the front, and goes back to its place
-IsIdle-front : (tx : ℕ) (before : List Active) (a : Active) (rest : List Active) → IsIdle tx (before ++ a ∷ rest) → IsIdle tx (a ∷ (before ++ rest))
-IsIdle-front tx [] a rest idle = idle
-IsIdle-front tx (b ∷ before) a rest idle = let front = IsIdle-front tx before a rest idle.1 in (front.0, (idle.0, front.1))
+IsInactive-front : (tx : ℕ) (before : List Active) (a : Active) (rest : List Active) → IsInactive tx (before ++ a ∷ rest) → IsInactive tx (a ∷ (before ++ rest))
+IsInactive-front tx [] a rest idle = idle
+IsInactive-front tx (b ∷ before) a rest idle = let front = IsInactive-front tx before a rest idle.1 in (front.0, (idle.0, front.1))
 
-IsIdle-place : (tx : ℕ) (before : List Active) (a : Active) (rest : List Active) → IsIdle tx (a ∷ (before ++ rest)) → IsIdle tx (before ++ a ∷ rest)
-IsIdle-place tx [] a rest idle = idle
-IsIdle-place tx (b ∷ before) a rest idle = (idle.1.0, IsIdle-place tx before a rest (idle.0, idle.1.1))
+IsInactive-place : (tx : ℕ) (before : List Active) (a : Active) (rest : List Active) → IsInactive tx (a ∷ (before ++ rest)) → IsInactive tx (before ++ a ∷ rest)
+IsInactive-place tx [] a rest idle = idle
+IsInactive-place tx (b ∷ before) a rest idle = (idle.1.0, IsInactive-place tx before a rest (idle.0, idle.1.1))
 
 pub AreActive-front : (recs : List Record) (before : List Active) (a : Active) (rest : List Active) → AreActive recs (before ++ a ∷ rest) → AreActive recs (a ∷ (before ++ rest))
 AreActive-front recs [] a rest are = are
 AreActive-front recs (b ∷ before) a rest are =
     let front = AreActive-front recs before a rest are.2 in
-    let idle = IsIdle-front b.tx before a rest are.1 in
+    let idle = IsInactive-front b.tx before a rest are.1 in
     (front.0, ((λ e. idle.0 (sym e)), front.1), (are.0, idle.1, front.2))
 
 pub AreActive-place : (recs : List Record) (before : List Active) (a : Active) (rest : List Active) → AreActive recs (a ∷ (before ++ rest)) → AreActive recs (before ++ a ∷ rest)
 AreActive-place recs [] a rest are = are
 AreActive-place recs (b ∷ before) a rest are =
-    (are.2.0, IsIdle-place b.tx before a rest ((λ e. are.1.0 (sym e)), are.2.1), AreActive-place recs before a rest (are.0, are.1.1, are.2.2))
+    (are.2.0, IsInactive-place b.tx before a rest ((λ e. are.1.0 (sym e)), are.2.1), AreActive-place recs before a rest (are.0, are.1.1, are.2.2))
 
 pub is_active-front : (before : List Active) (a : Active) (rest : List Active) (tx : ℕ) → is_active (before ++ a ∷ rest) tx ≡ is_active (a ∷ (before ++ rest)) tx
 is_active-front [] a rest tx = refl
@@ -261,12 +261,12 @@ is_active-front (b ∷ before) a rest tx = ap (λ (x : Bool). (b.tx == tx) || x)
     or_swap true false z = refl
     or_swap false y z = refl
 
-cut-front : (before : List Active) (a : Active) (rest : List Active) (cs : List Change) → IsIdle a.tx (before ++ rest) → cut (before ++ a ∷ rest) cs ≡ cut (a ∷ (before ++ rest)) cs
+cut-front : (before : List Active) (a : Active) (rest : List Active) (cs : List Change) → IsInactive a.tx (before ++ rest) → cut (before ++ a ∷ rest) cs ≡ cut (a ∷ (before ++ rest)) cs
 cut-front [] a rest cs idle = refl
 cut-front (b ∷ before) a rest cs idle =
     cut-front before a rest (keep b.tx b.n cs) idle.1 ∙ ap (λ (l : List Change). cut (before ++ rest) l) (keep-swap a.tx a.n b.tx b.n cs (λ e. idle.0 (sym e)))
 
-pub changes-front : (recs : List Record) (before : List Active) (a : Active) (rest : List Active) (p : ℕ) → IsIdle a.tx (before ++ rest)
+pub changes-front : (recs : List Record) (before : List Active) (a : Active) (rest : List Active) (p : ℕ) → IsInactive a.tx (before ++ rest)
     → changes recs (before ++ a ∷ rest) p ≡ changes recs (a ∷ (before ++ rest)) p
 changes-front recs before a rest p idle =
     counting-agree (counts recs (before ++ a ∷ rest)) (counts recs (a ∷ (before ++ rest))) p (cut (before ++ a ∷ rest) (standing recs))

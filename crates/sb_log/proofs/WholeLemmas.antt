@@ -7,7 +7,7 @@ use Rattle.sb_log.specs.Records.{Change, Record, Begin, Image, Changed, Back}
 use Rattle.sb_log.specs.Standing.{standing, committed, count_of}
 use Rattle.sb_log.specs.Restored.{base, over, restored, imaged, IsCoveredBy, IsCovered, IsHarmless, AreHarmless}
 use Rattle.sb_log.specs.Undoing.{IsBeneath, AreUndoable, IsFree}
-use Rattle.sb_log.specs.Views.{Active, active_with, ending, is_active, cut, counts, changes, IsIdle, AreActive, IsPage}
+use Rattle.sb_log.specs.Views.{Active, active_with, ending, is_active, cut, counts, changes, IsInactive, AreActive, IsPage}
 use Rattle.sb_log.specs.Whole.{IsWhole, with_range}
 use Rattle.sb_log.proofs.StandingLemmas.{stood_all-append, count_of-keep}
 use Rattle.sb_log.proofs.RestoredLemmas.{imaged-append, base-append, base-imaged, restored-all_harmless, IsCoveredBehind-append, AreHarmless-append}
@@ -107,7 +107,7 @@ module _ (count : ℕ) (disk now : ℕ → List ℕ) (opened pending : List Reco
   }
 
   -- a transaction begins
-  pub IsWhole-active : (tx : ℕ) (active : List Active) → committed recs tx ≡ false → IsIdle tx active → IsWhole count disk now opened pending active
+  pub IsWhole-active : (tx : ℕ) (active : List Active) → committed recs tx ≡ false → IsInactive tx active → IsWhole count disk now opened pending active
       → IsWhole count disk now opened pending (active_with tx 0 ∷ active)
   IsWhole-active tx active off idle whole = record {
     plain = whole.plain;

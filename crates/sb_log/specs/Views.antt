@@ -38,14 +38,14 @@ abbrev pub changes : List Record → List Active → ℕ → List Change
 changes recs active p = counting (counts recs active) p (cut active (standing recs))
 
 -- the transaction is none of them
-abbrev pub IsIdle : ℕ → List Active → Type 0
-IsIdle tx [] = Unit {0}
-IsIdle tx (a ∷ active) = (a.tx ≡ tx → ⊥) × IsIdle tx active
+abbrev pub IsInactive : ℕ → List Active → Type 0
+IsInactive tx [] = Unit {0}
+IsInactive tx (a ∷ active) = (a.tx ≡ tx → ⊥) × IsInactive tx active
 
 -- none of them is committed, and each is there once
 abbrev pub AreActive : List Record → List Active → Type 0
 AreActive recs [] = Unit {0}
-AreActive recs (a ∷ active) = (committed recs a.tx ≡ false) × IsIdle a.tx active × AreActive recs active
+AreActive recs (a ∷ active) = (committed recs a.tx ≡ false) × IsInactive a.tx active × AreActive recs active
 
 -- Page p, whose base is these bytes, is so now, and each change of an active transaction can be undone.
 pub record IsPage (recs : List Record) (active : List Active) (bytes now : List ℕ) (p : ℕ) : Type 0 where

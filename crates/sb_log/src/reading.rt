@@ -4,6 +4,7 @@ ghost use Rattle.std.specs.Prelude.{◌≡◌, ◌↔◌, ◌<◌, ◌≤◌, �
 ghost use Rattle.sb_log.specs.Records.{Record, Begins};
 ghost use Rattle.sb_log.specs.Rec.{record_of, IsRead, Answers};
 
+use crate::geometry::PAGE_LEN;
 use crate::record::Rec;
 use crate::tags;
 use sb_bytes::{get_u16, get_u32};
@@ -22,7 +23,7 @@ fn begin_of(rest: &[u8]) -> Option<(Rec<'_>, usize)>
 fn image_of(rest: &[u8]) -> Option<(Rec<'_>, usize)>
     ensures { IsRead (2 ∷ rest.now) result }
 {
-    let end = 4 + tags::PAGE_LEN;
+    let end = 4 + PAGE_LEN;
     if rest.len() < end {
         return None;
     }
@@ -35,7 +36,7 @@ fn image_of(rest: &[u8]) -> Option<(Rec<'_>, usize)>
 fn is_in_page(offset: u16, len: u16) -> bool
     ensures { IsTrue result ↔ ((0 < len) × (offset + len ≤ 4096)) }
 {
-    len > 0 && offset as usize + len as usize <= tags::PAGE_LEN
+    len > 0 && offset as usize + len as usize <= PAGE_LEN
 }
 
 fn change_of(rest: &[u8]) -> Option<(Rec<'_>, usize)>

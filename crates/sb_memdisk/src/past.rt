@@ -1,10 +1,11 @@
 //! What a memory disk keeps of its past, and where it stops.
 
 ghost use Rattle.std.specs.Prelude.{◌≡◌, ◌||◌, ◌+◌, ◌-◌, ◌^◌, ◌<◌, ◌≤◌, List, ℕ, IsOk, IfOk, OnOk, OnErr, cond, true, false, length, take, drop, vec_capacity};
-ghost use Rattle.sb_disk.specs.Disk.{Story, splice, after_idle};
+ghost use Rattle.sb_disk.specs.Disk.{Story, after_idle};
 ghost use Rattle.sb_memdisk.specs.Failing.{has_stopped, torn_len};
 ghost use Rattle.sb_memdisk.specs.Past.{after_lull, IsReady, IsStored};
 
+use sb_disk::splice;
 use std::alloc::{AllocError, Global};
 use std::mem;
 
@@ -129,13 +130,6 @@ pub fn store(bytes: &mut [u8], past: &mut Vec<Entry>, entry: Entry, written: &[u
     ensures more { length past.new.items ≡ length past.old.items + 1 }
     ensures room { vec_capacity past.old ≤ vec_capacity past.new }
 {
-    overwrite(bytes, entry.at, &written[..kept]);
+    splice(bytes, entry.at, &written[..kept]);
     past.push(entry).unwrap();
-}
-
-fn overwrite(bytes: &mut [u8], at: usize, front: &[u8])
-    requires { at + length front.now ≤ length bytes.old }
-    ensures { bytes.new ≡ splice at front.now bytes.old }
-{
-    bytes[at..at + front.len()].copy_from_slice(front);
 }

@@ -29,7 +29,7 @@ pub record Serves (told : Option Story) (size : ℕ) (j : journal.State) (g : Ge
 
 -- What each call keeps: the sizes, at a fault the position, that disk and journal serve the pool, and that clean pages are as the disk has them. Its
 -- Fault means that the disk failed a call, now or in an earlier call of the journal.
-pub record Keeps {D T : Type 0} (told : D → Option Story) (len faults : D → ℕ) (old new : D) (j k : journal.State) (pool after : State)
+pub record KeepsPool {D T : Type 0} (told : D → Option Story) (len faults : D → ℕ) (old new : D) (j k : journal.State) (pool after : State)
     (result : Result T PoolFault) : Type 0 where
   pub size : len new ≡ len old
   pub geometry : after.geometry ≡ pool.geometry
@@ -114,4 +114,4 @@ pub record IsLoad {D T : Type 0} (told : D → Option Story) (len faults : D →
   pub dirty : NoneMoreDirty pool after
   pub images : InStore (told old) j pool (λ want recs. KeepsImages want pool.geometry recs k (told old) (told new) result)
   pub journal : OnOk result (IsSameOrForced j k)
-  pub keeps : Keeps told len faults old new j k pool after result
+  pub keeps : KeepsPool told len faults old new j k pool after result

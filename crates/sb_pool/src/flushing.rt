@@ -1,11 +1,11 @@
 //! The calls on the disk that write the pages of a pool.
 
-ghost use Rattle.std.specs.Prelude.{◌≡◌, ◌+◌, ◌*◌, ◌<◌, ◌≤◌, true, false, length, map, OnOk, OnErr};
+ghost use Rattle.std.specs.Prelude.{◌≡◌, ◌<◌, ◌≤◌, true, false, length, map, OnOk, OnErr};
 ghost use Rattle.std.specs.List.{All};
 ghost use Rattle.sb_disk.specs.Causes.{HasCause};
 ghost use Rattle.sb_disk.specs.Disk.{WhereTold};
 ghost use Rattle.sb_disk.specs.Moments.{LeavesOnly, RanOk, RanErr};
-ghost use Rattle.sb_images.specs.Layout.{need, place_of, IsGeometry};
+ghost use Rattle.sb_images.specs.Layout.{need, IsGeometry};
 ghost use Rattle.sb_journal.specs.State.{Lies, StandsOn, IsForcedOn, Forced, after_force, after_fault};
 ghost use Rattle.sb_pool.specs.Calls.{KeepsForced};
 ghost use Rattle.sb_pool.specs.Frames.{IsFrame, held_of, dirty_from, puts};
@@ -13,19 +13,9 @@ ghost use Rattle.sb_pool.specs.State.{cleaned};
 
 use crate::frame::Frame;
 use sb_disk::{Disk, Failed};
+use sb_images::place_of;
 use sb_journal::Journal;
 use sb_log::Geometry;
-
-/// Where the log begins, behind the super page and the gates.
-const LOG: u64 = 69632;
-
-/// Where a page begins on the disk.
-pub(crate) fn place(geometry: Geometry, page: u32) -> u64
-    requires { IsGeometry geometry }
-    ensures { result ≡ place_of geometry page }
-{
-    LOG + geometry.log + 4096 * page as u64
-}
 
 /// Forces what is pending.
 pub(crate) fn force<D: Disk>(disk: &mut D, journal: &mut Journal) -> Result<(), Failed>
@@ -66,7 +56,7 @@ pub(crate) fn put_all_out<D: Disk>(
     ensures cause { HasCause (D.faults disk.old) (D.faults disk.new) result }
 {
     for (page, frame) in frames.iter().enumerate() {
-        frame.put_out(disk, place(geometry, page as u32))?;
+        frame.put_out(disk, place_of(geometry, page as u32))?;
     }
     disk.sync()
 }

@@ -7,11 +7,9 @@ ghost use Rattle.sb_disk.specs.Disk.{splice};
 ghost use Rattle.sb_pool.specs.Frames.{IsFrame, held_of, IsLoaded, put_out, HasFailed};
 ghost use Rattle.sb_pool.specs.State.{cleaned};
 
-use sb_disk::{Disk, Failed};
+use sb_disk::{Disk, Failed, splice};
+use sb_images::PAGE_LEN;
 use std::alloc::{AllocError, Global};
-
-/// The bytes of a page.
-pub(crate) const PAGE: usize = 4096;
 
 /// What a frame has of its page: nothing, the page as the disk has it, or the page as it is to be written.
 #[derive(Clone, Copy, Debug, PartialEq, Eq, Drop)]
@@ -34,7 +32,7 @@ impl Frame {
         ensures frame { IfOk result IsFrame }
         ensures nothing { IfOk result (λ f. f.content ≡ Content.Nothing) }
     {
-        let bytes = vec![in alloc; 0; PAGE]?;
+        let bytes = vec![in alloc; 0; PAGE_LEN]?;
         Ok(Frame {
             content: Content::Nothing,
             bytes,
@@ -44,7 +42,7 @@ impl Frame {
     /// Reads the page from the disk, where there is nothing of it.
     pub fn load<D: Disk>(&mut self, disk: &mut D, at: u64) -> Result<(), Failed>
         requires frame { IsFrame self.old }
-        requires within { at + 4096 ≤ D.len disk.old }
+        requires within { at + PAGE_LEN ≤ D.len disk.old }
         ensures loaded { OnOk result (IsLoaded (D.told disk.old) at (held_of self.old) (held_of self.new) self.new.bytes.items) }
         ensures err { OnErr result (held_of self.new ≡ held_of self.old) }
         ensures frame { IsFrame self.new }
@@ -62,19 +60,19 @@ impl Frame {
     /// Puts the bytes at a place of the page.
     pub fn write(&mut self, offset: usize, bytes: &[u8])
         requires frame { IsFrame self.old }
-        requires within { offset + length bytes.now ≤ 4096 }
+        requires within { offset + length bytes.now ≤ PAGE_LEN }
         ensures bytes { self.new.bytes.items ≡ splice offset bytes.now self.old.bytes.items }
         ensures dirty { self.new.content ≡ Content.Dirty }
         ensures frame { IsFrame self.new }
     {
-        self.bytes[offset..offset + bytes.len()].copy_from_slice(bytes);
+        splice(&mut self.bytes, offset, bytes);
         self.content = Content::Dirty;
     }
 
     /// Writes the page to the disk, where it is dirty.
     pub fn put_out<D: Disk>(&self, disk: &mut D, at: u64) -> Result<(), Failed>
         requires frame { IsFrame self.now }
-        requires within { at + 4096 ≤ D.len disk.old }
+        requires within { at + PAGE_LEN ≤ D.len disk.old }
         ensures ok { OnOk result (D.told disk.new ≡ put_out at (held_of self.now) (D.told disk.old)) }
         ensures err { OnErr result (HasFailed at (held_of self.now) (D.told disk.old) (D.told disk.new)) }
         ensures len { D.len disk.new ≡ D.len disk.old }

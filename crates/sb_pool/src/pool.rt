@@ -6,14 +6,15 @@ ghost use Rattle.sb_images.specs.Store.{IfTold};
 ghost use Rattle.sb_journal.specs.State.{State, after_force};
 ghost use Rattle.sb_log.specs.Restored.{imaged};
 ghost use Rattle.sb_pool.specs.declared.fault.PoolFault.TheVariants.{NoMemory};
-ghost use Rattle.sb_pool.specs.Calls.{Serves, Keeps, KeepsFlushed, IsSameOrForced, InStore, KeepsImages, FlushesImages, IsLoad, ReadsClean};
+ghost use Rattle.sb_pool.specs.Calls.{Serves, KeepsPool, KeepsFlushed, IsSameOrForced, InStore, KeepsImages, FlushesImages, IsLoad, ReadsClean};
 ghost use Rattle.sb_pool.specs.Pages.{AgreesOn, Becomes, KeepsPages, AreFlushed, with_bytes, pool_page, bytes_or};
 ghost use Rattle.sb_pool.specs.State.{held, IsHeld, IsDirty, is_dirty, NoneMoreDirty, empty_pool, flushed};
 
 use crate::PoolFault;
-use crate::flushing::{force, mark_all_clean, place, put_all_out};
+use crate::flushing::{force, mark_all_clean, put_all_out};
 use crate::frame::{Frame, empty_frames};
 use sb_disk::Disk;
+use sb_images::place_of;
 use sb_journal::Journal;
 use sb_log::Geometry;
 use std::alloc::Global;
@@ -100,9 +101,9 @@ impl Pool {
         ensures reads { ReadsClean self.old journal.old journal.new (D.told disk.old) (D.told disk.new) }
 
         ensures journal { OnOk result (IsSameOrForced journal.old journal.new) }
-        ensures keeps { Keeps D.told D.len D.faults disk.old disk.new journal.old journal.new self.old self.new result }
+        ensures keeps { KeepsPool D.told D.len D.faults disk.old disk.new journal.old journal.new self.old self.new result }
     {
-        let at = place(self.geometry, page);
+        let at = place_of(self.geometry, page);
         let frame = &mut self.frames[page as usize];
         frame.load(disk, at)?;
         Ok(())
@@ -167,7 +168,7 @@ impl Pool {
             → KeepsImages want self.old.geometry recs journal.new (D.told disk.old) (D.told disk.new) result) }
 
         ensures journal { OnOk result (IsSameOrForced journal.old journal.new) }
-        ensures keeps { Keeps D.told D.len D.faults disk.old disk.new journal.old journal.new self.old self.new result }
+        ensures keeps { KeepsPool D.told D.len D.faults disk.old disk.new journal.old journal.new self.old self.new result }
     {
         self.load(disk, journal, page)?;
         let frame = &mut self.frames[page as usize];

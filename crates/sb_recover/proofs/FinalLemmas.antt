@@ -27,7 +27,7 @@ use Rattle.sb_recover.specs.declared.fault.OpenFault.TheVariants as faults
 use Rattle.sb_recover.specs.Faults.{IsFree}
 use Rattle.sb_recover.specs.Geometries.{IsStoreTold, HoldsNone, NoStoreErr}
 use Rattle.sb_recover.specs.Restoring.{AreRestored, RestoredOn}
-use Rattle.sb_recover.specs.Writing.{AgreesOff, LeavesPages, AreWritten}
+use Rattle.sb_recover.specs.Writing.{AgreesOff, LeavesPages, AllWritten}
 use Rattle.sb_recover.specs.BadLog.{IsLog, LogErr, IsPast, IsNoRow, IsBadLogOn}
 use Rattle.sb_recover.specs.Restarted.{IsRestarted, HasSameBytes, WasBad, RestartErr}
 use Rattle.sb_recover.proofs.LogLemmas.{Spelled, Spelled-rows}
@@ -105,7 +105,7 @@ module _ (s : Story) (g : Geometry) (j : State) (chunks frames : List (List ℕ)
           }
 
   -- ---- when they are written
-  module _ (t : Story) (written : AreWritten g frames s t) where
+  module _ (t : Story) (written : AllWritten g frames s t) where
     pub Stands-written : Stands t j
     Stands-written =
         let after = foreign_stands s j stands lies log.sound (place_of g 0) (4096 * g.pages) off t.now.reads (AgreesBut-data g frames s.now.reads t.now.reads written.elsewhere) in
@@ -181,7 +181,7 @@ module _ (want : ℕ → List ℕ) (h : Geometry) where
         and_then told mid new (Restores h want) so_far (weaker mid new (LeavesPages g frames mid) (Restores h want) (pages_leave mid settled mounted store log restores) run)
 
     closing_leaves : (mid new last : Option Story) → IsSettled mid → IsMounted want mid h → IsStoreTold mid g → IsLog mid g j chunks → RestoredOn mid g chunks frames
-        → WhereTold mid new (AreWritten g frames) → LeavesOnly new last (IsClosingOn new j) → LeavesOnly new last (Restores h want)
+        → WhereTold mid new (AllWritten g frames) → LeavesOnly new last (IsClosingOn new j) → LeavesOnly new last (Restores h want)
     closing_leaves None new last settled mounted store log restores written run =
         LeavesOnly-close want j h [] [] new last (subst (λ (m : Option Story). IsReadyOn want m j h [] []) (sym written) tt) (subst (λ (m : Option Story). OnDisk want m h) (sym written) tt) run
     closing_leaves (Some s) None last settled mounted store log restores written run = absurd written
@@ -193,18 +193,18 @@ module _ (want : ℕ → List ℕ) (h : Geometry) where
         (IsReadyOn-written s g j chunks frames store settled log t written restores want old) (OnDisk-written s g j chunks frames store settled log t written restores want old) run)
 
     pub LeavesOnly-closed : (told mid new last : Option Story) → LeavesOnly told new (Restores h want) → IsSettled mid → IsMounted want mid h → IsStoreTold mid g → IsLog mid g j chunks → RestoredOn mid g chunks frames
-        → WhereTold mid new (AreWritten g frames) → LeavesOnly new last (IsClosingOn new j) → LeavesOnly told last (Restores h want)
+        → WhereTold mid new (AllWritten g frames) → LeavesOnly new last (IsClosingOn new j) → LeavesOnly told last (Restores h want)
     LeavesOnly-closed told mid new last so_far settled mounted store log restores written run =
         and_then told new last (Restores h want) so_far (closing_leaves mid new last settled mounted store log restores written run)
 
 module _ (g : Geometry) (j : State) (chunks frames : List (List ℕ)) where
   -- the journal stands when the pages are written
-  pub StandsOn-written : (mid new : Option Story) → IsSettled mid → IsStoreTold mid g → IsLog mid g j chunks → WhereTold mid new (AreWritten g frames) → StandsOn new j
+  pub StandsOn-written : (mid new : Option Story) → IsSettled mid → IsStoreTold mid g → IsLog mid g j chunks → WhereTold mid new (AllWritten g frames) → StandsOn new j
   StandsOn-written None new settled store log written = subst (λ (m : Option Story). StandsOn m j) (sym written) tt
   StandsOn-written (Some s) None settled store log written = absurd written
   StandsOn-written (Some s) (Some t) settled store log written = λ up. Stands-written s g j chunks frames store settled log t written
 
-  restarted : (k : State) (mid new last : Option Story) → IsSettled mid → IsStoreTold mid g → IsLog mid g j chunks → RestoredOn mid g chunks frames → WhereTold mid new (AreWritten g frames)
+  restarted : (k : State) (mid new last : Option Story) → IsSettled mid → IsStoreTold mid g → IsLog mid g j chunks → RestoredOn mid g chunks frames → WhereTold mid new (AllWritten g frames)
       → k ≡ after_close j → WhereTold new last (Closed j k) → WhereTold mid last (IsRestarted g)
   restarted k None new last settled store log restores written done closed = subst (λ (m : Option Story). WhereTold m last (Closed j k)) written closed
   restarted k (Some s) None last settled store log restores written done closed = absurd written
@@ -216,7 +216,7 @@ module _ (g : Geometry) (j : State) (chunks frames : List (List ℕ)) where
   before_sync (Some s) None is = is
   before_sync (Some s) (Some u) is = record { recs = is.recs; store = is.store; logs = is.logs; pages = is.pages; still = is.still; elsewhere = is.elsewhere; settled = is.settled; shut = is.shut }
 
-  pub IsRestarted-told : (k : State) (told mid new last : Option Story) → mid ≡ synced told → IsStoreTold mid g → IsLog mid g j chunks → RestoredOn mid g chunks frames → WhereTold mid new (AreWritten g frames)
+  pub IsRestarted-told : (k : State) (told mid new last : Option Story) → mid ≡ synced told → IsStoreTold mid g → IsLog mid g j chunks → RestoredOn mid g chunks frames → WhereTold mid new (AllWritten g frames)
       → k ≡ after_close j → WhereTold new last (Closed j k) → WhereTold told last (IsRestarted g)
   IsRestarted-told k told mid new last is store log restores written done closed =
       before_sync told last (subst (λ (m : Option Story). WhereTold m last (IsRestarted g)) is
@@ -290,10 +290,10 @@ module _ (told mid : Option Story) (g : Geometry) (j : State) (chunks frames : L
   mid_settled : IsSettled mid
   mid_settled = synced-IsSettled told mid found.is
 
-  pub StandsOn-read : (new : Option Story) → WhereTold mid new (AreWritten g frames) → StandsOn new j
+  pub StandsOn-read : (new : Option Story) → WhereTold mid new (AllWritten g frames) → StandsOn new j
   StandsOn-read new written = StandsOn-written g j chunks frames mid new mid_settled found.store found.log written
 
-  pub IsRestarted-read : (k : State) (new last : Option Story) → WhereTold mid new (AreWritten g frames) → k ≡ after_close j → WhereTold new last (Closed j k) → WhereTold told last (IsRestarted g)
+  pub IsRestarted-read : (k : State) (new last : Option Story) → WhereTold mid new (AllWritten g frames) → k ≡ after_close j → WhereTold new last (Closed j k) → WhereTold told last (IsRestarted g)
   IsRestarted-read k new last written done closed = IsRestarted-told g j chunks frames k told mid new last found.is found.store found.log found.restores written done closed
 
   module _ (want : ℕ → List ℕ) (h : Geometry) (mounted : IsMounted want told h) (so_far : LeavesOnly told mid (Restores h want)) where
@@ -303,6 +303,6 @@ module _ (told mid : Option Story) (g : Geometry) (j : State) (chunks frames : L
     pub LeavesOnly-read : (new : Option Story) → LeavesOnly mid new (LeavesPages g frames mid) → LeavesOnly told new (Restores h want)
     LeavesOnly-read new run = LeavesOnly-pages want h g j chunks frames told mid new so_far mid_settled mounted_mid found.store found.log found.restores run
 
-    pub LeavesOnly-last : (new last : Option Story) → LeavesOnly mid new (LeavesPages g frames mid) → WhereTold mid new (AreWritten g frames) → LeavesOnly new last (IsClosingOn new j) → LeavesOnly told last (Restores h want)
+    pub LeavesOnly-last : (new last : Option Story) → LeavesOnly mid new (LeavesPages g frames mid) → WhereTold mid new (AllWritten g frames) → LeavesOnly new last (IsClosingOn new j) → LeavesOnly told last (Restores h want)
     LeavesOnly-last new last run written closing =
         LeavesOnly-closed want h g j chunks frames told mid new last (LeavesOnly-read new run) mid_settled mounted_mid found.store found.log found.restores written closing

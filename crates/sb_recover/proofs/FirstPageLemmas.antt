@@ -13,9 +13,8 @@ use Rattle.sb_bytes.specs.Field.{number_at, with_number}
 use Rattle.sb_bytes.proofs.FieldLaws.{reads_back}
 use Rattle.sb_log.proofs.FieldLemmas.{number_at-front, number_at-behind}
 use Rattle.sb_log.specs.declared.geometry.Geometry.{Geometry}
-use Rattle.sb_images.specs.Layout.{name_of_store, IsGeometry, IsSuper}
+use Rattle.sb_images.specs.Layout.{geometry_of, name_of_store, IsGeometry, IsSuper}
 use Rattle.sb_recover.specs.FirstPages.{super_page, table_len, first_owner, owner_entries, empty_leaf, free_page, first_page, OwnersStand}
-use Rattle.sb_recover.specs.SuperPage.{geometry_of}
 
 -- ---- the owner table
 abbrev entry : ℕ → ℕ → List ℕ

@@ -16,7 +16,7 @@ use Rattle.sb_images.proofs.ImageLemmas.{Restores-empty}
 use Rattle.sb_recover.specs.FirstPages.{super_page, first_page}
 use Rattle.sb_recover.specs.SuperPage.{IsNoStore}
 use Rattle.sb_recover.proofs.SuperLemmas.{FindsOn}
-use Rattle.sb_recover.specs.Laying.{IsGate, IsShut, IsLaid}
+use Rattle.sb_recover.specs.Laying.{IsGate, ShutsGate, IsLaid}
 use Rattle.sb_recover.specs.Formatting.{IsFormatting, HoldsStore, KeepsStore, IsNew}
 use Rattle.sb_recover.specs.Geometries.{HoldsNone}
 use Rattle.sb_recover.proofs.FirstPageLemmas.{IsSuper-super_page, super_page-open}
@@ -76,17 +76,17 @@ LeavesOnly-shut result size clock o p fits room is ok err settled none =
     ran_call result (Write 0 (0 ∷ []) ∷ Sync ∷ []) size clock o p IsNoStore fits (room, tt) (LeavesOnly-none o settled none) (closing_torn o settled none is, tt) ok err
 
 -- ---- while all but the gate is written
-laying_torn : (count : ℕ) (s t : Story) → s.now.written ≡ [] → IsShut s t → (image : List ℕ) → LeavesTorn 1 count (Some t) image → IsNoStore image
+laying_torn : (count : ℕ) (s t : Story) → s.now.written ≡ [] → ShutsGate s t → (image : List ℕ) → LeavesTorn 1 count (Some t) image → IsNoStore image
 laying_torn count s t settled shut image torn =
     let agrees = settled_torn 1 count t image (shut.settled settled) torn in
     let same : get_or t.now.reads 0 0 ≡ get_or image 0 0 = AgreesBut-byte (record { start = 1; len = count } ∷ []) t.now.reads image 0 1 0 agrees
     (sure_more 0 1 (record { start = 1; len = count }) [] (none_sure 0 1) (inl (omega arith))) (omega arith) (omega arith) in
     shut_none image (λ is_open. shut.gate (same ∙ is_open))
 
-pub LeavesOnly-lay : (count : ℕ) (o p q : Option Story) → WhereTold o p IsShut → IsSettled o → LeavesOnly p q (LeavesTorn 1 count p) → LeavesOnly p q IsNoStore
+pub LeavesOnly-lay : (count : ℕ) (o p q : Option Story) → WhereTold o p ShutsGate → IsSettled o → LeavesOnly p q (LeavesTorn 1 count p) → LeavesOnly p q IsNoStore
 LeavesOnly-lay count o p q shut settled run = weaker p q (LeavesTorn 1 count p) IsNoStore (torn_none o p shut settled) run
   where
-    torn_none : (o p : Option Story) → WhereTold o p IsShut → IsSettled o → (image : List ℕ) → LeavesTorn 1 count p image → IsNoStore image
+    torn_none : (o p : Option Story) → WhereTold o p ShutsGate → IsSettled o → (image : List ℕ) → LeavesTorn 1 count p image → IsNoStore image
     torn_none None p shut settled image torn = absurd (subst (λ (r : Option Story). LeavesTorn 1 count r image) shut torn)
     torn_none (Some s) None shut settled image torn = absurd torn
     torn_none (Some s) (Some t) shut settled image torn = laying_torn count s t settled shut image torn
@@ -154,7 +154,7 @@ module _ (g : Geometry) (sizes : IsGeometry g) (size clock : ℕ) (room : need g
       ran_call result (Write 0 (165 ∷ []) ∷ Sync ∷ []) size clock q r (IsFormatting g) fits (omega arith, tt) (idle_on p q fits laid) (torn_on p q fits laid, tt) ok err
 
   -- the gate is open, and on the disk
-  new_some : (s t u : Story) → length u.now.reads ≡ size → IsNoStore s.now.reads → IsShut s t → IsLaid g t u → IsNew g (Some s) (synced (wrote 0 (165 ∷ []) (Some u)))
+  new_some : (s t u : Story) → length u.now.reads ≡ size → IsNoStore s.now.reads → ShutsGate s t → IsLaid g t u → IsNew g (Some s) (synced (wrote 0 (165 ∷ []) (Some u)))
   new_some s t u long none shut laid =
       let image = splice 0 (165 ∷ []) u.now.reads in
       let agrees = splice-AgreesBut 0 (165 ∷ []) u.now.reads (omega arith) in
@@ -172,7 +172,7 @@ module _ (g : Geometry) (sizes : IsGeometry g) (size clock : ℕ) (room : need g
   new_none : (r : Option Story) → r ≡ None → IsNew g None r
   new_none r is = subst (λ (n : Option Story). IsNew g None n) (sym is) (record { before = tt; mounted = tt; pages = tt; super = tt; shut = tt; zeros = tt; log = refl })
 
-  pub IsNew-on : (o p q r : Option Story) → Fits size clock q → HoldsNone o → WhereTold o p IsShut → WhereTold p q (IsLaid g) → RanOk (Write 0 (165 ∷ []) ∷ Sync ∷ []) q r → IsNew g o r
+  pub IsNew-on : (o p q r : Option Story) → Fits size clock q → HoldsNone o → WhereTold o p ShutsGate → WhereTold p q (IsLaid g) → RanOk (Write 0 (165 ∷ []) ∷ Sync ∷ []) q r → IsNew g o r
   IsNew-on None p q r fits none shut laid ran =
       new_none r (ran ∙ ap (λ (n : Option Story). synced (wrote 0 (165 ∷ []) n)) (subst (λ (n : Option Story). WhereTold n q (IsLaid g)) shut laid))
   IsNew-on (Some s) None q r fits none shut laid ran = absurd shut

@@ -10,7 +10,7 @@ use Rattle.sb_images.specs.Layout.{need, place_of, page_at}
 use Rattle.sb_images.proofs.LayoutLemmas.{page_within}
 use Rattle.sb_recover.specs.Frames.{texts, or_else, is_some, frame_at, has, held, AreWhole}
 use Rattle.sb_recover.proofs.FrameLemmas.{frame_at-texts, AreWhole-at}
-use Rattle.sb_recover.specs.Writing.{IsHeld, AgreesOff, LeavesPages, with_page, AreWritten, FirstWritten, Wrote}
+use Rattle.sb_recover.specs.Writing.{IsHeld, AgreesOff, LeavesPages, with_page, AllWritten, FirstWritten, Wrote}
 
 module _ (g : Geometry) (frames : List (List ℕ)) where
   AgreesOff-same : (bytes : List ℕ) → AgreesOff g frames bytes bytes
@@ -164,13 +164,13 @@ module _ (g : Geometry) (frames : List (List ℕ)) where
   pub Wrote-sync : {T E : Type 0} (result : Result T E) (n : ℕ) (old mid new : Option Story) → Wrote g frames n old mid → OnOk result (new ≡ synced mid) → OnErr result (FailedSync mid new) → LeavesOnly old new (LeavesPages g frames old)
   Wrote-sync result n old mid new so_far ok err = on_sync_call result old mid new (LeavesPages g frames old) so_far.leaves ok err
 
-  pub AreWritten-synced : (n : ℕ) (old mid new : Option Story) → g.pages ≤ n → Wrote g frames n old mid → new ≡ synced mid → WhereTold old new (AreWritten g frames)
-  AreWritten-synced n old mid new all so_far is = synced_told old mid so_far.so_far is
+  pub AllWritten-synced : (n : ℕ) (old mid new : Option Story) → g.pages ≤ n → Wrote g frames n old mid → new ≡ synced mid → WhereTold old new (AllWritten g frames)
+  AllWritten-synced n old mid new all so_far is = synced_told old mid so_far.so_far is
     where
-      synced_told : (old mid : Option Story) → WhereTold old mid (FirstWritten g frames n) → new ≡ synced mid → WhereTold old new (AreWritten g frames)
+      synced_told : (old mid : Option Story) → WhereTold old mid (FirstWritten g frames n) → new ≡ synced mid → WhereTold old new (AllWritten g frames)
       synced_told None mid written is = is ∙ ap synced written
       synced_told (Some s) None written is = absurd written
-      synced_told (Some s) (Some t) written is = subst (λ (m : Option Story). WhereTold (Some s) m (AreWritten g frames)) (sym is)
+      synced_told (Some s) (Some t) written is = subst (λ (m : Option Story). WhereTold (Some s) m (AllWritten g frames)) (sym is)
           (record { pages = λ p below. written.first p (omega (arith, below, all)) below; elsewhere = written.elsewhere; settled = refl })
 
 -- the frame that is read is a page, or none

@@ -6,7 +6,7 @@ use Rattle.sb_journal.specs.Opening.{Begins, EndsPast}
 use Rattle.sb_journal.specs.State.{State, Sound, StandsOn, chunks_of}
 use Rattle.sb_log.specs.declared.geometry.Geometry.{Geometry}
 use Rattle.sb_log.specs.Records.{HasRecords, IsBadAt}
-use Rattle.sb_images.specs.Layout.{gates_of, log_of}
+use Rattle.sb_images.specs.Layout.{gates_start, log_start, gates_of, log_of}
 use Rattle.sb_images.specs.Store.{AreChunks}
 use Rattle.sb_recover.specs.declared.fault.OpenFault.{OpenFault}
 use Rattle.sb_recover.specs.declared.fault.OpenFault.TheVariants.{Fault, BadLog, NoMemory}
@@ -35,14 +35,14 @@ IsFirstBad chunks other = ⊥
 -- ---- a bad log
 -- behind chunks of these lengths an open one ends outside the region: its length field does, or its bytes do
 pub record IsPast (s : Story) (g : Geometry) (lens : List ℕ) : Type 0 where
-  pub is_open : IsOpen s.now.reads (4096 + length lens)
-  pub past : EndsPast (69632 + bytes_of lens) (69632 + g.log) s.now.reads
+  pub is_open : IsOpen s.now.reads (gates_start + length lens)
+  pub past : EndsPast (log_start + bytes_of lens) (log_start + g.log) s.now.reads
 
 -- behind them stands one of this length that is no row of records, whose first bytes that are none begin at the offset
 pub record IsNoRow (s : Story) (g : Geometry) (lens : List ℕ) (offset : ℕ) : Type 0 where
   pub n : ℕ
   pub begins : Begins (Some s) (gates_of g) (log_of g) (lens ++ n ∷ [])
-  pub bad : IsBadAt (take n (drop (69632 + bytes_of lens + 4) s.now.reads)) offset
+  pub bad : IsBadAt (take n (drop (log_start + bytes_of lens + 4) s.now.reads)) offset
 
 -- The first open chunk that runs past the region or is no row of whole records has this number: those before it have these lengths and are rows.
 pub record IsBadLog (s : Story) (g : Geometry) (chunk offset : ℕ) : Type 0 where
@@ -50,7 +50,7 @@ pub record IsBadLog (s : Story) (g : Geometry) (chunk offset : ℕ) : Type 0 whe
   pub count : length lens ≡ chunk
   pub gate : chunk < 65536
   pub begins : Begins (Some s) (gates_of g) (log_of g) lens
-  pub rows : AreRows (chunks_from 69632 lens s.now.reads)
+  pub rows : AreRows (chunks_from log_start lens s.now.reads)
   pub bad : ((offset ≡ 0) × IsPast s g lens) ⊎ IsNoRow s g lens offset
 
 -- the same of what is told

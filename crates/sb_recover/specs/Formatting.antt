@@ -3,7 +3,7 @@ use Rattle.std.specs.Prelude.{◌≡◌, ◌⊎◌, ℕ, ◌<◌, ◌≤◌, Opt
 use Rattle.sb_disk.specs.Causes.{Rose}
 use Rattle.sb_disk.specs.Disk.{Story, WhereTold}
 use Rattle.sb_log.specs.declared.geometry.Geometry.{Geometry}
-use Rattle.sb_images.specs.Layout.{need, super_of, IsStoreOf}
+use Rattle.sb_images.specs.Layout.{gates_start, log_start, need, super_of, IsStoreOf}
 use Rattle.sb_images.specs.Images.{Restores}
 use Rattle.sb_images.specs.Store.{IsMounted, OnDisk, AreShut}
 use Rattle.sb_recover.specs.declared.fault.OpenFault.{OpenFault}
@@ -35,7 +35,7 @@ HasSuper (Some s) g = super_of s.now.reads ≡ super_page g
 -- each gate of a chunk is 0
 abbrev pub AreZero : Option Story → Type 0
 AreZero None = Unit {0}
-AreZero (Some s) = (i : ℕ) → 4096 ≤ i → i < 69632 → slice_index s.now.reads i ≡ 0
+AreZero (Some s) = (i : ℕ) → gates_start ≤ i → i < log_start → slice_index s.now.reads i ≡ 0
 
 -- A new store where there was none. Nothing is pending, its first pages are restored and on the disk, and each gate of a chunk is 0.
 pub record IsNew (g : Geometry) (old new : Option Story) : Type 0 where

@@ -4,7 +4,7 @@ use Rattle.sb_disk.specs.Disk.{Story, WhereTold, Covered, AgreesBut}
 use Rattle.sb_disk.specs.Moments.{LeavesOnly, LeavesTorn}
 use Rattle.sb_journal.specs.Chunks.{IsOpen}
 use Rattle.sb_log.specs.declared.geometry.Geometry.{Geometry}
-use Rattle.sb_images.specs.Layout.{page_at}
+use Rattle.sb_images.specs.Layout.{gates_start, log_start, page_at}
 use Rattle.sb_recover.specs.FirstPages.{super_page, first_page}
 
 -- each byte outside of this range is as it was, and pending only if it was
@@ -28,7 +28,7 @@ IsGate None gate = Unit {0}
 IsGate (Some s) gate = slice_index s.now.reads 0 ≡ gate
 
 -- The gate of the store is shut. Nothing is pending but what was, and no byte but the gate has changed.
-pub record IsShut (s t : Story) : Type 0 where
+pub record ShutsGate (s t : Story) : Type 0 where
   pub gate : ¬ IsOpen t.now.reads 0
   pub within : IsWithin 0 1 s t
   pub settled : s.now.written ≡ [] → t.now.written ≡ []
@@ -36,7 +36,7 @@ pub record IsShut (s t : Story) : Type 0 where
 -- each byte of the log's region is as it was
 abbrev pub KeepsLog : Geometry → Story → Story → Type 0
 KeepsLog g s t =
-    (i : ℕ) → 69632 ≤ i → i < 69632 + g.log → slice_index t.now.reads i ≡ slice_index s.now.reads i
+    (i : ℕ) → log_start ≤ i → i < log_start + g.log → slice_index t.now.reads i ≡ slice_index s.now.reads i
 
 -- the bytes of a store behind its gate
 abbrev pub behind_gate : Geometry → ℕ
@@ -46,7 +46,7 @@ behind_gate g = 69631 + g.log + 4096 * g.pages
 pub record IsLaid (g : Geometry) (s t : Story) : Type 0 where
   pub settled : t.now.written ≡ []
   pub super : take 4095 (drop 1 t.now.reads) ≡ drop 1 (super_page g)
-  pub gates : (i : ℕ) → 4096 ≤ i → i < 69632 → slice_index t.now.reads i ≡ 0
+  pub gates : (i : ℕ) → gates_start ≤ i → i < log_start → slice_index t.now.reads i ≡ 0
   pub pages : (p : ℕ) → p < g.pages → page_at g p t.now.reads ≡ first_page g.pages p
   pub log : KeepsLog g s t
   pub within : IsWithin 1 (behind_gate g) s t

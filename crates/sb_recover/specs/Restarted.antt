@@ -5,7 +5,7 @@ use Rattle.sb_journal.specs.Chunks.{IsOpen}
 use Rattle.sb_log.specs.declared.geometry.Geometry.{Geometry}
 use Rattle.sb_log.specs.Records.{Record}
 use Rattle.sb_log.specs.Restored.{restored}
-use Rattle.sb_images.specs.Layout.{gates_of, place_of, page_at, IsStoreOf}
+use Rattle.sb_images.specs.Layout.{gates_start, log_start, gates_of, place_of, page_at, IsStoreOf}
 use Rattle.sb_images.specs.Images.{Logs}
 use Rattle.sb_recover.specs.declared.fault.OpenFault.{OpenFault}
 use Rattle.sb_recover.specs.declared.fault.OpenFault.TheVariants.{Fault, NotStore, BadLog, NoMemory}
@@ -25,7 +25,7 @@ pub record IsRestarted (g : Geometry) (s t : Story) : Type 0 where
   pub still : IsStoreOf g t.now.reads
   pub elsewhere : AgreesBut (gates_of g ∷ pages_of g ∷ []) s.now.reads t.now.reads
   pub settled : t.now.written ≡ []
-  pub shut : (i : ℕ) → 4096 ≤ i → i < 69632 → ¬ IsOpen t.now.reads i
+  pub shut : (i : ℕ) → gates_start ≤ i → i < log_start → ¬ IsOpen t.now.reads i
 
 -- a read gives what it gave
 abbrev pub HasSameBytes : Story → Story → Type 0

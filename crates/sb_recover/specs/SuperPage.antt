@@ -3,10 +3,6 @@ use Rattle.std.specs.Prelude.{ℕ, Option, Some, None, List}
 use Rattle.sb_log.specs.declared.geometry.Geometry.{Geometry}
 use Rattle.sb_images.specs.Layout.{IsStoreOf}
 
--- the geometry of a store of so many pages, with a log of so many bytes
-abbrev pub geometry_of : ℕ → ℕ → Geometry
-geometry_of pages log = record { pages = pages; log = log; version = 1 }
-
 -- the image is one of no store, whatever its geometry
 abbrev pub IsNoStore : List ℕ → Type 0
 IsNoStore image = (g : Geometry) → ¬ IsStoreOf g image

@@ -30,7 +30,7 @@ with_page g p [] told = told
 with_page g p (b ∷ bytes) told = wrote (place_of g p) (b ∷ bytes) told
 
 -- The pages that are held are on the disk, and nothing is pending. Elsewhere all is as it was.
-pub record AreWritten (g : Geometry) (frames : List (List ℕ)) (s t : Story) : Type 0 where
+pub record AllWritten (g : Geometry) (frames : List (List ℕ)) (s t : Story) : Type 0 where
   pub pages : (p : ℕ) → p < g.pages → page_at g p t.now.reads ≡ held frames p (page_at g p s.now.reads)
   pub elsewhere : AgreesOff g frames s.now.reads t.now.reads
   pub settled : t.now.written ≡ []

@@ -2,10 +2,10 @@
 
 ghost use Rattle.std.specs.Prelude.{◌≡◌, ◌*◌, ◌<◌, ◌≤◌, length, drop};
 ghost use Rattle.sb_recover.specs.FirstPages.{super_page, first_owner, owner_entries, free_page, first_page};
-ghost use Rattle.sb_recover.specs.SuperPage.{geometry_of};
+ghost use Rattle.sb_images.specs.Layout.{geometry_of};
 
-use crate::sizes::PAGE;
 use sb_bytes::{put_u16, put_u32, put_u64};
+use sb_images::PAGE_LEN;
 
 /// The pages whose owners one page of the owner table has.
 const ENTRIES: u32 = 2048;
@@ -21,7 +21,7 @@ const LEAF: u8 = 2;
 
 /// Makes a page the super page of a store of these sizes, but for its gate.
 pub(crate) fn fill_super(page: &mut [u8], pages: u32, log: u64)
-    requires { length page.old ≡ PAGE }
+    requires { length page.old ≡ PAGE_LEN }
     ensures { drop 1 page.new ≡ drop 1 (super_page (geometry_of pages log)) }
 {
     page.fill(0);
@@ -33,7 +33,7 @@ pub(crate) fn fill_super(page: &mut [u8], pages: u32, log: u64)
 
 /// Makes a page one that no one owns.
 pub(crate) fn fill_free(page: &mut [u8])
-    requires { length page.old ≡ PAGE }
+    requires { length page.old ≡ PAGE_LEN }
     ensures { page.new ≡ free_page }
 {
     page.fill(0);
@@ -41,7 +41,7 @@ pub(crate) fn fill_free(page: &mut [u8])
 
 /// Makes a page this one of a new store.
 pub(crate) fn fill_first(page: &mut [u8], pages: u32, p: u32)
-    requires length { length page.old ≡ PAGE }
+    requires length { length page.old ≡ PAGE_LEN }
     requires few { pages ≤ 65536 }
     requires one { p < pages }
     ensures { page.new ≡ first_page pages p }
@@ -58,7 +58,7 @@ pub(crate) fn fill_first(page: &mut [u8], pages: u32, p: u32)
 
 // Makes a page this one of the owner table.
 fn fill_table(page: &mut [u8], pages: u32, p: u32)
-    requires length { length page.old ≡ PAGE }
+    requires length { length page.old ≡ PAGE_LEN }
     requires few { pages ≤ 65536 }
     requires one { p < pages }
     ensures { page.new ≡ owner_entries pages (2048 * p) 2048 }

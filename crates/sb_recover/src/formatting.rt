@@ -4,17 +4,17 @@ ghost use Rattle.std.specs.Prelude.{◌≡◌, ◌↔◌, ◌<◌, ◌≤◌, []
 ghost use Rattle.sb_disk.specs.Causes.{HasCause};
 ghost use Rattle.sb_disk.specs.Disk.{WhereTold};
 ghost use Rattle.sb_disk.specs.Moments.{LeavesOnly, IsSettled, RanOk, RanErr, Write, Sync};
-ghost use Rattle.sb_images.specs.Layout.{need as need_of, IsGeometry};
+ghost use Rattle.sb_images.specs.Layout.{geometry_of, need as need_of, IsGeometry};
 ghost use Rattle.sb_recover.specs.Formatting.{IsFormatting, IsNew, FormatErr, KeepsStore, KeepsDisk};
 ghost use Rattle.sb_recover.specs.Geometries.{HoldsNone};
-ghost use Rattle.sb_recover.specs.Laying.{IsGate, IsShut};
-ghost use Rattle.sb_recover.specs.SuperPage.{geometry_of, IsNoStore};
+ghost use Rattle.sb_recover.specs.Laying.{IsGate, ShutsGate};
+ghost use Rattle.sb_recover.specs.SuperPage.{IsNoStore};
 
 use crate::OpenFault;
 use crate::laying::lay;
-use crate::sizes::{PAGE, need};
 use crate::super_page::{OPEN, found_in};
 use sb_disk::{Disk, Failed};
+use sb_images::{PAGE_LEN, need};
 use sb_log::Geometry;
 use std::alloc::Global;
 
@@ -50,7 +50,7 @@ pub fn format<D: Disk>(
     if have < need {
         return Err(OpenFault::TooSmall { have, need });
     }
-    let mut page = vec![in alloc; 0u8; PAGE]?;
+    let mut page = vec![in alloc; 0u8; PAGE_LEN]?;
     disk.read_at(0, &mut page)?;
     if found_in(&page, have).is_some() {
         return Err(OpenFault::AlreadyStore);
@@ -68,7 +68,7 @@ pub fn format<D: Disk>(
 fn make<D: Disk>(disk: &mut D, page: &mut [u8], g: Geometry) -> Result<(), Failed>
     requires sizes { IsGeometry g }
     requires room { need_of g.pages g.log ≤ D.len disk.old }
-    requires length { length page.old ≡ PAGE }
+    requires length { length page.old ≡ PAGE_LEN }
     requires gate { IsGate (D.told disk.old) (slice_index page.old 0) }
     requires none { HoldsNone (D.told disk.old) }
     ensures made { OnOk result (IsNew g (D.told disk.old) (D.told disk.new)) }
@@ -88,7 +88,7 @@ fn shut<D: Disk>(disk: &mut D, gate: u8) -> Result<(), Failed>
     requires len { 1 ≤ D.len disk.old }
     requires gate { IsGate (D.told disk.old) gate }
     requires none { HoldsNone (D.told disk.old) }
-    ensures shut { OnOk result (WhereTold (D.told disk.old) (D.told disk.new) IsShut) }
+    ensures shut { OnOk result (WhereTold (D.told disk.old) (D.told disk.new) ShutsGate) }
     ensures any_moment { IsSettled (D.told disk.old)
         → LeavesOnly (D.told disk.old) (D.told disk.new) IsNoStore }
     ensures len { D.len disk.new ≡ D.len disk.old }

@@ -9,18 +9,18 @@ ghost use Rattle.sb_recover.specs.FirstPages.{free_page, first_page};
 ghost use Rattle.sb_recover.specs.Laying.{AreLaid, IsLaid, behind_gate};
 
 use crate::first_pages::{fill_first, fill_free, fill_super};
-use crate::sizes::{GATES, LOG, PAGE};
 use sb_disk::{Disk, Failed};
+use sb_images::{GATES, GATES_START, LOG_START, PAGE_LEN};
 use sb_log::Geometry;
 
 /// The pages that the gates take.
-const GATE_PAGES: u64 = 16;
+const GATE_PAGES: u64 = GATES as u64 / PAGE_LEN as u64;
 
 /// Writes all of a new store but its gate and its log, and syncs.
 pub(crate) fn lay<D: Disk>(disk: &mut D, page: &mut [u8], g: Geometry) -> Result<(), Failed>
     requires sizes { IsGeometry g }
     requires room { need_of g.pages g.log ≤ D.len disk.old }
-    requires length { length page.old ≡ PAGE }
+    requires length { length page.old ≡ PAGE_LEN }
 
     ensures laid { OnOk result (WhereTold (D.told disk.old) (D.told disk.new) (IsLaid g)) }
 
@@ -41,15 +41,15 @@ pub(crate) fn lay<D: Disk>(disk: &mut D, page: &mut [u8], g: Geometry) -> Result
 
 // Shuts all gates of chunks.
 fn lay_gates<D: Disk>(disk: &mut D, zeros: &[u8]) -> Result<(), Failed>
-    requires room { GATES + 4096 * GATE_PAGES ≤ D.len disk.old }
+    requires room { GATES_START + PAGE_LEN * GATE_PAGES ≤ D.len disk.old }
     requires zeros { zeros.now ≡ free_page }
-    ensures laid { OnOk result (WhereTold (D.told disk.old) (D.told disk.new) (AreLaid GATES GATE_PAGES (λ k. free_page))) }
-    ensures any_moment { LeavesOnly (D.told disk.old) (D.told disk.new) (LeavesTorn GATES (4096 * GATE_PAGES) (D.told disk.old)) }
+    ensures laid { OnOk result (WhereTold (D.told disk.old) (D.told disk.new) (AreLaid GATES_START GATE_PAGES (λ k. free_page))) }
+    ensures any_moment { LeavesOnly (D.told disk.old) (D.told disk.new) (LeavesTorn GATES_START (PAGE_LEN * GATE_PAGES) (D.told disk.old)) }
     ensures len { D.len disk.new ≡ D.len disk.old }
     ensures cause { HasCause (D.faults disk.old) (D.faults disk.new) result }
 {
     for k in 0..GATE_PAGES {
-        disk.write_at(GATES + 4096 * k, zeros)?;
+        disk.write_at(GATES_START + PAGE_LEN as u64 * k, zeros)?;
     }
     Ok(())
 }
@@ -58,16 +58,16 @@ fn lay_gates<D: Disk>(disk: &mut D, zeros: &[u8]) -> Result<(), Failed>
 fn lay_pages<D: Disk>(disk: &mut D, page: &mut [u8], g: Geometry) -> Result<(), Failed>
     requires sizes { IsGeometry g }
     requires room { need_of g.pages g.log ≤ D.len disk.old }
-    requires length { length page.old ≡ PAGE }
-    ensures laid { OnOk result (WhereTold (D.told disk.old) (D.told disk.new) (AreLaid (LOG + g.log) g.pages (first_page g.pages))) }
-    ensures any_moment { LeavesOnly (D.told disk.old) (D.told disk.new) (LeavesTorn (LOG + g.log) (4096 * g.pages) (D.told disk.old)) }
+    requires length { length page.old ≡ PAGE_LEN }
+    ensures laid { OnOk result (WhereTold (D.told disk.old) (D.told disk.new) (AreLaid (LOG_START + g.log) g.pages (first_page g.pages))) }
+    ensures any_moment { LeavesOnly (D.told disk.old) (D.told disk.new) (LeavesTorn (LOG_START + g.log) (PAGE_LEN * g.pages) (D.told disk.old)) }
     ensures len { D.len disk.new ≡ D.len disk.old }
     ensures cause { HasCause (D.faults disk.old) (D.faults disk.new) result }
 {
-    let first = LOG + g.log;
+    let first = LOG_START + g.log;
     for p in 0..g.pages {
         fill_first(page, g.pages, p);
-        disk.write_at(first + 4096 * p as u64, page)?;
+        disk.write_at(first + PAGE_LEN as u64 * p as u64, page)?;
     }
     Ok(())
 }

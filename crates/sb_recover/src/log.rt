@@ -13,8 +13,8 @@ ghost use Rattle.sb_recover.specs.Faults.{IsFree};
 ghost use Rattle.sb_recover.specs.Frames.{texts};
 
 use crate::OpenFault;
-use crate::store::{gates, log};
 use sb_disk::Disk;
+use sb_images::{gate_region, log_region};
 use sb_journal::{Journal, JournalFault, Region};
 use sb_log::{Geometry, count_records};
 use std::alloc::{AllocError, Global};
@@ -130,10 +130,10 @@ fn past<D: Disk>(alloc: Global, disk: &mut D, g: &Geometry, chunk: u32) -> OpenF
     ensures reads { OnlyReads D.told D.len D.faults disk.old disk.new }
 {
     let before = Region {
-        start: gates(g).start,
+        start: gate_region(*g).start,
         len: chunk as u64,
     };
-    let mut journal = match Journal::open(alloc, disk, before, log(g)) {
+    let mut journal = match Journal::open(alloc, disk, before, log_region(*g)) {
         Ok(journal) => journal,
         Err(fault) => return fault.into(),
     };
@@ -176,7 +176,7 @@ pub(crate) fn read_log<D: Disk>(
     ensures fault { IsErrOf result OpenFault.Fault → Rose (D.faults disk.old) (D.faults disk.new) }
     ensures reads { OnlyReads D.told D.len D.faults disk.old disk.new }
 {
-    let mut journal = match Journal::open(alloc, disk, gates(g), log(g)) {
+    let mut journal = match Journal::open(alloc, disk, gate_region(*g), log_region(*g)) {
         Ok(journal) => journal,
         Err(fault) => return Err(refusal(alloc, disk, g, fault)),
     };

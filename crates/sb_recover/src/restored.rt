@@ -4,7 +4,6 @@ ghost use Rattle.std.specs.Prelude.{◌≡◌, ◌+◌, ◌*◌, ◌≤◌, ◌<
 ghost use Rattle.std.specs.Ordering.{nat_cmp};
 ghost use Rattle.std.specs.BTreeSet.{contains_by};
 ghost use Rattle.sb_disk.specs.Causes.{Rose};
-ghost use Rattle.sb_disk.specs.Disk.{splice};
 ghost use Rattle.sb_images.specs.Layout.{need, place_of, IsGeometry};
 ghost use Rattle.sb_journal.specs.Opening.{OnlyReads};
 ghost use Rattle.sb_recover.specs.Changes.{change_of, changes_of, AllFit};
@@ -16,9 +15,8 @@ use crate::OpenFault;
 use crate::change::{Change, standing};
 use crate::found::{Found, find};
 use crate::frames::Frames;
-use crate::sizes::PAGE;
-use crate::store::place_of;
-use sb_disk::Disk;
+use sb_disk::{Disk, splice};
+use sb_images::{PAGE_LEN, place_of};
 use sb_log::Geometry;
 use std::alloc::Global;
 use std::collections::BTreeSet;
@@ -39,8 +37,8 @@ fn read_page<D: Disk>(
     ensures fault { IsErrOf result OpenFault.Fault → Rose (D.faults disk.old) (D.faults disk.new) }
     ensures reads { OnlyReads D.told D.len D.faults disk.old disk.new }
 {
-    let mut bytes = vec![in alloc; 0u8; PAGE]?;
-    disk.read_at(place_of(g, page), &mut bytes)?;
+    let mut bytes = vec![in alloc; 0u8; PAGE_LEN]?;
+    disk.read_at(place_of(*g, page), &mut bytes)?;
     Ok(bytes)
 }
 
@@ -67,14 +65,6 @@ fn hold_page<D: Disk>(
     Ok(())
 }
 
-/// Writes the bytes at this place.
-fn overwrite(bytes: &mut Vec<u8>, at: usize, new: &[u8])
-    requires { at + length new.now ≤ length bytes.old.items }
-    ensures { bytes.new.items ≡ splice at new.now bytes.old.items }
-{
-    bytes[at..at + new.len()].copy_from_slice(new);
-}
-
 /// Writes the change over its page, if its transaction is committed and the store has the page.
 fn write_change<D: Disk>(
     alloc: Global,
@@ -99,7 +89,7 @@ fn write_change<D: Disk>(
         return Ok(());
     }
     hold_page(alloc, disk, g, frames, change.page)?;
-    overwrite(
+    splice(
         &mut frames[change.page as usize],
         change.offset as usize,
         change.after,

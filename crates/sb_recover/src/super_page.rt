@@ -1,11 +1,11 @@
 //! The super page, which says that a disk holds a store and how large that is.
 
 ghost use Rattle.std.specs.Prelude.{◌≡◌, ◌↔◌, ℕ, List, IsTrue, length, take, drop, slice_index};
-ghost use Rattle.sb_images.specs.Layout.{IsGeometry, name_of_store, super_of};
+ghost use Rattle.sb_images.specs.Layout.{name_of_store, super_of};
 ghost use Rattle.sb_recover.specs.SuperPage.{Finds};
 
-use crate::sizes::{PAGE, need};
 use sb_bytes::{get_u16, get_u32, get_u64};
+use sb_images::{PAGE_LEN, is_geometry, need};
 use sb_log::Geometry;
 
 /// What the gate of a store holds.
@@ -13,7 +13,7 @@ pub(crate) const OPEN: u8 = 0xA5;
 
 /// The geometry of the store on a disk of so many bytes, of which this is the first page.
 pub(crate) fn found_in(page: &[u8], size: u64) -> Option<Geometry>
-    requires { length page.now ≡ PAGE }
+    requires { length page.now ≡ PAGE_LEN }
     ensures { (image : List ℕ) → super_of image ≡ page.now → length image ≡ size → Finds image result }
 {
     let g = Geometry {
@@ -27,20 +27,9 @@ pub(crate) fn found_in(page: &[u8], size: u64) -> Option<Geometry>
     None
 }
 
-// Whether a store may have these sizes.
-fn is_geometry(g: Geometry) -> bool
-    ensures { IsTrue result ↔ IsGeometry g }
-{
-    g.version == 1
-        && 64 <= g.pages
-        && g.pages <= 65_536
-        && 2_097_152 <= g.log
-        && g.log <= 16_777_216
-}
-
 // Whether the gate is open, and the name of a store stands behind it.
 fn is_named(page: &[u8]) -> bool
-    requires { length page.now ≡ PAGE }
+    requires { length page.now ≡ PAGE_LEN }
     ensures { IsTrue result ↔ ((slice_index page.now 0 ≡ OPEN) × (take 8 (drop 8 page.now) ≡ name_of_store)) }
 {
     page[0] == OPEN && &page[8..16] == b"STARBRST".as_slice()

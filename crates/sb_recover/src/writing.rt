@@ -6,10 +6,10 @@ ghost use Rattle.sb_disk.specs.Disk.{WhereTold, FailedWrite};
 ghost use Rattle.sb_disk.specs.Moments.{IsSettled, LeavesOnly};
 ghost use Rattle.sb_images.specs.Layout.{need, place_of, IsGeometry};
 ghost use Rattle.sb_recover.specs.Frames.{texts, AreFrames};
-ghost use Rattle.sb_recover.specs.Writing.{AreWritten, LeavesPages, with_page};
+ghost use Rattle.sb_recover.specs.Writing.{AllWritten, LeavesPages, with_page};
 
-use crate::store::place_of;
 use sb_disk::{Disk, Failed};
+use sb_images::place_of;
 use sb_log::Geometry;
 
 /// Writes a page, where it has bytes.
@@ -26,7 +26,7 @@ fn write_page<D: Disk>(disk: &mut D, g: &Geometry, page: u32, bytes: &[u8]) -> R
     if bytes.is_empty() {
         return Ok(());
     }
-    disk.write_at(place_of(g, page), bytes)
+    disk.write_at(place_of(*g, page), bytes)
 }
 
 /// Writes the pages that are held, and syncs.
@@ -40,7 +40,7 @@ pub(crate) fn write_pages<D: Disk>(
     requires settled { IsSettled (D.told disk.old) }
     requires frames { AreFrames g.now.pages (texts frames.now) }
 
-    ensures written { OnOk result (WhereTold (D.told disk.old) (D.told disk.new) (AreWritten g.now (texts frames.now))) }
+    ensures written { OnOk result (WhereTold (D.told disk.old) (D.told disk.new) (AllWritten g.now (texts frames.now))) }
 
     // A crash anywhere in the call leaves what was there, but for those pages.
     ensures any_moment { LeavesOnly (D.told disk.old) (D.told disk.new) (LeavesPages g.now (texts frames.now) (D.told disk.old)) }

@@ -1,4 +1,4 @@
--- What going back to a mark leaves of a store.
+-- What going back to a savepoint leaves of a store.
 use Rattle.std.proofs.Common.{◌≡◌, inl, ℕ, zero, suc, ◌<◌, ◌≤◌, Bool, true, false, ◌||◌, Option, Result, Ok, List, [], ◌∷◌, ◌++◌, length, take, drop, get_or, nat_lt, refl, sym, ◌∙◌, ap, subst, arith}
 use Rattle.std.proofs.Math.Seq.{take-suc, drop-cons, take-length, drop-length}
 use Rattle.std.proofs.lemmas.Bool.{lt-ltb, le-ltb}
@@ -8,10 +8,10 @@ use Rattle.sb_log.proofs.StandingLemmas.{or_false}
 use Rattle.sb_journal.specs.State as journal
 use Rattle.sb_pool.specs.State as pool
 use Rattle.sb_txn.specs.Book.{Undo, Out, Book, standing_in, with_out}
-use Rattle.sb_txn.specs.Clauses.{Parts, parts, IsReady, IsStoreOf, LeavesWanted, Keeps, unwound, cut_back, UndoesLast, GoesBack, Aborts}
+use Rattle.sb_txn.specs.Clauses.{Parts, parts, IsReady, HoldsPages, LeavesWanted, StaysReady, unwound, cut_back, UndoesLast, GoesBack, Aborts}
 use Rattle.sb_txn.specs.State.{State, together}
 use Rattle.sb_txn.specs.declared.fault.StoreFault.{StoreFault}
-use Rattle.sb_txn.proofs.KeepsLemmas.{LeavesWanted-none, LeavesWanted-then, Keeps-ok, Keeps-then, Keeps-still}
+use Rattle.sb_txn.proofs.KeepsLemmas.{LeavesWanted-none, LeavesWanted-then, StaysReady-ok, StaysReady-then, StaysReady-still}
 use Rattle.sb_txn.proofs.RoomLemmas.{IsSameOrForced-then}
 use Rattle.sb_txn.proofs.EndLemmas.{Ties-drop, Ties-wanted}
 use Rattle.sb_txn.proofs.UndoLemmas.{some_first}
@@ -45,7 +45,7 @@ all_stand o = ap (λ (us : List Undo). record o { undos = us; undone = o.undone 
 pub GoesBack-none : (p : Parts) (o : Out) (rest : List Out) → p.store.book.out ≡ o ∷ rest → GoesBack p p o rest (length o.undos)
 GoesBack-none p o rest is = record {
   book = ap (λ (l : List Out). with_out p.store.book l) (is ∙ ap (λ (x : Out). x ∷ rest) (sym (all_stand o)));
-  pages = λ want now store. subst (λ (us : List Undo). IsStoreOf want (unwound us now) p) (sym (drop-length o.undos)) store;
+  pages = λ want now store. subst (λ (us : List Undo). HoldsPages want (unwound us now) p) (sym (drop-length o.undos)) store;
   journal = inl refl;
 }
 
@@ -61,7 +61,7 @@ GoesBack-more old mid new o rest n lt so_far one =
           ∙ ap (λ (us : List Undo). with_out old.store.book (record o { undos = us; undone = true } ∷ rest)) cut.front
           ∙ ap (λ (b : Bool). with_out old.store.book (record o { undos = take n o.undos; undone = b } ∷ rest)) (or_true o.undone ∙ ap (λ (b : Bool). o.undone || b) (sym (lt-ltb n (length o.undos) lt)));
       pages = λ want now store.
-          subst (λ (us : List Undo). IsStoreOf want (unwound us now) new) (sym cut.behind) (one.pages want (unwound (drop (suc n) o.undos) now) (so_far.pages want now store));
+          subst (λ (us : List Undo). HoldsPages want (unwound us now) new) (sym cut.behind) (one.pages want (unwound (drop (suc n) o.undos) now) (so_far.pages want now store));
       journal = IsSameOrForced-then old.store.journal mid.store.journal new.store.journal so_far.journal one.journal;
     }
 
@@ -70,7 +70,7 @@ GoesBack-more old mid new o rest n lt so_far one =
 abbrev pub done : Result (Unit {0}) StoreFault
 done = Ok tt
 
--- So many changes stand still, at least those up to the mark.
+-- So many changes stand still, at least those up to the savepoint.
 pub record WentBack {D : Type 0} (told : D → Option Story) (len faults : D → ℕ) (old new : D) (s t : State) (n : ℕ) : Type 0 where
   pub left : ℕ
   pub standing : standing_in t.book.out ≡ left
@@ -80,7 +80,7 @@ pub record WentBack {D : Type 0} (told : D → Option Story) (len faults : D →
   pub first : 0 < left → (o : Out) × (rest : List Out) × (s.book.out ≡ o ∷ rest)
   pub up : t.book.down ≡ false
   pub leaves : LeavesWanted (parts told len old s) (parts told len new t)
-  pub keeps : Keeps told len faults old new s t done
+  pub keeps : StaysReady told len faults old new s t done
 
 module _ {D : Type 0} (told : D → Option Story) (len faults : D → ℕ) where
   none_of : (s : State) (o : Out) (rest : List Out) → s.book.out ≡ o ∷ rest → standing_in s.book.out ≡ length o.undos
@@ -96,7 +96,7 @@ module _ {D : Type 0} (told : D → Option Story) (len faults : D → ℕ) where
     first = λ some. some_first s.book.out some;
     up = up;
     leaves = LeavesWanted-none (parts told len d s);
-    keeps = Keeps-ok told len faults tt d d s s up up refl refl (omega arith) ready;
+    keeps = StaysReady-ok told len faults tt d d s s up up refl refl (omega arith) ready;
   }
 
   module _ (old mid new : D) (s m t : State) (n : ℕ) (so_far : WentBack told len faults old mid s m n) (some : n < standing_in m.book.out)
@@ -131,7 +131,7 @@ module _ {D : Type 0} (told : D → Option Story) (len faults : D → ℕ) where
       standing_now : (o : Out) (rest : List Out) → s.book.out ≡ o ∷ rest → standing_in t.book.out ≡ fewer.0
       standing_now o rest is = ap (λ (b : Book). standing_in b.out) (undoes_now o rest is).book ∙ length-take-le fewer.0 o.undos (let h = below o rest is in omega arith)
 
-      pub WentBack-more : Keeps told len faults mid new m t done → WentBack told len faults old new s t n
+      pub WentBack-more : StaysReady told len faults mid new m t done → WentBack told len faults old new s t n
       WentBack-more keeps = record {
         left = fewer.0;
         standing = standing_now now_first.0 now_first.1 now_first.2;
@@ -139,9 +139,9 @@ module _ {D : Type 0} (told : D → Option Story) (len faults : D → ℕ) where
         most = λ o rest is. let h = below o rest is in omega arith;
         undoes = undoes_now;
         first = λ _. now_first;
-        up = Keeps-still told len faults tt mid new m t so_far.up keeps;
+        up = StaysReady-still told len faults tt mid new m t so_far.up keeps;
         leaves = leaves_now;
-        keeps = Keeps-then told len faults tt done old mid new s m t so_far.keeps keeps;
+        keeps = StaysReady-then told len faults tt done old mid new s m t so_far.keeps keeps;
       }
 
       pub fewer_now : standing_in t.book.out < standing_in m.book.out
@@ -160,7 +160,7 @@ Aborts-back old told size j p book o rest back = record {
   journal = back.journal;
 }
   where
-    pages_now : (want now : ℕ → List ℕ) → IsStoreOf want now old → IsStoreOf want (unwound o.undos now) (record { told = told; size = size; store = together j p (with_out book rest) })
+    pages_now : (want now : ℕ → List ℕ) → HoldsPages want now old → HoldsPages want (unwound o.undos now) (record { told = told; size = size; store = together j p (with_out book rest) })
     pages_now want now store =
         let mid = back.pages want now store in
         (mid.0, mid.1, Ties-drop want (unwound o.undos now) told size j p book (cut_back o 0) rest (ap (λ (b : Book). b.out) back.book) mid.0 mid.1 mid.2 refl)

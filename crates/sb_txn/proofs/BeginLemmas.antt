@@ -9,7 +9,7 @@ use Rattle.sb_journal.specs.State as journal
 use Rattle.sb_log.specs.declared.geometry.Geometry.{Geometry}
 use Rattle.sb_log.specs.Records.{Change, Record}
 use Rattle.sb_log.specs.Standing.{keep, standing, own_changes, count_of}
-use Rattle.sb_log.specs.Views.{Active, active_with, IsIdle}
+use Rattle.sb_log.specs.Views.{Active, active_with, IsInactive}
 use Rattle.sb_log.specs.Whole.{IsWhole}
 use Rattle.sb_log.proofs.StandingLemmas.{own_changes-keep, AreBelow-higher, AreBelow-committed, AreBelow-standing, count_of-none}
 use Rattle.sb_log.proofs.WholeLemmas.{IsWhole-active, IsWhole-place}
@@ -22,6 +22,8 @@ use Rattle.sb_pool.specs.State as pool
 use Rattle.std.proofs.Math.ListN as list
 use Rattle.sb_txn.specs.Book.{Out, Book, actives, begun_in, new_out, begun_book, emptied_book}
 use Rattle.sb_txn.specs.Tied.{AreUndos, IsOut, AreOut, AreOnce, IsBookOf, HasReserve, Ties}
+use Rattle.sb_txn.specs.Clauses.{Parts, Checkpoints, MakesRoom}
+use Rattle.sb_txn.specs.Steps.{TakesCheckpoint}
 use Rattle.sb_txn.proofs.CalledLemmas.{actives-append}
 
 -- ---- a checkpoint
@@ -85,7 +87,7 @@ module _ (count tx : ℕ) (recs : List Record) where
     fit = tt;
   }
 
--- ---- it is the last of those that are out
+-- ---- it is the last of the active ones
 begun_in-last : (os : List Out) (o : Out) → begun_in (os ++ o ∷ []) ≡ begun_in os + cond o.begun 1 0
 begun_in-last [] o = omega arith
 begun_in-last (x ∷ os) o = let e = begun_in-last os o in omega arith
@@ -99,24 +101,24 @@ module _ (count : ℕ) (recs : List Record) (next more : ℕ) (le : next ≤ mor
   )
 
 -- its number is none of theirs
-IsIdle-next : (count : ℕ) (recs : List Record) (next : ℕ) (os : List Out) → AreOut count recs next os → IsIdle next (actives os)
-IsIdle-next count recs next [] out = tt
-IsIdle-next count recs next (o ∷ os) out = ((λ e. absurd (let h = out.0.number in omega arith)), IsIdle-next count recs next os out.1)
+IsInactive-next : (count : ℕ) (recs : List Record) (next : ℕ) (os : List Out) → AreOut count recs next os → IsInactive next (actives os)
+IsInactive-next count recs next [] out = tt
+IsInactive-next count recs next (o ∷ os) out = ((λ e. absurd (let h = out.0.number in omega arith)), IsInactive-next count recs next os out.1)
 
-IsIdle-last : (tx : ℕ) (os : List Out) (o : Out) → IsIdle tx (actives os) → (o.tx ≡ tx → ⊥) → IsIdle tx (actives (os ++ o ∷ []))
-IsIdle-last tx [] o idle other = (other, tt)
-IsIdle-last tx (x ∷ os) o idle other = (idle.0, IsIdle-last tx os o idle.1 other)
+IsInactive-last : (tx : ℕ) (os : List Out) (o : Out) → IsInactive tx (actives os) → (o.tx ≡ tx → ⊥) → IsInactive tx (actives (os ++ o ∷ []))
+IsInactive-last tx [] o idle other = (other, tt)
+IsInactive-last tx (x ∷ os) o idle other = (idle.0, IsInactive-last tx os o idle.1 other)
 
-AreOnce-last : (os : List Out) (o : Out) → AreOnce os → IsIdle o.tx (actives os) → AreOnce (os ++ o ∷ [])
+AreOnce-last : (os : List Out) (o : Out) → AreOnce os → IsInactive o.tx (actives os) → AreOnce (os ++ o ∷ [])
 AreOnce-last [] o once idle = (tt, tt)
-AreOnce-last (x ∷ os) o once idle = (IsIdle-last x.tx os o once.0 (λ e. idle.0 (sym e)), AreOnce-last os o once.1 idle.1)
+AreOnce-last (x ∷ os) o once idle = (IsInactive-last x.tx os o once.0 (λ e. idle.0 (sym e)), AreOnce-last os o once.1 idle.1)
 
 module _ (want now : ℕ → List ℕ) (told : Option Story) (size : ℕ) (j : journal.State) (p : pool.State) (book : Book) (opened pending : List Record) (ties : Ties want now told size j p book opened pending) (few : length book.out < 8) where
   abbrev recs : List Record
   recs = opened ++ pending
 
-  idle : IsIdle book.next (actives book.out)
-  idle = IsIdle-next p.geometry.pages recs book.next book.out ties.knows.out
+  idle : IsInactive book.next (actives book.out)
+  idle = IsInactive-next p.geometry.pages recs book.next book.out ties.knows.out
 
   store_begin : IsStoreOn want now told j p.geometry opened pending (actives (book.out ++ new_out book.next ∷ []))
   store_begin =
@@ -156,3 +158,12 @@ module _ (want now : ℕ → List ℕ) (told : Option Story) (size : ℕ) (j : j
           gates = let h = ties.spare.gates in omega arith;
         };
       }
+
+-- ---- a checkpoint before it
+pub MakesRoom-checkpoint : (old new : Parts) → TakesCheckpoint old.store.journal old.store.book → Checkpoints old new → MakesRoom old new
+MakesRoom-checkpoint old new takes done = record {
+  out = done.out ∙ sym takes.none;
+  pages = λ want now store. ([], [], done.pages want now store);
+  stays = λ not. absurd (not takes);
+  empties = λ _. done;
+}

@@ -8,11 +8,11 @@ use Rattle.sb_disk.specs.Disk.{Story}
 use Rattle.sb_txn.specs.Book.{Undo, Out, Book, MayBegin, IsClear, AreClear, out_with, IsAmong, others, IsOnly, leading, called, changed_out}
 use Rattle.sb_txn.specs.Tied.{AreOnce}
 use Rattle.sb_txn.specs.Beside.{IsOn, AreOn, IsOne, AreTwo}
-use Rattle.sb_txn.specs.Clauses.{Parts, parts, IsReady, Keeps, Refused, Begins, undo_in, Changes, ChangeErr, IsFaultOrDown}
+use Rattle.sb_txn.specs.Clauses.{Parts, parts, IsReady, StaysReady, Refused, Begins, undo_in, Changes, ChangeErr, IsFaultOrDown}
 use Rattle.sb_txn.specs.State.{State}
 use Rattle.sb_txn.specs.declared.fault.StoreFault.{StoreFault}
 use Rattle.sb_txn.specs.declared.fault.StoreFault.TheVariants.{Fault, LogFull, GatesFull, Down, NoMemory}
-use Rattle.sb_txn.proofs.KeepsLemmas.{not_both, Keeps-up}
+use Rattle.sb_txn.proofs.KeepsLemmas.{not_both, StaysReady-up}
 use Rattle.sb_txn.proofs.PlaceLemmas.{out_with-first, others-first, IsOnly-one}
 
 -- ---- sides
@@ -143,15 +143,15 @@ AreTwo-begin low old new one tx was begins up ready =
 
 -- ---- the calls of one of them
 module _ {D : Type 0} (told : D → Option Story) (len faults : D → ℕ) (old new : D) (s t : State) (low : Bool) (tx other : ℕ) (two : s.book.down ≡ false → AreTwo low tx other s.book.out) (up : t.book.down ≡ false) where
-  down_two : Keeps {T = Unit {0}} told len faults old new s t (Err Down) → AreTwo low tx other t.book.out
+  down_two : StaysReady {T = Unit {0}} told len faults old new s t (Err Down) → AreTwo low tx other t.book.out
   down_two keeps =
       let same = ap (λ (x : State). x.book) (keeps.down (keeps.only refl)).store in
       subst (λ (b : Book). AreTwo low tx other b.out) (sym same) (two (ap (λ (b : Book). b.down) (sym same) ∙ up))
 
-  fault_two : Keeps {T = Unit {0}} told len faults old new s t (Err Fault) → AreTwo low tx other t.book.out
+  fault_two : StaysReady {T = Unit {0}} told len faults old new s t (Err Fault) → AreTwo low tx other t.book.out
   fault_two keeps = not_both t.book.down up (keeps.fault refl).1
 
-  refused_two : (e : StoreFault) → Keeps {T = Unit {0}} told len faults old new s t (Err e) → (IsErrOf {T = Unit {0}} (Err e) Down → ⊥) → ((o : Out) → out_with tx s.book.out ≡ Some o → Refused o.tx (parts told len old s) (parts told len new t)) → AreTwo low tx other t.book.out
+  refused_two : (e : StoreFault) → StaysReady {T = Unit {0}} told len faults old new s t (Err e) → (IsErrOf {T = Unit {0}} (Err e) Down → ⊥) → ((o : Out) → out_with tx s.book.out ≡ Some o → Refused o.tx (parts told len old s) (parts told len new t)) → AreTwo low tx other t.book.out
   refused_two e keeps not_down refused =
       let was = two (by_case s.book.down (λ on. not_down (keeps.down on).answer)) in
       let book = subst (λ (n : ℕ). t.book ≡ called n s.book) was.own (refused was.first (found_two low tx other s.book.out was)).book in
@@ -161,11 +161,11 @@ module _ {D : Type 0} (told : D → Option Story) (len faults : D → ℕ) (old 
       by_case true off = absurd (off refl)
       by_case false off = refl
 
-  pub AreTwo-change : (result : Result (Unit {0}) StoreFault) (owner page offset : ℕ) (bytes : List ℕ) → IsOn low offset (length bytes) → Keeps told len faults old new s t result
+  pub AreTwo-change : (result : Result (Unit {0}) StoreFault) (owner page offset : ℕ) (bytes : List ℕ) → IsOn low offset (length bytes) → StaysReady told len faults old new s t result
       → OnOk result ((o : Out) → out_with tx s.book.out ≡ Some o → Changes (parts told len old s) (parts told len new t) o (others tx s.book.out) owner page offset bytes)
       → IfErr result (λ e. (o : Out) → out_with tx s.book.out ≡ Some o → ChangeErr (parts told len old s) (parts told len new t) o page (length bytes) e) → AreTwo low tx other t.book.out
   AreTwo-change (Ok x) owner page offset bytes on keeps changes refused =
-      let was = two (Keeps-up told len faults x old new s t keeps) in
+      let was = two (StaysReady-up told len faults x old new s t keeps) in
       let change = changes was.first (found_two low tx other s.book.out was) in
       subst (λ (b : Book). AreTwo low tx other b.out) (sym change.book) (two_changed low tx other s.book.out was page offset change.image bytes on)
   AreTwo-change (Err Fault) owner page offset bytes on keeps changes refused = fault_two keeps
@@ -174,18 +174,18 @@ module _ {D : Type 0} (told : D → Option Story) (len faults : D → ℕ) (old 
   AreTwo-change (Err (LogFull used need total)) owner page offset bytes on keeps changes refused = refused_two (LogFull used need total) keeps (λ e. cc) (λ o is. (refused o is).4)
   AreTwo-change (Err (GatesFull used total)) owner page offset bytes on keeps changes refused = refused_two (GatesFull used total) keeps (λ e. cc) (λ o is. (refused o is).4)
 
-  -- the other is out still when this one has ended
+  -- the other is active still when this one has ended
   other_alone : t.book.out ≡ others tx s.book.out → AreTwo low tx other s.book.out → IsOnly other t.book.out
   other_alone is was = subst (λ (l : List Out). IsOnly other l) (sym (is ∙ others_two low tx other s.book.out was)) (IsOnly-one other was.second was.others)
 
-  was_down : Keeps {T = Unit {0}} told len faults old new s t (Err Down) → IsOnly other t.book.out
+  was_down : StaysReady {T = Unit {0}} told len faults old new s t (Err Down) → IsOnly other t.book.out
   was_down keeps =
       let on = keeps.only refl in
       not_both t.book.down up (ap (λ (x : State). x.book.down) (keeps.down on).store ∙ on)
 
-  pub IsOnly-ended : (result : Result (Unit {0}) StoreFault) → Keeps told len faults old new s t result → OnOk result ((o : Out) → out_with tx s.book.out ≡ Some o → t.book.out ≡ others tx s.book.out) → IfErr result IsFaultOrDown → IsOnly other t.book.out
+  pub IsOnly-ended : (result : Result (Unit {0}) StoreFault) → StaysReady told len faults old new s t result → OnOk result ((o : Out) → out_with tx s.book.out ≡ Some o → t.book.out ≡ others tx s.book.out) → IfErr result IsFaultOrDown → IsOnly other t.book.out
   IsOnly-ended (Ok x) keeps ends err =
-      let was = two (Keeps-up told len faults x old new s t keeps) in
+      let was = two (StaysReady-up told len faults x old new s t keeps) in
       other_alone (ends was.first (found_two low tx other s.book.out was)) was
   IsOnly-ended (Err Fault) keeps ends err = not_both t.book.down up (keeps.fault refl).1
   IsOnly-ended (Err Down) keeps ends err = was_down keeps
@@ -194,7 +194,7 @@ module _ {D : Type 0} (told : D → Option Story) (len faults : D → ℕ) (old 
   IsOnly-ended (Err (GatesFull used total)) keeps ends err = absurd err
 
 -- a begin that is refused leaves a store that is down
-pub down-refused : {D T : Type 0} (told : D → Option Story) (len faults : D → ℕ) (old new : D) (s t : State) (e : StoreFault) → IsFaultOrDown e → Keeps {T = T} told len faults old new s t (Err e) → t.book.down ≡ true
+pub down-refused : {D T : Type 0} (told : D → Option Story) (len faults : D → ℕ) (old new : D) (s t : State) (e : StoreFault) → IsFaultOrDown e → StaysReady {T = T} told len faults old new s t (Err e) → t.book.down ≡ true
 down-refused told len faults old new s t Fault err keeps = (keeps.fault refl).1
 down-refused told len faults old new s t Down err keeps = let on = keeps.only refl in ap (λ (x : State). x.book.down) (keeps.down on).store ∙ on
 down-refused told len faults old new s t (LogFull used need total) err keeps = absurd err

@@ -9,7 +9,7 @@ use Rattle.sb_txn.specs.declared.changing.Wants.{Wants}
 use Rattle.sb_txn.specs.declared.fault.StoreFault.{StoreFault}
 use Rattle.sb_txn.specs.declared.fault.StoreFault.TheVariants.{Fault, LogFull, GatesFull, Down, NoMemory}
 use Rattle.sb_txn.specs.Book.{Out, Book, wants_of, change_len, with_change, out_with, IsAmong, others, standing_of, IsFirst, standing_in, with_out, leading, called}
-use Rattle.sb_txn.specs.Clauses.{Parts, Holds, IsStoreOf, IsReady, Leads, LeavesWanted, Keeps, Grows, IsLogged, Refused, records_of, change_in, undo_in, Changes, ChangeErr, HasRoom, need_of, unwound, cut_back, GoesBack, Aborts, committed_pages, Commits, LeavesCommit, LeavesOne}
+use Rattle.sb_txn.specs.Clauses.{Parts, Holds, HoldsPages, IsReady, Leads, LeavesWanted, StaysReady, Grows, IsLogged, Refused, records_of, change_in, undo_in, Changes, ChangeErr, HasRoom, need_of, unwound, cut_back, GoesBack, Aborts, committed_pages, Commits, LeavesCommit, LeavesOne}
 use Rattle.sb_txn.specs.State.{State, together}
 use Rattle.sb_txn.specs.Tied.{Ties}
 use Rattle.sb_txn.proofs.CalledLemmas.{out_with-tx, out_with-among, standing_of-found, length-called, leading-called, Ties-called}
@@ -26,11 +26,11 @@ module _ (old : Parts) (b : Book) (tx : ℕ) (among : IsAmong tx old.store.book.
       subst (λ (x : Book). Ties want now old.told old.size old.store.journal old.store.pool x opened pending) (sym first)
       (Ties-called want now old.told old.size old.store.journal old.store.pool old.store.book opened pending tx among ties)
 
-  pub IsStoreOf-called : (want now : ℕ → List ℕ) → IsStoreOf want now old → IsStoreOf want now (with_book old b)
-  IsStoreOf-called want now store = (store.0, store.1, Holds-called want now store.0 store.1 store.2)
+  pub HoldsPages-called : (want now : ℕ → List ℕ) → HoldsPages want now old → HoldsPages want now (with_book old b)
+  HoldsPages-called want now store = (store.0, store.1, Holds-called want now store.0 store.1 store.2)
 
   pub IsReady-called : old.store.book.down ≡ false → IsReady old → IsReady (with_book old b)
-  IsReady-called up ready _ = let store = ready up in (store.0, store.1, IsStoreOf-called store.0 store.1 store.2)
+  IsReady-called up ready _ = let store = ready up in (store.0, store.1, HoldsPages-called store.0 store.1 store.2)
 
   found : (o : Out) × (out_with tx old.store.book.out ≡ Some o)
   found = out_with-among tx old.store.book.out among
@@ -46,10 +46,10 @@ module _ (old : Parts) (b : Book) (tx : ℕ) (among : IsAmong tx old.store.book.
 
   -- ---- what a call leaves
   Leads-called : (new : Parts) (change : (ℕ → List ℕ) → ℕ → List ℕ) → Leads (with_book old b) new change → Leads old new change
-  Leads-called new change leads want now store = leads want now (IsStoreOf-called want now store)
+  Leads-called new change leads want now store = leads want now (HoldsPages-called want now store)
 
   pub LeavesWanted-called : (new : Parts) → LeavesWanted (with_book old b) new → LeavesWanted old new
-  LeavesWanted-called new leaves = record { each = λ want now store. leaves.each want now (IsStoreOf-called want now store) }
+  LeavesWanted-called new leaves = record { each = λ want now store. leaves.each want now (HoldsPages-called want now store) }
 
 -- ---- what it says of the transaction
 module _ (old : Parts) (b : Book) (tx : ℕ) (o : Out) (is : out_with tx old.store.book.out ≡ Some o) (first : b ≡ called tx old.store.book) where
@@ -96,7 +96,7 @@ module _ (old : Parts) (b : Book) (tx : ℕ) (o : Out) (is : out_with tx old.sto
         let w = wants_same page in
         record {
           image = changes.image;
-          was = λ want now store. changes.was want now (IsStoreOf-called old b tx among_one first want now store);
+          was = λ want now store. changes.was want now (HoldsPages-called old b tx among_one first want now store);
           book = changes.book ∙ ap (λ (x : Book). with_change x o rest (undo_in page offset changes.image bytes)) first;
           pages = Leads-called old b tx among_one first new (with_bytes page offset bytes) changes.pages;
           logged = λ want now opened pending ties.
@@ -137,7 +137,7 @@ module _ (old : Parts) (b : Book) (tx : ℕ) (o : Out) (is : out_with tx old.sto
     Aborts-called aborts = record {
       book = aborts.book ∙ ap (λ (x : Book). with_out x rest) first;
       pages = Leads-called old b tx among_one first new (unwound o.undos) aborts.pages;
-      alone = λ none want now store. aborts.alone none want now (IsStoreOf-called old b tx among_one first want now store);
+      alone = λ none want now store. aborts.alone none want now (HoldsPages-called old b tx among_one first want now store);
       journal = aborts.journal;
     }
 
@@ -145,7 +145,7 @@ module _ (old : Parts) (b : Book) (tx : ℕ) (o : Out) (is : out_with tx old.sto
     Commits-called commits = record {
       book = commits.book ∙ ap (λ (x : Book). with_out x rest) first;
       pages = λ want now opened pending ties. commits.pages want now opened pending (Holds-called old b tx among_one first want now opened pending ties);
-      alone = λ last want now store. commits.alone last want now (IsStoreOf-called old b tx among_one first want now store);
+      alone = λ last want now store. commits.alone last want now (HoldsPages-called old b tx among_one first want now store);
       grows = grows_same commits.grows;
       chunks = commits.chunks;
     }
@@ -155,8 +155,8 @@ module _ (old : Parts) (b : Book) (tx : ℕ) (o : Out) (is : out_with tx old.sto
 
 -- ---- what it keeps
 module _ {D T : Type 0} (told : D → Option Story) (len faults : D → ℕ) (disk new : D) (s t : State) (b : Book) (tx : ℕ) (up : s.book.down ≡ false) (first : b ≡ called tx s.book) (result : Result T StoreFault) where
-  pub Keeps-called : Keeps told len faults disk new (together s.journal s.pool b) t result → Keeps told len faults disk new s t result
-  Keeps-called kept = record {
+  pub StaysReady-called : StaysReady told len faults disk new (together s.journal s.pool b) t result → StaysReady told len faults disk new s t result
+  StaysReady-called kept = record {
     size = kept.size;
     geometry = kept.geometry;
     later = kept.later;

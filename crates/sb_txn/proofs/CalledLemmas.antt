@@ -9,7 +9,7 @@ use Rattle.sb_journal.specs.State.{used_of}
 use Rattle.sb_journal.specs.State as journal
 use Rattle.sb_log.specs.declared.geometry.Geometry.{Geometry}
 use Rattle.sb_log.specs.Records.{Record}
-use Rattle.sb_log.specs.Views.{Active, active_with, IsIdle}
+use Rattle.sb_log.specs.Views.{Active, active_with, IsInactive}
 use Rattle.sb_log.proofs.WholeLemmas.{IsWhole-front}
 use Rattle.sb_images.specs.Store.{IsStoreOn}
 use Rattle.sb_images.proofs.StoreLemmas.{IsStoreOn-step}
@@ -17,7 +17,7 @@ use Rattle.sb_pool.specs.State as pool
 use Rattle.sb_txn.specs.Book.{Out, Book, actives, begun_in, out_with, IsAmong, others, standing_of, leading, called}
 use Rattle.sb_txn.specs.Tied.{AreOut, AreOnce, IsBookOf, HasReserve, Ties}
 
--- ---- the transaction among those that are out
+-- ---- the transaction among the active ones
 -- the one that is found has the number
 pub out_with-tx : (tx : ℕ) (os : List Out) (o : Out) → out_with tx os ≡ Some o → o.tx ≡ tx
 out_with-tx tx [] o is = absurd (cc)
@@ -51,7 +51,7 @@ out_with-split tx (x ∷ os) o is = by_test (x.tx == tx) (out_with-split tx os o
     by_test true more found = let e : x ≡ o = cc in record { before = []; behind = os; is = ap (λ (y : Out). y ∷ os) e; rest_is = refl }
     by_test false more found = let at = more found in record { before = x ∷ at.before; behind = at.behind; is = ap (λ (l : List Out). x ∷ l) at.is; rest_is = ap (λ (l : List Out). x ∷ l) at.rest_is }
 
--- one that is out is found
+-- an active one is found
 pub out_with-among : (tx : ℕ) (os : List Out) → IsAmong tx os → (o : Out) × (out_with tx os ≡ Some o)
 out_with-among tx os among = by_option (out_with tx os) among
   where
@@ -59,7 +59,7 @@ out_with-among tx os among = by_option (out_with tx os) among
     by_option None some = absurd (false≢true some)
     by_option (Some o) some = (o, refl)
 
--- where one is out, it is that one
+-- where one is active, it is that one
 pub out_with-one : (tx : ℕ) (os : List Out) (o : Out) → os ≡ o ∷ [] → IsAmong tx os → out_with tx os ≡ Some o
 out_with-one tx os o one among = subst (λ (l : List Out). out_with tx l ≡ Some o) (sym one) (by_test (o.tx == tx) (subst (λ (l : List Out). IsAmong tx l) one among))
   where
@@ -92,15 +92,15 @@ AreOut-front : (count : ℕ) (recs : List Record) (next : ℕ) (before : List Ou
 AreOut-front count recs next [] o behind are = are
 AreOut-front count recs next (b ∷ before) o behind are = let front = AreOut-front count recs next before o behind are.1 in (front.0, (are.0, front.1))
 
-IsIdle-front : (tx : ℕ) (before : List Out) (o : Out) (behind : List Out) → IsIdle tx (actives (before ++ o ∷ behind)) → IsIdle tx (actives (o ∷ (before ++ behind)))
-IsIdle-front tx [] o behind idle = idle
-IsIdle-front tx (b ∷ before) o behind idle = let front = IsIdle-front tx before o behind idle.1 in (front.0, (idle.0, front.1))
+IsInactive-front : (tx : ℕ) (before : List Out) (o : Out) (behind : List Out) → IsInactive tx (actives (before ++ o ∷ behind)) → IsInactive tx (actives (o ∷ (before ++ behind)))
+IsInactive-front tx [] o behind idle = idle
+IsInactive-front tx (b ∷ before) o behind idle = let front = IsInactive-front tx before o behind idle.1 in (front.0, (idle.0, front.1))
 
 AreOnce-front : (before : List Out) (o : Out) (behind : List Out) → AreOnce (before ++ o ∷ behind) → AreOnce (o ∷ (before ++ behind))
 AreOnce-front [] o behind once = once
 AreOnce-front (b ∷ before) o behind once =
     let front = AreOnce-front before o behind once.1 in
-    let idle = IsIdle-front b.tx before o behind once.0 in
+    let idle = IsInactive-front b.tx before o behind once.0 in
     (((λ e. idle.0 (sym e)), front.0), (idle.1, front.1))
 
 module _ (want now : ℕ → List ℕ) (told : Option Story) (j : journal.State) (g : Geometry) (opened pending : List Record) (before : List Out) (o : Out) (behind : List Out) where

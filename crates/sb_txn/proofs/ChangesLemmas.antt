@@ -12,7 +12,7 @@ use Rattle.sb_txn.specs.declared.changing.Wants.{Wants}
 use Rattle.sb_txn.specs.Book.{Undo, Out, changed_out}
 use Rattle.sb_txn.specs.Changing.{behind}
 use Rattle.sb_txn.specs.Steps.{some}
-use Rattle.sb_txn.specs.Tied.{IsUndo, AreUndos, Fits, AllFit, IsOut}
+use Rattle.sb_txn.specs.Tied.{IsUndo, AreUndos, UndoFits, UndosFit, IsOut}
 use Rattle.sb_txn.proofs.ChangeLemmas.{imaged-some, standing-some, imaged-behind}
 
 -- ---- one record more, where it is wanted
@@ -84,9 +84,9 @@ AreUndos-more [] (d ∷ cs) u c are is = absurd are
 AreUndos-more (v ∷ us) [] u c are is = absurd are
 AreUndos-more (v ∷ us) (d ∷ cs) u c are is = (are.0, AreUndos-more us cs u c are.1 is)
 
-AllFit-more : (count : ℕ) (recs more : List Record) (us : List Undo) (u : Undo) → ((q : ℕ) → imaged recs q ≡ true → imaged more q ≡ true) → AllFit count recs us → Fits count more u → AllFit count more (us ++ u ∷ [])
-AllFit-more count recs more [] u keeps fit is = (is, tt)
-AllFit-more count recs more (v ∷ us) u keeps fit is = (record { page = fit.0.page; within = fit.0.within; covered = keeps v.page fit.0.covered }, AllFit-more count recs more us u keeps fit.1 is)
+UndosFit-more : (count : ℕ) (recs more : List Record) (us : List Undo) (u : Undo) → ((q : ℕ) → imaged recs q ≡ true → imaged more q ≡ true) → UndosFit count recs us → UndoFits count more u → UndosFit count more (us ++ u ∷ [])
+UndosFit-more count recs more [] u keeps fit is = (is, tt)
+UndosFit-more count recs more (v ∷ us) u keeps fit is = (record { page = fit.0.page; within = fit.0.within; covered = keeps v.page fit.0.covered }, UndosFit-more count recs more us u keeps fit.1 is)
 
 own_last : (tx : ℕ) (cs : List Change) (c : Change) → c.tx ≡ tx → own_changes tx (cs ++ c ∷ []) ≡ own_changes tx cs ++ c ∷ []
 own_last tx cs c own = filter-append (λ (d : Change). d.tx == tx) cs (c ∷ []) ∙ ap (λ (l : List Change). own_changes tx cs ++ l) (rw (eq-eqb c.tx tx own) refl)
@@ -115,11 +115,11 @@ module _ (count : ℕ) (opened pending : List Record) (next page : ℕ) (image :
       ∙ ap (λ (cs : List Change). own_changes o.tx cs) (keep-enough o.tx (suc n) (standing then) few ∙ stands)
       ∙ own_last o.tx (keep o.tx n (standing recs)) c own
 
-  pub IsOut-changed : Fits count then u → IsOut count then next (changed_out o u)
+  pub IsOut-changed : UndoFits count then u → IsOut count then next (changed_out o u)
   IsOut-changed fits = record {
     undos = subst (λ (cs : List Change). AreUndos (o.undos ++ u ∷ []) cs) (sym kept) (AreUndos-more o.undos (own_changes o.tx (keep o.tx n (standing recs))) u c out.undos same);
     logged = λ off. omega (arith, few, long);
     none = λ off. absurd (false≢true (sym off));
     number = out.number;
-    fit = AllFit-more count recs then o.undos u (imaged-changed opened pending w o.tx n page image c) out.fit fits;
+    fit = UndosFit-more count recs then o.undos u (imaged-changed opened pending w o.tx n page image c) out.fit fits;
   }

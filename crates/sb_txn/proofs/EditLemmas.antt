@@ -22,7 +22,7 @@ use Rattle.sb_txn.specs.Ahead.{Leans, IsAhead, CatchesUp, LeavesAhead}
 use Rattle.sb_txn.specs.Book.{Undo, Out, Book, AreClear, with_change, wants_of, change_len, actives, IsFirst, standing_in}
 use Rattle.sb_txn.specs.Changes.{AddErr}
 use Rattle.sb_txn.specs.Changing.{IsNext, behind}
-use Rattle.sb_txn.specs.Clauses.{Parts, IsStoreOf, IsFaultOrDown, LeavesWanted, IsLogged, Changes, HasRoom}
+use Rattle.sb_txn.specs.Clauses.{Parts, HoldsPages, IsFaultOrDown, LeavesWanted, IsLogged, Changes, HasRoom}
 use Rattle.sb_txn.specs.Logging.{HasSpace, records_len}
 use Rattle.sb_txn.specs.State.{together}
 use Rattle.sb_txn.specs.Steps.{some}
@@ -64,11 +64,11 @@ module _ (told : Option Story) (size : ℕ) (j : journal.State) (p : pool.State)
   abbrev old : Parts
   old = record { told = told; size = size; store = together j p book }
 
-  pub HasSpace-edit : (want now : ℕ → List ℕ) → IsStoreOf want now old → HasSpace (records_len w (length (spelling (Changed the_change)))) j
+  pub HasSpace-edit : (want now : ℕ → List ℕ) → HoldsPages want now old → HasSpace (records_len w (length (spelling (Changed the_change)))) j
   HasSpace-edit want now store = edit_space want now told size j p book store.0 store.1 o rest owner page offset image bytes store.2 is lt range long has bytes_held room clear
 
   module _ (new : Option Story) (tells : is_some told ≡ is_some new) (leaves_change : LeavesChange told new j p.geometry page image w o.tx (length o.undos) the_change) where
-    leaves_edit : (want now : ℕ → List ℕ) → IsStoreOf want now old → LeavesOnly told new (Restores p.geometry want)
+    leaves_edit : (want now : ℕ → List ℕ) → HoldsPages want now old → LeavesOnly told new (Restores p.geometry want)
     leaves_edit want now store = edit_leaves want now told size j p book store.0 store.1 o rest owner page offset image bytes store.2 is lt range long has bytes_held room clear new tells
         (λ next at. leaves_change.each want now store.0 store.1 (actives rest) next at)
 
@@ -80,7 +80,7 @@ module _ (told : Option Story) (size : ℕ) (j : journal.State) (p : pool.State)
       abbrev mid : Parts
       mid = record { told = new; size = len; store = together k p b }
 
-      abbrev pub IsAhead-edit : (want now : ℕ → List ℕ) → IsStoreOf want now old → IsAhead want now page offset bytes mid
+      abbrev pub IsAhead-edit : (want now : ℕ → List ℕ) → HoldsPages want now old → IsAhead want now page offset bytes mid
       IsAhead-edit want now store = record {
         opened = store.0;
         pending = behind store.1 w o.tx (length o.undos) page image ++ Changed the_change ∷ [];
@@ -99,7 +99,7 @@ module _ (told : Option Story) (size : ℕ) (j : journal.State) (p : pool.State)
         pub LeavesWanted-edited : LeavesAhead mid end page offset bytes → LeavesWanted old end
         LeavesWanted-edited leaves = record { each = λ want now store. and_then told new end.told (Restores p.geometry want) (leaves_edit want now store) (leaves.each want now (IsAhead-edit want now store)) }
 
-        pub Changes-edited : (want now : ℕ → List ℕ) → IsStoreOf want now old → CatchesUp mid end page offset bytes → Changes old end o rest owner page offset bytes
+        pub Changes-edited : (want now : ℕ → List ℕ) → HoldsPages want now old → CatchesUp mid end page offset bytes → Changes old end o rest owner page offset bytes
         Changes-edited want now store caught =
             let size = size_of want now told size j p book store.0 store.1 o rest owner page offset image bytes store.2 is lt range long has bytes_held room clear in
             let logged : IsLogged j end.store.journal (change_len w (length bytes)) = IsLogged-of j j end.store.journal (change_len w (length bytes)) (change_len-some w (length bytes)) (inl refl)

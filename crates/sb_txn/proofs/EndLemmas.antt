@@ -13,7 +13,7 @@ use Rattle.sb_log.specs.declared.geometry.Geometry.{Geometry}
 use Rattle.sb_log.specs.Records.{Change, Record, Back, Commit}
 use Rattle.sb_log.specs.Restored.{base, imaged}
 use Rattle.sb_log.specs.Standing.{keep, standing, own_changes, count_of, AreBelow}
-use Rattle.sb_log.specs.Views.{Active, active_with, IsIdle, IsPage}
+use Rattle.sb_log.specs.Views.{Active, active_with, IsInactive, IsPage}
 use Rattle.sb_log.proofs.RestoredLemmas.{imaged-append}
 use Rattle.sb_log.proofs.StandingLemmas.{or_false, stood_all-append, keep-again, own_changes-keep, AreBelow-append}
 use Rattle.sb_log.proofs.WholeLemmas.{IsWhole-drop}
@@ -46,7 +46,7 @@ own_of-back true opened pending tx n =
     ∙ ap (λ (cs : List Change). own_changes tx cs) (keep-again tx n (standing (opened ++ pending)))
 own_of-back false opened pending tx n = ap (λ (l : List Record). own_of (opened ++ l) (active_with tx n)) (append-nil pending)
 
--- ---- the first transaction that is out
+-- ---- the first active transaction
 pub few_more : (n m : ℕ) (os : List Out) → n ≤ m → All (λ (x : Out). length x.undos ≤ n) os → All (λ (x : Out). length x.undos ≤ m) os
 few_more n m [] more few = All-nil (λ (x : Out). length x.undos ≤ m)
 few_more n m (o ∷ os) more few =
@@ -60,7 +60,7 @@ module _ (want now : ℕ → List ℕ) (told : Option Story) (size : ℕ) (j : j
   pub first_store : IsStoreOn want now told j p.geometry opened pending (active_with o.tx (length o.undos) ∷ actives rest)
   first_store = subst (λ (l : List Out). IsStoreOn want now told j p.geometry opened pending (actives l)) is ties.store
 
-  pub first_once : IsIdle o.tx (actives rest) × AreOnce rest
+  pub first_once : IsInactive o.tx (actives rest) × AreOnce rest
   first_once = subst (λ (l : List Out). AreOnce l) is ties.knows.once
 
   pub rest_most : suc (length rest) ≤ 8
@@ -97,7 +97,7 @@ module _ (want now : ℕ → List ℕ) (told : Option Story) (size : ℕ) (j : j
     spare = record { few = rest_few (used_of j) (omega arith); room = let h = first_room in omega arith; gates = let h = first_gates in omega arith };
   }
 
--- ---- where none is out
+-- ---- where none is active
 -- the pages wanted are those now
 IsStoreOn-idle : (want now : ℕ → List ℕ) (told : Option Story) (j : journal.State) (g : Geometry) (opened pending : List Record) → IsStoreOn want now told j g opened pending [] → IsStoreOn now now told j g opened pending []
 IsStoreOn-idle want now None j g opened pending store = tt
@@ -176,7 +176,7 @@ LeavesCommit-idle told size j p book after o want now opened pending ties =
     LeavesOnly-old want (committed_pages (opened ++ pending) o want) p.geometry told told
     (LeavesOnly-idle want j p.geometry opened pending told (IsStoreOn-ready want now told j p.geometry opened pending (actives book.out) ties.store))
 
--- ---- the one that is out
+-- ---- the active one
 -- with its changes the pages wanted are those now
 alone_pages : (want now : ℕ → List ℕ) (s : Story) (j : journal.State) (g : Geometry) (opened pending : List Record) (a : Active) → IsStoreOn want now (Some s) j g opened pending (a ∷ []) → (q : ℕ) → q < g.pages → with_changes (own_of (opened ++ pending) a) want q ≡ now q
 alone_pages want now s j g opened pending a store q lt = sym (WillBe-commit want now j g opened pending a [] (Some s) store q lt) ∙ WillBe-alone want now (Some s) j g opened pending a store q lt

@@ -11,7 +11,7 @@ use Rattle.sb_images.specs.Images.{Restores}
 use Rattle.sb_images.proofs.CallLemmas.{LeavesOnly-idle}
 use Rattle.sb_images.proofs.StoreLemmas.{IsStoreOn-ready}
 use Rattle.sb_txn.specs.Book.{actives}
-use Rattle.sb_txn.specs.Clauses.{Parts, parts, IsReady, Leads, LeavesWanted, Keeps}
+use Rattle.sb_txn.specs.Clauses.{Parts, parts, IsReady, Leads, LeavesWanted, StaysReady}
 use Rattle.sb_txn.specs.State.{State}
 use Rattle.sb_txn.specs.declared.fault.StoreFault.{StoreFault}
 use Rattle.sb_txn.specs.declared.fault.StoreFault.TheVariants.{Fault, Down}
@@ -25,9 +25,9 @@ ok_err x e is = absurd (cc)
 -- ---- one call
 module _ {D : Type 0} (told : D → Option Story) (len faults : D → ℕ) where
   -- a call of the pool or the journal failed
-  pub Keeps-fault : {T : Type 0} (old new : D) (s t : State) → s.book.down ≡ false → t.book.down ≡ true → len new ≡ len old → t.pool.geometry ≡ s.pool.geometry → faults old ≤ faults new → Rose (faults old) (faults new)
-      → Keeps {T = T} told len faults old new s t (Err Fault)
-  Keeps-fault old new s t up down size geometry later rose = record {
+  pub StaysReady-fault : {T : Type 0} (old new : D) (s t : State) → s.book.down ≡ false → t.book.down ≡ true → len new ≡ len old → t.pool.geometry ≡ s.pool.geometry → faults old ≤ faults new → Rose (faults old) (faults new)
+      → StaysReady {T = T} told len faults old new s t (Err Fault)
+  StaysReady-fault old new s t up down size geometry later rose = record {
     size = size;
     geometry = geometry;
     later = later;
@@ -39,9 +39,9 @@ module _ {D : Type 0} (told : D → Option Story) (len faults : D → ℕ) where
   }
 
   -- a call that is refused for another reason, or not at all
-  pub Keeps-else : {T : Type 0} (result : Result T StoreFault) (old new : D) (s t : State) → s.book.down ≡ false → t.book.down ≡ false → len new ≡ len old → t.pool.geometry ≡ s.pool.geometry → faults old ≤ faults new → IsReady (parts told len new t)
-      → (IsErrOf result Down → ⊥) → (IsErrOf result Fault → ⊥) → Keeps told len faults old new s t result
-  Keeps-else result old new s t up still size geometry later ready not_down not_fault = record {
+  pub StaysReady-else : {T : Type 0} (result : Result T StoreFault) (old new : D) (s t : State) → s.book.down ≡ false → t.book.down ≡ false → len new ≡ len old → t.pool.geometry ≡ s.pool.geometry → faults old ≤ faults new → IsReady (parts told len new t)
+      → (IsErrOf result Down → ⊥) → (IsErrOf result Fault → ⊥) → StaysReady told len faults old new s t result
+  StaysReady-else result old new s t up still size geometry later ready not_down not_fault = record {
     size = size;
     geometry = geometry;
     later = later;
@@ -53,13 +53,13 @@ module _ {D : Type 0} (told : D → Option Story) (len faults : D → ℕ) where
   }
 
   -- none failed
-  pub Keeps-ok : {T : Type 0} (x : T) (old new : D) (s t : State) → s.book.down ≡ false → t.book.down ≡ false → len new ≡ len old → t.pool.geometry ≡ s.pool.geometry → faults old ≤ faults new → IsReady (parts told len new t)
-      → Keeps told len faults old new s t (Ok x)
-  Keeps-ok x old new s t up still size geometry later ready = Keeps-else (Ok x) old new s t up still size geometry later ready (λ e. ok_err x Down e) (λ e. ok_err x Fault e)
+  pub StaysReady-ok : {T : Type 0} (x : T) (old new : D) (s t : State) → s.book.down ≡ false → t.book.down ≡ false → len new ≡ len old → t.pool.geometry ≡ s.pool.geometry → faults old ≤ faults new → IsReady (parts told len new t)
+      → StaysReady told len faults old new s t (Ok x)
+  StaysReady-ok x old new s t up still size geometry later ready = StaysReady-else (Ok x) old new s t up still size geometry later ready (λ e. ok_err x Down e) (λ e. ok_err x Fault e)
 
   -- ---- one call after another
-  pub Keeps-then : {T U : Type 0} (x : U) (result : Result T StoreFault) (old mid new : D) (s m t : State) → Keeps told len faults old mid s m (Ok x) → Keeps told len faults mid new m t result → Keeps told len faults old new s t result
-  Keeps-then x result old mid new s m t one two = record {
+  pub StaysReady-then : {T U : Type 0} (x : U) (result : Result T StoreFault) (old mid new : D) (s m t : State) → StaysReady told len faults old mid s m (Ok x) → StaysReady told len faults mid new m t result → StaysReady told len faults old new s t result
+  StaysReady-then x result old mid new s m t one two = record {
     size = two.size ∙ one.size;
     geometry = two.geometry ∙ one.geometry;
     later = let a = one.later in let b = two.later in omega arith;
@@ -74,9 +74,9 @@ module _ {D : Type 0} (told : D → Option Story) (len faults : D → ℕ) where
       was_down is = ⊎_elim (λ (on : s.book.down ≡ true). on) (λ (e : IsErrOf (Ok x) Fault). ok_err x Fault e) (one.up is)
 
   -- a call goes on from a store that is up but not ready
-  pub Keeps-after : {T : Type 0} (result : Result T StoreFault) (old mid new : D) (s m t : State) → s.book.down ≡ false → m.book.down ≡ false → m.pool.geometry ≡ s.pool.geometry → len mid ≡ len old → faults old ≤ faults mid
-      → Keeps told len faults mid new m t result → Keeps told len faults old new s t result
-  Keeps-after result old mid new s m t up up_m same sized before kept = record {
+  pub StaysReady-after : {T : Type 0} (result : Result T StoreFault) (old mid new : D) (s m t : State) → s.book.down ≡ false → m.book.down ≡ false → m.pool.geometry ≡ s.pool.geometry → len mid ≡ len old → faults old ≤ faults mid
+      → StaysReady told len faults mid new m t result → StaysReady told len faults old new s t result
+  StaysReady-after result old mid new s m t up up_m same sized before kept = record {
     size = kept.size ∙ sized;
     geometry = kept.geometry ∙ same;
     later = let a = kept.later in omega arith;
@@ -88,24 +88,24 @@ module _ {D : Type 0} (told : D → Option Story) (len faults : D → ℕ) where
   }
 
   -- where a call was made, the store was not down
-  pub Keeps-up : {T : Type 0} (x : T) (old new : D) (s t : State) → Keeps told len faults old new s t (Ok x) → s.book.down ≡ false
-  Keeps-up x old new s t kept = by_case s.book.down (λ on. ok_err x Down (kept.down on).answer)
+  pub StaysReady-up : {T : Type 0} (x : T) (old new : D) (s t : State) → StaysReady told len faults old new s t (Ok x) → s.book.down ≡ false
+  StaysReady-up x old new s t kept = by_case s.book.down (λ on. ok_err x Down (kept.down on).answer)
     where
       by_case : (b : Bool) → (b ≡ true → ⊥) → b ≡ false
       by_case true off = absurd (off refl)
       by_case false off = refl
 
   -- and it isn't down then
-  pub Keeps-still : {T : Type 0} (x : T) (old new : D) (s t : State) → s.book.down ≡ false → Keeps told len faults old new s t (Ok x) → t.book.down ≡ false
-  Keeps-still x old new s t up kept = by_case t.book.down (λ on. ⊎_elim (λ (is : s.book.down ≡ true). not_both s.book.down up is) (λ (e : IsErrOf (Ok x) Fault). ok_err x Fault e) (kept.up on))
+  pub StaysReady-still : {T : Type 0} (x : T) (old new : D) (s t : State) → s.book.down ≡ false → StaysReady told len faults old new s t (Ok x) → t.book.down ≡ false
+  StaysReady-still x old new s t up kept = by_case t.book.down (λ on. ⊎_elim (λ (is : s.book.down ≡ true). not_both s.book.down up is) (λ (e : IsErrOf (Ok x) Fault). ok_err x Fault e) (kept.up on))
     where
       by_case : (b : Bool) → (b ≡ true → ⊥) → b ≡ false
       by_case true off = absurd (off refl)
       by_case false off = refl
 
   -- with another value
-  pub Keeps-as : {T U : Type 0} (x : T) (y : U) (old new : D) (s t : State) → Keeps told len faults old new s t (Ok x) → Keeps told len faults old new s t (Ok y)
-  Keeps-as x y old new s t kept = record {
+  pub StaysReady-as : {T U : Type 0} (x : T) (y : U) (old new : D) (s t : State) → StaysReady told len faults old new s t (Ok x) → StaysReady told len faults old new s t (Ok y)
+  StaysReady-as x y old new s t kept = record {
     size = kept.size;
     geometry = kept.geometry;
     later = kept.later;

@@ -13,7 +13,7 @@ use Rattle.sb_journal.proofs.RegionLemmas.{none_sure}
 use Rattle.sb_log.specs.declared.geometry.Geometry.{Geometry}
 use Rattle.sb_log.specs.Records.{Change, Record, Changed, spelling}
 use Rattle.sb_log.specs.Restored.{imaged}
-use Rattle.sb_log.specs.Views.{Active, active_with, IsIdle}
+use Rattle.sb_log.specs.Views.{Active, active_with, IsInactive}
 use Rattle.sb_log.specs.Whole.{with_range}
 use Rattle.sb_log.proofs.RecordLemmas.{length-change}
 use Rattle.sb_images.specs.Images.{Restores}
@@ -32,7 +32,7 @@ use Rattle.sb_txn.specs.Changing.{IsNext}
 use Rattle.sb_txn.specs.Clauses.{HasRoom}
 use Rattle.sb_txn.specs.Logging.{HasSpace, records_len}
 use Rattle.sb_txn.specs.State.{together}
-use Rattle.sb_txn.specs.Tied.{Fits, AreOut, AreOnce, IsBookOf, HasReserve, Ties}
+use Rattle.sb_txn.specs.Tied.{UndoFits, AreOut, AreOnce, IsBookOf, HasReserve, Ties}
 use Rattle.sb_txn.proofs.ChangesLemmas.{changed, imaged-changed, imaged-other, imaged-page, AreBelow-changed, IsOut-changed}
 use Rattle.sb_txn.proofs.EndLemmas.{few_more}
 use Rattle.sb_txn.proofs.OthersLemmas.{own-changed, AreOut-still, IsFree-others}
@@ -110,7 +110,7 @@ module _ (now : ℕ → List ℕ) (p : pool.State) (book : Book) (opened pending
   outs : AreOut p.geometry.pages recs book.next (o ∷ rest)
   outs = subst (λ (l : List Out). AreOut p.geometry.pages recs book.next l) is knows.out
 
-  once : IsIdle o.tx (actives rest) × AreOnce rest
+  once : IsInactive o.tx (actives rest) × AreOnce rest
   once = subst (λ (l : List Out). AreOnce l) is knows.once
 
   size_before : length (take (length bytes) (drop offset image)) ≡ length bytes
@@ -138,7 +138,7 @@ module _ (now : ℕ → List ℕ) (p : pool.State) (book : Book) (opened pending
   is_imaged : imaged (opened ++ edit_records) page ≡ true
   is_imaged = imaged-page opened pending (wants_of book o page) o.tx (length o.undos) page image edit_change covered
 
-  edit_fits : Fits p.geometry.pages (opened ++ edit_records) edit_undo
+  edit_fits : UndoFits p.geometry.pages (opened ++ edit_records) edit_undo
   edit_fits = record { page = lt; within = let e = size_before in omega arith; covered = is_imaged }
 
   below_count : page < length book.imaged

@@ -3,11 +3,11 @@ use Rattle.std.proofs.Common.{◌≡◌, ℕ, ◌≤◌, Bool, true, false, Opti
 use Rattle.std.proofs.lemmas.List.{length_push}
 use Rattle.sb_disk.specs.Disk.{Story}
 use Rattle.sb_txn.specs.Book.{Out, Undo, Book, out_with, others, IsOnly, standing_of, called, leading, changed_out}
-use Rattle.sb_txn.specs.Clauses.{parts, Keeps, Refused, undo_in, Changes, ChangeErr, cut_back, GoesBack, IsFaultOrDown}
+use Rattle.sb_txn.specs.Clauses.{parts, StaysReady, Refused, undo_in, Changes, ChangeErr, cut_back, GoesBack, IsFaultOrDown}
 use Rattle.sb_txn.specs.State.{State}
 use Rattle.sb_txn.specs.declared.fault.StoreFault.{StoreFault}
 use Rattle.sb_txn.specs.declared.fault.StoreFault.TheVariants.{Fault, LogFull, GatesFull, Down, NoMemory}
-use Rattle.sb_txn.proofs.KeepsLemmas.{not_both, Keeps-up}
+use Rattle.sb_txn.proofs.KeepsLemmas.{not_both, StaysReady-up}
 use Rattle.sb_txn.proofs.CalledLemmas.{out_with-among, out_with-tx, standing_of-found}
 use Rattle.sb_txn.proofs.PlaceLemmas.{IsOnly-one, standing_of-first}
 
@@ -25,23 +25,23 @@ module _ {D : Type 0} (told : D → Option Story) (len faults : D → ℕ) (old 
       subst (λ (l : List Out). IsOnly tx l) (sym out) (IsOnly-one tx is.0 (out_with-tx tx s.book.out is.0 is.1))
 
   -- the call failed, or the store was down
-  fault_only : Keeps {T = Unit {0}} told len faults old new s t (Err Fault) → IsOnly tx t.book.out
+  fault_only : StaysReady {T = Unit {0}} told len faults old new s t (Err Fault) → IsOnly tx t.book.out
   fault_only keeps = not_both t.book.down up (keeps.fault refl).1
 
-  down_only : Keeps {T = Unit {0}} told len faults old new s t (Err Down) → IsOnly tx t.book.out
+  down_only : StaysReady {T = Unit {0}} told len faults old new s t (Err Down) → IsOnly tx t.book.out
   down_only keeps = same_book (ap (λ (x : State). x.book) (keeps.down (keeps.only refl)).store)
 
   -- it has changed
-  changed_only : Keeps {T = Unit {0}} told len faults old new s t (Ok tt) → ((o : Out) → out_with tx s.book.out ≡ Some o → (after : Out) × (after.tx ≡ o.tx) × (t.book.out ≡ after ∷ others tx s.book.out)) → IsOnly tx t.book.out
+  changed_only : StaysReady {T = Unit {0}} told len faults old new s t (Ok tt) → ((o : Out) → out_with tx s.book.out ≡ Some o → (after : Out) × (after.tx ≡ o.tx) × (t.book.out ≡ after ∷ others tx s.book.out)) → IsOnly tx t.book.out
   changed_only keeps changes =
-      let was = only (Keeps-up told len faults tt old new s t keeps) in
+      let was = only (StaysReady-up told len faults tt old new s t keeps) in
       let is = out_with-among tx s.book.out was.0 in
       let now = changes is.0 is.1 in
       let out : t.book.out ≡ now.0 ∷ [] = now.2 ∙ ap (λ (l : List Out). now.0 ∷ l) was.1 in
       subst (λ (l : List Out). IsOnly tx l) (sym out) (IsOnly-one tx now.0 (now.1 ∙ out_with-tx tx s.book.out is.0 is.1))
 
   -- it is refused for another reason
-  refused_only : (e : StoreFault) → Keeps {T = Unit {0}} told len faults old new s t (Err e) → (IsErrOf {T = Unit {0}} (Err e) Down → ⊥) → ((o : Out) → out_with tx s.book.out ≡ Some o → Refused o.tx (parts told len old s) (parts told len new t)) → IsOnly tx t.book.out
+  refused_only : (e : StoreFault) → StaysReady {T = Unit {0}} told len faults old new s t (Err e) → (IsErrOf {T = Unit {0}} (Err e) Down → ⊥) → ((o : Out) → out_with tx s.book.out ≡ Some o → Refused o.tx (parts told len old s) (parts told len new t)) → IsOnly tx t.book.out
   refused_only e keeps other refused =
       let is = out_with-among tx s.book.out (only (by_case s.book.down (λ on. other (keeps.down on).answer))).0 in
       called_book (subst (λ (n : ℕ). t.book ≡ called n s.book) (out_with-tx tx s.book.out is.0 is.1) (refused is.0 is.1).book)
@@ -50,7 +50,7 @@ module _ {D : Type 0} (told : D → Option Story) (len faults : D → ℕ) (old 
       by_case true off = absurd (off refl)
       by_case false off = refl
 
-  pub IsOnly-change : (result : Result (Unit {0}) StoreFault) (owner page offset : ℕ) (bytes : List ℕ) → Keeps told len faults old new s t result
+  pub IsOnly-change : (result : Result (Unit {0}) StoreFault) (owner page offset : ℕ) (bytes : List ℕ) → StaysReady told len faults old new s t result
       → OnOk result ((o : Out) → out_with tx s.book.out ≡ Some o → Changes (parts told len old s) (parts told len new t) o (others tx s.book.out) owner page offset bytes)
       → IfErr result (λ e. (o : Out) → out_with tx s.book.out ≡ Some o → ChangeErr (parts told len old s) (parts told len new t) o page (length bytes) e) → IsOnly tx t.book.out
   IsOnly-change (Ok x) owner page offset bytes keeps changes refused = changed_only keeps (λ o is. (changed_out o (undo_in page offset (changes o is).image bytes), refl, ap (λ (b : Book). b.out) (changes o is).book))
@@ -60,7 +60,7 @@ module _ {D : Type 0} (told : D → Option Story) (len faults : D → ℕ) (old 
   IsOnly-change (Err (LogFull used need total)) owner page offset bytes keeps changes refused = refused_only (LogFull used need total) keeps (λ e. cc) (λ o is. (refused o is).4)
   IsOnly-change (Err (GatesFull used total)) owner page offset bytes keeps changes refused = refused_only (GatesFull used total) keeps (λ e. cc) (λ o is. (refused o is).4)
 
-  pub IsOnly-back : (result : Result (Unit {0}) StoreFault) (n : ℕ) → Keeps told len faults old new s t result
+  pub IsOnly-back : (result : Result (Unit {0}) StoreFault) (n : ℕ) → StaysReady told len faults old new s t result
       → OnOk result ((o : Out) → out_with tx s.book.out ≡ Some o → GoesBack (parts told len old s) (parts told len new t) o (others tx s.book.out) n) → IfErr result IsFaultOrDown → IsOnly tx t.book.out
   IsOnly-back (Ok x) n keeps back err = changed_only keeps (λ o is. (cut_back o n, refl, ap (λ (b : Book). b.out) (back o is).book))
   IsOnly-back (Err Fault) n keeps back err = fault_only keeps
@@ -71,11 +71,11 @@ module _ {D : Type 0} (told : D → Option Story) (len faults : D → ℕ) (old 
 
 module _ {D : Type 0} (told : D → Option Story) (len faults : D → ℕ) (old new : D) (s t : State) (tx : ℕ) (only : s.book.down ≡ false → IsOnly tx s.book.out) where
   -- no change that stood is gone
-  pub standing-change : (result : Result (Unit {0}) StoreFault) (owner page offset : ℕ) (bytes : List ℕ) → Keeps told len faults old new s t result
+  pub standing-change : (result : Result (Unit {0}) StoreFault) (owner page offset : ℕ) (bytes : List ℕ) → StaysReady told len faults old new s t result
       → OnOk result ((o : Out) → out_with tx s.book.out ≡ Some o → Changes (parts told len old s) (parts told len new t) o (others tx s.book.out) owner page offset bytes) → OnOk result (standing_of tx s.book.out ≤ standing_of tx t.book.out)
   standing-change (Err e) owner page offset bytes keeps changes = tt
   standing-change (Ok x) owner page offset bytes keeps changes =
-      let is = out_with-among tx s.book.out (only (Keeps-up told len faults tt old new s t keeps)).0 in
+      let is = out_with-among tx s.book.out (only (StaysReady-up told len faults tt old new s t keeps)).0 in
       let change = changes is.0 is.1 in
       let u : Undo = undo_in page offset change.image bytes in
       let was = standing_of-found tx s.book.out is.0 is.1 in

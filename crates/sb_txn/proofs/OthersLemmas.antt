@@ -1,4 +1,4 @@
--- The transactions that are out beside that of a call.
+-- The active transactions beside that of a call.
 use Rattle.std.proofs.Common.{◌≡◌, ◌⊎◌, inl, inr, ⊎_elim, ℕ, ◌+◌, ◌≤◌, Bool, true, false, cond, ◌&&◌, ◌==◌, List, [], ◌∷◌, ◌++◌, length, take, refl, sym, ◌∙◌, ap, subst, append_assoc, arith}
 use Rattle.std.specs.List.{All}
 use Rattle.std.proofs.lemmas.Bool.{false≢true, eq-eqb, ne_eqb, eqb-true, cases_eq}
@@ -8,13 +8,13 @@ use Rattle.sb_log.specs.Records.{Change, Record, Begin, Image, Changed, Back, Co
 use Rattle.sb_log.specs.Restored.{imaged, counting}
 use Rattle.sb_log.specs.Standing.{keep, stood, standing, own_changes}
 use Rattle.sb_log.specs.Undoing.{AreApart, IsFree}
-use Rattle.sb_log.specs.Views.{Active, active_with, is_active, cut, changes, counts, IsIdle}
+use Rattle.sb_log.specs.Views.{Active, active_with, is_active, cut, changes, counts, IsInactive}
 use Rattle.sb_log.proofs.StandingLemmas.{stood_all-append, own_changes-keep, own_changes-keep_other, count_of-own}
 use Rattle.sb_txn.specs.declared.changing.Wants.{Wants}
 use Rattle.sb_txn.specs.Book.{Undo, Out, actives, IsClear, AreClear}
 use Rattle.sb_txn.specs.Changing.{behind}
 use Rattle.sb_txn.specs.Steps.{some}
-use Rattle.sb_txn.specs.Tied.{AreUndos, AllFit, IsOut, AreOut, AreOnce}
+use Rattle.sb_txn.specs.Tied.{AreUndos, UndosFit, IsOut, AreOut, AreOnce}
 
 -- ---- records of another transaction
 -- one more, where it is wanted, leaves the transaction's own changes
@@ -46,10 +46,10 @@ module _ (opened pending : List Record) (t tx : ℕ) (other : tx ≡ t → ⊥) 
   pub own-ended : (b : Bool) (n : ℕ) → own_changes t (standing (opened ++ ((pending ++ some b (Back tx n)) ++ Commit tx ∷ []))) ≡ own_changes t (standing (opened ++ pending))
   own-ended b n = own-some opened (pending ++ some b (Back tx n)) true (Commit tx) t (λ cs. refl) ∙ own-some opened pending b (Back tx n) t (λ cs. own_changes-keep_other t tx n cs other)
 
--- ---- it is out as before
-AllFit-still : (count : ℕ) (recs more : List Record) (us : List Undo) → ((q : ℕ) → imaged recs q ≡ true → imaged more q ≡ true) → AllFit count recs us → AllFit count more us
-AllFit-still count recs more [] keeps fit = tt
-AllFit-still count recs more (u ∷ us) keeps fit = (record { page = fit.0.page; within = fit.0.within; covered = keeps u.page fit.0.covered }, AllFit-still count recs more us keeps fit.1)
+-- ---- it is active as before
+UndosFit-still : (count : ℕ) (recs more : List Record) (us : List Undo) → ((q : ℕ) → imaged recs q ≡ true → imaged more q ≡ true) → UndosFit count recs us → UndosFit count more us
+UndosFit-still count recs more [] keeps fit = tt
+UndosFit-still count recs more (u ∷ us) keeps fit = (record { page = fit.0.page; within = fit.0.within; covered = keeps u.page fit.0.covered }, UndosFit-still count recs more us keeps fit.1)
 
 IsOut-still : (count : ℕ) (recs more : List Record) (next : ℕ) (o : Out) → own_changes o.tx (standing more) ≡ own_changes o.tx (standing recs) → ((q : ℕ) → imaged recs q ≡ true → imaged more q ≡ true) → IsOut count recs next o → IsOut count more next o
 IsOut-still count recs more next o same keeps out = record {
@@ -58,10 +58,10 @@ IsOut-still count recs more next o same keeps out = record {
   logged = λ off. let e = count_of-own o.tx (standing more) in let f = count_of-own o.tx (standing recs) in let l = ap (λ (cs : List Change). length cs) same in let h = out.logged off in omega arith;
   none = out.none;
   number = out.number;
-  fit = AllFit-still count recs more o.undos keeps out.fit;
+  fit = UndosFit-still count recs more o.undos keeps out.fit;
 }
 
-pub AreOut-still : (count : ℕ) (recs more : List Record) (next tx : ℕ) (os : List Out) → IsIdle tx (actives os) → ((t : ℕ) → (tx ≡ t → ⊥) → own_changes t (standing more) ≡ own_changes t (standing recs))
+pub AreOut-still : (count : ℕ) (recs more : List Record) (next tx : ℕ) (os : List Out) → IsInactive tx (actives os) → ((t : ℕ) → (tx ≡ t → ⊥) → own_changes t (standing more) ≡ own_changes t (standing recs))
     → ((q : ℕ) → imaged recs q ≡ true → imaged more q ≡ true) → AreOut count recs next os → AreOut count more next os
 AreOut-still count recs more next tx [] idle same keeps out = tt
 AreOut-still count recs more next tx (o ∷ os) idle same keeps out =
@@ -95,16 +95,16 @@ abbrev AreApartIn : Change → List Out → List Change → Type 0
 AreApartIn c [] cs = Unit {0}
 AreApartIn c (o ∷ os) cs = AllApart c (own_changes o.tx cs) × AreApartIn c os cs
 
--- so it is with the first of them, as many as each transaction's undos
+-- so it is with the first of them, as long as its undo list
 abbrev AreApartTaken : Change → List Out → List Change → Type 0
 AreApartTaken c [] cs = Unit {0}
 AreApartTaken c (o ∷ os) cs = AllApart c (take (length o.undos) (own_changes o.tx cs)) × AreApartTaken c os cs
 
-own-cut_idle : (t : ℕ) (active : List Active) (cs : List Change) → IsIdle t active → own_changes t (cut active cs) ≡ own_changes t cs
+own-cut_idle : (t : ℕ) (active : List Active) (cs : List Change) → IsInactive t active → own_changes t (cut active cs) ≡ own_changes t cs
 own-cut_idle t [] cs idle = refl
 own-cut_idle t (a ∷ active) cs idle = own-cut_idle t active (keep a.tx a.n cs) idle.1 ∙ own_changes-keep_other t a.tx a.n cs idle.0
 
-AreApartTaken-same : (c : Change) (os : List Out) (tx : ℕ) (cs ds : List Change) → IsIdle tx (actives os) → ((t : ℕ) → (tx ≡ t → ⊥) → own_changes t ds ≡ own_changes t cs) → AreApartTaken c os cs → AreApartTaken c os ds
+AreApartTaken-same : (c : Change) (os : List Out) (tx : ℕ) (cs ds : List Change) → IsInactive tx (actives os) → ((t : ℕ) → (tx ≡ t → ⊥) → own_changes t ds ≡ own_changes t cs) → AreApartTaken c os cs → AreApartTaken c os ds
 AreApartTaken-same c [] tx cs ds idle same apart = tt
 AreApartTaken-same c (o ∷ os) tx cs ds idle same apart =
     (subst (λ (l : List Change). AllApart c (take (length o.undos) l)) (sym (same o.tx (λ e. idle.0 (sym e)))) apart.0, AreApartTaken-same c os tx cs ds idle.1 same apart.1)
@@ -162,8 +162,8 @@ module _ (count next : ℕ) (opened pending : List Record) (c : Change) where
     taken_now os out.1 (All-tail (λ (x : Out). All (IsClear c.page c.offset (length c.after)) x.undos) o os clear),
   )
 
-  -- A change whose range is clear of those of the others that are out may come next.
-  pub IsFree-others : (n : ℕ) (rest : List Out) (w : Wants) (page : ℕ) (image : List ℕ) → AreOut count (opened ++ pending) next rest → IsIdle c.tx (actives rest) → AreOnce rest → AreClear c.page c.offset (length c.after) rest
+  -- A change whose range is clear of those of the other active ones may come next.
+  pub IsFree-others : (n : ℕ) (rest : List Out) (w : Wants) (page : ℕ) (image : List ℕ) → AreOut count (opened ++ pending) next rest → IsInactive c.tx (actives rest) → AreOnce rest → AreClear c.page c.offset (length c.after) rest
       → IsFree (is_active (active_with c.tx n ∷ actives rest)) c (changes (opened ++ behind pending w c.tx n page image) (active_with c.tx n ∷ actives rest) c.page)
   IsFree-others n rest w page image out idle once clear =
       let recs = opened ++ behind pending w c.tx n page image in

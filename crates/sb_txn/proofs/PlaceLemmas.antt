@@ -1,4 +1,4 @@
--- Where a transaction stands among those that are out.
+-- Where a transaction stands among the active ones.
 use Rattle.std.proofs.Common.{◌≡◌, ℕ, zero, suc, ◌+◌, ◌<◌, ◌==◌, nat_lt, not, Bool, true, false, cond, Option, Some, None, is_some, IsSome, List, [], ◌∷◌, length, map, get_or, take, drop, position, refl, sym, ◌∙◌, ap, subst, arith, eq-eqb}
 use Rattle.std.specs.List.{remove, position_or_len}
 use Rattle.std.proofs.Math.ListN.{get_or-map}
@@ -45,7 +45,7 @@ module _ (tx : ℕ) (d : Out) where
   others-at (o ∷ os) zero at = ap (λ (b : Bool). cond b os (o ∷ others tx os)) at.1
   others-at (o ∷ os) (suc n) at = ap (λ (b : Bool). cond b os (o ∷ others tx os)) (at.2 zero (omega arith)) ∙ ap (λ (l : List Out). o ∷ l) (others-at os n (behind o os n at))
 
--- where one that is out stands
+-- where an active one stands
 place-below : (tx : ℕ) (out : List Out) → IsAmong tx out → position_or_len (has tx) out < length out
 place-below tx [] among = absurd (cc)
 place-below tx (o ∷ os) among = by_case (has tx o) (place-below tx os) among
@@ -54,7 +54,7 @@ place-below tx (o ∷ os) among = by_case (has tx o) (place-below tx os) among
     by_case true behind is = omega arith
     by_case false behind is = let lt = behind is in omega arith
 
--- one that is out has a place
+-- an active one has a place
 pub IsSome-place : (tx : ℕ) (out : List Out) → IsAmong tx out → IsSome (position (has tx) out)
 IsSome-place tx out among =
     let place = position_or_len (has tx) out in
@@ -76,7 +76,7 @@ standing_of-unplaced tx out none = by_option (out_with tx out) refl
     by_option None is = standing_of-unfound tx out is
     by_option (Some o) is = absurd (false≢true (ap is_some (sym none) ∙ IsSome-place tx out (ap is_some is)))
 
--- ---- where a list stands for those that are out
+-- ---- where a list stands for the active ones
 -- the place in it
 position_or_len-map : {X Y : Type 0} (p : Y → Bool) (f : X → Y) (xs : List X) → position_or_len p (map f xs) ≡ position_or_len (λ x. p (f x)) xs
 position_or_len-map p f [] = refl

@@ -19,12 +19,12 @@ use Rattle.sb_pool.specs.Pages.{with_bytes}
 use Rattle.sb_pool.specs.State as pool
 use Rattle.sb_txn.specs.Ahead.{Leans, IsAhead, CatchesUp, LeavesAhead}
 use Rattle.sb_txn.specs.Book.{Undo, Out, Book, actives, undone_out, standing_in, Pops}
-use Rattle.sb_txn.specs.Clauses.{Parts, IsStoreOf, LeavesWanted, UndoesLast}
+use Rattle.sb_txn.specs.Clauses.{Parts, HoldsPages, LeavesWanted, UndoesLast}
 use Rattle.sb_txn.specs.State.{together}
-use Rattle.sb_txn.specs.Tied.{IsUndo, AreUndos, Fits, AllFit, IsOut, Ties}
+use Rattle.sb_txn.specs.Tied.{IsUndo, AreUndos, UndoFits, UndosFit, IsOut, Ties}
 use Rattle.sb_txn.proofs.EndLemmas.{first_out, first_store, first_once, rest_most, first_room, first_gates, first_few, rest_out, rest_few}
 
--- ---- undos and changes
+-- ---- undo lists and changes
 pub length-AreUndos : (us : List Undo) (cs : List Change) → AreUndos us cs → length cs ≡ length us
 length-AreUndos [] [] are = refl
 length-AreUndos [] (c ∷ cs) are = absurd are
@@ -37,9 +37,9 @@ AreUndos-last [] (d ∷ cs) u c are = absurd (let e = length-AreUndos [] (cs ++ 
 AreUndos-last (v ∷ us) [] u c are = absurd (let e = length-AreUndos (us ++ u ∷ []) [] are.1 in let l = length_push us u in omega arith)
 AreUndos-last (v ∷ us) (d ∷ cs) u c are = let rest = AreUndos-last us cs u c are.1 in ((are.0, rest.0), rest.1)
 
-AllFit-last : (count : ℕ) (recs : List Record) (us : List Undo) (u : Undo) → AllFit count recs (us ++ u ∷ []) → AllFit count recs us × Fits count recs u
-AllFit-last count recs [] u fit = (tt, fit.0)
-AllFit-last count recs (v ∷ us) u fit = let rest = AllFit-last count recs us u fit.1 in ((fit.0, rest.0), rest.1)
+UndosFit-last : (count : ℕ) (recs : List Record) (us : List Undo) (u : Undo) → UndosFit count recs (us ++ u ∷ []) → UndosFit count recs us × UndoFits count recs u
+UndosFit-last count recs [] u fit = (tt, fit.0)
+UndosFit-last count recs (v ∷ us) u fit = let rest = UndosFit-last count recs us u fit.1 in ((fit.0, rest.0), rest.1)
 
 -- ---- the last change of a transaction
 -- the bytes before it, in the words of the pool
@@ -74,8 +74,8 @@ module _ (count : ℕ) (recs : List Record) (next : ℕ) (o : Out) (others : Lis
   parted = AreUndos-last others (own_changes o.tx (keep o.tx n (standing recs))) u last_change.c
       (subst (λ (cs : List Change). AreUndos (others ++ u ∷ []) cs) (HasLast-own o.tx n (standing recs) last_change) are)
 
-  pub fits_last : Fits count recs u
-  fits_last = (AllFit-last count recs others u (subst (λ (us : List Undo). AllFit count recs us) was out.fit)).1
+  pub fits_last : UndoFits count recs u
+  fits_last = (UndosFit-last count recs others u (subst (λ (us : List Undo). UndosFit count recs us) was out.fit)).1
 
   some_undo : others ++ u ∷ [] ≡ [] → ⊥
   some_undo e = absurd (let l = ap (λ (us : List Undo). length us) e in let m = length_push others u in omega arith)
@@ -86,7 +86,7 @@ module _ (count : ℕ) (recs : List Record) (next : ℕ) (o : Out) (others : Lis
     logged = λ e. absurd (false≢true (sym e));
     none = λ e. absurd (some_undo (sym was ∙ out.none e));
     number = out.number;
-    fit = (AllFit-last count recs others u (subst (λ (us : List Undo). AllFit count recs us) was out.fit)).0;
+    fit = (UndosFit-last count recs others u (subst (λ (us : List Undo). UndosFit count recs us) was out.fit)).0;
   }
 
 module _ (want now : ℕ → List ℕ) (told : Option Story) (size : ℕ) (j : journal.State) (p : pool.State) (book after : Book) (o : Out) (rest : List Out) (is : book.out ≡ o ∷ rest) (u : Undo) (pops : Pops o rest book after u) (opened pending : List Record)
@@ -100,7 +100,7 @@ module _ (want now : ℕ → List ℕ) (told : Option Story) (size : ℕ) (j : j
   out_first : IsOut p.geometry.pages (opened ++ pending) book.next o
   out_first = first_out want now told size j p book o rest is opened pending ties
 
-  fits_popped : Fits p.geometry.pages (opened ++ pending) u
+  fits_popped : UndoFits p.geometry.pages (opened ++ pending) u
   fits_popped = fits_last p.geometry.pages (opened ++ pending) book.next o pops.others u pops.was out_first
 
   store_popped : IsStoreOn want then told j p.geometry opened pending (actives popped.out)
@@ -157,13 +157,13 @@ module _ (told : Option Story) (size : ℕ) (j : journal.State) (p : pool.State)
   mid = record { told = told; size = size; store = together j p after }
 
   -- they lie in a page of the store
-  pub Fits-undo : (want now : ℕ → List ℕ) → IsStoreOf want now old → (u.page < p.geometry.pages) × (u.offset + length bytes ≤ 4096)
-  Fits-undo want now store =
+  pub UndoFits-undo : (want now : ℕ → List ℕ) → HoldsPages want now old → (u.page < p.geometry.pages) × (u.offset + length bytes ≤ 4096)
+  UndoFits-undo want now store =
       let fits = fits_popped want now told size j p book after o rest is u pops store.0 store.1 store.2 in
       (fits.page, subst (λ (l : List ℕ). u.offset + length l ≤ 4096) (sym same) fits.within)
 
   -- the pool wants just them
-  pub IsAhead-undo : (want now : ℕ → List ℕ) → IsStoreOf want now old → IsAhead want now u.page u.offset bytes mid
+  pub IsAhead-undo : (want now : ℕ → List ℕ) → HoldsPages want now old → IsAhead want now u.page u.offset bytes mid
   IsAhead-undo want now store = subst (λ (l : List ℕ). IsAhead want now u.page u.offset l mid) (sym same)
       (IsAhead-popped want now told size j p book after o rest is u pops store.0 store.1 store.2)
 
@@ -179,11 +179,11 @@ module _ (told : Option Story) (size : ℕ) (j : journal.State) (p : pool.State)
     was = pops.was;
     book = caught.book ∙ pops.is;
     pages = λ want now store.
-        subst (λ (l : List ℕ). IsStoreOf want (with_bytes u.page u.offset l now) end) same (caught.pages want now (IsAhead-undo want now store));
+        subst (λ (l : List ℕ). HoldsPages want (with_bytes u.page u.offset l now) end) same (caught.pages want now (IsAhead-undo want now store));
     journal = caught.journal;
   }
 
--- a transaction of which a change stands is out
+-- a transaction of which a change stands is active
 pub some_first : (out : List Out) → 0 < standing_in out → (o : Out) × (rest : List Out) × (out ≡ o ∷ rest)
 some_first [] some = absurd (omega arith)
 some_first (o ∷ rest) some = (o, rest, refl)

@@ -12,7 +12,7 @@ use Rattle.sb_pool.specs.Calls.{Serves, AreImaged, IsSameOrForced}
 use Rattle.sb_pool.specs.Pages.{AgreesOn, ArePagesOn, with_bytes}
 use Rattle.sb_pool.specs.State as pool
 use Rattle.sb_txn.specs.Book.{Book, actives}
-use Rattle.sb_txn.specs.Clauses.{Parts, HoldsAll, IsStoreOf}
+use Rattle.sb_txn.specs.Clauses.{Parts, HoldsAll, HoldsPages}
 use Rattle.sb_txn.specs.Tied.{IsBookOf, HasReserve}
 
 -- With these records open and pending, these are the pages wanted, those of the pool, and those now by log and book.
@@ -39,7 +39,7 @@ pub record IsAhead (want now : ℕ → List ℕ) (page offset : ℕ) (bytes : Li
 pub record CatchesUp (old new : Parts) (page offset : ℕ) (bytes : List ℕ) : Type 0 where
   pub book : new.store.book ≡ old.store.book
   pub journal : IsSameOrForced old.store.journal new.store.journal
-  pub pages : (want now : ℕ → List ℕ) → IsAhead want now page offset bytes old → IsStoreOf want (with_bytes page offset bytes now) new
+  pub pages : (want now : ℕ → List ℕ) → IsAhead want now page offset bytes old → HoldsPages want (with_bytes page offset bytes now) new
   pub logged : (want now : ℕ → List ℕ) (ahead : IsAhead want now page offset bytes old)
       → HoldsAll want (with_bytes page offset bytes now) (ahead.opened ++ ahead.pending) new
 

@@ -1,4 +1,4 @@
--- Two transactions that are out together, as the tests drive them: the changes of one lie below byte 100 of their pages, those of the other from it on.
+-- Two active transactions together, as the tests drive them: the changes of one lie below byte 100 of their pages, those of the other from it on.
 use Rattle.std.specs.Prelude.{◌≡◌, ◌⊎◌, ℕ, ◌+◌, ◌≤◌, Bool, true, false, not, List, [], ◌∷◌, length}
 use Rattle.std.specs.List.{All}
 use Rattle.sb_txn.specs.Book.{Undo, Out}
@@ -12,14 +12,14 @@ IsOn false offset count = 100 ≤ offset
 abbrev pub AreOn : Bool → List Undo → Type 0
 AreOn low undos = All (λ u. IsOn low u.offset (length u.before)) undos
 
--- One transaction is out, and its changes are on this side.
+-- One transaction is active, and its changes are on this side.
 pub record IsOne (low : Bool) (tx : ℕ) (out : List Out) : Type 0 where
   pub first : Out
   pub is : out ≡ first ∷ []
   pub own : first.tx ≡ tx
   pub on : AreOn low first.undos
 
--- Two are out, in some order, and the changes of each are on a side of their own.
+-- Two are active, in some order, and the changes of each are on a side of their own.
 pub record AreTwo (low : Bool) (tx other : ℕ) (out : List Out) : Type 0 where
   pub first : Out
   pub second : Out

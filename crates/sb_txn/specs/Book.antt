@@ -4,27 +4,27 @@ use Rattle.std.specs.List.{All}
 use Rattle.sb_log.specs.Views.{Active, active_with}
 use Rattle.sb_txn.specs.declared.changing.Wants.{Wants}
 
--- a change that can be undone: its place, and the bytes before it
+-- an undo: the place of a change, and the bytes before it
 pub record Undo : Type 0 where
   pub page : ℕ
   pub offset : ℕ
   pub before : List ℕ
 
--- A transaction that is out: its number, its changes that stand, the first of them first, whether the log has a record of it, and whether changes of it were undone since its last record.
+-- An active transaction: its number, its changes that stand, the first of them first, whether the log has a record of it, and whether changes of it were undone since its last record.
 pub record Out : Type 0 where
   pub tx : ℕ
   pub undos : List Undo
   pub begun : Bool
   pub undone : Bool
 
--- The number of the next transaction, which pages have an Image in the log, the transactions that are out, and whether a call has failed.
+-- The number of the next transaction, which pages have an Image in the log, the active transactions, and whether a call has failed.
 pub record Book : Type 0 where
   pub next : ℕ
   pub imaged : List Bool
   pub out : List Out
   pub down : Bool
 
--- the transactions that are out, by how many of their changes stand
+-- the active transactions, by how many of their changes stand
 abbrev pub actives : List Out → List Active
 actives [] = []
 actives (o ∷ os) = active_with o.tx (length o.undos) ∷ actives os
@@ -46,7 +46,7 @@ abbrev pub begun_in : List Out → ℕ
 begun_in [] = 0
 begun_in (o ∷ os) = cond o.begun 1 0 + begun_in os
 
--- A transaction more may begin: fewer than eight are out. Beside others it needs a number that is left; where none is out, a checkpoint gives the numbers back long before the last.
+-- A transaction more may begin: fewer than eight are active. Beside others it needs a number that is left; where none is active, a checkpoint gives the numbers back long before the last.
 pub record MayBegin (book : Book) : Type 0 where
   pub few : length book.out < 8
   pub numbered : 0 < length book.out → book.next < 2 ^ 32 - 1
@@ -73,21 +73,21 @@ abbrev pub change_len : Wants → ℕ → ℕ
 change_len w count = wants_len w + (15 + 2 * count)
 
 -- ---- the transaction of a call
--- the one of this number, where it is out
+-- the one of this number, where it is active
 abbrev pub out_with : ℕ → List Out → Option Out
 out_with tx [] = None
 out_with tx (o ∷ os) = cond (o.tx == tx) (Some o) (out_with tx os)
 
--- it is out
+-- it is active
 abbrev pub IsAmong : ℕ → List Out → Type 0
 IsAmong tx out = IsSome (out_with tx out)
 
--- the others that are out
+-- the other active ones
 abbrev pub others : ℕ → List Out → List Out
 others tx [] = []
 others tx (o ∷ os) = cond (o.tx == tx) os (o ∷ others tx os)
 
--- no other one is out
+-- no other one is active
 abbrev pub IsOnly : ℕ → List Out → Type 0
 IsOnly tx out = IsAmong tx out × (others tx out ≡ [])
 
@@ -115,7 +115,7 @@ abbrev pub standing_in : List Out → ℕ
 standing_in [] = 0
 standing_in (o ∷ os) = length o.undos
 
--- the book with these transactions out
+-- the book with these active transactions
 abbrev pub with_out : Book → List Out → Book
 with_out book out = record book { out = out }
 

@@ -19,7 +19,7 @@ abbrev pub AddsUndo : Option Held → Book → Book → ℕ → ℕ → ℕ → 
 AddsUndo h old new page offset count =
     (o : Out) (rest : List Out) → old.out ≡ o ∷ rest → new ≡ with_change old o rest (undo_at h page offset count)
 
--- Journal and book are sized as a store's, and a transaction is out.
+-- Journal and book are sized as a store's, and a transaction is active.
 pub record IsInStore (j : journal.State) (p : pool.State) (book : Book) : Type 0 where
   pub log : p.geometry.log ≡ j.log.len
   pub short : j.log.len < 2 ^ 32

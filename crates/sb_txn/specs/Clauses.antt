@@ -33,8 +33,8 @@ abbrev pub Holds : (ℕ → List ℕ) → (ℕ → List ℕ) → List Record →
 Holds want now opened pending p = Ties want now p.told p.size p.store.journal p.store.pool p.store.book opened pending
 
 -- so it is with some records
-abbrev pub IsStoreOf : (ℕ → List ℕ) → (ℕ → List ℕ) → Parts → Type 0
-IsStoreOf want now p = (opened pending : List Record) × Holds want now opened pending p
+abbrev pub HoldsPages : (ℕ → List ℕ) → (ℕ → List ℕ) → Parts → Type 0
+HoldsPages want now p = (opened pending : List Record) × Holds want now opened pending p
 
 -- so it is with some records, which are these in all
 abbrev pub HoldsAll : (ℕ → List ℕ) → (ℕ → List ℕ) → List Record → Parts → Type 0
@@ -42,15 +42,15 @@ HoldsAll want now recs p = (opened pending : List Record) × Holds want now open
 
 -- until a call has failed it is a store, with some pages wanted and some now
 abbrev pub IsReady : Parts → Type 0
-IsReady p = p.store.book.down ≡ false → (want now : ℕ → List ℕ) × IsStoreOf want now p
+IsReady p = p.store.book.down ≡ false → (want now : ℕ → List ℕ) × HoldsPages want now p
 
 -- what is wanted stays, and the pages now become these
 abbrev pub Leads : Parts → Parts → ((ℕ → List ℕ) → ℕ → List ℕ) → Type 0
-Leads old new change = (want now : ℕ → List ℕ) → IsStoreOf want now old → IsStoreOf want (change now) new
+Leads old new change = (want now : ℕ → List ℕ) → HoldsPages want now old → HoldsPages want (change now) new
 
 -- at each moment of a call, at its faults too, a crash leaves what was wanted
 pub record LeavesWanted (old new : Parts) : Type 0 where
-  pub each : (want now : ℕ → List ℕ) → IsStoreOf want now old → LeavesOnly old.told new.told (Restores old.store.pool.geometry want)
+  pub each : (want now : ℕ → List ℕ) → HoldsPages want now old → LeavesOnly old.told new.told (Restores old.store.pool.geometry want)
 
 -- ---- what each call keeps
 -- A call of a store that is down answers Down and touches nothing.
@@ -61,7 +61,7 @@ pub record IsDown {D T : Type 0} (old new : D) (s t : State) (result : Result T 
 
 -- The disk's length and the sizes stay, and the store is ready again. Its Fault means that the disk failed a call within it; from then on, and then
 -- alone, the store is down.
-pub record Keeps {D T : Type 0} (told : D → Option Story) (len faults : D → ℕ) (old new : D) (s t : State) (result : Result T StoreFault)
+pub record StaysReady {D T : Type 0} (told : D → Option Story) (len faults : D → ℕ) (old new : D) (s t : State) (result : Result T StoreFault)
     : Type 0 where
   pub size : len new ≡ len old
   pub geometry : t.pool.geometry ≡ s.pool.geometry
@@ -112,7 +112,7 @@ pub record IsPaged {D T : Type 0} (told : D → Option Story) (len faults : D �
   pub same : OnOk result (Loads (parts told len old s) (parts told len new t))
   pub leaves : LeavesWanted (parts told len old s) (parts told len new t)
   pub err : IfErr result IsFaultOrDown
-  pub keeps : Keeps told len faults old new s t result
+  pub keeps : StaysReady told len faults old new s t result
 
 -- ---- begin
 -- Behind a checkpoint the numbers begin anew, at 1.
@@ -136,7 +136,7 @@ abbrev pub AsksNothing : {D : Type 0} → D → D → State → Type 0
 AsksNothing old new s = (TakesCheckpoint s.journal s.book → ⊥) → new ≡ old
 
 -- ---- change
--- how many bytes of the log a change of so many bytes wants: its records, a length field, and the reserve of each transaction that is out
+-- how many bytes of the log a change of so many bytes wants: its records, a length field, and the reserve of each active transaction
 abbrev pub need_of : Book → Out → ℕ → ℕ → ℕ
 need_of book o page count = change_len (wants_of book o page) count + 4 + reserve * length book.out
 
@@ -161,7 +161,7 @@ undo_in page offset image bytes = record { page = page; offset = offset; before 
 -- A change of the transaction: its range has these bytes now, and can be given back what it had. The log has its records behind all others, and no more.
 pub record Changes (old new : Parts) (o : Out) (rest : List Out) (owner page offset : ℕ) (bytes : List ℕ) : Type 0 where
   pub image : List ℕ
-  pub was : (want now : ℕ → List ℕ) → IsStoreOf want now old → IfTold old.told (image ≡ now page)
+  pub was : (want now : ℕ → List ℕ) → HoldsPages want now old → IfTold old.told (image ≡ now page)
   pub book : new.store.book ≡ with_change old.store.book o rest (undo_in page offset image bytes)
   pub pages : Leads old new (with_bytes page offset bytes)
   pub logged : (want now : ℕ → List ℕ) (opened pending : List Record) → Holds want now opened pending old
@@ -171,7 +171,7 @@ pub record Changes (old new : Parts) (o : Out) (rest : List Out) (owner page off
   pub grows : Grows old.store new.store 12400 3
   pub least : used_of old.store.journal + change_len (wants_of old.store.book o page) (length bytes) ≤ used_of new.store.journal
 
--- Why a change is refused: the log hasn't the bytes that it wants; or it has them, and no gate is left beside those that end the transactions that are out. Both numbers are those before any record of it.
+-- Why a change is refused: the log hasn't the bytes that it wants; or it has them, and no gate is left beside those that end the active transactions. Both numbers are those before any record of it.
 abbrev pub ChangeErr : Parts → Parts → Out → ℕ → ℕ → StoreFault → Type 0
 ChangeErr old new o page count (LogFull used need total) =
     (used ≡ used_of old.store.journal) × (need ≡ need_of old.store.book o page count) × (total ≡ old.store.journal.log.len)
@@ -217,7 +217,7 @@ pub record GoesBack (old new : Parts) (o : Out) (rest : List Out) (n : ℕ) : Ty
 pub record Aborts (old new : Parts) (o : Out) (rest : List Out) : Type 0 where
   pub book : new.store.book ≡ with_out old.store.book rest
   pub pages : Leads old new (unwound o.undos)
-  pub alone : rest ≡ [] → (want now : ℕ → List ℕ) → IsStoreOf want now old → IsStoreOf want want new
+  pub alone : rest ≡ [] → (want now : ℕ → List ℕ) → HoldsPages want now old → HoldsPages want want new
   pub journal : IsSameOrForced old.store.journal new.store.journal
 
 -- ---- commit
@@ -225,12 +225,12 @@ pub record Aborts (old new : Parts) (o : Out) (rest : List Out) : Type 0 where
 abbrev pub committed_pages : List Record → Out → (ℕ → List ℕ) → ℕ → List ℕ
 committed_pages recs o want = with_changes (own_of recs (active_with o.tx (length o.undos))) want
 
--- After a commit these are the pages wanted. The pages now stay, and the others are out still.
+-- After a commit these are the pages wanted. The pages now stay, and the others are active still.
 pub record Commits (old new : Parts) (o : Out) (rest : List Out) : Type 0 where
   pub book : new.store.book ≡ with_out old.store.book rest
   pub pages : (want now : ℕ → List ℕ) (opened pending : List Record) → Holds want now opened pending old
-      → IsStoreOf (committed_pages (opened ++ pending) o want) now new
-  pub alone : rest ≡ [] → (want now : ℕ → List ℕ) → IsStoreOf want now old → IsStoreOf now now new
+      → HoldsPages (committed_pages (opened ++ pending) o want) now new
+  pub alone : rest ≡ [] → (want now : ℕ → List ℕ) → HoldsPages want now old → HoldsPages now now new
   pub grows : Grows old.store new.store 1024 1
   pub chunks : length new.store.journal.lens ≤ length old.store.journal.lens + 1
 
@@ -239,14 +239,14 @@ abbrev pub LeavesCommit : Parts → Parts → Out → Type 0
 LeavesCommit old new o = (want now : ℕ → List ℕ) (opened pending : List Record) → Holds want now opened pending old
     → LeavesOnly old.told new.told (IsOldOrNew old.store.pool.geometry want (committed_pages (opened ++ pending) o want))
 
--- the same of the one transaction that is out: the old pages wanted, or the pages now
+-- the same of the one active transaction: the old pages wanted, or the pages now
 abbrev pub LeavesOne : Parts → Parts → Type 0
-LeavesOne old new = (want now : ℕ → List ℕ) → IsStoreOf want now old
+LeavesOne old new = (want now : ℕ → List ℕ) → HoldsPages want now old
     → LeavesOnly old.told new.told (IsOldOrNew old.store.pool.geometry want now)
 
 -- a commit of a transaction that made no change makes no call on the disk
-abbrev pub IsIdle : {D : Type 0} → Out → D → D → State → State → Type 0
-IsIdle o old new s t = o.begun ≡ false → (new ≡ old) × (t.journal ≡ s.journal)
+abbrev pub CommitAsksNothing : {D : Type 0} → Out → D → D → State → State → Type 0
+CommitAsksNothing o old new s t = o.begun ≡ false → (new ≡ old) × (t.journal ≡ s.journal)
 
 -- ---- checkpoint
 -- The log is empty after it, the numbers begin anew, and the pages now are those wanted.
@@ -255,7 +255,7 @@ pub record Checkpoints (old new : Parts) : Type 0 where
   pub book : new.store.book ≡ emptied_book old.store.book
   pub log : used_of new.store.journal ≡ 0
   pub chunks : new.store.journal.lens ≡ []
-  pub pages : (want now : ℕ → List ℕ) → IsStoreOf want now old → Holds want now [] [] new
+  pub pages : (want now : ℕ → List ℕ) → HoldsPages want now old → Holds want now [] [] new
 
 -- What a begin does first: it takes a checkpoint, or leaves the store as it is.
 pub record MakesRoom (old new : Parts) : Type 0 where

@@ -1,4 +1,4 @@
--- What undos give back, whatever the pages are.
+-- What an undo list gives back, whatever the pages are.
 use Rattle.std.specs.Prelude.{◌≡◌, ◌⊎◌, ℕ, ◌+◌, ◌≤◌, List, [], ◌∷◌, ◌++◌, length, map, take, drop}
 use Rattle.sb_pool.specs.Pages.{with_bytes}
 use Rattle.sb_txn.specs.Book.{Undo}
@@ -12,7 +12,7 @@ pub record IsUndoOf (u : Undo) (bytes : List ℕ) (pages : ℕ → List ℕ) : T
   pub size : length u.before ≡ length bytes
   pub was : u.before ≡ take (length bytes) (drop u.offset (pages u.page))
 
--- With the last change undone, the undos before it give what they give without it.
+-- With the last change undone, the undo list before it gives what it gives without it.
 abbrev pub LastIsUndone : Type 0
 LastIsUndone =
     (us : List Undo) (u : Undo) (bytes : List ℕ) (pages : ℕ → List ℕ) → IsUndoOf u bytes pages

@@ -9,7 +9,7 @@ use Rattle.sb_recover.specs.declared.fault.OpenFault.TheVariants.{Fault, BadLog,
 use Rattle.sb_txn.specs.Book.{empty_book}
 use Rattle.sb_txn.specs.Clauses.{Parts, Holds, IsReady}
 
--- There was a store of these sizes, and its log restored its pages, whatever they are: they are wanted, and they are the pages now. Its log is empty, and no transaction is out.
+-- There was a store of these sizes, and its log restored its pages, whatever they are: they are wanted, and they are the pages now. Its log is empty, and no transaction is active.
 pub record IsOpened (old new : Parts) : Type 0 where
   pub book : new.store.book ≡ empty_book new.store.pool.geometry.pages
   pub lens : new.store.journal.lens ≡ []

@@ -62,7 +62,7 @@ pub record HasHalf (j : journal.State) (book : Book) : Type 0 where
   pub chunks : 2 * length j.lens ≤ 65536
   pub next : book.next < 2 ^ 31
 
--- A begin takes a checkpoint exactly here: no transaction is out, and more than half of something is used.
+-- A begin takes a checkpoint exactly here: no transaction is active, and more than half of something is used.
 pub record TakesCheckpoint (j : journal.State) (book : Book) : Type 0 where
   pub none : book.out ≡ []
   pub over : HasHalf j book → ⊥

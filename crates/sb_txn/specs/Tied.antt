@@ -7,7 +7,7 @@ use Rattle.sb_journal.specs.State as journal
 use Rattle.sb_log.specs.Records.{Change, Record}
 use Rattle.sb_log.specs.Standing.{keep, standing, own_changes, count_of, AreBelow}
 use Rattle.sb_log.specs.Restored.{imaged}
-use Rattle.sb_log.specs.Views.{IsIdle}
+use Rattle.sb_log.specs.Views.{IsInactive}
 use Rattle.sb_images.specs.Store.{IsStoreOn}
 use Rattle.sb_pool.specs.Calls.{Serves, AreImaged}
 use Rattle.sb_pool.specs.Pages.{AgreesOn, ArePagesOn}
@@ -29,15 +29,15 @@ AreUndos (u ∷ us) [] = ⊥
 AreUndos (u ∷ us) (c ∷ cs) = IsUndo u c × AreUndos us cs
 
 -- the undo is of a page of the store that has an Image, and lies within it
-pub record Fits (count : ℕ) (recs : List Record) (u : Undo) : Type 0 where
+pub record UndoFits (count : ℕ) (recs : List Record) (u : Undo) : Type 0 where
   pub page : u.page < count
   pub within : u.offset + length u.before ≤ 4096
   pub covered : imaged recs u.page ≡ true
 
 -- so it is with each of them
-abbrev pub AllFit : ℕ → List Record → List Undo → Type 0
-AllFit count recs [] = Unit {0}
-AllFit count recs (u ∷ us) = Fits count recs u × AllFit count recs us
+abbrev pub UndosFit : ℕ → List Record → List Undo → Type 0
+UndosFit count recs [] = Unit {0}
+UndosFit count recs (u ∷ us) = UndoFits count recs u × UndosFit count recs us
 
 -- The changes of the transaction that stand are those that can be undone, and the log says so where none was undone since its last record. One without a record has none.
 pub record IsOut (count : ℕ) (recs : List Record) (next : ℕ) (o : Out) : Type 0 where
@@ -45,7 +45,7 @@ pub record IsOut (count : ℕ) (recs : List Record) (next : ℕ) (o : Out) : Typ
   pub logged : o.undone ≡ false → count_of o.tx (standing recs) ≤ length o.undos
   pub none : o.begun ≡ false → o.undos ≡ []
   pub number : o.tx < next
-  pub fit : AllFit count recs o.undos
+  pub fit : UndosFit count recs o.undos
 
 -- so it is with each of them
 abbrev pub AreOut : ℕ → List Record → ℕ → List Out → Type 0
@@ -55,9 +55,9 @@ AreOut count recs next (o ∷ os) = IsOut count recs next o × AreOut count recs
 -- no two of them have one number
 abbrev pub AreOnce : List Out → Type 0
 AreOnce [] = Unit {0}
-AreOnce (o ∷ os) = IsIdle o.tx (actives os) × AreOnce os
+AreOnce (o ∷ os) = IsInactive o.tx (actives os) × AreOnce os
 
--- Of a store of so many pages with these records the book says which pages have an Image, and what stands of the transactions that are out, of which there are eight at most. Its next number is in no record.
+-- Of a store of so many pages with these records the book says which pages have an Image, and what stands of the active transactions, of which there are eight at most. Its next number is in no record.
 pub record IsBookOf (pages : ℕ) (recs : List Record) (book : Book) : Type 0 where
   pub images : (q : ℕ) → q < pages → slice_index_or book.imaged q false ≡ imaged recs q
   pub count : length book.imaged ≡ pages

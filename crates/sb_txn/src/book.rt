@@ -9,13 +9,13 @@ use crate::changing::Wants;
 use std::alloc::{AllocError, Global};
 use std::marker::Model;
 
-/// The most transactions that may be out at once.
+/// The most transactions that may be active at once.
 const MOST_OUT: usize = 8;
 
 /// The number of the first transaction behind a checkpoint.
 const FIRST_NUMBER: u32 = 1;
 
-/// A change that can be undone: its place, and the bytes before it.
+/// An undo: the place of a change, and the bytes before it.
 #[derive(Drop)]
 pub(crate) struct Undo {
     pub page: u32,
@@ -23,7 +23,7 @@ pub(crate) struct Undo {
     pub before: Vec<u8>,
 }
 
-/// A transaction that is out.
+/// An active transaction.
 #[derive(Drop)]
 pub(crate) struct Out {
     tx: u32,
@@ -72,7 +72,7 @@ impl Out {
     }
 }
 
-/// The number of the next transaction, the pages that have an Image in the log, and the transactions that are out.
+/// The number of the next transaction, the pages that have an Image in the log, and the active transactions.
 #[derive(Drop)]
 pub(crate) struct Book {
     next: u32,
@@ -130,7 +130,7 @@ impl Book {
         self.next
     }
 
-    /// How many transactions are out.
+    /// How many transactions are active.
     pub fn out(&self) -> usize
         ensures { result ≡ length self.now.out }
     {
@@ -186,7 +186,7 @@ impl Book {
         Ok(())
     }
 
-    /// How many changes of a transaction stand: none of one that isn't out.
+    /// How many changes of a transaction stand: none of one that isn't active.
     pub fn standing_of(&self, tx: u32) -> usize
         ensures { result ≡ count_of tx self.now.out }
     {
@@ -196,7 +196,7 @@ impl Book {
         }
     }
 
-    /// The place of a transaction among those that are out.
+    /// The place of a transaction among the active ones.
     fn place(&self, tx: u32) -> usize
         requires { IsAmong tx self.now.out }
         ensures { position (λ o. o.tx == tx) self.now.out ≡ Some result }

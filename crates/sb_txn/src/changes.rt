@@ -4,26 +4,20 @@ ghost use Rattle.std.specs.Prelude.{◌≡◌, ◌∷◌, ◌+◌, ◌<◌, ◌�
 ghost use Rattle.sb_pool.specs.State.{IsHeld, held};
 ghost use Rattle.sb_txn.specs.Book.{Out as Outs, IsAmong, out_with, others, AreClear, IsFirst, change_len as len_of_change};
 ghost use Rattle.sb_txn.specs.Changes.{AddsUndo, IsInStore, NoRoom, AddErr};
-ghost use Rattle.sb_txn.specs.Clauses.{parts, IsReady, IsFaultOrDown, Keeps, LeavesWanted, Changes, ChangeErr, HasRoom};
-ghost use Rattle.sb_txn.specs.State.{together};
+ghost use Rattle.sb_txn.specs.Clauses.{parts, IsReady, IsFaultOrDown, StaysReady, LeavesWanted, Changes, ChangeErr, HasRoom};
 
 use crate::StoreFault;
 use crate::book::Book;
 use crate::changing::{Wants, log_change};
-use crate::paging::load;
-use crate::ranges::write_range;
 use crate::store::{Store, Tx};
 use sb_disk::Disk;
-use sb_journal::Journal;
+use sb_images::GATES;
 use sb_log::Rec;
 use sb_pool::Pool;
 use std::alloc::AllocError;
 
 /// The bytes of the log that are kept for what ends a transaction.
 const RESERVE: u64 = 1024;
-
-/// The gates of the chunks.
-const GATES: u32 = 65536;
 
 /// A range of a page, as a transaction wants it.
 #[derive(Clone, Copy)]
@@ -63,7 +57,7 @@ impl Store {
         ensures refused { IfErr result (λ e. (o : Outs) → out_with tx.now.number self.old.book.out ≡ Some o
             → ChangeErr (parts D.told D.len disk.old self.old) (parts D.told D.len disk.new self.new) o page (length bytes.now) e) }
         ensures any_moment { LeavesWanted (parts D.told D.len disk.old self.old) (parts D.told D.len disk.new self.new) }
-        ensures keeps { Keeps D.told D.len D.faults disk.old disk.new self.old self.new result }
+        ensures keeps { StaysReady D.told D.len D.faults disk.old disk.new self.old self.new result }
     {
         self.book.call(tx.number)?;
         let edit = Edit {
@@ -73,81 +67,117 @@ impl Store {
             offset,
             bytes,
         };
-        change(
+        self.change_first(disk, &edit)
+    }
+
+    /// Changes the range, where there is room for it.
+    fn change_first<D: Disk>(&mut self, disk: &mut D, edit: &Edit<'_>) -> Result<(), StoreFault>
+        requires ready { IsReady (parts D.told D.len disk.old self.old) }
+        requires first { self.old.book.down ≡ false → IsFirst edit.now.tx self.old.book.out }
+        requires page { edit.now.page < self.old.pool.geometry.pages }
+        requires some { 0 < length edit.now.bytes.now }
+        requires range { edit.now.offset + length edit.now.bytes.now ≤ 4096 }
+        requires apart { self.old.book.down ≡ false → (o : Outs) (rest : List Outs) → self.old.book.out ≡ o ∷ rest
+            → AreClear edit.now.page edit.now.offset (length edit.now.bytes.now) rest }
+
+        ensures changes { OnOk result ((o : Outs) (rest : List Outs) → self.old.book.out ≡ o ∷ rest
+            → Changes (parts D.told D.len disk.old self.old) (parts D.told D.len disk.new self.new)
+            o rest edit.now.owner edit.now.page edit.now.offset edit.now.bytes.now) }
+        ensures room { OnOk result ((o : Outs) (rest : List Outs) → self.old.book.out ≡ o ∷ rest
+            → HasRoom self.old o edit.now.page (length edit.now.bytes.now)) }
+        ensures refused { IfErr result (λ e. (o : Outs) (rest : List Outs) → self.old.book.out ≡ o ∷ rest
+            → ChangeErr (parts D.told D.len disk.old self.old) (parts D.told D.len disk.new self.new) o edit.now.page (length edit.now.bytes.now) e) }
+        ensures any_moment { LeavesWanted (parts D.told D.len disk.old self.old) (parts D.told D.len disk.new self.new) }
+        ensures keeps { StaysReady D.told D.len D.faults disk.old disk.new self.old self.new result }
+    {
+        self.load(disk, edit.page)?;
+        self.check_room(edit.page, edit.bytes.len())?;
+        self.add_change(disk, edit)
+    }
+
+    /// Refuses a change of so many bytes for which the log has no room.
+    fn check_room(&self, page: u32, count: usize) -> Result<(), StoreFault>
+        requires store { IsInStore self.now.journal self.now.pool self.now.book }
+        requires page { page < length self.now.book.imaged }
+        requires count { count ≤ 4096 }
+
+        ensures ok { OnOk result ((o : Outs) (rest : List Outs) → self.now.book.out ≡ o ∷ rest
+            → HasRoom self.now o page count) }
+        ensures err { IfErr result (λ e. (o : Outs) (rest : List Outs) → self.now.book.out ≡ o ∷ rest → NoRoom self.now.journal self.now.book o page count e) }
+    {
+        let used = self.journal.used();
+        let need = change_len(self.book.wants(page), count) + 4 + RESERVE * self.book.out() as u64;
+        let total = self.pool.geometry().log;
+        if used + need > total {
+            return Err(StoreFault::LogFull { used, need, total });
+        }
+        let chunks = self.journal.chunks();
+        if chunks as usize + self.book.out() >= GATES as usize {
+            return Err(StoreFault::GatesFull {
+                used: chunks,
+                total: GATES,
+            });
+        }
+        Ok(())
+    }
+
+    /// Changes a range of a page that is held, where there is room for it.
+    fn add_change<D: Disk>(&mut self, disk: &mut D, edit: &Edit<'_>) -> Result<(), StoreFault>
+        requires ready { IsReady (parts D.told D.len disk.old self.old) }
+        requires up { self.old.book.down ≡ false }
+        requires first { IsFirst edit.now.tx self.old.book.out }
+        requires room { (o : Outs) (rest : List Outs) → self.old.book.out ≡ o ∷ rest
+            → HasRoom self.old o edit.now.page (length edit.now.bytes.now) }
+        requires held { IsHeld self.old.pool edit.now.page }
+        requires page { edit.now.page < self.old.pool.geometry.pages }
+        requires some { 0 < length edit.now.bytes.now }
+        requires range { edit.now.offset + length edit.now.bytes.now ≤ 4096 }
+        requires apart { (o : Outs) (rest : List Outs) → self.old.book.out ≡ o ∷ rest
+            → AreClear edit.now.page edit.now.offset (length edit.now.bytes.now) rest }
+
+        ensures changes { OnOk result ((o : Outs) (rest : List Outs) → self.old.book.out ≡ o ∷ rest
+            → Changes (parts D.told D.len disk.old self.old) (parts D.told D.len disk.new self.new)
+            o rest edit.now.owner edit.now.page edit.now.offset edit.now.bytes.now) }
+        ensures refused { IfErr result (AddErr (parts D.told D.len disk.old self.old) (parts D.told D.len disk.new self.new)) }
+        ensures any_moment { LeavesWanted (parts D.told D.len disk.old self.old) (parts D.told D.len disk.new self.new) }
+        ensures keeps { StaysReady D.told D.len D.faults disk.old disk.new self.old self.new result }
+    {
+        let wants = self.book.wants(edit.page);
+        let n = self.book.standing() as u32;
+        add_undo(
+            &mut self.book,
+            &self.pool,
+            edit.page,
+            edit.offset,
+            edit.bytes.len(),
+        )?;
+        let image = self.pool.page(edit.page);
+        let at = edit.offset as usize;
+        let change = Rec::Change {
+            tx: edit.tx,
+            owner: edit.owner,
+            page: edit.page,
+            offset: edit.offset,
+            before: &image[at..at + edit.bytes.len()],
+            after: edit.bytes,
+        };
+        match log_change(
             disk,
             &mut self.journal,
-            &mut self.pool,
-            &mut self.book,
-            &edit,
-        )
+            wants,
+            edit.tx,
+            n,
+            edit.page,
+            image,
+            &change,
+        ) {
+            Ok(()) => self.write_range(disk, edit.page, edit.offset, edit.bytes),
+            Err(_) => {
+                self.book.fail();
+                Err(StoreFault::Fault)
+            }
+        }
     }
-}
-
-/// Changes the range, where there is room for it.
-fn change<D: Disk>(
-    disk: &mut D,
-    journal: &mut Journal,
-    pool: &mut Pool,
-    book: &mut Book,
-    edit: &Edit<'_>,
-) -> Result<(), StoreFault>
-    requires ready { IsReady (parts D.told D.len disk.old (together journal.old pool.old book.old)) }
-    requires first { book.old.down ≡ false → IsFirst edit.now.tx book.old.out }
-    requires page { edit.now.page < pool.old.geometry.pages }
-    requires some { 0 < length edit.now.bytes.now }
-    requires range { edit.now.offset + length edit.now.bytes.now ≤ 4096 }
-    requires apart { book.old.down ≡ false → (o : Outs) (rest : List Outs) → book.old.out ≡ o ∷ rest
-        → AreClear edit.now.page edit.now.offset (length edit.now.bytes.now) rest }
-
-    ensures changes { OnOk result ((o : Outs) (rest : List Outs) → book.old.out ≡ o ∷ rest
-        → Changes (parts D.told D.len disk.old (together journal.old pool.old book.old))
-        (parts D.told D.len disk.new (together journal.new pool.new book.new))
-        o rest edit.now.owner edit.now.page edit.now.offset edit.now.bytes.now) }
-    ensures room { OnOk result ((o : Outs) (rest : List Outs) → book.old.out ≡ o ∷ rest
-        → HasRoom (together journal.old pool.old book.old) o edit.now.page (length edit.now.bytes.now)) }
-    ensures refused { IfErr result (λ e. (o : Outs) (rest : List Outs) → book.old.out ≡ o ∷ rest
-        → ChangeErr (parts D.told D.len disk.old (together journal.old pool.old book.old))
-        (parts D.told D.len disk.new (together journal.new pool.new book.new)) o edit.now.page (length edit.now.bytes.now) e) }
-    ensures any_moment { LeavesWanted (parts D.told D.len disk.old (together journal.old pool.old book.old))
-        (parts D.told D.len disk.new (together journal.new pool.new book.new)) }
-    ensures keeps { Keeps D.told D.len D.faults disk.old disk.new
-        (together journal.old pool.old book.old) (together journal.new pool.new book.new) result }
-{
-    load(disk, journal, pool, book, edit.page)?;
-    check_room(journal, pool, book, edit.page, edit.bytes.len())?;
-    add_change(disk, journal, pool, book, edit)
-}
-
-/// Refuses a change of so many bytes for which the log has no room.
-fn check_room(
-    journal: &Journal,
-    pool: &Pool,
-    book: &Book,
-    page: u32,
-    count: usize,
-) -> Result<(), StoreFault>
-    requires store { IsInStore journal.now pool.now book.now }
-    requires page { page < length book.now.imaged }
-    requires count { count ≤ 4096 }
-
-    ensures ok { OnOk result ((o : Outs) (rest : List Outs) → book.now.out ≡ o ∷ rest
-        → HasRoom (together journal.now pool.now book.now) o page count) }
-    ensures err { IfErr result (λ e. (o : Outs) (rest : List Outs) → book.now.out ≡ o ∷ rest → NoRoom journal.now book.now o page count e) }
-{
-    let used = journal.used();
-    let need = change_len(book.wants(page), count) + 4 + RESERVE * book.out() as u64;
-    let total = pool.geometry().log;
-    if used + need > total {
-        return Err(StoreFault::LogFull { used, need, total });
-    }
-    let chunks = journal.chunks();
-    if chunks as usize + book.out() >= GATES as usize {
-        return Err(StoreFault::GatesFull {
-            used: chunks,
-            total: GATES,
-        });
-    }
-    Ok(())
 }
 
 /// The bytes of the records of a change of so many bytes.
@@ -167,67 +197,6 @@ fn len_if(wanted: bool, len: u64) -> u64
     ensures { result ≡ cond wanted len 0 }
 {
     if wanted { len } else { 0 }
-}
-
-/// Changes a range of a page that is held, where there is room for it.
-fn add_change<D: Disk>(
-    disk: &mut D,
-    journal: &mut Journal,
-    pool: &mut Pool,
-    book: &mut Book,
-    edit: &Edit<'_>,
-) -> Result<(), StoreFault>
-    requires ready { IsReady (parts D.told D.len disk.old (together journal.old pool.old book.old)) }
-    requires up { book.old.down ≡ false }
-    requires first { IsFirst edit.now.tx book.old.out }
-    requires room { (o : Outs) (rest : List Outs) → book.old.out ≡ o ∷ rest
-        → HasRoom (together journal.old pool.old book.old) o edit.now.page (length edit.now.bytes.now) }
-    requires held { IsHeld pool.old edit.now.page }
-    requires page { edit.now.page < pool.old.geometry.pages }
-    requires some { 0 < length edit.now.bytes.now }
-    requires range { edit.now.offset + length edit.now.bytes.now ≤ 4096 }
-    requires apart { (o : Outs) (rest : List Outs) → book.old.out ≡ o ∷ rest
-        → AreClear edit.now.page edit.now.offset (length edit.now.bytes.now) rest }
-
-    ensures changes { OnOk result ((o : Outs) (rest : List Outs) → book.old.out ≡ o ∷ rest
-        → Changes (parts D.told D.len disk.old (together journal.old pool.old book.old))
-        (parts D.told D.len disk.new (together journal.new pool.new book.new))
-        o rest edit.now.owner edit.now.page edit.now.offset edit.now.bytes.now) }
-    ensures refused { IfErr result (AddErr (parts D.told D.len disk.old (together journal.old pool.old book.old))
-        (parts D.told D.len disk.new (together journal.new pool.new book.new))) }
-    ensures any_moment { LeavesWanted (parts D.told D.len disk.old (together journal.old pool.old book.old))
-        (parts D.told D.len disk.new (together journal.new pool.new book.new)) }
-    ensures keeps { Keeps D.told D.len D.faults disk.old disk.new
-        (together journal.old pool.old book.old) (together journal.new pool.new book.new) result }
-{
-    let wants = book.wants(edit.page);
-    let n = book.standing() as u32;
-    add_undo(book, pool, edit.page, edit.offset, edit.bytes.len())?;
-    let image = pool.page(edit.page);
-    let at = edit.offset as usize;
-    let change = Rec::Change {
-        tx: edit.tx,
-        owner: edit.owner,
-        page: edit.page,
-        offset: edit.offset,
-        before: &image[at..at + edit.bytes.len()],
-        after: edit.bytes,
-    };
-    match log_change(disk, journal, wants, edit.tx, n, edit.page, image, &change) {
-        Ok(()) => write_range(
-            disk,
-            journal,
-            pool,
-            book,
-            edit.page,
-            edit.offset,
-            edit.bytes,
-        ),
-        Err(_) => {
-            book.fail();
-            Err(StoreFault::Fault)
-        }
-    }
 }
 
 /// Takes into the book what a range of a page that is held can be given back.

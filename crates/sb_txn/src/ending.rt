@@ -10,20 +10,16 @@ ghost use Rattle.sb_log.specs.declared.geometry.Geometry.{Geometry};
 ghost use Rattle.sb_log.specs.Records.{Record, Back, Commit};
 ghost use Rattle.sb_log.specs.Standing.{standing, count_of};
 ghost use Rattle.sb_log.specs.Views.{Active, active_with};
-ghost use Rattle.sb_pool.specs.State.{State as Pages};
 ghost use Rattle.sb_txn.specs.Book.{Out as Outs, IsFirst};
-ghost use Rattle.sb_txn.specs.Clauses.{parts, IsReady, IsFaultOrDown, Keeps, LeavesWanted, Commits, LeavesCommit, IsIdle, Aborts};
-ghost use Rattle.sb_txn.specs.State.{together};
+ghost use Rattle.sb_txn.specs.Clauses.{parts, IsReady, IsFaultOrDown, StaysReady, LeavesWanted, Commits, LeavesCommit, CommitAsksNothing, Aborts};
 ghost use Rattle.sb_txn.specs.Steps.{KeepsDisk, Stays, some, filled};
 
-use crate::book::Book;
 use crate::changing::append_if;
-use crate::writing::back_to;
+use crate::store::Store;
 use crate::{StoreFault, steps};
 use sb_disk::Disk;
 use sb_journal::Journal;
 use sb_log::Rec;
-use sb_pool::Pool;
 
 /// Makes a chunk of what is pending and a Commit of the transaction, behind a Back where changes of it were undone.
 fn finish<D: Disk>(
@@ -63,66 +59,58 @@ fn finish<D: Disk>(
     Ok(())
 }
 
-/// Commits the first transaction. One that has no record in the log ends without a call on the disk.
-pub(crate) fn commit<D: Disk>(
-    disk: &mut D,
-    journal: &mut Journal,
-    book: &mut Book,
-    tx: u32,
-) -> Result<(), StoreFault>
-    requires ready { (p : Pages) × IsReady (parts D.told D.len disk.old (together journal.old p book.old)) }
-    requires up { book.old.down ≡ false }
-    requires first { IsFirst tx book.old.out }
+impl Store {
+    /// Commits the first transaction. One that has no record in the log ends without a call on the disk.
+    pub(crate) fn commit_first<D: Disk>(&mut self, disk: &mut D, tx: u32) -> Result<(), StoreFault>
+        requires ready { IsReady (parts D.told D.len disk.old self.old) }
+        requires up { self.old.book.down ≡ false }
+        requires first { IsFirst tx self.old.book.out }
 
-    ensures commits { OnOk result ((p : Pages) (o : Outs) (rest : List Outs) → book.old.out ≡ o ∷ rest
-        → Commits (parts D.told D.len disk.old (together journal.old p book.old))
-        (parts D.told D.len disk.new (together journal.new p book.new)) o rest) }
-    ensures any_moment { (p : Pages) (o : Outs) (rest : List Outs) → book.old.out ≡ o ∷ rest
-        → LeavesCommit (parts D.told D.len disk.old (together journal.old p book.old))
-        (parts D.told D.len disk.new (together journal.new p book.new)) o }
-    ensures idle { (p : Pages) (o : Outs) (rest : List Outs) → book.old.out ≡ o ∷ rest
-        → IsIdle o disk.old disk.new (together journal.old p book.old) (together journal.new p book.new) }
-    ensures err { IfErr result IsFaultOrDown }
-    ensures keeps { (p : Pages) → IsReady (parts D.told D.len disk.old (together journal.old p book.old))
-        → Keeps D.told D.len D.faults disk.old disk.new (together journal.old p book.old) (together journal.new p book.new) result }
-{
-    if !book.is_begun() {
-        book.end();
-        return Ok(());
-    }
-    match finish(disk, journal, tx, book.is_undone(), book.standing() as u32) {
-        Ok(()) => {
-            book.end();
-            Ok(())
+        ensures commits { OnOk result ((o : Outs) (rest : List Outs) → self.old.book.out ≡ o ∷ rest
+            → Commits (parts D.told D.len disk.old self.old) (parts D.told D.len disk.new self.new) o rest) }
+        ensures any_moment { (o : Outs) (rest : List Outs) → self.old.book.out ≡ o ∷ rest
+            → LeavesCommit (parts D.told D.len disk.old self.old) (parts D.told D.len disk.new self.new) o }
+        ensures idle { (o : Outs) (rest : List Outs) → self.old.book.out ≡ o ∷ rest
+            → CommitAsksNothing o disk.old disk.new self.old self.new }
+        ensures err { IfErr result IsFaultOrDown }
+        ensures keeps { StaysReady D.told D.len D.faults disk.old disk.new self.old self.new result }
+    {
+        if !self.book.is_begun() {
+            self.book.end();
+            return Ok(());
         }
-        Err(_) => {
-            book.fail();
-            Err(StoreFault::Fault)
+        match finish(
+            disk,
+            &mut self.journal,
+            tx,
+            self.book.is_undone(),
+            self.book.standing() as u32,
+        ) {
+            Ok(()) => {
+                self.book.end();
+                Ok(())
+            }
+            Err(_) => {
+                self.book.fail();
+                Err(StoreFault::Fault)
+            }
         }
     }
-}
 
-/// Takes the changes of the first transaction out again, and ends it.
-pub(crate) fn abort<D: Disk>(
-    disk: &mut D,
-    journal: &mut Journal,
-    pool: &mut Pool,
-    book: &mut Book,
-) -> Result<(), StoreFault>
-    requires ready { IsReady (parts D.told D.len disk.old (together journal.old pool.old book.old)) }
-    requires up { book.old.down ≡ false }
-    requires some { 0 < length book.old.out }
+    /// Undoes the changes of the first transaction, and ends it.
+    pub(crate) fn abort_first<D: Disk>(&mut self, disk: &mut D) -> Result<(), StoreFault>
+        requires ready { IsReady (parts D.told D.len disk.old self.old) }
+        requires up { self.old.book.down ≡ false }
+        requires some { 0 < length self.old.book.out }
 
-    ensures aborts { OnOk result ((o : Outs) (rest : List Outs) → book.old.out ≡ o ∷ rest
-        → Aborts (parts D.told D.len disk.old (together journal.old pool.old book.old))
-        (parts D.told D.len disk.new (together journal.new pool.new book.new)) o rest) }
-    ensures any_moment { LeavesWanted (parts D.told D.len disk.old (together journal.old pool.old book.old))
-        (parts D.told D.len disk.new (together journal.new pool.new book.new)) }
-    ensures err { IfErr result IsFaultOrDown }
-    ensures keeps { Keeps D.told D.len D.faults disk.old disk.new
-        (together journal.old pool.old book.old) (together journal.new pool.new book.new) result }
-{
-    back_to(disk, journal, pool, book, 0)?;
-    book.end();
-    Ok(())
+        ensures aborts { OnOk result ((o : Outs) (rest : List Outs) → self.old.book.out ≡ o ∷ rest
+            → Aborts (parts D.told D.len disk.old self.old) (parts D.told D.len disk.new self.new) o rest) }
+        ensures any_moment { LeavesWanted (parts D.told D.len disk.old self.old) (parts D.told D.len disk.new self.new) }
+        ensures err { IfErr result IsFaultOrDown }
+        ensures keeps { StaysReady D.told D.len D.faults disk.old disk.new self.old self.new result }
+    {
+        self.undo_behind(disk, 0)?;
+        self.book.end();
+        Ok(())
+    }
 }

@@ -1,8 +1,8 @@
-//! Laws of undos.
+//! Laws of undo lists.
 
 ghost use Rattle.sb_txn.specs.Laws.{LastIsUndone, AllAreUndone, OthersStay, RestAddsNothing, GrowthAddsUp, ChunksGrow};
 
-/// To go back to a mark gives the pages as they were there: the last of some changes is undone as if it had never been made, and so are all.
+/// To go back to a savepoint gives the pages as they were there: the last of some changes is undone as if it had never been made, and so are all.
 pub fn back_gives_what_was()
     ensures last { LastIsUndone }
     ensures all { AllAreUndone }

@@ -10,7 +10,6 @@ mod fault;
 mod laws;
 mod logging;
 mod opening;
-mod paging;
 mod ranges;
 mod steps;
 mod store;

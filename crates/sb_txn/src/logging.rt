@@ -5,7 +5,7 @@ ghost use Rattle.sb_disk.specs.Disk.{WhereTold};
 ghost use Rattle.sb_disk.specs.Moments.{LeavesOnly};
 ghost use Rattle.sb_images.specs.Images.{Restores};
 ghost use Rattle.sb_images.specs.Store.{IsReadyOn, IsStoreOn};
-ghost use Rattle.sb_journal.specs.Calls.{Keeps, IsLogFull, log_full, AppendErr};
+ghost use Rattle.sb_journal.specs.Calls.{KeepsJournal, IsLogFull, log_full, AppendErr};
 ghost use Rattle.sb_journal.specs.State.{Lies, StandsOn, Appended, after_append};
 ghost use Rattle.sb_log.specs.declared.geometry.Geometry.{Geometry};
 ghost use Rattle.sb_log.specs.Records.{Record, IsRecord, spelling};
@@ -54,7 +54,7 @@ pub(crate) fn append_rec<D: Disk>(
     ensures refused { IfErr result (λ e.
         AppendErr e (length (spelling (record_of r.now))) disk.old disk.new journal.old journal.new) }
     ensures logs { LogsMore D.told D.faults disk.old disk.new journal.old journal.new (length (spelling (record_of r.now))) result }
-    ensures keeps { Keeps D.told D.len D.faults disk.old disk.new journal.old journal.new result }
+    ensures keeps { KeepsJournal D.told D.len D.faults disk.old disk.new journal.old journal.new result }
 {
     let mut bytes = [0u8; MOST];
     let out = &mut bytes[..len_of(r)];

@@ -13,10 +13,11 @@ ghost use Rattle.sb_pool.specs.Pages.{AgreesOn};
 ghost use Rattle.sb_txn.specs.Opened.{NotOpened};
 
 use sb_disk::Disk;
+use sb_images::{gate_region, log_region};
 use sb_journal::Journal;
 use sb_log::Geometry;
 use sb_pool::Pool;
-use sb_recover::{OpenFault, gate_region, log_region};
+use sb_recover::OpenFault;
 use std::alloc::Global;
 
 /// Opens the journal of a store that was restarted, so that no gate of it is open.
@@ -39,7 +40,7 @@ pub(crate) fn open_journal<D: Disk>(
     ensures fault { IsErrOf result OpenFault.Fault → Rose (D.faults disk.old) (D.faults disk.new) }
     ensures reads { OnlyReads D.told D.len D.faults disk.old disk.new }
 {
-    let journal = Journal::open(alloc, disk, gate_region(g), log_region(g))?;
+    let journal = Journal::open(alloc, disk, gate_region(*g), log_region(*g))?;
     if journal.chunks() > 0 || !journal.clean() {
         return Err(OpenFault::BadLog {
             chunk: 0,

@@ -10,7 +10,7 @@ ghost use Rattle.sb_log.specs.declared.geometry.Geometry.{Geometry};
 ghost use Rattle.sb_log.specs.Records.{Record, Commit};
 ghost use Rattle.sb_log.specs.Standing.{standing, count_of};
 ghost use Rattle.sb_log.specs.Views.{Active, active_with};
-ghost use Rattle.sb_pool.specs.Calls.{Serves, Keeps, AreImaged};
+ghost use Rattle.sb_pool.specs.Calls.{Serves, KeepsPool, AreImaged};
 ghost use Rattle.sb_pool.specs.Pages.{AgreesOn, ArePagesOn, KeepsPages};
 ghost use Rattle.sb_pool.specs.State.{flushed};
 ghost use Rattle.sb_txn.specs.Steps.{KeepsSizes, KeepsDisk, Stays, filled};

@@ -9,24 +9,19 @@ ghost use Rattle.sb_images.specs.Store.{IfTold, IsMounted};
 ghost use Rattle.sb_pool.specs.Calls.{ReadsClean};
 ghost use Rattle.sb_pool.specs.State.{held, IsHeld, is_dirty};
 ghost use Rattle.sb_txn.specs.Book.{Out, MayBegin, IsAmong, out_with, others, standing_of};
-ghost use Rattle.sb_txn.specs.Clauses.{parts, IsReady, IsStoreOf, Keeps, IsFaultOrDown, LeavesWanted, Loads, IsPaged, Begins, AsksNothing, GoesBack, Aborts, Commits, LeavesCommit, LeavesOne, IsIdle, Checkpoints};
+ghost use Rattle.sb_txn.specs.Clauses.{parts, IsReady, HoldsPages, StaysReady, IsFaultOrDown, LeavesWanted, Loads, IsPaged, Begins, AsksNothing, GoesBack, Aborts, Commits, LeavesCommit, LeavesOne, CommitAsksNothing, Checkpoints};
 ghost use Rattle.sb_txn.specs.Opened.{IsOpened, OpenErr};
 
-use crate::StoreFault;
-use crate::beginning::{begin, checkpoint};
 use crate::book::Book;
-use crate::ending::{abort, commit};
 use crate::opening::{new_pool, open_journal};
-use crate::paging::load;
-use crate::writing::back_to;
+use crate::{StoreFault, steps};
 use sb_disk::Disk;
 use sb_journal::Journal;
 use sb_pool::Pool;
 use sb_recover::{OpenFault, restart};
 use std::alloc::Global;
-use std::marker::Model;
 
-/// A transaction that is out. It is spent by `commit` or `abort`; one that is let go stays out as long as its store is open.
+/// An active transaction. It is spent by `commit` or `abort`; one that is let go stays active as long as its store is open.
 #[derive(Drop)]
 pub struct Tx {
     pub(crate) number: u32,
@@ -41,7 +36,7 @@ impl Tx {
     }
 }
 
-/// How many changes of a transaction stood.
+/// A savepoint: how many changes of a transaction stood.
 #[derive(Clone, Copy, Debug, PartialEq, Eq)]
 pub struct Mark {
     changes: usize,
@@ -55,16 +50,6 @@ pub struct Store {
     pub(crate) journal: Journal,
     pub(crate) pool: Pool,
     pub(crate) book: Book,
-}
-
-impl Model for Store {
-    ghost use Rattle.sb_txn.specs.State.{State};
-
-    ghost Value = { State };
-
-    ghost use Rattle.sb_txn.specs.State.{together};
-
-    ghost view = { λ s. together s.journal s.pool s.book };
 }
 
 impl Store {
@@ -116,7 +101,7 @@ impl Store {
         self.book.is_down()
     }
 
-    /// Begins a transaction, beside up to seven others. With none out, a checkpoint is taken first where more than half of the log or of its gates is used, or of the numbers of transactions. Else disk and journal stay as they were.
+    /// Begins a transaction, beside up to seven others. With none active, a checkpoint is taken first where more than half of the log or of its gates is used, or of the numbers of transactions. Else disk and journal stay as they were.
     pub fn begin<D: Disk>(&mut self, disk: &mut D) -> Result<Tx, StoreFault>
         requires ready { IsReady (parts D.told D.len disk.old self.old) }
         requires room { self.old.book.down ≡ false → MayBegin self.old.book }
@@ -125,15 +110,15 @@ impl Store {
         ensures quiet { AsksNothing disk.old disk.new self.old }
         ensures any_moment { LeavesWanted (parts D.told D.len disk.old self.old) (parts D.told D.len disk.new self.new) }
         ensures err { IfErr result IsFaultOrDown }
-        ensures keeps { Keeps D.told D.len D.faults disk.old disk.new self.old self.new result }
+        ensures keeps { StaysReady D.told D.len D.faults disk.old disk.new self.old self.new result }
     {
-        match begin(disk, &mut self.journal, &mut self.pool, &mut self.book) {
-            Ok(number) => Ok(Tx { number }),
-            Err(fault) => Err(fault),
-        }
+        self.make_room(disk)?;
+        Ok(Tx {
+            number: self.book.begin(),
+        })
     }
 
-    /// Whether a transaction may begin: fewer than eight are out, and a number is left.
+    /// Whether a transaction may begin: fewer than eight are active, and a number is left.
     pub fn may_begin(&self) -> bool
         ensures yes { result ≡ true → MayBegin self.now.book }
         ensures no { result ≡ false → MayBegin self.now.book → ⊥ }
@@ -155,7 +140,7 @@ impl Store {
         requires ready { IsReady (parts D.told D.len disk.old self.old) }
         requires page { n < self.old.pool.geometry.pages }
 
-        ensures page { IfOk result (λ bytes. (want now : ℕ → List ℕ) → IsStoreOf want now (parts D.told D.len disk.old self.old)
+        ensures page { IfOk result (λ bytes. (want now : ℕ → List ℕ) → HoldsPages want now (parts D.told D.len disk.old self.old)
             → IfTold (D.told disk.old) (bytes.now ≡ now n)) }
         ensures long { IfOk result (λ bytes. length bytes.now ≡ 4096) }
 
@@ -167,7 +152,7 @@ impl Store {
         Ok(self.held(n))
     }
 
-    /// Takes back the changes of the transaction that were made behind the mark. The mark must not have been rolled past. The log gets no record of it: the next change or the commit of the transaction writes a Back first.
+    /// Takes back the changes of the transaction that were made behind the savepoint. The savepoint must not have been rolled past. The log gets no record of it: the next change or the commit of the transaction writes a Back first.
     pub fn back_to<D: Disk>(&mut self, disk: &mut D, tx: &Tx, mark: Mark) -> Result<(), StoreFault>
         requires ready { IsReady (parts D.told D.len disk.old self.old) }
         requires among { self.old.book.down ≡ false → IsAmong tx.now.number self.old.book.out }
@@ -178,16 +163,10 @@ impl Store {
             o (others tx.now.number self.old.book.out) mark.changes) }
         ensures any_moment { LeavesWanted (parts D.told D.len disk.old self.old) (parts D.told D.len disk.new self.new) }
         ensures err { IfErr result IsFaultOrDown }
-        ensures keeps { Keeps D.told D.len D.faults disk.old disk.new self.old self.new result }
+        ensures keeps { StaysReady D.told D.len D.faults disk.old disk.new self.old self.new result }
     {
         self.book.call(tx.number)?;
-        back_to(
-            disk,
-            &mut self.journal,
-            &mut self.pool,
-            &mut self.book,
-            mark.changes,
-        )
+        self.undo_behind(disk, mark.changes)
     }
 
     /// Commits the transaction: when it answers Ok, the changes that stand are there after any crash. One that made no change makes no call on the disk.
@@ -201,16 +180,16 @@ impl Store {
             → LeavesCommit (parts D.told D.len disk.old self.old) (parts D.told D.len disk.new self.new) o }
         ensures alone { (o : Out) → self.old.book.out ≡ o ∷ []
             → LeavesOne (parts D.told D.len disk.old self.old) (parts D.told D.len disk.new self.new) }
-        ensures idle { (o : Out) → out_with tx.number self.old.book.out ≡ Some o → IsIdle o disk.old disk.new self.old self.new }
+        ensures idle { (o : Out) → out_with tx.number self.old.book.out ≡ Some o → CommitAsksNothing o disk.old disk.new self.old self.new }
         ensures err { IfErr result IsFaultOrDown }
-        ensures keeps { Keeps D.told D.len D.faults disk.old disk.new self.old self.new result }
+        ensures keeps { StaysReady D.told D.len D.faults disk.old disk.new self.old self.new result }
     {
         let Tx { number } = tx;
         self.book.call(number)?;
-        commit(disk, &mut self.journal, &mut self.book, number)
+        self.commit_first(disk, number)
     }
 
-    /// Takes the changes of the transaction out again.
+    /// Undoes the changes of the transaction.
     pub fn abort<D: Disk>(&mut self, disk: &mut D, tx: Tx) -> Result<(), StoreFault>
         requires ready { IsReady (parts D.told D.len disk.old self.old) }
         requires among { self.old.book.down ≡ false → IsAmong tx.number self.old.book.out }
@@ -219,11 +198,11 @@ impl Store {
             → Aborts (parts D.told D.len disk.old self.old) (parts D.told D.len disk.new self.new) o (others tx.number self.old.book.out)) }
         ensures any_moment { LeavesWanted (parts D.told D.len disk.old self.old) (parts D.told D.len disk.new self.new) }
         ensures err { IfErr result IsFaultOrDown }
-        ensures keeps { Keeps D.told D.len D.faults disk.old disk.new self.old self.new result }
+        ensures keeps { StaysReady D.told D.len D.faults disk.old disk.new self.old self.new result }
     {
         let Tx { number } = tx;
         self.book.call(number)?;
-        abort(disk, &mut self.journal, &mut self.pool, &mut self.book)
+        self.abort_first(disk)
     }
 
     /// Writes the changed pages to the disk and empties the log.
@@ -234,9 +213,21 @@ impl Store {
         ensures checkpoints { OnOk result (Checkpoints (parts D.told D.len disk.old self.old) (parts D.told D.len disk.new self.new)) }
         ensures any_moment { LeavesWanted (parts D.told D.len disk.old self.old) (parts D.told D.len disk.new self.new) }
         ensures err { IfErr result IsFaultOrDown }
-        ensures keeps { Keeps D.told D.len D.faults disk.old disk.new self.old self.new result }
+        ensures keeps { StaysReady D.told D.len D.faults disk.old disk.new self.old self.new result }
     {
-        checkpoint(disk, &mut self.journal, &mut self.pool, &mut self.book)
+        if self.book.is_down() {
+            return Err(StoreFault::Down);
+        }
+        match steps::checkpoint(disk, &mut self.journal, &mut self.pool) {
+            Ok(()) => {
+                self.book.empty();
+                Ok(())
+            }
+            Err(_) => {
+                self.book.fail();
+                Err(StoreFault::Fault)
+            }
+        }
     }
 
     /// Brings a page into memory, where it isn't held yet, so that `held` can lend it.
@@ -252,9 +243,18 @@ impl Store {
         ensures reads { ReadsClean self.old.pool self.old.journal self.new.journal (D.told disk.old) (D.told disk.new) }
 
         ensures err { IfErr result IsFaultOrDown }
-        ensures keeps { Keeps D.told D.len D.faults disk.old disk.new self.old self.new result }
+        ensures keeps { StaysReady D.told D.len D.faults disk.old disk.new self.old self.new result }
     {
-        load(disk, &mut self.journal, &mut self.pool, &mut self.book, n)
+        if self.book.is_down() {
+            return Err(StoreFault::Down);
+        }
+        match self.pool.load(disk, &mut self.journal, n) {
+            Ok(()) => Ok(()),
+            Err(_) => {
+                self.book.fail();
+                Err(StoreFault::Fault)
+            }
+        }
     }
 
     /// The bytes of a page that was loaded and is in memory still, 4,096 of them.

@@ -1,8 +1,9 @@
 //! What no clause says: that a store is made where memory lasts. And the refusals with their numbers.
 
 use sb_disk::Disk;
+use sb_images::need;
 use sb_memdisk::MemDisk;
-use sb_recover::{OpenFault, format, need, owners_stand, restart};
+use sb_recover::{OpenFault, format, owners_stand, restart};
 use std::alloc::{AllocError, Global};
 use std::test::Fail;
 

@@ -1,6 +1,6 @@
 use Rattle.sb_txn.specs.Clauses.{parts}
-use Rattle.sb_bench.specs.Load.{IsIdle}
+use Rattle.sb_bench.specs.Load.{IsAtRest}
 use Rattle.sb_bench.proofs.load.commit_each.Given as goal
 
 abbrev pub invariant-loop-number : goal.invariant-loop-number
-invariant-loop-number g l = IsIdle (parts g.D.Disk.told g.D.Disk.len l.disk l.store)
+invariant-loop-number g l = IsAtRest (parts g.D.Disk.told g.D.Disk.len l.disk l.store)

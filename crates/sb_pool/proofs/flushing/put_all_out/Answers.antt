@@ -23,7 +23,7 @@ returns-in_err-put_out-clause-ran_err g c =
     let below : c.loop-page.page < length hs = omega (arith, length-map c.args.frames.now held_of) in
     let is = held_at c.args.frames.now c.loop-page.page c.index-frames-page.result (search rules) c.index-frames-page.is in
     on_err c.from_residual.result _ (RunsOn-failed c.args.geometry _ c.loop-page.page hs below _ _ c.loop-page.invariant.runs _
-    (failed_at c.place.result _ _ _ _ _ c.place.ensures is c.in_err-put_out.ensures.err))
+    (failed_at c.place_of.result _ _ _ _ _ c.place_of.ensures is c.in_err-put_out.ensures.err))
 
 pub loop-page-preserved : goal.loop-page-preserved
 loop-page-preserved g c =
@@ -32,7 +32,7 @@ loop-page-preserved g c =
     let is = held_at c.args.frames.now c.loop-page.page c.index-frames-page.result (search rules) c.index-frames-page.is in
     record {
       runs = RunsOn-put c.args.geometry _ c.loop-page.page hs below _ _ c.loop-page.invariant.runs _
-          (put_at c.place.result _ _ _ _ _ c.place.ensures is c.in_ok-put_out.ensures.ok);
+          (put_at c.place_of.result _ _ _ _ _ c.place_of.ensures is c.in_ok-put_out.ensures.ok);
       len = search rules;
       later = search rules;
     }

@@ -3,7 +3,7 @@ use Rattle.std.proofs.lemmas.List.{take_at}
 use Rattle.std.specs.Prelude.{slice_index}
 use Rattle.sb_disk.specs.Disk.{Story}
 use Rattle.sb_disk.specs.Moments.{LeavesOnly}
-use Rattle.sb_recover.specs.SuperPage.{geometry_of}
+use Rattle.sb_images.specs.Layout.{geometry_of}
 use Rattle.sb_recover.specs.Laying.{IsGate}
 use Rattle.sb_recover.specs.Formatting.{IsFormatting, KeepsStore}
 use Rattle.sb_recover.specs.Geometries.{HoldsNone}

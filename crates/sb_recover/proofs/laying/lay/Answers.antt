@@ -2,7 +2,7 @@ use Rattle.std.proofs.Common.{rules, ◌≡◌, ◌+◌, ◌-◌, ◌*◌, Resul
 use Rattle.std.proofs.lemmas.List.{take_rest, length-drop}
 use Rattle.sb_disk.proofs.MomentLemmas.{on_sync_call}
 use Rattle.sb_recover.specs.FirstPages.{super_page}
-use Rattle.sb_recover.specs.SuperPage.{geometry_of}
+use Rattle.sb_images.specs.Layout.{geometry_of}
 use Rattle.sb_recover.proofs.LaidLemmas.{IsLaid-on, left_write, left_gates, left_pages, Fits-within}
 use Rattle.sb_recover.proofs.laying.lay.Goals as goal
 

@@ -76,20 +76,20 @@ pub returns-clause-held : goal.returns-clause-held
 returns-clause-held g c =
     let at = frame_at c.self.inside c.args.self.now c.args.page c.index_mut-frame.result.now c.load.new.self c.self.view_is c.self.invariant.count c.requires.page c.index_mut-frame.ensures.value in
     let told = g.D.Disk.told c.args.disk.now in
-    (held_ok told c.self.inside c.args.self.now _ c.args.page c.place-at.result _ _ at c.in_ok-load.ensures.loaded, ap (λ (s : State). s.position) c.self.view_is)
+    (held_ok told c.self.inside c.args.self.now _ c.args.page c.place_of-at.result _ _ at c.in_ok-load.ensures.loaded, ap (λ (s : State). s.position) c.self.view_is)
 
 pub returns-clause-pages : goal.returns-clause-pages
 returns-clause-pages g c =
     let at = frame_at c.self.inside c.args.self.now c.args.page c.index_mut-frame.result.now c.load.new.self c.self.view_is c.self.invariant.count c.requires.page c.index_mut-frame.ensures.value in
     let told = g.D.Disk.told c.args.disk.now in
-    let kept = loads_ok told c.self.inside c.args.self.now _ c.args.page c.place-at.result _ _ at c.self.view_is c.place-at.ensures c.load.ensures.frame c.in_ok-load.ensures.loaded in
+    let kept = loads_ok told c.self.inside c.args.self.now _ c.args.page c.place_of-at.result _ _ at c.self.view_is c.place_of-at.ensures c.load.ensures.frame c.in_ok-load.ensures.loaded in
     Loads-pages c.args.self.now _ told _ c.args.journal.now c.load.ensures.told kept
 
 pub returns-clause-dirty : goal.returns-clause-dirty
 returns-clause-dirty g c =
     let at = frame_at c.self.inside c.args.self.now c.args.page c.index_mut-frame.result.now c.load.new.self c.self.view_is c.self.invariant.count c.requires.page c.index_mut-frame.ensures.value in
     let told = g.D.Disk.told c.args.disk.now in
-    let kept = loads_ok told c.self.inside c.args.self.now _ c.args.page c.place-at.result _ _ at c.self.view_is c.place-at.ensures c.load.ensures.frame c.in_ok-load.ensures.loaded in
+    let kept = loads_ok told c.self.inside c.args.self.now _ c.args.page c.place_of-at.result _ _ at c.self.view_is c.place_of-at.ensures c.load.ensures.frame c.in_ok-load.ensures.loaded in
     Loads-dirty c.args.self.now _ told kept
 
 pub returns-clause-images : goal.returns-clause-images
@@ -100,7 +100,7 @@ pub returns-clause-keeps : goal.returns-clause-keeps
 returns-clause-keeps g c =
     let at = frame_at c.self.inside c.args.self.now c.args.page c.index_mut-frame.result.now c.load.new.self c.self.view_is c.self.invariant.count c.requires.page c.index_mut-frame.ensures.value in
     let told = g.D.Disk.told c.args.disk.now in
-    let kept = loads_ok told c.self.inside c.args.self.now _ c.args.page c.place-at.result _ _ at c.self.view_is c.place-at.ensures c.load.ensures.frame c.in_ok-load.ensures.loaded in
+    let kept = loads_ok told c.self.inside c.args.self.now _ c.args.page c.place_of-at.result _ _ at c.self.view_is c.place_of-at.ensures c.load.ensures.frame c.in_ok-load.ensures.loaded in
     record {
       size = search rules;
       geometry = kept.geometry;

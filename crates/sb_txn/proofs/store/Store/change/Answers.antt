@@ -1,7 +1,6 @@
-use Rattle.std.proofs.Common.{◌≡◌, false, Some, OnOk, IfErr, length, sym, subst}
-use Rattle.sb_txn.specs.Book.{Out, out_with, IsAmong, others}
-use Rattle.sb_txn.specs.Clauses.{parts, IsReady, LeavesWanted, Changes, ChangeErr, HasRoom}
-use Rattle.sb_txn.specs.State.{State, together}
+use Rattle.std.proofs.Common.{length}
+use Rattle.sb_txn.specs.Book.{others}
+use Rattle.sb_txn.specs.Clauses.{parts}
 use Rattle.sb_txn.proofs.CallLemmas.{IsReady-called, IsFirst-called, LeavesWanted-called, out-called, HasRoom-called, Changes-called, ChangeErr-called}
 use Rattle.sb_txn.proofs.KeepsLemmas.{LeavesWanted-none}
 use Rattle.sb_txn.proofs.ResultLemmas.{OnOk-map, IfErr-map}
@@ -10,19 +9,19 @@ use Rattle.sb_txn.proofs.store.Store.change.Goals as goal
 pub returns-in_err-call-clause-any_moment : goal.returns-in_err-call-clause-any_moment
 returns-in_err-call-clause-any_moment g c = record { each = (LeavesWanted-none (parts g.D.Disk.told g.D.Disk.len c.args.disk.now c.args.self.now)).each }
 
-pub change-requires-clause-ready : goal.change-requires-clause-ready
-change-requires-clause-ready g c =
+pub change_first-requires-clause-ready : goal.change_first-requires-clause-ready
+change_first-requires-clause-ready g c =
     let ok = c.in_ok-call.ensures in
-    let among = subst (λ (s : State). s.book.down ≡ false → IsAmong c.args.tx.now.number s.book.out) (sym c.self.view_is) c.requires.among ok.up in
-    let ready = subst (λ (s : State). IsReady (parts g.D.Disk.told g.D.Disk.len c.args.disk.now s)) (sym c.self.view_is) c.requires.ready in
-    IsReady-called (parts g.D.Disk.told g.D.Disk.len c.args.disk.now (together c.self.inside.journal c.self.inside.pool c.self.inside.book)) c.call.new.self c.args.tx.now.number among ok.first ok.up ready
+    let among = c.requires.among ok.up in
+    let ready = c.requires.ready in
+    IsReady-called (parts g.D.Disk.told g.D.Disk.len c.args.disk.now c.args.self.now) c.call.new.self c.args.tx.now.number among ok.first ok.up ready
 
-pub change-requires-clause-first : goal.change-requires-clause-first
-change-requires-clause-first g c _ =
+pub change_first-requires-clause-first : goal.change_first-requires-clause-first
+change_first-requires-clause-first g c _ =
     let ok = c.in_ok-call.ensures in
     let tx = c.args.tx.now.number in
-    let old = parts g.D.Disk.told g.D.Disk.len c.args.disk.now (together c.self.inside.journal c.self.inside.pool c.self.inside.book) in
-    let among = subst (λ (s : State). s.book.down ≡ false → IsAmong tx s.book.out) (sym c.self.view_is) c.requires.among ok.up in
+    let old = parts g.D.Disk.told g.D.Disk.len c.args.disk.now c.args.self.now in
+    let among = c.requires.among ok.up in
     IsFirst-called old c.call.new.self tx among ok.first
 
 pub returns-clause-changes : goal.returns-clause-changes
@@ -33,34 +32,31 @@ returns-clause-changes g c =
     let offset = c.args.offset in
     let bytes = c.args.bytes.now in
     let first = c.in_ok-call.ensures.first in
-    let old = parts g.D.Disk.told g.D.Disk.len c.args.disk.now (together c.self.inside.journal c.self.inside.pool c.self.inside.book) in
-    let new = parts g.D.Disk.told g.D.Disk.len c.change.new.disk (together c.change.new.journal c.change.new.pool c.change.new.book) in
-    subst (λ (s : State). OnOk c.change.result ((o : Out) → out_with tx s.book.out ≡ Some o → Changes (parts g.D.Disk.told g.D.Disk.len c.args.disk.now s) new o (others tx s.book.out) owner page offset bytes)) c.self.view_is
-    (OnOk-map c.change.result _ _ (λ changes o is. Changes-called old c.call.new.self tx o is first new owner page offset bytes (changes o (others tx c.self.inside.book.out) (out-called old c.call.new.self tx o is first))) c.change.ensures.changes)
+    let old = parts g.D.Disk.told g.D.Disk.len c.args.disk.now c.args.self.now in
+    let new = parts g.D.Disk.told g.D.Disk.len c.change_first.new.disk c.change_first.new.self in
+    (OnOk-map c.change_first.result _ _ (λ changes o is. Changes-called old c.call.new.self tx o is first new owner page offset bytes (changes o (others tx c.args.self.now.book.out) (out-called old c.call.new.self tx o is first))) c.change_first.ensures.changes)
 
 pub returns-clause-room : goal.returns-clause-room
 returns-clause-room g c =
     let tx = c.args.tx.now.number in
     let count = length c.args.bytes.now in
     let first = c.in_ok-call.ensures.first in
-    let old = parts g.D.Disk.told g.D.Disk.len c.args.disk.now (together c.self.inside.journal c.self.inside.pool c.self.inside.book) in
-    subst (λ (s : State). OnOk c.change.result ((o : Out) → out_with tx s.book.out ≡ Some o → HasRoom s o c.args.page count)) c.self.view_is
-    (OnOk-map c.change.result _ _ (λ room o is. HasRoom-called old c.call.new.self tx o is first c.args.page count (room o (others tx c.self.inside.book.out) (out-called old c.call.new.self tx o is first))) c.change.ensures.room)
+    let old = parts g.D.Disk.told g.D.Disk.len c.args.disk.now c.args.self.now in
+    (OnOk-map c.change_first.result _ _ (λ room o is. HasRoom-called old c.call.new.self tx o is first c.args.page count (room o (others tx c.args.self.now.book.out) (out-called old c.call.new.self tx o is first))) c.change_first.ensures.room)
 
 pub returns-clause-refused : goal.returns-clause-refused
 returns-clause-refused g c =
     let tx = c.args.tx.now.number in
     let count = length c.args.bytes.now in
     let first = c.in_ok-call.ensures.first in
-    let old = parts g.D.Disk.told g.D.Disk.len c.args.disk.now (together c.self.inside.journal c.self.inside.pool c.self.inside.book) in
-    let new = parts g.D.Disk.told g.D.Disk.len c.change.new.disk (together c.change.new.journal c.change.new.pool c.change.new.book) in
-    subst (λ (s : State). IfErr c.change.result (λ e. (o : Out) → out_with tx s.book.out ≡ Some o → ChangeErr (parts g.D.Disk.told g.D.Disk.len c.args.disk.now s) new o c.args.page count e)) c.self.view_is
-    (IfErr-map c.change.result _ _ (λ e err o is. ChangeErr-called old c.call.new.self tx o is first new c.args.page count e (err o (others tx c.self.inside.book.out) (out-called old c.call.new.self tx o is first))) c.change.ensures.refused)
+    let old = parts g.D.Disk.told g.D.Disk.len c.args.disk.now c.args.self.now in
+    let new = parts g.D.Disk.told g.D.Disk.len c.change_first.new.disk c.change_first.new.self in
+    (IfErr-map c.change_first.result _ _ (λ e err o is. ChangeErr-called old c.call.new.self tx o is first new c.args.page count e (err o (others tx c.args.self.now.book.out) (out-called old c.call.new.self tx o is first))) c.change_first.ensures.refused)
 
 pub returns-clause-any_moment : goal.returns-clause-any_moment
 returns-clause-any_moment g c =
     let ok = c.in_ok-call.ensures in
-    let old = parts g.D.Disk.told g.D.Disk.len c.args.disk.now (together c.self.inside.journal c.self.inside.pool c.self.inside.book) in
-    let new = parts g.D.Disk.told g.D.Disk.len c.change.new.disk (together c.change.new.journal c.change.new.pool c.change.new.book) in
-    let among = subst (λ (s : State). s.book.down ≡ false → IsAmong c.args.tx.now.number s.book.out) (sym c.self.view_is) c.requires.among ok.up in
-    subst (λ (s : State). LeavesWanted (parts g.D.Disk.told g.D.Disk.len c.args.disk.now s) new) c.self.view_is (LeavesWanted-called old c.call.new.self c.args.tx.now.number among ok.first new c.change.ensures.any_moment)
+    let old = parts g.D.Disk.told g.D.Disk.len c.args.disk.now c.args.self.now in
+    let new = parts g.D.Disk.told g.D.Disk.len c.change_first.new.disk c.change_first.new.self in
+    let among = c.requires.among ok.up in
+    (LeavesWanted-called old c.call.new.self c.args.tx.now.number among ok.first new c.change_first.ensures.any_moment)

@@ -1,7 +1,7 @@
 use Rattle.std.proofs.Common.{◌<◌, refl, sym, subst}
 use Rattle.sb_log.specs.declared.geometry.Geometry.{Geometry}
 use Rattle.sb_pool.specs.State.{is_dirty, held}
-use Rattle.sb_txn.proofs.KeepsLemmas.{Keeps-as}
+use Rattle.sb_txn.proofs.KeepsLemmas.{StaysReady-as}
 use Rattle.sb_txn.proofs.TiedLemmas.{bytes_now}
 use Rattle.sb_txn.proofs.store.Store.page.Goals as goal
 
@@ -16,7 +16,7 @@ returns g c =
           same = call.loads;
           leaves = call.any_moment;
           err = tt;
-          keeps = Keeps-as g.D.Disk.told g.D.Disk.len g.D.Disk.faults tt c.held.result _ _ _ _ call.keeps;
+          keeps = StaysReady-as g.D.Disk.told g.D.Disk.len g.D.Disk.faults tt c.held.result _ _ _ _ call.keeps;
         },
       ),
       record {

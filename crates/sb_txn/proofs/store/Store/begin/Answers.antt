@@ -3,8 +3,8 @@ use Rattle.sb_txn.specs.Book.{Out, Book, new_out, begun_book}
 use Rattle.sb_txn.specs.State.{State, together}
 use Rattle.sb_txn.specs.Tied.{Ties}
 use Rattle.sb_txn.proofs.BeginLemmas.{Ties-begin}
-use Rattle.sb_txn.proofs.KeepsLemmas.{Keeps-ok, Keeps-up}
-use Rattle.sb_txn.proofs.beginning.begin.Goals as goal
+use Rattle.sb_txn.proofs.KeepsLemmas.{StaysReady-ok, StaysReady-up}
+use Rattle.sb_txn.proofs.store.Store.begin.Goals as goal
 
 pub returns-clause-begins : goal.returns-clause-begins
 returns-clause-begins g c =
@@ -13,17 +13,17 @@ returns-clause-begins g c =
     let begun = c.begin.ensures.out in
     let number = c.begin.ensures.number in
     record {
-      out = ap (λ (b : Book). b.out) begun ∙ ap (λ (l : List Out). l ++ new_out c.make_room.new.book.next ∷ []) made.out ∙ ap (λ (n : ℕ). c.args.book.now.out ++ new_out n ∷ []) (sym number);
+      out = ap (λ (b : Book). b.out) begun ∙ ap (λ (l : List Out). l ++ new_out c.make_room.new.self.book.next ∷ []) made.out ∙ ap (λ (n : ℕ). c.args.self.now.book.out ++ new_out n ∷ []) (sym number);
       next = ap (λ (b : Book). b.next) begun ∙ ap (λ (n : ℕ). n + 1) (sym number);
       pages = λ want now store.
           let mid = made.pages want now store in (
             mid.0,
             mid.1,
-            subst (λ (b : Book). Ties want now (g.D.Disk.told c.make_room.new.disk) (g.D.Disk.len c.make_room.new.disk) c.make_room.new.journal c.make_room.new.pool b mid.0 mid.1) (sym begun)
-                (Ties-begin want now (g.D.Disk.told c.make_room.new.disk) (g.D.Disk.len c.make_room.new.disk) c.make_room.new.journal c.make_room.new.pool c.make_room.new.book mid.0 mid.1 mid.2 room.few),
+            subst (λ (b : Book). Ties want now (g.D.Disk.told c.make_room.new.disk) (g.D.Disk.len c.make_room.new.disk) c.make_room.new.self.journal c.make_room.new.self.pool b mid.0 mid.1) (sym begun)
+                (Ties-begin want now (g.D.Disk.told c.make_room.new.disk) (g.D.Disk.len c.make_room.new.disk) c.make_room.new.self.journal c.make_room.new.self.pool c.make_room.new.self.book mid.0 mid.1 mid.2 room.few),
           );
       at_once = λ not.
-          ap (λ (b : Book). together c.make_room.new.journal c.make_room.new.pool b) begun
+          ap (λ (b : Book). together c.make_room.new.self.journal c.make_room.new.self.pool b) begun
           ∙ ap (λ (s : State). together s.journal s.pool (begun_book s.book)) (made.stays not);
       anew = λ takes.
           let done = made.empties takes in
@@ -39,8 +39,8 @@ pub returns-clause-keeps : goal.returns-clause-keeps
 returns-clause-keeps g c =
     let room = c.in_ok-make_room.ensures in
     let begins = returns-clause-begins g c in
-    let was_up : c.args.book.now.down ≡ false = Keeps-up g.D.Disk.told g.D.Disk.len g.D.Disk.faults tt _ _ _ _ room.keeps in
+    let was_up : c.args.self.now.book.down ≡ false = StaysReady-up g.D.Disk.told g.D.Disk.len g.D.Disk.faults tt _ _ _ _ room.keeps in
     let still : c.begin.new.self.down ≡ false = ap (λ (b : Book). b.down) c.begin.ensures.out ∙ room.up in
-    Keeps-ok g.D.Disk.told g.D.Disk.len g.D.Disk.faults c.begin.result c.args.disk.now c.make_room.new.disk
-    (together c.args.journal.now c.args.pool.now c.args.book.now) (together c.make_room.new.journal c.make_room.new.pool c.begin.new.self) was_up still room.keeps.size room.keeps.geometry room.keeps.later
+    StaysReady-ok g.D.Disk.told g.D.Disk.len g.D.Disk.faults _ c.args.disk.now c.make_room.new.disk
+    c.args.self.now (together c.make_room.new.self.journal c.make_room.new.self.pool c.begin.new.self) was_up still room.keeps.size room.keeps.geometry room.keeps.later
     (λ _. let ready = c.requires.ready was_up in (ready.0, ready.1, begins.pages ready.0 ready.1 ready.2))

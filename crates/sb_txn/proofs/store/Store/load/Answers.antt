@@ -4,9 +4,9 @@ use Rattle.sb_log.specs.Records.{Record}
 use Rattle.sb_txn.specs.Book.{actives}
 use Rattle.sb_txn.specs.Clauses.{parts, Holds, HoldsAll}
 use Rattle.sb_txn.specs.State.{together}
-use Rattle.sb_txn.proofs.KeepsLemmas.{LeavesWanted-none, Keeps-ok}
+use Rattle.sb_txn.proofs.KeepsLemmas.{LeavesWanted-none, StaysReady-ok}
 use Rattle.sb_txn.proofs.TiedLemmas.{HoldsAll-kept}
-use Rattle.sb_txn.proofs.paging.load.Goals as goal
+use Rattle.sb_txn.proofs.store.Store.load.Goals as goal
 
 pub returns-then-is_down-clause-any_moment : goal.returns-then-is_down-clause-any_moment
 returns-then-is_down-clause-any_moment g c = LeavesWanted-none _
@@ -14,23 +14,23 @@ returns-then-is_down-clause-any_moment g c = LeavesWanted-none _
 pub returns-in-Err-clause-any_moment : goal.returns-in-Err-clause-any_moment
 returns-in-Err-clause-any_moment g c = record {
   each = λ want now store.
-      (c.load.ensures.images want store.0 store.1 (IsStoreOn-ready want now _ c.args.journal.now c.args.pool.now.geometry store.0 store.1 (actives c.args.book.now.out) store.2.store) store.2.dirty).leaves;
+      (c.load.ensures.images want store.0 store.1 (IsStoreOn-ready want now _ c.args.self.now.journal c.args.self.now.pool.geometry store.0 store.1 (actives c.args.self.now.book.out) store.2.store) store.2.dirty).leaves;
 }
 
 pub returns-in-Ok-clause-any_moment : goal.returns-in-Ok-clause-any_moment
 returns-in-Ok-clause-any_moment g c = record {
   each = λ want now store.
-      (c.load.ensures.images want store.0 store.1 (IsStoreOn-ready want now _ c.args.journal.now c.args.pool.now.geometry store.0 store.1 (actives c.args.book.now.out) store.2.store) store.2.dirty).leaves;
+      (c.load.ensures.images want store.0 store.1 (IsStoreOn-ready want now _ c.args.self.now.journal c.args.self.now.pool.geometry store.0 store.1 (actives c.args.self.now.book.out) store.2.store) store.2.dirty).leaves;
 }
 
 pub returns-in-Ok-clause-loads : goal.returns-in-Ok-clause-loads
 returns-in-Ok-clause-loads g c =
-    let old = parts g.D.Disk.told g.D.Disk.len c.args.disk.now (together c.args.journal.now c.args.pool.now c.args.book.now) in
-    let new = parts g.D.Disk.told g.D.Disk.len c.load.new.disk (together c.load.new.journal c.load.new.self c.args.book.now) in
+    let old = parts g.D.Disk.told g.D.Disk.len c.args.disk.now c.args.self.now in
+    let new = parts g.D.Disk.told g.D.Disk.len c.load.new.disk (together c.load.new.journal c.load.new.self c.args.self.now.book) in
     let logged : (want now : ℕ → List ℕ) (opened pending : List Record) → Holds want now opened pending old → HoldsAll want now (opened ++ pending) new = λ want now opened pending ties.
     let call = c.in-Ok.ensures in
-    let ready = IsStoreOn-ready want now (g.D.Disk.told c.args.disk.now) c.args.journal.now c.args.pool.now.geometry opened pending (actives c.args.book.now.out) ties.store in
-    HoldsAll-kept want now (g.D.Disk.told c.args.disk.now) (g.D.Disk.told c.load.new.disk) (g.D.Disk.len c.args.disk.now) (g.D.Disk.len c.load.new.disk) c.args.journal.now c.load.new.journal c.args.pool.now c.load.new.self c.args.book.now opened pending ties
+    let ready = IsStoreOn-ready want now (g.D.Disk.told c.args.disk.now) c.args.self.now.journal c.args.self.now.pool.geometry opened pending (actives c.args.self.now.book.out) ties.store in
+    HoldsAll-kept want now (g.D.Disk.told c.args.disk.now) (g.D.Disk.told c.load.new.disk) (g.D.Disk.len c.args.disk.now) (g.D.Disk.len c.load.new.disk) c.args.self.now.journal c.load.new.journal c.args.self.now.pool c.load.new.self c.args.self.now.book opened pending ties
     call.keeps.geometry call.held.1 call.pages call.dirty (call.images want opened pending ready ties.dirty).ready call.journal call.keeps.serves call.keeps.agrees in
     record {
       book = refl;
@@ -41,7 +41,7 @@ returns-in-Ok-clause-loads g c =
 
 pub returns-in-Ok-clause-keeps : goal.returns-in-Ok-clause-keeps
 returns-in-Ok-clause-keeps g c =
-    let up : c.args.book.now.down ≡ false = sym c.is_down.ensures ∙ c.if-is_down.false in
+    let up : c.args.self.now.book.down ≡ false = sym c.is_down.ensures ∙ c.if-is_down.false in
     let loads = returns-in-Ok-clause-loads g c in
-    Keeps-ok g.D.Disk.told g.D.Disk.len g.D.Disk.faults tt _ _ _ _ up up c.in-Ok.ensures.keeps.size c.in-Ok.ensures.keeps.geometry c.in-Ok.ensures.keeps.later
+    StaysReady-ok g.D.Disk.told g.D.Disk.len g.D.Disk.faults tt _ _ _ _ up up c.in-Ok.ensures.keeps.size c.in-Ok.ensures.keeps.geometry c.in-Ok.ensures.keeps.later
     (λ _. let ready = c.requires.ready up in (ready.0, ready.1, loads.pages ready.0 ready.1 ready.2))

@@ -1,8 +1,0 @@
-use Rattle.sb_txn.proofs.KeepsLemmas.{LeavesWanted-none}
-use Rattle.sb_txn.proofs.beginning.make_room.Goals as goal
-
-pub returns-then-is_down-clause-any_moment : goal.returns-then-is_down-clause-any_moment
-returns-then-is_down-clause-any_moment g c = LeavesWanted-none _
-
-pub returns-clause-any_moment : goal.returns-clause-any_moment
-returns-clause-any_moment g c = LeavesWanted-none _
