@@ -1,5 +1,5 @@
 -- Calls of a borrowed store one after another.
-use Rattle.std.proofs.Common.{◌≡◌, ℕ, ◌+◌, ◌≤◌, true, Option, Result, Ok, Err, IfErr, sym, ap, subst, arith}
+use Rattle.std.proofs.Common.{◌≡◌, ℕ, ◌+◌, ◌≤◌, true, Option, Result, Ok, Err, IfErr, refl, sym, ap, subst, arith}
 use Rattle.std.specs.Result.{IsErrAnd}
 use Rattle.sb_disk.specs.Disk.{Story}
 use Rattle.sb_drive.specs.declared.space.SpaceFault.{SpaceFault}
@@ -67,8 +67,8 @@ module _ {D : Type 0} (told : D → Option Story) (len faults : D → ℕ) where
   pub Calls-memory : {T U : Type 0} (k : ℕ) (a b : Lent D) (x : T) → Calls told len faults k a b (Ok x) → Calls {T = U} told len faults k a b (Err NoMemory)
   Calls-memory k a b x calls = record { leads = calls.leads; ready = calls.ready; up = calls.up; fails = tt }
 
-  pub Calls-full : {T U : Type 0} (k : ℕ) (a b : Lent D) (x : T) (used total : ℕ) → Calls told len faults k a b (Ok x) → Calls {T = U} told len faults k a b (Err (DataFull used total))
-  Calls-full k a b x used total calls = record { leads = calls.leads; ready = calls.ready; up = calls.up; fails = tt }
+  pub Calls-full : {T U : Type 0} (k : ℕ) (a b : Lent D) (x : T) (total : ℕ) → total ≡ b.store.now.pool.geometry.pages → Calls told len faults k a b (Ok x) → Calls {T = U} told len faults k a b (Err (DataFull total total))
+  Calls-full k a b x total are calls = record { leads = calls.leads; ready = calls.ready; up = calls.up; fails = (refl, are) }
 
   -- a refusal that is handed on
   pub Calls-from : {T U : Type 0} (k : ℕ) (a b : Lent D) (e : SpaceFault) (r : Result U SpaceFault) → IsErrAnd r (λ f. f ≡ e) → Calls {T = T} told len faults k a b (Err e) → Calls told len faults k a b r

@@ -11,7 +11,7 @@ use Rattle.sb_pool.specs.Pages.{with_bytes}
 use Rattle.sb_txn.specs.declared.fault.StoreFault.{StoreFault}
 use Rattle.sb_txn.specs.declared.fault.StoreFault.TheVariants.{Fault, LogFull, GatesFull, Down, NoMemory}
 use Rattle.sb_txn.specs.Book.{Undo, Out, Book, out_with, others, changed_out, leading, wants_of}
-use Rattle.sb_txn.specs.Clauses.{parts, IsStoreOf, Keeps, LeavesWanted, Changes, ChangeErr, Refused, undo_in, unwound}
+use Rattle.sb_txn.specs.Clauses.{parts, HoldsPages, StaysReady, LeavesWanted, Changes, ChangeErr, Refused, undo_in, unwound}
 use Rattle.sb_txn.specs.State.{State}
 use Rattle.sb_txn.proofs.CalledLemmas.{out_with-among, out_with-tx, out_with-split}
 use Rattle.sb_txn.proofs.LawLemmas.{last_is_undone}
@@ -42,7 +42,7 @@ AreWhole-changed pages now n offset bytes within small whole p less =
       | false ↦ whole p less
     ]
 
--- the transaction is the only one that is out
+-- the transaction is the only active one
 pub alone_out : (tx : ℕ) (os : List Out) (o : Out) → out_with tx os ≡ Some o → others tx os ≡ [] → os ≡ o ∷ []
 alone_out tx os o found none =
     let at = out_with-split tx os o found in
@@ -55,14 +55,14 @@ alone_out tx os o found none =
 -- ---- the transaction of the call
 module _ {D : Type 0} (told : D → Option Story) (len faults : D → ℕ) (tx : ℕ) (d e : D) (s t : State) where
   -- it was up, where it answers otherwise than that it is down
-  pub was_up : {T : Type 0} (r : Result T StoreFault) → Keeps told len faults d e s t r → (IsErrOf r Down → ⊥) → s.book.down ≡ false
+  pub was_up : {T : Type 0} (r : Result T StoreFault) → StaysReady told len faults d e s t r → (IsErrOf r Down → ⊥) → s.book.down ≡ false
   was_up r keeps other = by_case s.book.down (λ on. other (keeps.down on).answer)
     where
       by_case : (b : Bool) → (b ≡ true → ⊥) → b ≡ false
       by_case true off = absurd (off refl)
       by_case false off = refl
 
-  module _ (keeps : Keeps {T = Unit {0}} told len faults d e s t (Ok tt)) (leaves : LeavesWanted (parts told len d s) (parts told len e t)) (only : IsAlone tx s.book)
+  module _ (keeps : StaysReady {T = Unit {0}} told len faults d e s t (Ok tt)) (leaves : LeavesWanted (parts told len d s) (parts told len e t)) (only : IsAlone tx s.book)
       (owner page offset : ℕ) (bytes : List ℕ) (within : offset + length bytes ≤ 4096) (less : page < s.pool.geometry.pages) (small : All (λ b. b < 256) bytes)
       (changes : (o : Out) → out_with tx s.book.out ≡ Some o → Changes (parts told len d s) (parts told len e t) o (others tx s.book.out) owner page offset bytes) where
     abbrev up : s.book.down ≡ false
@@ -90,7 +90,7 @@ module _ {D : Type 0} (told : D → Option Story) (len faults : D → ℕ) (tx :
     own = ap (λ (os : List Out). undos_in (out_with tx os)) out ∙ ap undos_in (out_with-first tx (changed_out found.0 undo) (others tx s.book.out) number)
         ∙ ap (λ (o : Option Out). undos_in o ++ undo ∷ []) (sym found.1)
 
-    stands_still : (want now : ℕ → List ℕ) → IsStoreOf want now (parts told len d s) → AreWhole s.pool.geometry.pages now → made.image ≡ now page → (p : ℕ) → unwound (undo ∷ []) (with_bytes page offset bytes now) p ≡ now p
+    stands_still : (want now : ℕ → List ℕ) → HoldsPages want now (parts told len d s) → AreWhole s.pool.geometry.pages now → made.image ≡ now page → (p : ℕ) → unwound (undo ∷ []) (with_bytes page offset bytes now) p ≡ now p
     stands_still want now store whole image p =
         let long = (whole page less).long in
         let cut = length-take (length bytes) (drop offset made.image) in
@@ -137,7 +137,7 @@ module _ {D : Type 0} (told : D → Option Story) (len faults : D → ℕ) (tx :
     }
 
   -- ---- it is refused, and nothing has changed
-  module _ (f : StoreFault) (keeps : Keeps {T = Unit {0}} told len faults d e s t (Err f)) (leaves : LeavesWanted (parts told len d s) (parts told len e t)) (only : IsAlone tx s.book) (other : IsErrOf {T = Unit {0}} (Err f) Down → ⊥)
+  module _ (f : StoreFault) (keeps : StaysReady {T = Unit {0}} told len faults d e s t (Err f)) (leaves : LeavesWanted (parts told len d s) (parts told len e t)) (only : IsAlone tx s.book) (other : IsErrOf {T = Unit {0}} (Err f) Down → ⊥)
       (refused : (o : Out) → out_with tx s.book.out ≡ Some o → Refused o.tx (parts told len d s) (parts told len e t)) where
     abbrev up-2 : s.book.down ≡ false
     up-2 = was_up {T = Unit {0}} (Err f) keeps other
@@ -192,14 +192,14 @@ module _ {D : Type 0} (told : D → Option Story) (len faults : D → ℕ) (tx :
 
 -- ---- a refusal, whatever it is
 module _ {D : Type 0} (told : D → Option Story) (len faults : D → ℕ) (tx : ℕ) (d e : D) (s t : State) (leaves : LeavesWanted (parts told len d s) (parts told len e t)) (only : IsAlone tx s.book) (page count : ℕ) (few : count ≤ 4096) where
-  pub Works-err : (f : StoreFault) → Keeps {T = Unit {0}} told len faults d e s t (Err f) → ((o : Out) → out_with tx s.book.out ≡ Some o → ChangeErr (parts told len d s) (parts told len e t) o page count f) → Works told len faults tx 1 d e s t
+  pub Works-err : (f : StoreFault) → StaysReady {T = Unit {0}} told len faults d e s t (Err f) → ((o : Out) → out_with tx s.book.out ≡ Some o → ChangeErr (parts told len d s) (parts told len e t) o page count f) → Works told len faults tx 1 d e s t
   Works-err Fault keeps err = Works-failed {T = Unit {0}} told len faults tx d e s t Fault keeps leaves 1 tt
   Works-err Down keeps err = Works-failed {T = Unit {0}} told len faults tx d e s t Down keeps leaves 1 tt
   Works-err (LogFull used need total) keeps err = Works-refused told len faults tx d e s t (LogFull used need total) keeps leaves only (λ x. cc) (λ o is. (err o is).4)
   Works-err (GatesFull used total) keeps err = Works-refused told len faults tx d e s t (GatesFull used total) keeps leaves only (λ x. cc) (λ o is. (err o is).4)
   Works-err NoMemory keeps err = Works-refused told len faults tx d e s t NoMemory keeps leaves only (λ x. cc) (λ o is. err o is)
 
-  pub Stands-err : (f : StoreFault) → Keeps {T = Unit {0}} told len faults d e s t (Err f) → ((o : Out) → out_with tx s.book.out ≡ Some o → ChangeErr (parts told len d s) (parts told len e t) o page count f)
+  pub Stands-err : (f : StoreFault) → StaysReady {T = Unit {0}} told len faults d e s t (Err f) → ((o : Out) → out_with tx s.book.out ≡ Some o → ChangeErr (parts told len d s) (parts told len e t) o page count f)
       → UnlessDown {T = Unit {0}} (Err (fault_of f)) ((want now : ℕ → List ℕ) → Stands want now (parts told len d s) → Stands want now (parts told len e t))
   Stands-err Fault keeps err = tt
   Stands-err Down keeps err = tt
@@ -207,14 +207,14 @@ module _ {D : Type 0} (told : D → Option Story) (len faults : D → ℕ) (tx :
   Stands-err (GatesFull used total) keeps err = Stands-refused told len faults tx d e s t (GatesFull used total) keeps leaves only (λ x. cc) (λ o is. (err o is).4)
   Stands-err NoMemory keeps err = Stands-refused told len faults tx d e s t NoMemory keeps leaves only (λ x. cc) (λ o is. err o is)
 
-  pub up-err : (f : StoreFault) → Keeps {T = Unit {0}} told len faults d e s t (Err f) → UnlessDown {T = Unit {0}} (Err (fault_of f)) (t.book.down ≡ true → s.book.down ≡ true)
+  pub up-err : (f : StoreFault) → StaysReady {T = Unit {0}} told len faults d e s t (Err f) → UnlessDown {T = Unit {0}} (Err (fault_of f)) (t.book.down ≡ true → s.book.down ≡ true)
   up-err Fault keeps = tt
   up-err Down keeps = tt
   up-err (LogFull used need total) keeps = λ on. ⊎_elim (λ (was : s.book.down ≡ true). was) (λ (x : IsErrOf {T = Unit {0}} (Err (LogFull used need total)) Fault). absurd cc) (keeps.up on)
   up-err (GatesFull used total) keeps = λ on. ⊎_elim (λ (was : s.book.down ≡ true). was) (λ (x : IsErrOf {T = Unit {0}} (Err (GatesFull used total)) Fault). absurd cc) (keeps.up on)
   up-err NoMemory keeps = λ on. ⊎_elim (λ (was : s.book.down ≡ true). was) (λ (x : IsErrOf {T = Unit {0}} (Err NoMemory) Fault). absurd cc) (keeps.up on)
 
-  pub Fails-err : (f : StoreFault) → Keeps {T = Unit {0}} told len faults d e s t (Err f) → ((o : Out) → out_with tx s.book.out ≡ Some o → ChangeErr (parts told len d s) (parts told len e t) o page count f) → Fails faults (fault_of f) d e s t
+  pub Fails-err : (f : StoreFault) → StaysReady {T = Unit {0}} told len faults d e s t (Err f) → ((o : Out) → out_with tx s.book.out ≡ Some o → ChangeErr (parts told len d s) (parts told len e t) o page count f) → Fails faults (fault_of f) d e s t
   Fails-err Fault keeps err = keeps.fault refl
   Fails-err Down keeps err = let on = keeps.only refl in (keeps.later, inl on, ap (λ (x : State). x.book.down) (keeps.down on).store ∙ on)
   Fails-err NoMemory keeps err = tt
@@ -237,7 +237,7 @@ module _ {D : Type 0} (told : D → Option Story) (len faults : D → ℕ) (tx :
       (is.1, is.2 ∙ sym sizes, omega (arith, is.3, one))
 
 -- ---- and the store serves on
-pub Serves-changed : {D : Type 0} (told : D → Option Story) (len faults : D → ℕ) (tx : ℕ) (d e : D) (s t : State) (r : Result (Unit {0}) StoreFault) (owner page offset : ℕ) (bytes : List ℕ) → Keeps told len faults d e s t r
+pub Serves-changed : {D : Type 0} (told : D → Option Story) (len faults : D → ℕ) (tx : ℕ) (d e : D) (s t : State) (r : Result (Unit {0}) StoreFault) (owner page offset : ℕ) (bytes : List ℕ) → StaysReady told len faults d e s t r
     → OnOk r ((o : Out) → out_with tx s.book.out ≡ Some o → Changes (parts told len d s) (parts told len e t) o (others tx s.book.out) owner page offset bytes)
     → IfErr r (λ f. (o : Out) → out_with tx s.book.out ≡ Some o → ChangeErr (parts told len d s) (parts told len e t) o page (length bytes) f)
     → Serves tx (parts told len d s) → Serves tx (parts told len e t)

@@ -1,4 +1,4 @@
--- Going back to a mark.
+-- Going back to a savepoint.
 use Rattle.std.proofs.Common.{◌≡◌, ℕ, ◌≤◌, ◌==◌, Bool, true, false, cond, Option, Some, None, List, [], ◌∷◌, ◌++◌, length, take, drop, refl, sym, ap, subst, ◌∙◌, arith}
 use Rattle.std.proofs.lemmas.Bool.{false≢true}
 use Rattle.std.proofs.lemmas.List.{length-append, length-take-le, take-append-drop, drop-append-le}
@@ -8,7 +8,7 @@ use Rattle.sb_log.specs.declared.geometry.Geometry.{Geometry}
 use Rattle.sb_drive.specs.Slots.{Slots}
 use Rattle.sb_drive.specs.Spaces.{Wanted}
 use Rattle.sb_txn.specs.Book.{Undo, Out, Book, out_with, others, standing_of}
-use Rattle.sb_txn.specs.Clauses.{Parts, IsStoreOf, LeavesWanted, GoesBack, cut_back, unwound}
+use Rattle.sb_txn.specs.Clauses.{Parts, HoldsPages, LeavesWanted, GoesBack, cut_back, unwound}
 use Rattle.sb_txn.specs.State.{State}
 use Rattle.sb_txn.proofs.CalledLemmas.{out_with-tx}
 use Rattle.sb_txn.proofs.PlaceLemmas.{out_with-first, standing_of-first}
@@ -37,14 +37,14 @@ undos-found tx os o is = ap undos_in is
 -- ---- pages of a store whose sizes stay
 module _ (p q : Parts) (sizes : q.store.pool.geometry.pages ≡ p.store.pool.geometry.pages) (leaves : LeavesWanted p q) where
   -- other pages stand
-  pub Stands-through : (want now then : ℕ → List ℕ) → Stands want now p → IsStoreOf want then q → AreWhole p.store.pool.geometry.pages then → Stands want then q
+  pub Stands-through : (want now then : ℕ → List ℕ) → Stands want now p → HoldsPages want then q → AreWhole p.store.pool.geometry.pages then → Stands want then q
   Stands-through want now then stands store whole = record {
     tells = sym (leaves.each want now stands.store).tells ∙ stands.tells;
     store = store;
     whole = subst (λ (n : ℕ). AreWhole n then) (sym sizes) whole;
   }
 
-  pub HasPages-through : (want now then : ℕ → List ℕ) (s : Slots) → Stands want now p → IsStoreOf want then q → AreWhole p.store.pool.geometry.pages then → IsTable p.store.pool.geometry.pages then → s ≡ slots_in p.store.pool.geometry.pages then
+  pub HasPages-through : (want now then : ℕ → List ℕ) (s : Slots) → Stands want now p → HoldsPages want then q → AreWhole p.store.pool.geometry.pages then → IsTable p.store.pool.geometry.pages then → s ≡ slots_in p.store.pool.geometry.pages then
       → HasPages want s q
   HasPages-through want now then s stands store whole table slots = record {
     now = then;
@@ -53,7 +53,7 @@ module _ (p q : Parts) (sizes : q.store.pool.geometry.pages ≡ p.store.pool.geo
     slots = slots ∙ ap (λ (n : ℕ). slots_in n then) (sym sizes);
   }
 
--- ---- at the mark
+-- ---- at the savepoint
 pub WasAt-mark : MarkHasPages
 WasAt-mark tx want s p has = record {
   within = omega arith;
@@ -142,10 +142,10 @@ module _ {D : Type 0} (told : D → Option Story) (len faults : D → ℕ) where
 
 -- ---- on the way back
 module _ (tx m : ℕ) (p q : Parts) (o : Out) (is : out_with tx p.store.book.out ≡ Some o) (sizes : q.store.pool.geometry.pages ≡ p.store.pool.geometry.pages) (leaves : LeavesWanted p q) where
-  -- at the mark: the pages are those that were there
-  pub HasPages-back : ((want now : ℕ → List ℕ) → IsStoreOf want now p → IsStoreOf want (unwound (drop m o.undos) now) q) → (want : Wanted) (s : Slots) → WasAt tx want s m p → HasPages want s q
+  -- at the savepoint: the pages are those that were there
+  pub HasPages-back : ((want now : ℕ → List ℕ) → HoldsPages want now p → HoldsPages want (unwound (drop m o.undos) now) q) → (want : Wanted) (s : Slots) → WasAt tx want s m p → HasPages want s q
   HasPages-back back want s was =
-      HasPages-through p q sizes leaves want was.now was.was s was.stands (subst (λ (now : ℕ → List ℕ). IsStoreOf want now q) same (back want was.now was.stands.store))
+      HasPages-through p q sizes leaves want was.now was.was s was.stands (subst (λ (now : ℕ → List ℕ). HoldsPages want now q) same (back want was.now was.stands.store))
       (LeadsBack-was p.store.pool.geometry.pages (drop m (undos_of tx p.store.book.out)) was.was was.now was.back) was.table was.slots
     where
       same : unwound (drop m o.undos) was.now ≡ was.was

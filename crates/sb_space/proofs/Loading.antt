@@ -6,7 +6,7 @@ use Rattle.sb_log.specs.declared.geometry.Geometry.{Geometry}
 use Rattle.sb_txn.specs.declared.fault.StoreFault.{StoreFault}
 use Rattle.sb_txn.specs.declared.fault.StoreFault.TheVariants.{Fault, LogFull, GatesFull, Down, NoMemory}
 use Rattle.sb_txn.specs.Book.{Book, others}
-use Rattle.sb_txn.specs.Clauses.{Parts, parts, Keeps, LeavesWanted, Loads, IsFaultOrDown}
+use Rattle.sb_txn.specs.Clauses.{Parts, parts, StaysReady, LeavesWanted, Loads, IsFaultOrDown}
 use Rattle.sb_txn.specs.State.{State}
 use Rattle.sb_txn.proofs.RoomLemmas.{Grows-rest}
 use Rattle.sb_drive.specs.Spaces.{UnlessDown}
@@ -49,7 +49,7 @@ Makes-loads tx a b loads = record {
 
 module _ {D T : Type 0} (told : D → Option Story) (len faults : D → ℕ) (tx : ℕ) (d e : D) (s t : State) where
   -- ---- it is there
-  module _ (x : T) (keeps : Keeps told len faults d e s t (Ok x)) (leaves : LeavesWanted (parts told len d s) (parts told len e t)) (loads : Loads (parts told len d s) (parts told len e t)) where
+  module _ (x : T) (keeps : StaysReady told len faults d e s t (Ok x)) (leaves : LeavesWanted (parts told len d s) (parts told len e t)) (loads : Loads (parts told len d s) (parts told len e t)) where
     pub Works-loaded : Works told len faults tx 0 d e s t
     Works-loaded = record {
       size = keeps.size;
@@ -62,7 +62,7 @@ module _ {D T : Type 0} (told : D → Option Story) (len faults : D → ℕ) (tx
     }
 
   -- ---- a call that the disk failed, or that a store answered which is down
-  module _ (f : StoreFault) (keeps : Keeps {T = T} told len faults d e s t (Err f)) (leaves : LeavesWanted (parts told len d s) (parts told len e t)) where
+  module _ (f : StoreFault) (keeps : StaysReady {T = T} told len faults d e s t (Err f)) (leaves : LeavesWanted (parts told len d s) (parts told len e t)) where
     pub Works-failed : (changes : ℕ) → IsFaultOrDown f → Works told len faults tx changes d e s t
     Works-failed changes is = record {
       size = keeps.size;
@@ -83,21 +83,21 @@ module _ {D T : Type 0} (told : D → Option Story) (len faults : D → ℕ) (tx
 
 module _ {D T : Type 0} (told : D → Option Story) (len faults : D → ℕ) (tx : ℕ) (d e : D) (s t : State) where
   -- a call that went well leaves the store up
-  pub up_after : (x : T) → Keeps told len faults d e s t (Ok x) → t.book.down ≡ false
+  pub up_after : (x : T) → StaysReady told len faults d e s t (Ok x) → t.book.down ≡ false
   up_after x keeps = by_case t.book.down (λ on. ⊎_elim (λ (was : s.book.down ≡ true). no_error x Down (keeps.down was).answer) (λ (f : IsErrOf (Ok x) Fault). no_error x Fault f) (keeps.up on))
     where
       by_case : (b : Bool) → (b ≡ true → ⊥) → b ≡ false
       by_case true off = absurd (off refl)
       by_case false off = refl
 
-  few_after : (f : Result T StoreFault) → Keeps told len faults d e s t f → s.pool.geometry.pages ≤ 65536 → t.pool.geometry.pages ≤ 65536
+  few_after : (f : Result T StoreFault) → StaysReady told len faults d e s t f → s.pool.geometry.pages ≤ 65536 → t.pool.geometry.pages ≤ 65536
   few_after f keeps few = subst (λ (g : Geometry). g.pages ≤ 65536) (sym keeps.geometry) few
 
-  pub Serves-loaded : (x : T) → Keeps told len faults d e s t (Ok x) → t.book ≡ s.book → Serves tx (parts told len d s) → Serves tx (parts told len e t)
+  pub Serves-loaded : (x : T) → StaysReady told len faults d e s t (Ok x) → t.book ≡ s.book → Serves tx (parts told len d s) → Serves tx (parts told len e t)
   Serves-loaded x keeps same serves = record { ready = keeps.ready; alone = IsAlone-same tx s.book t.book same serves.alone; few = few_after (Ok x) keeps serves.few }
 
   -- of a refusal that means that it is down
-  pub Serves-failed : (f : StoreFault) → Keeps {T = T} told len faults d e s t (Err f) → IsFaultOrDown f → Serves tx (parts told len d s) → Serves tx (parts told len e t)
+  pub Serves-failed : (f : StoreFault) → StaysReady {T = T} told len faults d e s t (Err f) → IsFaultOrDown f → Serves tx (parts told len d s) → Serves tx (parts told len e t)
   Serves-failed f keeps is serves = record {
     ready = keeps.ready;
     alone = IsAlone-down tx t.book (went_down f is refl);
@@ -111,7 +111,7 @@ module _ {D T : Type 0} (told : D → Option Story) (len faults : D → ℕ) (tx
       went_down (GatesFull used total) is same = absurd is
       went_down NoMemory is same = absurd is
 
-  pub Fails-failed : (f : StoreFault) → Keeps {T = T} told len faults d e s t (Err f) → IsFaultOrDown f → Fails faults (fault_of f) d e s t
+  pub Fails-failed : (f : StoreFault) → StaysReady {T = T} told len faults d e s t (Err f) → IsFaultOrDown f → Fails faults (fault_of f) d e s t
   Fails-failed f keeps is = by_kind f is refl
     where
       by_kind : (g : StoreFault) → IsFaultOrDown g → g ≡ f → Fails faults (fault_of g) d e s t

@@ -1,5 +1,5 @@
 -- What the owner table says, and what stays while pages are read.
-use Rattle.std.proofs.Common.{◌≡◌, ◌≢◌, ℕ, zero, suc, ◌+◌, ◌<◌, ◌≤◌, nat_lt, ◌==◌, Bool, true, false, cond, Option, Some, None, is_some, option_map, IsSome, Result, Ok, Err, OnOk, List, [], ◌∷◌, length, refl, sym, ap, subst, ◌∙◌, arith}
+use Rattle.std.proofs.Common.{◌≡◌, ◌≢◌, ℕ, zero, suc, ◌+◌, ◌<◌, ◌≤◌, nat_lt, ◌==◌, Bool, true, false, cond, Option, Some, None, is_some, Result, Ok, Err, OnOk, List, [], ◌∷◌, length, refl, sym, ap, subst, ◌∙◌, arith}
 use Rattle.std.proofs.lemmas.Bool.{false≢true, ltb-true, lt-ltb, ltb-false, le-ltb, eq-eqb, eqb-true}
 use Rattle.sb_disk.specs.Disk.{Story}
 use Rattle.sb_forms.specs.Pages.{IsAbove, IsNext}
@@ -15,7 +15,7 @@ use Rattle.sb_drive.specs.declared.turns.Ask.{Ask}
 use Rattle.sb_drive.specs.declared.turns.Ask.TheVariants.{Fresh}
 use Rattle.sb_drive.specs.Spaces.{Wanted, IsFull}
 use Rattle.sb_txn.specs.Book.{Undo}
-use Rattle.sb_txn.specs.Clauses.{Parts, parts, IsStoreOf, unwound}
+use Rattle.sb_txn.specs.Clauses.{Parts, parts, HoldsPages, unwound}
 use Rattle.sb_txn.specs.State.{State}
 use Rattle.sb_space.specs.Durable.{Lent, Leads, parts_in}
 use Rattle.sb_space.specs.Table.{AreWhole, IsTable, owner_at, shown, slots_in}
@@ -71,7 +71,7 @@ Stands-still {D = D} told len faults a b want now leads stays stands = by_case b
         let same : turns.pages ≡ now = λ i p. (sym (ap (λ (us : List Undo). unwound us turns.pages p) (none_of makes.undos makes.few)) ∙ (back stands.whole).back p) i in
         record {
           tells = sym (leads.works.leaves.each want now stands.store).tells ∙ stands.tells;
-          store = subst (λ (now : ℕ → List ℕ). IsStoreOf want now new) same turns.store;
+          store = subst (λ (now : ℕ → List ℕ). HoldsPages want now new) same turns.store;
           whole = subst (λ (n : ℕ). AreWhole n now) (sym (ap (λ (g : Geometry). g.pages) leads.works.geometry)) stands.whole;
         }
 
@@ -170,15 +170,7 @@ IsOwned-looked want s p has owner n found high less is = by_case (found == owner
     by_case true same = (omega (arith, high), sym is ∙ eqb-true found owner same)
     by_case false other = owned-other want s p has owner n less (ap (λ (x : ℕ). x == owner) (sym is) ∙ other)
 
--- ---- pages that a Ctx holds, or doesn't
-pub none_shown : {A B : Type 0} (f : A → B) (o : Option A) (p : Option B) → option_map f o ≡ p → is_some o ≡ false → p ≡ None
-none_shown f None p is none = sym is
-none_shown f (Some a) p is none = absurd (false≢true (sym none))
-
-pub some_shown : {A B : Type 0} (f : A → B) (o : Option A) (p : Option B) → option_map f o ≡ p → is_some o ≡ true → IsSome p
-some_shown f None p is some = absurd (false≢true some)
-some_shown f (Some a) p is some = subst IsSome is refl
-
+-- ---- numbers that were looked at
 -- what is so of the numbers below one, and of that one, is so of those below the next
 pub below_next : (n : ℕ) (IsSo : ℕ → Type 0) → ((m : ℕ) → m < n → IsSo m) → IsSo n → (m : ℕ) → m < n + 1 → IsSo m
 below_next n IsSo below here m less = by_case (nat_lt m n) refl

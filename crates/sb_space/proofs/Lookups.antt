@@ -10,7 +10,7 @@ use Rattle.sb_drive.specs.Slots.{Slots}
 use Rattle.sb_drive.specs.Spaces.{UnlessDown, Wanted}
 use Rattle.sb_txn.specs.declared.fault.StoreFault.{StoreFault}
 use Rattle.sb_txn.specs.declared.fault.StoreFault.TheVariants as store
-use Rattle.sb_txn.specs.Clauses.{Parts, parts, IsFaultOrDown, Keeps, LeavesWanted, Loads}
+use Rattle.sb_txn.specs.Clauses.{Parts, parts, IsFaultOrDown, StaysReady, LeavesWanted, Loads}
 use Rattle.sb_txn.specs.State.{State}
 use Rattle.sb_space.specs.Faults.{fault_of}
 use Rattle.sb_space.specs.Opening.{Looks}
@@ -22,7 +22,7 @@ use Rattle.sb_space.proofs.OpeningLemmas.{held-page}
 
 module _ {D : Type 0} (told : D → Option Story) (len faults : D → ℕ) (d e : D) (s t : State) (leaves : LeavesWanted (parts told len d s) (parts told len e t)) where
   -- ---- as the store loads
-  pub Looks-ok : {T U : Type 0} (x : T) (y : U) → Keeps told len faults d e s t (Ok x) → Loads (parts told len d s) (parts told len e t) → Looks told len faults d e s t (Ok y)
+  pub Looks-ok : {T U : Type 0} (x : T) (y : U) → StaysReady told len faults d e s t (Ok x) → Loads (parts told len d s) (parts told len e t) → Looks told len faults d e s t (Ok y)
   Looks-ok x y keeps loads = record {
     loads = loads;
     leaves = leaves;
@@ -36,7 +36,7 @@ module _ {D : Type 0} (told : D → Option Story) (len faults : D → ℕ) (d e 
     up = λ on. ⊎_elim (λ (was : s.book.down ≡ true). inl was) (λ (is : IsErrOf (Ok x) store.Fault). absurd (no_error x store.Fault is)) (keeps.up on);
   }
 
-  pub Looks-err : (T U : Type 0) (f : StoreFault) → IsFaultOrDown f → Keeps {T = T} told len faults d e s t (Err f) → Looks {T = U} told len faults d e s t (Err (fault_of f))
+  pub Looks-err : (T U : Type 0) (f : StoreFault) → IsFaultOrDown f → StaysReady {T = T} told len faults d e s t (Err f) → Looks {T = U} told len faults d e s t (Err (fault_of f))
   Looks-err T U store.Fault is keeps = record {
     loads = tt;
     leaves = leaves;

@@ -17,7 +17,7 @@ use Rattle.sb_recover.specs.declared.fault.OpenFault.{OpenFault}
 use Rattle.sb_recover.specs.declared.fault.OpenFault.TheVariants.{Fault, TooSmall, NotStore, BadLog, MissingExtension, Damaged, BadExtensions, AlreadyStore, NoMemory}
 use Rattle.sb_recover.specs.Restarted.{IsRestarted}
 use Rattle.sb_txn.specs.Book.{Book, actives, empty_book}
-use Rattle.sb_txn.specs.Clauses.{Parts, parts, Holds, IsReady, IsStoreOf, Keeps, Loads}
+use Rattle.sb_txn.specs.Clauses.{Parts, parts, Holds, IsReady, HoldsPages, StaysReady, Loads}
 use Rattle.sb_txn.specs.Opened.{IsOpened, OpenErr}
 use Rattle.sb_txn.specs.State.{State}
 use Rattle.sb_space.specs.Table.{IsTable, table_len}
@@ -34,7 +34,7 @@ held-page p n h less is want now store tells = by_told p.told tells store.2.page
     by_told (Some t) tells pages = sym (ap (bytes_or (page_at p.store.pool.geometry n t.now.reads)) is) ∙ pages store.2.up n less
 
 -- there is only one page now of each number
-one_now : (p : Parts) (n : ℕ) (want other a b : ℕ → List ℕ) → n < p.store.pool.geometry.pages → IsStoreOf want a p → IsStoreOf other b p → is_some p.told ≡ true → a n ≡ b n
+one_now : (p : Parts) (n : ℕ) (want other a b : ℕ → List ℕ) → n < p.store.pool.geometry.pages → HoldsPages want a p → HoldsPages other b p → is_some p.told ≡ true → a n ≡ b n
 one_now p n want other a b less one two tells = by_told p.told tells one.2.pages two.2.pages
   where
     by_told : (told : Option Story) → is_some told ≡ true → ArePagesOn a told p.store.journal p.store.pool → ArePagesOn b told p.store.journal p.store.pool → a n ≡ b n
@@ -94,7 +94,7 @@ OnlyLoads-then a b c one two = record {
 }
 
 module _ {D : Type 0} (told : D → Option Story) (len faults : D → ℕ) (d e : D) (s t : State) where
-  pub OnlyLoads-loaded : {R : Type 0} (x : R) → (AreClean s.pool → (told e ≡ told d) × (t.journal ≡ s.journal)) → Keeps told len faults d e s t (Ok x) → Loads (parts told len d s) (parts told len e t) → IsFresh (parts told len d s) → OnlyLoads (parts told len d s) (parts told len e t)
+  pub OnlyLoads-loaded : {R : Type 0} (x : R) → (AreClean s.pool → (told e ≡ told d) × (t.journal ≡ s.journal)) → StaysReady told len faults d e s t (Ok x) → Loads (parts told len d s) (parts told len e t) → IsFresh (parts told len d s) → OnlyLoads (parts told len d s) (parts told len e t)
   OnlyLoads-loaded x reads keeps loads fresh =
       let only = reads (fresh-clean (parts told len d s) fresh) in
       record {
@@ -114,7 +114,7 @@ module _ (a b : Parts) (loads : OnlyLoads a b) where
     book = loads.book ∙ fresh.book ∙ ap (λ (g : Geometry). empty_book g.pages) (sym loads.geometry);
   }
 
-  pub store-loads : (want now : ℕ → List ℕ) → IsStoreOf want now a → IsStoreOf want now b
+  pub store-loads : (want now : ℕ → List ℕ) → HoldsPages want now a → HoldsPages want now b
   store-loads want now store = let h = loads.logged want now store.0 store.1 store.2 in (h.0, h.1, h.2)
 
   tells-loads : is_some a.told ≡ true → is_some b.told ≡ true

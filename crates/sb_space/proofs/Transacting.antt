@@ -10,12 +10,12 @@ use Rattle.sb_drive.specs.declared.space.SpaceFault.TheVariants as space
 use Rattle.sb_drive.specs.Slots.{Slots}
 use Rattle.sb_drive.specs.Spaces.{Wanted}
 use Rattle.sb_txn.specs.Book.{Out, Book, new_out, out_with, others, standing_of, IsOnly, with_out}
-use Rattle.sb_txn.specs.Clauses.{Parts, parts, Keeps, IsFaultOrDown, IsStoreOf, LeavesWanted, Begins, GoesBack, Aborts, Commits, LeavesOne}
+use Rattle.sb_txn.specs.Clauses.{Parts, parts, StaysReady, IsFaultOrDown, HoldsPages, LeavesWanted, Begins, GoesBack, Aborts, Commits, LeavesOne}
 use Rattle.sb_txn.specs.State.{State}
 use Rattle.sb_txn.specs.declared.fault.StoreFault.{StoreFault}
 use Rattle.sb_txn.specs.declared.fault.StoreFault.TheVariants.{Fault, LogFull, GatesFull, Down, NoMemory}
 use Rattle.sb_txn.proofs.CalledLemmas.{out_with-among}
-use Rattle.sb_txn.proofs.KeepsLemmas.{Keeps-up, LeavesWanted-none}
+use Rattle.sb_txn.proofs.KeepsLemmas.{StaysReady-up, LeavesWanted-none}
 use Rattle.sb_txn.proofs.OnlyLemmas.{IsOnly-back}
 use Rattle.sb_txn.proofs.PlaceLemmas.{IsOnly-one, standing_of-first}
 use Rattle.sb_space.specs.Faults.{fault_of}
@@ -28,7 +28,7 @@ use Rattle.sb_space.proofs.Loading.{no_error}
 
 -- ---- what each call keeps
 module _ {D : Type 0} (told : D → Option Story) (len faults : D → ℕ) (d e : D) (s t : State) where
-  pub Kept-ok : {T U : Type 0} (x : T) (y : U) → Keeps told len faults d e s t (Ok x) → Kept told len faults d e s t (Ok y)
+  pub Kept-ok : {T U : Type 0} (x : T) (y : U) → StaysReady told len faults d e s t (Ok x) → Kept told len faults d e s t (Ok y)
   Kept-ok x y keeps = record {
     size = keeps.size;
     later = keeps.later;
@@ -41,7 +41,7 @@ module _ {D : Type 0} (told : D → Option Story) (len faults : D → ℕ) (d e 
     fails = tt;
   }
 
-  Kept-failed : {T U : Type 0} (f : StoreFault) → IsFaultOrDown f → Keeps {T = T} told len faults d e s t (Err f) → Kept {T = U} told len faults d e s t (Err (fault_of f))
+  Kept-failed : {T U : Type 0} (f : StoreFault) → IsFaultOrDown f → StaysReady {T = T} told len faults d e s t (Err f) → Kept {T = U} told len faults d e s t (Err (fault_of f))
   Kept-failed Fault is keeps = record {
     size = keeps.size;
     later = keeps.later;
@@ -68,16 +68,16 @@ module _ {D : Type 0} (told : D → Option Story) (len faults : D → ℕ) (d e 
   Kept-failed (GatesFull used total) is keeps = absurd is
   Kept-failed NoMemory is keeps = absurd is
 
-  pub Kept-err : {T U : Type 0} (f : StoreFault) (x : SpaceFault) → x ≡ fault_of f → IsFaultOrDown f → Keeps {T = T} told len faults d e s t (Err f) → Kept {T = U} told len faults d e s t (Err x)
+  pub Kept-err : {T U : Type 0} (f : StoreFault) (x : SpaceFault) → x ≡ fault_of f → IsFaultOrDown f → StaysReady {T = T} told len faults d e s t (Err f) → Kept {T = U} told len faults d e s t (Err x)
   Kept-err {T = T} {U = U} f x same is keeps = subst (λ (y : SpaceFault). Kept {T = U} told len faults d e s t (Err y)) (sym same) (Kept-failed {T = T} {U = U} f is keeps)
 
-  pub sizes-same : {T : Type 0} (r : Result T StoreFault) → Keeps told len faults d e s t r → t.pool.geometry.pages ≡ s.pool.geometry.pages
+  pub sizes-same : {T : Type 0} (r : Result T StoreFault) → StaysReady told len faults d e s t r → t.pool.geometry.pages ≡ s.pool.geometry.pages
   sizes-same r keeps = ap (λ (g : Geometry). g.pages) keeps.geometry
 
   -- ---- a begin
-  module _ {T : Type 0} (x : T) (tx : ℕ) (keeps : Keeps told len faults d e s t (Ok x)) (begins : Begins (parts told len d s) (parts told len e t) tx) (none : s.book.down ≡ false → s.book.out ≡ []) where
+  module _ {T : Type 0} (x : T) (tx : ℕ) (keeps : StaysReady told len faults d e s t (Ok x)) (begins : Begins (parts told len d s) (parts told len e t) tx) (none : s.book.down ≡ false → s.book.out ≡ []) where
     out-begun : t.book.out ≡ new_out tx ∷ []
-    out-begun = begins.out ∙ ap (λ (os : List Out). os ++ new_out tx ∷ []) (none (Keeps-up told len faults x d e s t keeps))
+    out-begun = begins.out ∙ ap (λ (os : List Out). os ++ new_out tx ∷ []) (none (StaysReady-up told len faults x d e s t keeps))
 
     pub Serves-begun : s.pool.geometry.pages ≤ 65536 → Serves tx (parts told len e t)
     Serves-begun few = record {
@@ -90,7 +90,7 @@ module _ {D : Type 0} (told : D → Option Story) (len faults : D → ℕ) (d e 
     standing-begun = ap (λ (os : List Out). standing_of tx os) out-begun ∙ standing_of-first tx (new_out tx) [] refl
 
 -- ---- a way back
-pub Serves-back : {D : Type 0} (told : D → Option Story) (len faults : D → ℕ) (tx : ℕ) (d e : D) (s t : State) (r : Result (Unit {0}) StoreFault) (n : ℕ) → Keeps told len faults d e s t r
+pub Serves-back : {D : Type 0} (told : D → Option Story) (len faults : D → ℕ) (tx : ℕ) (d e : D) (s t : State) (r : Result (Unit {0}) StoreFault) (n : ℕ) → StaysReady told len faults d e s t r
     → OnOk r ((o : Out) → out_with tx s.book.out ≡ Some o → GoesBack (parts told len d s) (parts told len e t) o (others tx s.book.out) n) → IfErr r IsFaultOrDown
     → Serves tx (parts told len d s) → Serves tx (parts told len e t)
 Serves-back told len faults tx d e s t r n keeps back err serves = record {
@@ -100,13 +100,13 @@ Serves-back told len faults tx d e s t r n keeps back err serves = record {
 }
 
 -- ---- the pages stay
-pub HasPages-stays : (p q : Parts) (sizes : q.store.pool.geometry.pages ≡ p.store.pool.geometry.pages) → LeavesWanted p q → ((want now : ℕ → List ℕ) → IsStoreOf want now p → IsStoreOf want now q)
+pub HasPages-stays : (p q : Parts) (sizes : q.store.pool.geometry.pages ≡ p.store.pool.geometry.pages) → LeavesWanted p q → ((want now : ℕ → List ℕ) → HoldsPages want now p → HoldsPages want now q)
     → (want : Wanted) (s : Slots) → HasPages want s p → HasPages want s q
 HasPages-stays p q sizes leaves stays want s has =
     HasPages-through p q sizes leaves want has.now has.now s has.stands (stays want has.now has.stands.store) has.stands.whole has.table has.slots
 
--- ---- the end of the one that is out
-module _ {D : Type 0} (told : D → Option Story) (len faults : D → ℕ) (tx : ℕ) (d e : D) (s t : State) (keeps : Keeps {T = Unit {0}} told len faults d e s t (Ok tt)) (only : IsAlone tx s.book) where
+-- ---- the end of the active one
+module _ {D : Type 0} (told : D → Option Story) (len faults : D → ℕ) (tx : ℕ) (d e : D) (s t : State) (keeps : StaysReady {T = Unit {0}} told len faults d e s t (Ok tt)) (only : IsAlone tx s.book) where
   abbrev p : Parts
   p = parts told len d s
 
@@ -114,7 +114,7 @@ module _ {D : Type 0} (told : D → Option Story) (len faults : D → ℕ) (tx :
   q = parts told len e t
 
   up : s.book.down ≡ false
-  up = Keeps-up told len faults tt d e s t keeps
+  up = StaysReady-up told len faults tt d e s t keeps
 
   -- that one
   pub the_one : (o : Out) × (out_with tx s.book.out ≡ Some o)
@@ -155,7 +155,7 @@ module _ {D : Type 0} (told : D → Option Story) (len faults : D → ℕ) (tx :
       }
 
 -- at each moment of a commit
-module _ {D T : Type 0} (told : D → Option Story) (len faults : D → ℕ) (tx : ℕ) (d e : D) (s t : State) (r : Result T StoreFault) (keeps : Keeps told len faults d e s t r) (only : IsAlone tx s.book) where
+module _ {D T : Type 0} (told : D → Option Story) (len faults : D → ℕ) (tx : ℕ) (d e : D) (s t : State) (r : Result T StoreFault) (keeps : StaysReady told len faults d e s t r) (only : IsAlone tx s.book) where
   pub LeavesOnly-commit : ((o : Out) → s.book.out ≡ o ∷ [] → LeavesOne (parts told len d s) (parts told len e t)) → (want : Wanted) (u : Slots) (has : HasPages want u (parts told len d s))
       → LeavesOnly (told d) (told e) (IsOldOrNew s.pool.geometry want has.now)
   LeavesOnly-commit leaves want u has = by_case s.book.down refl

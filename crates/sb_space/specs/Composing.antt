@@ -21,7 +21,7 @@ use Rattle.sb_space.specs.Table.{AreWhole}
 use Rattle.sb_space.specs.Works.{LeadsBack, Turns, Makes, Works, undos_of}
 use Rattle.sb_space.specs.Telling.{told_so, told_both, told_as}
 
--- ---- undos
+-- ---- undo lists
 pub unwound-append : (us vs : List Undo) (pages : ℕ → List ℕ) (p : ℕ) → unwound (us ++ vs) pages p ≡ unwound us (unwound vs pages) p
 unwound-append [] vs pages p = refl
 unwound-append (u ∷ us) vs pages p = let same = unwound-append us vs pages p in λ i. cond (u.page == p) (splice u.offset u.before (same i)) (same i)
@@ -58,7 +58,7 @@ LeadsBack-now count us was now leads = subst (λ (vs : List Undo). AreWhole coun
 pub LeadsBack-was : (count : ℕ) (us : List Undo) (was now : ℕ → List ℕ) → LeadsBack count us was now → AreWhole count was
 LeadsBack-was count us was now leads = AreWhole-same count (unwound us now) was (λ p. sym (leads.back p)) (leads.each zero)
 
--- undos before others, at each step
+-- an undo list before another, at each step
 module _ (count : ℕ) (vs : List Undo) (mid now : ℕ → List ℕ) (two : LeadsBack count vs mid now) where
   each_of : (us : List Undo) → ((n : ℕ) → AreWhole count (unwound (drop n us) mid)) → (n : ℕ) → AreWhole count (unwound (drop n (us ++ vs)) now)
   each_of [] one n = two.each n

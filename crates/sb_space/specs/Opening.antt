@@ -15,7 +15,7 @@ use Rattle.sb_recover.specs.declared.fault.OpenFault.{OpenFault}
 use Rattle.sb_recover.specs.declared.fault.OpenFault.TheVariants.{Fault, Damaged}
 use Rattle.sb_recover.specs.FirstPages.{first_page, empty_leaf}
 use Rattle.sb_txn.specs.Book.{empty_book}
-use Rattle.sb_txn.specs.Clauses.{Parts, parts, Holds, HoldsAll, IsReady, IsStoreOf, LeavesWanted, Loads}
+use Rattle.sb_txn.specs.Clauses.{Parts, parts, Holds, HoldsAll, IsReady, HoldsPages, LeavesWanted, Loads}
 use Rattle.sb_txn.specs.Opened.{OpenErr, WasRestarted}
 use Rattle.sb_txn.specs.State.{State}
 use Rattle.sb_space.specs.Table.{AreWhole, IsTable, slots_in, table_len}
@@ -53,12 +53,12 @@ pub record IsFirstDamaged (pages : ℕ) (now : ℕ → List ℕ) (p : ℕ) : Typ
 -- ---- what is opened
 -- where the disk tells its bytes, so it is of the pages now
 abbrev pub WhereNow : Parts → ((ℕ → List ℕ) → Type 0) → Type 0
-WhereNow p IsSo = (want now : ℕ → List ℕ) → IsStoreOf want now p → is_some p.told ≡ true → IsSo now
+WhereNow p IsSo = (want now : ℕ → List ℕ) → HoldsPages want now p → is_some p.told ≡ true → IsSo now
 
--- The table of the pages now has its form, so that they are those of owners, where each of their bytes is one. There are 65,536 pages at most, and no transaction is out.
+-- The table of the pages now has its form, so that they are those of owners, where each of their bytes is one. There are 65,536 pages at most, and no transaction is active.
 pub record IsSpace (p : Parts) : Type 0 where
   pub table : WhereNow p (IsTable p.store.pool.geometry.pages)
-  pub has : (want now : ℕ → List ℕ) → IsStoreOf want now p → is_some p.told ≡ true → ((n : ℕ) → n < p.store.pool.geometry.pages → AreBytes (now n))
+  pub has : (want now : ℕ → List ℕ) → HoldsPages want now p → is_some p.told ≡ true → ((n : ℕ) → n < p.store.pool.geometry.pages → AreBytes (now n))
       → HasPages want (slots_in p.store.pool.geometry.pages now) p
   pub few : p.store.pool.geometry.pages ≤ 65536
   pub none : p.store.book.out ≡ []

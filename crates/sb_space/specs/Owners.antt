@@ -1,6 +1,6 @@
 -- What is looked up in the owner table.
-use Rattle.std.specs.Prelude.{◌≡◌, ℕ, ◌+◌, ◌-◌, ◌^◌, ◌<◌, min, Bool, true, false, [], Option, Some, None, IsSome}
-use Rattle.sb_ctx.specs.View.{View, page_of}
+use Rattle.std.specs.Prelude.{◌≡◌, ℕ, ◌+◌, ◌-◌, ◌^◌, ◌<◌, min, Bool, true, false, [], Option, Some, None}
+use Rattle.sb_ctx.specs.View.{View, holds_fresh}
 use Rattle.sb_drive.specs.Slots.{Slots, owned}
 use Rattle.sb_drive.specs.Spaces.{IsFreshIn}
 
@@ -9,9 +9,9 @@ abbrev pub IsOwned : Slots → ℕ → ℕ → Bool → Type 0
 IsOwned s owner n true = (1 < owner) × ((s n).0 ≡ owner)
 IsOwned s owner n false = owned s owner n ≡ []
 
--- the least page that is nobody's and isn't held, if there is one
+-- the least page that is nobody's and isn't held as a fresh one, if there is one
 abbrev pub IsFree : ℕ → Slots → View → Option ℕ → Type 0
-IsFree total s c None = (m : ℕ) → m < total → (s m).0 ≡ 0 → IsSome (page_of c m)
+IsFree total s c None = (m : ℕ) → m < total → (s m).0 ≡ 0 → holds_fresh c m ≡ true
 IsFree total s c (Some n) = IsFreshIn total s c n
 
 -- the first number above this one, up to the greatest of 32 bits

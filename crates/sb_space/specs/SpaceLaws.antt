@@ -29,7 +29,7 @@ module _ {D : Type 0} (told : D → Option Story) (len faults : D → ℕ) where
             fails.1,
         fails.2,
       )
-  Fails-on tx k d f s u (DataFull used total) b t works fails = tt
+  Fails-on tx k d f s u (DataFull used total) b t works fails = fails
   Fails-on tx k d f s u (TempFull used total) b t works fails = fails
   Fails-on tx k d f s u (LogFull used need total) b t works fails = fails
   Fails-on tx k d f s u (GatesFull used total) b t works fails = fails

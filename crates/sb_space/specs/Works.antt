@@ -5,11 +5,11 @@ use Rattle.sb_disk.specs.Disk.{Story}
 use Rattle.sb_images.specs.Store.{IfTold}
 use Rattle.sb_journal.specs.State.{used_of}
 use Rattle.sb_drive.specs.declared.space.SpaceFault.{SpaceFault}
-use Rattle.sb_drive.specs.declared.space.SpaceFault.TheVariants.{Fault, TempFull, LogFull, GatesFull, Damaged, Down, NoMemory}
+use Rattle.sb_drive.specs.declared.space.SpaceFault.TheVariants.{DataFull, Fault, TempFull, LogFull, GatesFull, Damaged, Down, NoMemory}
 use Rattle.sb_drive.specs.Slots.{Slots}
 use Rattle.sb_drive.specs.Spaces.{Wanted}
 use Rattle.sb_txn.specs.Book.{Undo, Out, Book, IsOnly, out_with, others}
-use Rattle.sb_txn.specs.Clauses.{Parts, parts, IsStoreOf, IsReady, LeavesWanted, Grows, unwound}
+use Rattle.sb_txn.specs.Clauses.{Parts, parts, HoldsPages, IsReady, LeavesWanted, Grows, unwound}
 use Rattle.sb_txn.specs.State.{State}
 use Rattle.sb_space.specs.Table.{AreWhole, IsTable, slots_in}
 
@@ -18,7 +18,7 @@ use Rattle.sb_space.specs.Table.{AreWhole, IsTable, slots_in}
 abbrev pub undos_of : ℕ → List Out → List Undo
 undos_of tx out = elim (out_with tx out) [ None ↦ [] | Some o ↦ o.undos ]
 
--- until a call has failed it is the one that is out
+-- until a call has failed it is the active one
 abbrev pub IsAlone : ℕ → Book → Type 0
 IsAlone tx book = book.down ≡ false → IsOnly tx book.out
 
@@ -32,7 +32,7 @@ pub record Serves (tx : ℕ) (p : Parts) : Type 0 where
 -- The disk tells its bytes, and these are the pages wanted and the pages now, which are whole.
 pub record Stands (want now : ℕ → List ℕ) (p : Parts) : Type 0 where
   pub tells : is_some p.told ≡ true
-  pub store : IsStoreOf want now p
+  pub store : HoldsPages want now p
   pub whole : AreWhole p.store.pool.geometry.pages now
 
 -- So it is, and those now, by the owners that the table gives them, are these.
@@ -43,15 +43,15 @@ pub record HasPages (want : Wanted) (s : Slots) (p : Parts) : Type 0 where
   pub slots : s ≡ slots_in p.store.pool.geometry.pages now
 
 -- ---- what calls make of it
--- These undos, the last of them first, lead the pages back to those that were. The pages are whole at each step.
+-- This undo list, its last undo first, leads the pages back to those that were. The pages are whole at each step.
 pub record LeadsBack (count : ℕ) (undos : List Undo) (was now : ℕ → List ℕ) : Type 0 where
   pub each : (n : ℕ) → AreWhole count (unwound (drop n undos) now)
   pub back : (p : ℕ) → unwound undos now p ≡ was p
 
--- The pages now have become others, which these undos lead back if those were whole.
+-- The pages now have become others, which this undo list leads back if those were whole.
 pub record Turns (want now : ℕ → List ℕ) (undos : List Undo) (old new : Parts) : Type 0 where
   pub pages : ℕ → List ℕ
-  pub store : IsStoreOf want pages new
+  pub store : HoldsPages want pages new
   pub back : IfTold old.told (AreWhole old.store.pool.geometry.pages now → LeadsBack old.store.pool.geometry.pages undos now pages)
 
 -- The transaction has so many changes more at most, and the others are as they were. Whatever pages are wanted stay so, and the log grows by what the changes take.
@@ -60,7 +60,7 @@ pub record Makes (tx : ℕ) (changes : ℕ) (old new : Parts) : Type 0 where
   pub few : length undos ≤ changes
   pub own : undos_of tx new.store.book.out ≡ undos_of tx old.store.book.out ++ undos
   pub others : others tx new.store.book.out ≡ others tx old.store.book.out
-  pub pages : (want now : ℕ → List ℕ) → IsStoreOf want now old → Turns want now undos old new
+  pub pages : (want now : ℕ → List ℕ) → HoldsPages want now old → Turns want now undos old new
   pub grows : Grows old.store new.store (12400 * changes) (3 * changes)
 
 -- At each moment a crash leaves what was wanted. A store that is down is as it was, and one goes down only where the disk fails a call; unless it does, these changes were made.
@@ -73,13 +73,14 @@ pub record Works {D : Type 0} (told : D → Option Story) (len faults : D → �
   pub fell : t.book.down ≡ true → (s.book.down ≡ true) ⊎ Rose (faults old) (faults new)
   pub makes : t.book.down ≡ false → Makes tx changes (parts told len old s) (parts told len new t)
 
--- Why a call is refused: the disk failed a call, and the store is down from now on; it is down already, and stays so; the log hasn't the bytes that a change wants, or no gate is left for it; no page is left; memory is wanting.
+-- Why a call is refused: the disk failed a call, and the store is down from now on; it is down already, and stays so; the log hasn't the bytes that a change wants, or no gate is left for it; no page of the store's is left; memory is wanting.
 abbrev pub Fails : {D : Type 0} → (D → ℕ) → SpaceFault → D → D → State → State → Type 0
 Fails faults Fault old new s t = Rose (faults old) (faults new) × (t.book.down ≡ true)
 Fails faults Down old new s t = (faults old ≤ faults new) × ((s.book.down ≡ true) ⊎ Rose (faults old) (faults new)) × (t.book.down ≡ true)
 Fails faults (LogFull used need total) old new s t =
     (used ≡ used_of t.journal) × (need ≤ 13424) × (total ≡ t.journal.log.len) × (total < used + need)
 Fails faults (GatesFull used total) old new s t = (used ≡ length t.journal.lens) × (total ≡ t.journal.gates.len) × (65534 < used)
+Fails faults (DataFull used total) old new s t = (used ≡ total) × (total ≡ t.pool.geometry.pages)
 Fails faults (Damaged page) old new s t = ⊥
 Fails faults (TempFull used total) old new s t = ⊥
 Fails faults e old new s t = Unit {0}

@@ -20,7 +20,7 @@ pub struct Durable<'a, D: Disk> {
 }
 
 impl<'a, D: Disk> Durable<'a, D> {
-    /// What is lent. The transaction is to be the only one that is out.
+    /// What is lent. The transaction is to be the only active one.
     pub fn new(store: &'a mut Store, disk: &'a mut D, tx: &'a Tx) -> Durable<'a, D>
         ensures same_store { result.store.ghost_name ≡ store.entry.ghost_name }
         ensures same_disk { result.disk.ghost_name ≡ disk.entry.ghost_name }

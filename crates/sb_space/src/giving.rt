@@ -1,7 +1,7 @@
 //! What is asked for is given.
 
-ghost use Rattle.std.specs.Prelude.{◌≡◌, ◌<◌, true, None, OnOk, OnErr, IfOk, IfErr, IfSome};
-ghost use Rattle.sb_ctx.specs.View.{page_of, with_held, given_page, fresh_page, with_next, dropped};
+ghost use Rattle.std.specs.Prelude.{◌≡◌, ◌<◌, true, false, OnOk, OnErr, IfOk, IfErr, IfSome};
+ghost use Rattle.sb_ctx.specs.View.{holds_fresh, with_held, given_page, fresh_page, with_next, dropped};
 ghost use Rattle.sb_drive.specs.Slots.{Slots, owned};
 ghost use Rattle.sb_drive.specs.Spaces.{IsAnswerFault, IsFull, IsGift, IsGivenIn, Wanted};
 ghost use Rattle.sb_drive.specs.declared.space.SpaceFault.TheVariants.{NoMemory};
@@ -56,7 +56,7 @@ impl<D: Disk> Durable<'_, D> {
         give_bytes(ctx, n, self.store.held(n))
     }
 
-    /// Gives the least page that is nobody's and isn't held.
+    /// Gives the least page that is nobody's, and isn't among the fresh ones that it gave.
     pub(crate) fn give_fresh(&mut self, owner: u16, ctx: &mut Ctx) -> Result<(), SpaceFault>
         requires ready { Serves (lent self.old).tx (parts_in D.told D.len (lent self.old)) }
         ensures given { OnOk result ((want : Wanted) (s : Slots) → HasPages want s (parts_in D.told D.len (lent self.old))
@@ -96,18 +96,18 @@ impl<D: Disk> Durable<'_, D> {
         Ok(())
     }
 
-    /// The least page that is nobody's and isn't held.
+    /// The least page that is nobody's and isn't held as a fresh one.
     fn free_page(&mut self, ctx: &Ctx) -> Result<Option<u32>, SpaceFault>
         requires ready { Serves (lent self.old).tx (parts_in D.told D.len (lent self.old)) }
         ensures found { IfOk result (λ found. (want : Wanted) (s : Slots) → HasPages want s (parts_in D.told D.len (lent self.old))
             → IsFree self.old.store.now.pool.geometry.pages s ctx.now found) }
         ensures below { IfOk result (λ found. IfSome found (λ n. n < 65536)) }
-        ensures unheld { IfOk result (λ found. IfSome found (λ n. page_of ctx.now n ≡ None)) }
+        ensures new { IfOk result (λ found. IfSome found (λ n. holds_fresh ctx.now n ≡ false)) }
         ensures err { IfErr result MeansDown }
         ensures calls { Calls D.told D.len D.faults 0 (lent self.old) (lent self.new) result }
     {
         for n in 0..self.store.pages() {
-            if self.owner_of(n)? == 0 && ctx.page(n).is_none() {
+            if self.owner_of(n)? == 0 && !ctx.holds_fresh(n) {
                 return Ok(Some(n));
             }
         }

@@ -19,13 +19,13 @@ use crate::changing::TABLE;
 use crate::durable::Durable;
 use crate::entries::clear_owner;
 use crate::owners::ENTRIES;
-use crate::storing::PAGE_SIZE;
 use sb_disk::Disk;
 use sb_drive::SpaceFault;
+use sb_images::PAGE_LEN;
 use std::alloc::{AllocError, Global};
 
 /// How many numbers of owners there are.
-const OWNERS: usize = 65536;
+const OWNERS: usize = u16::MAX as usize + 1;
 
 /// Below it are nobody, the table and the catalogue.
 const FIRST_INSTANCE: u16 = 3;
@@ -160,7 +160,7 @@ impl<D: Disk> Durable<'_, D> {
         ensures err { IfErr result IsStoreFault }
         ensures calls { Calls D.told D.len D.faults 2 (lent self.old) (lent self.new) result }
     {
-        self.set_bytes(owner, root, &[0; PAGE_SIZE])?;
+        self.set_bytes(owner, root, &[0; PAGE_LEN])?;
         self.set_owner(root, owner)
     }
 
@@ -175,7 +175,7 @@ impl<D: Disk> Durable<'_, D> {
         ensures calls { Calls D.told D.len D.faults 1 (lent self.old) (lent self.new) result }
     {
         self.load(page)?;
-        let mut table = [0; PAGE_SIZE];
+        let mut table = [0; PAGE_LEN];
         table.copy_from_slice(self.store.held(page));
         clear_owner(&mut table, owner);
         self.set_bytes(TABLE, page, &table)

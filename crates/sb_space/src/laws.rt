@@ -4,7 +4,7 @@ ghost use Rattle.sb_space.specs.Transactions.{DrivenKeepsChanges, DrivenKeepsSpa
 
 use sb_disk::Disk;
 
-/// To go back to a mark gives the pages that were there, whatever calls were driven since; and all along the same pages are wanted of the same space.
+/// To go back to a savepoint gives the pages that were there, whatever calls were driven since; and all along the same pages are wanted of the same space.
 pub fn going_back_gives_what_was<D: Disk>()
     ensures mark { MarkHasPages }
     ensures was { DrivenKeepsWas D.told D.len D.faults }

@@ -15,12 +15,7 @@ use crate::owners::FIRST_OWNER;
 use sb_ctx::Ctx;
 use sb_disk::Disk;
 use sb_drive::SpaceFault;
-
-/// More pages than a Ctx holds.
-const MOST_PAGES: u32 = 65536;
-
-/// How many bytes a page has.
-pub(crate) const PAGE_SIZE: usize = 4096;
+use sb_images::{MOST_PAGES, PAGE_LEN};
 
 impl<D: Disk> Durable<'_, D> {
     /// Stores the pages that were taken, those that were edited, and those that were freed.
@@ -114,7 +109,7 @@ impl<D: Disk> Durable<'_, D> {
             return Err(SpaceFault::NoMemory);
         }
         match ctx.page(n) {
-            Some(bytes) if bytes.len() == PAGE_SIZE => self.set_bytes(owner, n, bytes),
+            Some(bytes) if bytes.len() == PAGE_LEN => self.set_bytes(owner, n, bytes),
             _ => Err(SpaceFault::NoMemory),
         }
     }

@@ -7,7 +7,7 @@ ghost use Rattle.sb_drive.specs.Spaces.{UnlessDown, Wanted};
 ghost use Rattle.sb_images.specs.Images.{IsOldOrNew};
 ghost use Rattle.sb_journal.specs.State.{used_of};
 ghost use Rattle.sb_txn.specs.Book.{Out, out_with, standing_of};
-ghost use Rattle.sb_txn.specs.Clauses.{parts, AsksNothing, Begins, Grows, IsIdle, IsReady, LeavesWanted};
+ghost use Rattle.sb_txn.specs.Clauses.{parts, AsksNothing, Begins, Grows, CommitAsksNothing, IsReady, LeavesWanted};
 ghost use Rattle.sb_space.specs.Table.{slots_in};
 ghost use Rattle.sb_space.specs.Transactions.{AreFormed, Kept, WasAt};
 ghost use Rattle.sb_space.specs.Works.{HasPages, MeansDown, Serves};
@@ -17,13 +17,13 @@ use sb_disk::Disk;
 use sb_drive::SpaceFault;
 use sb_txn::Store;
 
-/// A transaction that is out, the only one of its space. It is spent by `commit` or `abort`; one that is let go stays out as long as its store is open.
+/// An active transaction, the only one of its space. It is spent by `commit` or `abort`; one that is let go stays active as long as its store is open.
 #[derive(Drop)]
 pub struct Tx {
     pub store: sb_txn::Tx,
 }
 
-/// How many changes of a transaction stood.
+/// A savepoint: how many changes of a transaction stood.
 #[derive(Clone, Copy, Debug, PartialEq, Eq)]
 pub struct Mark {
     store: sb_txn::Mark,
@@ -81,7 +81,7 @@ impl Space {
         }
     }
 
-    /// Takes back the changes of the transaction that were made behind the mark, which must not have been passed on the way back before. The log gets no record of it.
+    /// Takes back the changes of the transaction that were made behind the savepoint, which must not have been passed on the way back before. The log gets no record of it.
     pub fn back_to<D: Disk>(&mut self, disk: &mut D, tx: &Tx, mark: Mark) -> Result<(), SpaceFault>
         requires ready { Serves tx.now.store.number (parts D.told D.len disk.old self.old.store) }
         requires mark { self.old.store.book.down ≡ false → mark.store.changes ≤ standing_of tx.now.store.number self.old.store.book.out }
@@ -105,7 +105,7 @@ impl Space {
         }
     }
 
-    /// Takes all changes of the transaction out again.
+    /// Undoes all changes of the transaction.
     pub fn abort<D: Disk>(&mut self, disk: &mut D, tx: Tx) -> Result<(), SpaceFault>
         requires ready { Serves tx.store.number (parts D.told D.len disk.old self.old.store) }
 
@@ -140,7 +140,7 @@ impl Space {
             → LeavesOnly (D.told disk.old) (D.told disk.new) (IsOldOrNew self.old.store.pool.geometry want has.now) }
         ensures none { OnOk result (self.new.store.book.out ≡ []) }
         ensures idle { (o : Out) → out_with tx.store.number self.old.store.book.out ≡ Some o
-            → IsIdle o disk.old disk.new self.old.store self.new.store }
+            → CommitAsksNothing o disk.old disk.new self.old.store self.new.store }
         ensures grows { OnOk result (Grows self.old.store self.new.store 1024 1) }
         ensures err { IfErr result MeansDown }
         ensures keeps { Kept D.told D.len D.faults disk.old disk.new self.old.store self.new.store result }

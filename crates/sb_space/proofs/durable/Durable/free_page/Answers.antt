@@ -1,10 +1,10 @@
-use Rattle.std.proofs.Common.{◌≡◌, ◌∙◌, IsSome, sym, ap, arith}
-use Rattle.sb_ctx.specs.View.{page_of}
+use Rattle.std.proofs.Common.{◌≡◌, ◌∙◌, true, sym, ap, arith}
+use Rattle.sb_ctx.specs.View.{holds_fresh}
 use Rattle.sb_space.specs.View.{lent}
 use Rattle.sb_space.proofs.Calling.{Calls-none, Calls-then, Calls-from, Calls-ok}
-use Rattle.sb_space.proofs.Looking.{HasPages-still, none_shown, some_shown, below_next}
+use Rattle.sb_space.proofs.Looking.{HasPages-still, below_next}
 use Rattle.sb_space.proofs.durable.Durable.free_page.Goals as goal
-use Rattle.sb_space.proofs.durable.Durable.free_page.Goals.{else-branch-eq0-via-then-branch-eq0+else-is_none, else-branch-eq0-via-else-branch-eq0}
+use Rattle.sb_space.proofs.durable.Durable.free_page.Goals.{else-branch-eq0-via-then-branch-eq0+else-not-holds_fresh, else-branch-eq0-via-else-branch-eq0}
 
 pub loop-n-init : goal.loop-n-init
 loop-n-init g c = record {
@@ -28,19 +28,19 @@ returns-in_err-owner_of-clause-calls g c =
     Calls-from g.D.Disk.told g.D.Disk.len g.D.Disk.faults 0 a d c.in_err-owner_of.field-0.0 c.from_residual.result c.from_residual.ensures.1
     (Calls-then g.D.Disk.told g.D.Disk.len g.D.Disk.faults 0 0 a b d tt _ c.loop-n.invariant.calls c.in_err-owner_of.ensures.calls)
 
-pub returns-then-is_none-clause-found : goal.returns-then-is_none-clause-found
-returns-then-is_none-clause-found g c = λ want s has.
+pub returns-then-not-holds_fresh-clause-found : goal.returns-then-not-holds_fresh-clause-found
+returns-then-not-holds_fresh-clause-found g c = λ want s has.
     let calls = c.loop-n.invariant.calls in
     let middle = HasPages-still g.D.Disk.told g.D.Disk.len g.D.Disk.faults (lent c.args.self.now) (lent c.loop-n.self) want s calls.leads calls.up has in
     record {
       below = omega (arith, c.loop-n-test.true, c.pages-n-end.ensures);
       free = sym (c.in_ok-owner_of.ensures.owner want s middle) ∙ c.if-branch-eq0.true;
-      unheld = none_shown (λ bytes. bytes.now) c.page.result (page_of c.args.ctx.now c.loop-n.n) c.page.ensures c.if-is_none.ensures;
+      new = sym c.holds_fresh.ensures ∙ c.if-not-holds_fresh.true;
       least = c.loop-n.invariant.used want s has;
     }
 
-pub returns-then-is_none-clause-calls : goal.returns-then-is_none-clause-calls
-returns-then-is_none-clause-calls g c =
+pub returns-then-not-holds_fresh-clause-calls : goal.returns-then-not-holds_fresh-clause-calls
+returns-then-not-holds_fresh-clause-calls g c =
     let a = lent c.args.self.now in
     let b = lent c.loop-n.self in
     let d = lent c.owner_of.new.self in
@@ -56,10 +56,10 @@ loop-n-preserved g c =
     record {
       calls = Calls-ok g.D.Disk.told g.D.Disk.len g.D.Disk.faults 0 a d c.in_ok-owner_of.field-0 tt
           (Calls-then g.D.Disk.told g.D.Disk.len g.D.Disk.faults 0 0 a b d tt _ calls c.in_ok-owner_of.ensures.calls);
-      used = λ want s has. below_next c.loop-n.n (λ m. (s m).0 ≡ 0 → IsSome (page_of c.args.ctx.now m)) (c.loop-n.invariant.used want s has) (λ free.
+      used = λ want s has. below_next c.loop-n.n (λ m. (s m).0 ≡ 0 → holds_fresh c.args.ctx.now m ≡ true) (c.loop-n.invariant.used want s has) (λ free.
           let middle = HasPages-still g.D.Disk.told g.D.Disk.len g.D.Disk.faults a b want s calls.leads calls.up has in
           elim c.else-branch-eq0.branch [
-            | else-branch-eq0-via-then-branch-eq0+else-is_none w ↦ some_shown (λ bytes. bytes.now) w.page.result (page_of c.args.ctx.now c.loop-n.n) w.page.ensures w.if-is_none.ensures
+            | else-branch-eq0-via-then-branch-eq0+else-not-holds_fresh w ↦ sym w.holds_fresh.ensures ∙ w.if-not-holds_fresh.false
             | else-branch-eq0-via-else-branch-eq0 w ↦ absurd (w.if-branch-eq0.false (c.in_ok-owner_of.ensures.owner want s middle ∙ free))
           ]);
     }

@@ -1,6 +1,8 @@
-use Rattle.std.proofs.Common.{refl, subst}
+use Rattle.std.proofs.Common.{refl, sym, ap, subst, ◌∙◌}
 use Rattle.sb_space.specs.Owners.{IsFree}
 use Rattle.sb_txn.proofs.ResultLemmas.{IfErr-from}
+use Rattle.sb_space.specs.View.{lent}
+use Rattle.sb_space.proofs.Calling.{Calls-full}
 use Rattle.sb_space.proofs.Looking.{IsFull-down}
 use Rattle.sb_space.proofs.durable.Durable.give_fresh.Goals as goal
 
@@ -14,6 +16,11 @@ returns-in_default-clause-full g c = λ want s has.
     let total = c.args.self.now.store.now.pool.geometry.pages in
     let none = subst (IsFree total s c.args.ctx.now) c.in_default.is (c.in_ok-n.ensures.found want s has) in
     (refl, record { total_is = c.pages-total.ensures; all = refl; each = none })
+
+pub returns-in_default-clause-calls : goal.returns-in_default-clause-calls
+returns-in_default-clause-calls g c =
+    let geometry = c.in_ok-n.ensures.calls.leads.works.geometry in
+    Calls-full g.D.Disk.told g.D.Disk.len g.D.Disk.faults {U = Unit {0}} 0 (lent c.args.self.now) (lent c.free_page.new.self) _ c.pages-total.result (c.pages-total.ensures ∙ sym (ap (λ x. x.pages) geometry)) c.in_ok-n.ensures.calls
 
 pub returns-clause-given : goal.returns-clause-given
 returns-clause-given g c = λ want s has.

@@ -5,7 +5,7 @@ use Rattle.sb_drive.specs.declared.space.SpaceFault.TheVariants.{NoMemory}
 use Rattle.sb_space.specs.Durable.{Calls, parts_in}
 use Rattle.sb_space.specs.Instances.{AreMarked, IsFirstFree}
 use Rattle.sb_space.specs.View.{lent}
-use Rattle.sb_space.proofs.Calling.{Calls-none, Calls-memory, handed-is}
+use Rattle.sb_space.proofs.Calling.{Calls-none, Calls-full, Calls-memory, handed-is}
 use Rattle.sb_space.proofs.Marking.{IsLeastFree-first, IsLeastOwner-unmarked, length-unmarked}
 use Rattle.sb_space.proofs.durable.Durable.next_instance.Goals as goal
 
@@ -29,6 +29,10 @@ returns-in_default-clause-full g c = λ want s has.
         each = λ m less free. absurd (none m less free);
       },
     )
+
+pub returns-in_default-clause-calls : goal.returns-in_default-clause-calls
+returns-in_default-clause-calls g c =
+    Calls-full g.D.Disk.told g.D.Disk.len g.D.Disk.faults {U = ℕ × ℕ} 0 (lent c.args.self.now) (lent c.mark_owners.new.self) _ c.pages-total.result c.pages-total.ensures c.in_ok-root.ensures.calls
 
 pub unused_owner-requires-clause-long : goal.unused_owner-requires-clause-long
 unused_owner-requires-clause-long g c =

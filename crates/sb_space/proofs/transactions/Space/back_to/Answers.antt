@@ -1,5 +1,5 @@
 use Rattle.sb_txn.specs.Clauses.{parts}
-use Rattle.sb_txn.proofs.KeepsLemmas.{Keeps-up}
+use Rattle.sb_txn.proofs.KeepsLemmas.{StaysReady-up}
 use Rattle.sb_txn.proofs.RoomLemmas.{Grows-rest}
 use Rattle.sb_space.proofs.GoingBack.{HasPages-back, standing-back, WasAt-back}
 use Rattle.sb_space.proofs.Transacting.{Kept-ok, sizes-same, the_one, Serves-back}
@@ -36,7 +36,7 @@ returns-in-Ok-clause-earlier g c =
     let found = the_one told len faults tx d e s t keeps c.requires.ready.alone in
     let goes = c.in-Ok.ensures.back found.0 found.1 in
     WasAt-back tx m (parts told len d s) (parts told len e t) found.0 found.1 (sizes-same told len faults d e s t _ keeps) c.in-Ok.ensures.any_moment goes
-    (c.requires.mark (Keeps-up told len faults tt d e s t keeps))
+    (c.requires.mark (StaysReady-up told len faults tt d e s t keeps))
 
 pub returns-in-Ok-clause-standing : goal.returns-in-Ok-clause-standing
 returns-in-Ok-clause-standing g c =
@@ -53,7 +53,7 @@ returns-in-Ok-clause-standing g c =
     let found = the_one told len faults tx d e s t keeps c.requires.ready.alone in
     let goes = c.in-Ok.ensures.back found.0 found.1 in
     standing-back tx m (parts told len d s) (parts told len e t) found.0 found.1 (sizes-same told len faults d e s t _ keeps) c.in-Ok.ensures.any_moment goes
-    (c.requires.mark (Keeps-up told len faults tt d e s t keeps))
+    (c.requires.mark (StaysReady-up told len faults tt d e s t keeps))
 
 pub returns-in-Ok-clause-serves : goal.returns-in-Ok-clause-serves
 returns-in-Ok-clause-serves g c =
