@@ -10,7 +10,7 @@ use Rattle.sb_images.specs.Images.{Restores}
 use Rattle.sb_log.specs.declared.geometry.Geometry.{Geometry}
 use Rattle.sb_fold.specs.declared.refusal.Refusal.{Refusal}
 use Rattle.sb_fold.specs.declared.refusal.Refusal.TheVariants as refusal
-use Rattle.sb_txn.specs.Clauses.{parts, IsReady, IsStoreOf, LeavesWanted}
+use Rattle.sb_txn.specs.Clauses.{parts, IsReady, HoldsPages, LeavesWanted}
 use Rattle.sb_txn.specs.State.{State}
 use Rattle.sb_space.specs.Works.{Works}
 use Rattle.sb_transactions.specs.Calls.{Remains}
@@ -97,7 +97,7 @@ module _ {D : Type 0} (told : D → Option Story) (len faults : D → ℕ) where
         → LeavesWanted (parts told len d s) (parts told len f u)
     leaves_behind f u r remains leaves = record { each = λ want now store. by want now store t.book.down refl }
       where
-        by : (want now : ℕ → List ℕ) (store : IsStoreOf want now (parts told len d s)) (b : Bool) → t.book.down ≡ b → LeavesOnly (told d) (told f) (Restores s.pool.geometry want)
+        by : (want now : ℕ → List ℕ) (store : HoldsPages want now (parts told len d s)) (b : Bool) → t.book.down ≡ b → LeavesOnly (told d) (told f) (Restores s.pool.geometry want)
         by want now store true on =
             subst (λ (x : D). LeavesOnly (told d) (told x) (Restores s.pool.geometry want)) (sym (remains.down on).disk) (works.leaves.each want now store)
         by want now store false off =

@@ -17,14 +17,14 @@ use Rattle.sb_vectors.specs.Vectors.{AreSameBoxes}
 use Rattle.sb_execution.specs.Serving.{IsPosedIn}
 use Rattle.sb_session.specs.declared.session.Session.{Session}
 use Rattle.sb_session.specs.Ends.{Ends, ends_with}
-use Rattle.sb_session.specs.Sessions.{CanRun, HasFailed, IsFor, Keeps, Lacks, StandsBehind, parts_of}
+use Rattle.sb_session.specs.Sessions.{CanRun, HasFailed, IsFor, KeepsSession, Lacks, StandsBehind, parts_of}
 use Rattle.sb_session.proofs.Behind.{Ends-behind_for}
 use Rattle.sb_session.proofs.Commands.{Carried-down}
 use Rattle.sb_session.proofs.SameBoxes.{same-boxes}
 use Rattle.sb_execution.specs.Endings.{Executed}
 
 module _ {B D : Type 0} (meanings : B → Meanings) (told : D → Option Story) (len faults : D → ℕ) (c : Command) (d e : D) (x y : Session B) where
-  module _ (r : Reply) (same : AreSameBoxes (meanings x.boxes) (meanings y.boxes)) (keeps : Keeps len faults d e x y r) (runs : CanRun meanings told len e y) where
+  module _ (r : Reply) (same : AreSameBoxes (meanings x.boxes) (meanings y.boxes)) (keeps : KeepsSession len faults d e x y r) (runs : CanRun meanings told len e y) where
     -- whatever pages were wanted, they still are
     pub Executed-kept : ((want : Wanted) (s : State) → IsFor meanings told len want s d x → IsPosedIn (meanings x.boxes) s c
         → Ends (λ t. IsFor meanings told len want t e y) (Lacks faults) (HasFailed faults d e) (extensions_of (meanings x.boxes)) s c r)
@@ -51,7 +51,7 @@ Executed-down meanings told len faults c d x runs down =
     (leaves_still told len d d x x refl refl)
 
 module _ {B D : Type 0} (meanings : B → Meanings) (told : D → Option Story) (len faults : D → ℕ) (c : Command) (d e : D) (x y : Session B) (r : Reply)
-    (same : AreSameBoxes (meanings x.boxes) (meanings y.boxes)) (keeps : Keeps len faults d e x y r) (runs : CanRun meanings told len e y) where
+    (same : AreSameBoxes (meanings x.boxes) (meanings y.boxes)) (keeps : KeepsSession len faults d e x y r) (runs : CanRun meanings told len e y) where
   -- other pages may be wanted then
   pub Executed-moved : ((want : Wanted) (s : State) → IsFor meanings told len want s d x → IsPosedIn (meanings x.boxes) s c
       → Ends (StandsBehind meanings told len want (extensions_of (meanings x.boxes)) s c d e x y) (Lacks faults) (HasFailed faults d e) (extensions_of (meanings x.boxes)) s c r)
@@ -64,9 +64,9 @@ module _ {B D : Type 0} (meanings : B → Meanings) (told : D → Option Story) 
   }
 
 -- a command that does nothing else has its keeping behind another's
-pub Keeps-then : {B D : Type 0} (len faults : D → ℕ) (d e f : D) (x y z : Session B) (a b : Reply) → x.down ≡ false → y.down ≡ x.down → Keeps len faults d e x y a → Keeps len faults e f y z b
-    → Keeps len faults d f x z b
-Keeps-then len faults d e f x y z a b up same one two = record {
+pub KeepsSession-then : {B D : Type 0} (len faults : D → ℕ) (d e f : D) (x y z : Session B) (a b : Reply) → x.down ≡ false → y.down ≡ x.down → KeepsSession len faults d e x y a → KeepsSession len faults e f y z b
+    → KeepsSession len faults d f x z b
+KeepsSession-then len faults d e f x y z a b up same one two = record {
   size = two.size ∙ one.size;
   later = let first = one.later in let second = two.later in omega arith;
   geometry = two.geometry ∙ one.geometry;

@@ -20,13 +20,13 @@ use Rattle.sb_vectors.specs.Vectors.{AreSameBoxes}
 use Rattle.sb_session.specs.declared.session.Open.{Open}
 use Rattle.sb_session.specs.declared.session.Session.{Session}
 use Rattle.sb_session.specs.Ends.{Ends}
-use Rattle.sb_session.specs.Sessions.{CanRun, HasFailed, IsFor, IsOpenFor, Keeps, Lacks, StandsBehind, parts_of}
+use Rattle.sb_session.specs.Sessions.{CanRun, HasFailed, IsFor, IsOpenFor, KeepsSession, Lacks, StandsBehind, parts_of}
 use Rattle.sb_session.proofs.Carried.{CanRun-as, IsFor-as}
 use Rattle.sb_session.proofs.Commands.{outside_for}
 use Rattle.sb_execution.specs.Endings.{Executed, IsOf, Passes}
 use Rattle.sb_execution.proofs.CallLemmas.{ok_err, still_up}
 use Rattle.sb_execution.proofs.EndLemmas.{Ends-as, Ends-since}
-use Rattle.sb_execution.proofs.ExecLemmas.{Keeps-then}
+use Rattle.sb_execution.proofs.ExecLemmas.{KeepsSession-then}
 
 module _ {B D : Type 0} (meanings : B → Meanings) (told : D → Option Story) (len faults : D → ℕ) (c : Command) (d e : D) (x y : Session B)
     (runs : CanRun meanings told len d x) (up : x.down ≡ false) (none : x.open ≡ None)
@@ -63,7 +63,7 @@ module _ {B D : Type 0} (meanings : B → Meanings) (told : D → Option Story) 
       CanRun-as meanings told len d e x y None q runs (ap meanings boxes) place (opened ∙ none) refl passes.remains.geometry passes.remains.ready
       (λ on. still_up told len faults {T = Unit {0}} d e x.space.store y.space.store (Ok tt) passes.remains (λ is. ok_err tt refusal.Fault is)) (λ on. passes.none)
 
-  keeps_tested : Keeps len faults d e x y ok
+  keeps_tested : KeepsSession len faults d e x y ok
   keeps_tested = record {
     size = passes.remains.size;
     later = passes.remains.later;
@@ -74,7 +74,7 @@ module _ {B D : Type 0} (meanings : B → Meanings) (told : D → Option Story) 
   }
 
   -- and the command goes on, and asks nothing of the disk
-  pub Executed-tested : (f : D) (z : Session B) (r : Reply) → f ≡ e → AreSameBoxes (meanings y.boxes) (meanings z.boxes) → Keeps len faults e f y z r → CanRun meanings told len f z
+  pub Executed-tested : (f : D) (z : Session B) (r : Reply) → f ≡ e → AreSameBoxes (meanings y.boxes) (meanings z.boxes) → KeepsSession len faults e f y z r → CanRun meanings told len f z
       → ((want : Wanted) (s : State) → IsFor meanings told len want s e y → refused (extensions_of m) s c ≡ None
       → Ends (λ t. IsFor meanings told len want t f z) (Lacks faults) (HasFailed faults e f) (extensions_of (meanings y.boxes)) s c r)
       → Executed meanings told len faults c d f x z r
@@ -90,6 +90,6 @@ module _ {B D : Type 0} (meanings : B → Meanings) (told : D → Option Story) 
         (subst (λ (b : B). Ends (λ t. IsFor meanings told len want t f z) (Lacks faults) (HasFailed faults e f) (extensions_of (meanings b)) s c r) boxes
         (ends want s (IsFor-tested want s for) (passes.passed want s (of_state want s for)))));
     same = subst (λ (b : B). AreSameBoxes (meanings b) (meanings z.boxes)) boxes same;
-    keeps = Keeps-then len faults d e f x y z ok r up down keeps_tested keeps;
+    keeps = KeepsSession-then len faults d e f x y z ok r up down keeps_tested keeps;
     runs = runs_on;
   }

@@ -16,7 +16,7 @@ use Rattle.sb_execution.specs.Serving.{IsPosedIn}
 use Rattle.sb_session.specs.declared.session.Open.{Open}
 use Rattle.sb_session.specs.declared.session.Session.{Session}
 use Rattle.sb_session.specs.Ends.{Ends, ends_with}
-use Rattle.sb_session.specs.Sessions.{CanRun, HasFailed, IsFor, IsOpenFor, Keeps, Lacks, LeavesOldOrNext, StandsBehind, parts_of}
+use Rattle.sb_session.specs.Sessions.{CanRun, HasFailed, IsFor, IsOpenFor, KeepsSession, Lacks, LeavesOldOrNext, StandsBehind, parts_of}
 use Rattle.sb_session.proofs.Carried.{CanRun-as, IsFor-as, leaves-for}
 use Rattle.sb_execution.specs.Endings.{EndsAlone, EndsInside, IsLeft, IsLeftSo, IsOf, reply_by}
 use Rattle.sb_execution.proofs.CallLemmas.{still_up}
@@ -62,7 +62,7 @@ module _ {B D : Type 0} (meanings : B → Meanings) (told : D → Option Story) 
         still_up told len faults d e x.space.store space.store result remains
         (λ fault. absurd (false≢true (sym on ∙ ends ∙ ap (λ (a : Result Reply Refusal). ends_with (reply_by a)) fault)))
 
-    pub keeps_session : Keeps len faults d e x y r
+    pub keeps_session : KeepsSession len faults d e x y r
     keeps_session = record {
       size = remains.size;
       later = remains.later;

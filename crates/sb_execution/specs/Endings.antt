@@ -15,7 +15,7 @@ use Rattle.sb_plain.specs.Step.{Answer, answered, work_of}
 use Rattle.sb_registry.specs.Boxes.{Meanings}
 use Rattle.sb_drive.specs.Spaces.{Wanted}
 use Rattle.sb_map.specs.declared.place.Place.{Place}
-use Rattle.sb_txn.specs.Clauses.{Parts, parts, IsStoreOf, LeavesWanted}
+use Rattle.sb_txn.specs.Clauses.{Parts, parts, HoldsPages, LeavesWanted}
 use Rattle.sb_txn.specs.State.{State as StoreState}
 use Rattle.sb_engine.specs.declared.running.Work.{Work as EngineWork}
 use Rattle.sb_engine.specs.Working.{extensions_of}
@@ -28,7 +28,7 @@ use Rattle.sb_statements.specs.Statements.{answer_of}
 use Rattle.sb_session.specs.declared.session.Open.{Open}
 use Rattle.sb_session.specs.Ends.{Ends, ends_with}
 use Rattle.sb_session.specs.declared.session.Session.{Session}
-use Rattle.sb_session.specs.Sessions.{CanGoOn, CanRun, HasFailed, IsFor, IsOpenFor, Keeps, Lacks, LeavesOldOrNext, StandsBehind}
+use Rattle.sb_session.specs.Sessions.{CanGoOn, CanRun, HasFailed, IsFor, IsOpenFor, KeepsSession, Lacks, LeavesOldOrNext, StandsBehind}
 use Rattle.sb_execution.specs.declared.serving.Served.{Served}
 use Rattle.sb_execution.specs.declared.serving.Served.TheVariants as served
 
@@ -106,7 +106,7 @@ pub record ComesAlone {D : Type 0} (told : D → Option Story) (len faults : D �
   pub leaves : LeavesWanted (parts told len d s) (parts told len mid.disk mid.store)
   pub led : IsLed told len faults tx mid (record { disk = e; store = t })
   pub store : (want : Wanted) (x : State) → IsOf m place want x (parts told len d s) None
-      → (was now : ℕ → List ℕ) × IsStoreOf want was (parts told len d s) × IsStoreOf want now (parts told len mid.disk mid.store)
+      → (was now : ℕ → List ℕ) × HoldsPages want was (parts told len d s) × HoldsPages want now (parts told len mid.disk mid.store)
   pub begun : t.book.down ≡ false → (want : Wanted) (x : State) → IsOf m place want x (parts told len d s) None
       → WasBegun m place.root want (committed x) tx (parts told len e t)
 
@@ -148,5 +148,5 @@ pub record Executed {B D : Type 0} (meanings : B → Meanings) (told : D → Opt
       → Ends (StandsBehind meanings told len want (extensions_of (meanings x.boxes)) s c d e x y) (Lacks faults) (HasFailed faults d e)
       (extensions_of (meanings x.boxes)) s c r
   pub same : AreSameBoxes (meanings x.boxes) (meanings y.boxes)
-  pub keeps : Keeps len faults d e x y r
+  pub keeps : KeepsSession len faults d e x y r
   pub runs : CanRun meanings told len e y

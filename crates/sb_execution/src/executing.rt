@@ -9,7 +9,7 @@ ghost use Rattle.sb_execution.specs.Serving.{IsPosedIn};
 ghost use Rattle.sb_execution.specs.Endings.{Executed};
 ghost use Rattle.sb_session.specs.Ends.{Ends};
 ghost use Rattle.sb_session.specs.Ends as answers;
-ghost use Rattle.sb_session.specs.Sessions.{CanRun, HasFailed, IsFor, Keeps, Lacks, StandsBehind};
+ghost use Rattle.sb_session.specs.Sessions.{CanRun, HasFailed, IsFor, KeepsSession, Lacks, StandsBehind};
 ghost use Rattle.sb_vectors.specs.Vectors.{AreSameBoxes};
 
 use crate::inside::exec_inside;
@@ -37,7 +37,7 @@ pub fn exec<B: Vectors, D: Disk>(
         → Ends (StandsBehind B.meanings D.told D.len want (extensions_of (B.meanings session.old.boxes)) s command.now disk.old disk.new session.old session.new)
         (Lacks D.faults) (HasFailed D.faults disk.old disk.new) (extensions_of (B.meanings session.old.boxes)) s command.now result }
     ensures same { AreSameBoxes (B.meanings session.old.boxes) (B.meanings session.new.boxes) }
-    ensures keeps { Keeps D.len D.faults disk.old disk.new session.old session.new result }
+    ensures keeps { KeepsSession D.len D.faults disk.old disk.new session.old session.new result }
     ensures runs { CanRun B.meanings D.told D.len disk.new session.new }
 {
     run(session, disk, alloc, command)

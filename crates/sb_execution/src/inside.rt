@@ -8,7 +8,7 @@ ghost use Rattle.sb_execution.specs.Serving.{IsPosedIn, is_managing};
 ghost use Rattle.sb_execution.specs.Endings.{EndsInside};
 ghost use Rattle.sb_txn.specs.Clauses.{parts, LeavesWanted};
 ghost use Rattle.sb_session.specs.Ends.{Ends};
-ghost use Rattle.sb_session.specs.Sessions.{CanGoOn, CanRun, HasFailed, IsFor, Keeps, Lacks, parts_of};
+ghost use Rattle.sb_session.specs.Sessions.{CanGoOn, CanRun, HasFailed, IsFor, KeepsSession, Lacks, parts_of};
 
 use crate::replies::{reply_to, told};
 use crate::serving::serve_in;
@@ -39,7 +39,7 @@ pub(crate) fn exec_inside<B: Vectors, D: Disk>(
         (extensions_of (B.meanings session.old.boxes)) s command.now result }
     ensures any_moment { LeavesWanted (parts_of D.told D.len disk.old session.old) (parts_of D.told D.len disk.new session.new) }
     ensures boxes { session.new.boxes ≡ session.old.boxes }
-    ensures keeps { Keeps D.len D.faults disk.old disk.new session.old session.new result }
+    ensures keeps { KeepsSession D.len D.faults disk.old disk.new session.old session.new result }
     ensures runs { CanRun B.meanings D.told D.len disk.new session.new }
 {
     let Some(mut current) = session.open.take() else {

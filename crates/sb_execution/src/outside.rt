@@ -9,7 +9,7 @@ ghost use Rattle.sb_execution.specs.Serving.{IsPosedIn, is_managing};
 ghost use Rattle.sb_statements.specs.Statements.{answer_of};
 ghost use Rattle.sb_execution.specs.Endings.{EndsAlone, HasAnswered, Passes};
 ghost use Rattle.sb_session.specs.Ends.{Ends, MayWant};
-ghost use Rattle.sb_session.specs.Sessions.{CanRun, HasFailed, IsFor, Keeps, Lacks, StandsBehind};
+ghost use Rattle.sb_session.specs.Sessions.{CanRun, HasFailed, IsFor, KeepsSession, Lacks, StandsBehind};
 ghost use Rattle.sb_transactions.specs.Transactions.{IsUsable};
 ghost use Rattle.sb_txn.specs.Clauses.{parts, IsReady};
 ghost use Rattle.sb_txn.specs.State.{State as StoreState};
@@ -43,7 +43,7 @@ pub(crate) fn exec_outside<B: Vectors, D: Disk>(
         → Ends (StandsBehind B.meanings D.told D.len want (extensions_of (B.meanings session.old.boxes)) s command.now disk.old disk.new session.old session.new)
         (Lacks D.faults) (HasFailed D.faults disk.old disk.new) (extensions_of (B.meanings session.old.boxes)) s command.now result }
     ensures boxes { session.new.boxes ≡ session.old.boxes }
-    ensures keeps { Keeps D.len D.faults disk.old disk.new session.old session.new result }
+    ensures keeps { KeepsSession D.len D.faults disk.old disk.new session.old session.new result }
     ensures runs { CanRun B.meanings D.told D.len disk.new session.new }
 {
     let result = work_outside(

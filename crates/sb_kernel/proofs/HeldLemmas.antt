@@ -12,7 +12,7 @@ use Rattle.sb_plain.specs.State.{State, Transaction as PlainTransaction, committ
 use Rattle.sb_registry.specs.Boxes.{Meanings}
 use Rattle.sb_drive.specs.Spaces.{Wanted}
 use Rattle.sb_map.specs.declared.place.Place.{Place}
-use Rattle.sb_txn.specs.Clauses.{Parts, IsStoreOf, LeavesWanted}
+use Rattle.sb_txn.specs.Clauses.{Parts, HoldsPages, LeavesWanted}
 use Rattle.sb_txn.proofs.KeepsLemmas.{LeavesWanted-none}
 use Rattle.sb_space.specs.Table.{table_len}
 use Rattle.sb_transactions.specs.Transactions.{IsCommitted}
@@ -21,7 +21,7 @@ use Rattle.sb_opening.specs.Naming.{all_live}
 use Rattle.sb_opening.proofs.CommittedLemmas.{committed-by-all, committed-by-same}
 use Rattle.sb_session.specs.declared.session.Open.{Open}
 use Rattle.sb_session.specs.declared.session.Session.{Session}
-use Rattle.sb_session.specs.Sessions.{IsFor, IsOpenFor, Keeps, parts_of}
+use Rattle.sb_session.specs.Sessions.{IsFor, IsOpenFor, KeepsSession, parts_of}
 use Rattle.sb_kernel.specs.World.{World, IsNow}
 use Rattle.sb_kernel.specs.Crashes.{Holds}
 use Rattle.sb_kernel.specs.Answering.{Closes}
@@ -52,7 +52,7 @@ committed_for m place want db p (Some o) None none = absurd none
 
 -- there are pages now beside them
 store_for : (m : Meanings) (place : Place) (want : Wanted) (db : Db) (p : Parts) (o : Option Open) (t : Option PlainTransaction) → IsOpenFor m place want db p o t
-    → (now : ℕ → List ℕ) × IsStoreOf want now p
+    → (now : ℕ → List ℕ) × HoldsPages want now p
 store_for m place want db p None None rests = (rests.has.now, rests.has.stands.store)
 store_for m place want db p (Some o) (Some t) inside = (inside.at.has.now, inside.at.has.stands.store)
 store_for m place want db p None (Some t) none = absurd none
@@ -81,7 +81,7 @@ pub rests-held : {B D : Type 0} (w : World B D) → RestsHeld w
 rests-held w m disk x s image now up left = at_end (w.told disk) (w.told disk) (λ image. Holds m image (committed s)) (leaves-still w m disk x s now up) image left
 
 -- an abort leaves what was wanted
-pub Closes-wanted : {B D : Type 0} (w : World B D) (old new : D) (x y : Session B) (reply : Reply) → Keeps w.len w.faults old new x y reply
+pub Closes-wanted : {B D : Type 0} (w : World B D) (old new : D) (x y : Session B) (reply : Reply) → KeepsSession w.len w.faults old new x y reply
     → LeavesWanted (parts_of w.told w.len old x) (parts_of w.told w.len new y) → Closes w old new x
 Closes-wanted w old new x y reply keeps leaves = record {
   later = keeps.later;

@@ -25,7 +25,7 @@ use Rattle.sb_vectors.specs.Vectors.{AreSameBoxes}
 use Rattle.sb_opening.specs.Naming.{all_live}
 use Rattle.sb_session.specs.declared.session.Session.{Session}
 use Rattle.sb_session.specs.Ends.{Ends}
-use Rattle.sb_session.specs.Sessions.{HasFailed, IsFor, IsNext, Keeps, Lacks, LeavesNext, LeavesOldOrNext, StandsBehind, parts_of}
+use Rattle.sb_session.specs.Sessions.{HasFailed, IsFor, IsNext, KeepsSession, Lacks, LeavesNext, LeavesOldOrNext, StandsBehind, parts_of}
 use Rattle.sb_session.proofs.MoveLists.{found_more}
 use Rattle.sb_session.proofs.SameBoxes.{same-then}
 use Rattle.sb_execution.specs.Serving.{IsPosedIn}
@@ -76,7 +76,7 @@ HasReplied-bad w line column d x up is = record {
 module _ {B D : Type 0} (w : World B D) (c : Command) (old new : D) (x y : Session B) (reply : Reply) (up : x.down ≡ false)
     (ends : (want : Wanted) (s : State) → IsFor w.meanings w.told w.len want s old x → IsPosedIn (w.meanings x.boxes) s c
     → Ends (StandsBehind w.meanings w.told w.len want (extensions_of (w.meanings x.boxes)) s c old new x y) (Lacks w.faults) (HasFailed w.faults old new) (extensions_of (w.meanings x.boxes)) s c reply)
-    (same : AreSameBoxes (w.meanings x.boxes) (w.meanings y.boxes)) (keeps : Keeps w.len w.faults old new x y reply) where
+    (same : AreSameBoxes (w.meanings x.boxes) (w.meanings y.boxes)) (keeps : KeepsSession w.len w.faults old new x y reply) where
   abbrev n : Meanings
   n = w.meanings x.boxes
 

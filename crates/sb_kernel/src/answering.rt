@@ -2,7 +2,7 @@
 
 ghost use Rattle.std.specs.Prelude.{◌≡◌, ◌∷◌, ◌++◌, [], ℕ, List, IfOk, OnErr, OnOk, false};
 ghost use Rattle.sb_grammar.specs.Columns.{IsItem, Says};
-ghost use Rattle.sb_session.specs.Sessions.{CanRun, Keeps};
+ghost use Rattle.sb_session.specs.Sessions.{CanRun, KeepsSession};
 ghost use Rattle.sb_kernel.specs.World.{world};
 ghost use Rattle.sb_kernel.specs.Answering.{HasReplied};
 
@@ -29,7 +29,7 @@ pub(crate) fn answer_line<B: Vectors, D: Disk>(
 
     ensures replied { IfOk result (λ reply. HasReplied (world B.meanings D.told D.len D.clock D.faults) line.now disk.old disk.new session.old session.new reply) }
     ensures begun { OnOk result (starts.new ≡ starts.old ++ D.clock disk.old ∷ []) }
-    ensures keeps { IfOk result (λ reply. Keeps D.len D.faults disk.old disk.new session.old session.new reply) }
+    ensures keeps { IfOk result (λ reply. KeepsSession D.len D.faults disk.old disk.new session.old session.new reply) }
     ensures unread { OnErr result ((session.new ≡ session.old) × (disk.new ≡ disk.old) × (starts.new ≡ starts.old)) }
     ensures runs { CanRun B.meanings D.told D.len disk.new session.new }
 {
@@ -61,7 +61,7 @@ fn answer_command<B: Vectors, D: Disk>(
     ensures replied { IfOk result (λ reply. (line : List ℕ) → IsItem line (Says command.now)
         → HasReplied (world B.meanings D.told D.len D.clock D.faults) line disk.old disk.new session.old session.new reply) }
     ensures begun { OnOk result (starts.new ≡ starts.old ++ D.clock disk.old ∷ []) }
-    ensures keeps { IfOk result (λ reply. Keeps D.len D.faults disk.old disk.new session.old session.new reply) }
+    ensures keeps { IfOk result (λ reply. KeepsSession D.len D.faults disk.old disk.new session.old session.new reply) }
     ensures unread { OnErr result ((session.new ≡ session.old) × (disk.new ≡ disk.old) × (starts.new ≡ starts.old)) }
     ensures runs { CanRun B.meanings D.told D.len disk.new session.new }
 {

@@ -20,7 +20,7 @@ use Rattle.sb_map.specs.declared.place.Place.{Place}
 use Rattle.sb_standing.specs.Tables.{Kept, Tables}
 use Rattle.sb_opened.specs.Opened.{IsDurable}
 use Rattle.sb_txn.specs.Book.{Book}
-use Rattle.sb_txn.specs.Clauses.{Parts, parts, IsStoreOf}
+use Rattle.sb_txn.specs.Clauses.{Parts, parts, HoldsPages}
 use Rattle.sb_txn.specs.Opened.{IsOpened}
 use Rattle.sb_txn.specs.State.{State}
 use Rattle.sb_space.specs.Opening.{IsFirstDamaged, IsSpace, NamesDamage, SpaceErr}
@@ -122,7 +122,7 @@ module _ {D : Type 0} (told : D → Option Story) (len faults : D → ℕ) (d e 
   size_of : (want : ℕ → List ℕ) (g : Geometry) → IsMounted want (told d) g → is_some (told d) ≡ true → g ≡ s.pool.geometry
   size_of want g mounted tells = told_from (told d) (g ≡ s.pool.geometry) tells (was.sizes want g mounted)
 
-  store_of : (want : ℕ → List ℕ) (g : Geometry) → IsMounted want (told d) g → IsStoreOf want want mid
+  store_of : (want : ℕ → List ℕ) (g : Geometry) → IsMounted want (told d) g → HoldsPages want want mid
   store_of want g mounted = ([], [], was.pages want g mounted)
 
   -- ---- a disk whose contents stand for a database

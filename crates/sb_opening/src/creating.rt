@@ -3,12 +3,11 @@
 ghost use Rattle.std.specs.Prelude.{◌≡◌, ◌↔◌, ◌<◌, ◌≤◌, [], None, false, IfErr, IfOk, OnOk, IsErrOf};
 ghost use Rattle.sb_disk.specs.Causes.{Rose};
 ghost use Rattle.sb_disk.specs.Moments.{IsSettled, LeavesOnly};
-ghost use Rattle.sb_images.specs.Layout.{need as need_of, IsGeometry};
+ghost use Rattle.sb_images.specs.Layout.{geometry_of, need as need_of, IsGeometry};
 ghost use Rattle.sb_images.specs.Store.{IfTold};
 ghost use Rattle.sb_recover.specs.FirstPages.{first_page};
 ghost use Rattle.sb_recover.specs.Formatting.{IsFormatting, KeepsStore};
 ghost use Rattle.sb_recover.specs.Geometries.{HoldsNone};
-ghost use Rattle.sb_recover.specs.SuperPage.{geometry_of};
 ghost use Rattle.sb_registry.specs.Boxes.{repeated_in};
 ghost use Rattle.sb_session.specs.Sessions.{CanRun, IsFor};
 ghost use Rattle.sb_space.specs.Table.{table_len};

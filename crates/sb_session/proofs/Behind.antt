@@ -13,7 +13,7 @@ use Rattle.sb_plain.specs.State.{State, Transaction as PlainTransaction, committ
 use Rattle.sb_registry.specs.Boxes.{Meanings}
 use Rattle.sb_drive.specs.Spaces.{Wanted}
 use Rattle.sb_map.specs.declared.place.Place.{Place}
-use Rattle.sb_txn.specs.Clauses.{Parts, IsStoreOf, LeavesWanted}
+use Rattle.sb_txn.specs.Clauses.{Parts, HoldsPages, LeavesWanted}
 use Rattle.sb_engine.specs.Working.{extensions_of}
 use Rattle.sb_session.specs.declared.session.Open.{Open}
 use Rattle.sb_session.specs.declared.session.Session.{Session}
@@ -60,7 +60,7 @@ module _ (S T : State → Type 0) (Lacks : Room → Type 0) (HasFailed : Type 0)
 -- ---- what was wanted is left
 -- the pages now of a store whose pages wanted a session knows
 store_open : (m : Meanings) (place : Place) (want : Wanted) (db : Db) (p : Parts) (o : Option Open) (t : Option PlainTransaction) → IsOpenFor m place want db p o t
-    → (now : ℕ → List ℕ) × IsStoreOf want now p
+    → (now : ℕ → List ℕ) × HoldsPages want now p
 store_open m place want db p None None rests = (rests.has.now, rests.has.stands.store)
 store_open m place want db p (Some o) (Some t) inside = (inside.at.has.now, inside.at.has.stands.store)
 store_open m place want db p None (Some t) opened = absurd opened

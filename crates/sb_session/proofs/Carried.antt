@@ -33,7 +33,7 @@ use Rattle.sb_session.specs.declared.session.Open.{Open}
 use Rattle.sb_session.specs.declared.session.Savepoint.{Savepoint}
 use Rattle.sb_session.specs.declared.session.Session.{Session}
 use Rattle.sb_session.specs.Ends.{Ends, IsStep, MayWant, ends_with, is_end}
-use Rattle.sb_session.specs.Sessions.{AreInOrder, CanGoOn, CanRun, HasFailed, IsFor, IsOpenFor, Keeps, Lacks, parts_of}
+use Rattle.sb_session.specs.Sessions.{AreInOrder, CanGoOn, CanRun, HasFailed, IsFor, IsOpenFor, KeepsSession, Lacks, parts_of}
 use Rattle.sb_session.proofs.OpenLemmas.{IsInside-same, IsOpenFor-spent}
 use Rattle.sb_session.proofs.Stepped.{Stepped}
 use Rattle.sb_session.proofs.StepLemmas.{at_fields}
@@ -213,7 +213,7 @@ module _ {B D : Type 0} (meanings : B → Meanings) (told : D → Option Story) 
 pub record Carried {B D : Type 0} (meanings : B → Meanings) (told : D → Option Story) (len faults : D → ℕ) (c : Command) (d e : D) (x y : Session B) (reply : Reply) : Type 0 where
   pub ends : (want : Wanted) (s : State) → IsFor meanings told len want s d x
       → Ends (λ t. IsFor meanings told len want t e y) (Lacks faults) (HasFailed faults d e) (extensions_of (meanings x.boxes)) s c reply
-  pub keeps : Keeps len faults d e x y reply
+  pub keeps : KeepsSession len faults d e x y reply
   pub runs : CanRun meanings told len e y
 
 module _ {B D : Type 0} (meanings : B → Meanings) (told : D → Option Story) (len faults : D → ℕ) (c : Command) where

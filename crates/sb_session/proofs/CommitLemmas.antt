@@ -36,7 +36,7 @@ use Rattle.sb_transactions.specs.Transactions.{HasNothingLeft, IsAt, IsCommitted
 use Rattle.sb_session.specs.declared.session.Open.{Open}
 use Rattle.sb_session.specs.declared.session.Session.{Session}
 use Rattle.sb_session.specs.Ends.{Ends, IsFree, IsStep, ends_with, is_end}
-use Rattle.sb_session.specs.Sessions.{AreSavepoints, CanGoOn, CanRun, HasFailed, IsFor, IsInside, IsOpenFor, Keeps, Lacks, LeavesNext, LeavesOldOrNext, StandsBehind, StandsFor, going_in, parts_of}
+use Rattle.sb_session.specs.Sessions.{AreSavepoints, CanGoOn, CanRun, HasFailed, IsFor, IsInside, IsOpenFor, KeepsSession, Lacks, LeavesNext, LeavesOldOrNext, StandsBehind, StandsFor, going_in, parts_of}
 use Rattle.sb_session.proofs.Behind.{Ends-behind_for}
 use Rattle.sb_session.proofs.Carried.{CanRun-as, Carried, Ends-given, IsFor-as, end_of_given}
 use Rattle.sb_session.proofs.Commands.{inside_for}
@@ -141,7 +141,7 @@ module _ {D : Type 0} (faults : D → ℕ) (work : Work (Unit {0})) (g : Going) 
 pub record Committed {B D : Type 0} (meanings : B → Meanings) (told : D → Option Story) (len faults : D → ℕ) (d e : D) (x y : Session B) (r : Reply) : Type 0 where
   pub ends : (want : Wanted) (s : State) → IsFor meanings told len want s d x
       → Ends (StandsBehind meanings told len want (extensions_of (meanings x.boxes)) s command.Commit d e x y) (Lacks faults) (HasFailed faults d e) (extensions_of (meanings x.boxes)) s command.Commit r
-  pub keeps : Keeps len faults d e x y r
+  pub keeps : KeepsSession len faults d e x y r
   pub runs : CanRun meanings told len e y
 
 module _ {B D : Type 0} (meanings : B → Meanings) (told : D → Option Story) (len faults : D → ℕ) where
@@ -233,8 +233,8 @@ module _ {B D : Type 0} (meanings : B → Meanings) (told : D → Option Story) 
 
     -- ---- what it keeps
     module _ {T : Type 0} (result : Result T Refusal) (remains : Remains told len faults d e x.space.store space.store result) where
-      Keeps-commit : (r : Reply) → y.down ≡ (x.down || ends_with r) → Keeps len faults d e x y r
-      Keeps-commit r down = record {
+      KeepsSession-commit : (r : Reply) → y.down ≡ (x.down || ends_with r) → KeepsSession len faults d e x y r
+      KeepsSession-commit r down = record {
         size = remains.size;
         later = remains.later;
         geometry = ap (λ (a : Space). a.store.pool.geometry) same ∙ remains.geometry;
@@ -253,7 +253,7 @@ module _ {B D : Type 0} (meanings : B → Meanings) (told : D → Option Story) 
         → Committed meanings told len faults d e x y (reply.Done None picks)
     Committed-ok value picks remains down none done out = record {
       ends = λ want s for. step want s for (done want (going_on (within want s for).of) (at_commit want s for));
-      keeps = Keeps-commit (Ok value) remains (reply.Done None picks) (down ∙ sym (or-false x.down));
+      keeps = KeepsSession-commit (Ok value) remains (reply.Done None picks) (down ∙ sym (or-false x.down));
       runs = runs-commit (Ok value) remains None none (λ on. still_up space.store.book.down refl) (λ on. out (still_up space.store.book.down refl));
     }
       where
@@ -347,7 +347,7 @@ module _ {B D : Type 0} (meanings : B → Meanings) (told : D → Option Story) 
         pub Committed-over : Committed meanings told len faults d e x y (reply.Refused r)
         Committed-over = record {
           ends = over_ends;
-          keeps = Keeps-commit (Err r) remains (reply.Refused r) down;
+          keeps = KeepsSession-commit (Err r) remains (reply.Refused r) down;
           runs = runs-commit (Err r) remains None none (stays_up space.store.book.down refl) (λ on. out (stays_up space.store.book.down refl on));
         }
 
@@ -407,7 +407,7 @@ module _ {B D : Type 0} (meanings : B → Meanings) (told : D → Option Story) 
         pub Committed-wanting : Committed meanings told len faults d e x y (reply.Refused r)
         Committed-wanting = record {
           ends = λ want s for. wanting_ends want s for (wanting_of r wanting);
-          keeps = Keeps-commit (Err r) remains (reply.Refused r) down;
+          keeps = KeepsSession-commit (Err r) remains (reply.Refused r) down;
           runs = runs-commit (Err r) remains (Some new) is (stays_up space.store.book.down refl)
               (λ on. can_go (subst (λ (a : Option Open). CanGoOn m x.place p a) some (runs.goes up)));
         }

@@ -37,7 +37,7 @@ use Rattle.sb_vectors.proofs.BoxLemmas.{has_box-codes}
 use Rattle.sb_vectors.proofs.LawLemmas.{registering_moves, registering_stays, retiring_moves, retiring_stays}
 use Rattle.sb_session.specs.declared.session.Open.{Open}
 use Rattle.sb_session.specs.declared.session.Session.{Session}
-use Rattle.sb_session.specs.Sessions.{CanGoOn, CanRun, IsFor, IsOpenFor, Keeps, parts_of}
+use Rattle.sb_session.specs.Sessions.{CanGoOn, CanRun, IsFor, IsOpenFor, KeepsSession, parts_of}
 use Rattle.sb_session.specs.Ends.{IsStep, MayWant}
 use Rattle.sb_session.proofs.Carried.{Carried, Carried-given, Carried-memory, IsSame, SameOpen-none}
 use Rattle.sb_session.proofs.Commands.{outside_for}
@@ -129,8 +129,8 @@ module _ {B D : Type 0} (meanings : B → Meanings) (told : D → Option Story) 
       out : CanGoOn (meanings x.boxes) x.place (parts_of told len d x) None → CanGoOn (meanings y.boxes) y.place (parts_of told len d x) None
       out is = is
 
-  pub Keeps-moved : Keeps len faults d d x y ok
-  Keeps-moved = record {
+  pub KeepsSession-moved : KeepsSession len faults d d x y ok
+  KeepsSession-moved = record {
     size = refl;
     later = omega arith;
     geometry = ap (λ (a : Space). a.store.pool.geometry) space;

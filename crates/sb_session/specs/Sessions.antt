@@ -111,7 +111,7 @@ HasWork (Some o) = HasNothingLeft o.transaction.work → ⊥
 
 -- ---- what each command keeps
 -- The disk's length, the sizes and the place stay; a fault or damage, and they alone, end the session; a session that is down is left alone.
-pub record Keeps {B D : Type 0} (len faults : D → ℕ) (old new : D) (x y : Session B) (reply : Reply) : Type 0 where
+pub record KeepsSession {B D : Type 0} (len faults : D → ℕ) (old new : D) (x y : Session B) (reply : Reply) : Type 0 where
   pub size : len new ≡ len old
   pub later : faults old ≤ faults new
   pub geometry : y.space.store.pool.geometry ≡ x.space.store.pool.geometry

@@ -6,7 +6,7 @@ ghost use Rattle.sb_engine.specs.Working.{extensions_of};
 ghost use Rattle.sb_plain.specs.State.{State};
 ghost use Rattle.sb_plain.specs.declared.command.Command.TheVariants as command;
 ghost use Rattle.sb_session.specs.Ends.{Ends, picked_reply};
-ghost use Rattle.sb_session.specs.Sessions.{CanRun, HasFailed, HasWork, IsFor, Keeps, Lacks, StandsBehind};
+ghost use Rattle.sb_session.specs.Sessions.{CanRun, HasFailed, HasWork, IsFor, KeepsSession, Lacks, StandsBehind};
 
 use crate::session::{Open, Session};
 use sb_disk::Disk;
@@ -26,7 +26,7 @@ impl<B: Vectors> Session<B> {
             (Lacks D.faults) (HasFailed D.faults disk.old disk.new) (extensions_of (B.meanings self.old.boxes)) s command.Commit (picked_reply result) }
         ensures memory { IsErrOf result Refusal.NoMemory → HasWork self.old.open }
         ensures boxes { self.new.boxes ≡ self.old.boxes }
-        ensures keeps { Keeps D.len D.faults disk.old disk.new self.old self.new (picked_reply result) }
+        ensures keeps { KeepsSession D.len D.faults disk.old disk.new self.old self.new (picked_reply result) }
         ensures runs { CanRun B.meanings D.told D.len disk.new self.new }
     {
         if self.down {

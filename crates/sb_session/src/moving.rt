@@ -7,7 +7,7 @@ ghost use Rattle.sb_plain.specs.Refusing.{first_use};
 ghost use Rattle.sb_plain.specs.State.{State, view};
 ghost use Rattle.sb_plain.specs.declared.command.Command.TheVariants as command;
 ghost use Rattle.sb_session.specs.Ends.{Ends, reply_of};
-ghost use Rattle.sb_session.specs.Sessions.{CanRun, HasFailed, IsFor, Keeps, Lacks};
+ghost use Rattle.sb_session.specs.Sessions.{CanRun, HasFailed, IsFor, KeepsSession, Lacks};
 ghost use Rattle.sb_vectors.specs.Vectors.{AreSameBoxes};
 
 use crate::session::Session;
@@ -31,7 +31,7 @@ impl<B: Vectors> Session<B> {
         ensures disk { disk.new ≡ disk.old }
         ensures space { self.new.space ≡ self.old.space }
         ensures same { AreSameBoxes (B.meanings self.old.boxes) (B.meanings self.new.boxes) }
-        ensures keeps { Keeps D.len D.faults disk.old disk.new self.old self.new (reply_of result) }
+        ensures keeps { KeepsSession D.len D.faults disk.old disk.new self.old self.new (reply_of result) }
         ensures runs { CanRun B.meanings D.told D.len disk.new self.new }
     {
         if self.down {
@@ -58,7 +58,7 @@ impl<B: Vectors> Session<B> {
         ensures disk { disk.new ≡ disk.old }
         ensures space { self.new.space ≡ self.old.space }
         ensures same { AreSameBoxes (B.meanings self.old.boxes) (B.meanings self.new.boxes) }
-        ensures keeps { Keeps D.len D.faults disk.old disk.new self.old self.new (reply_of result) }
+        ensures keeps { KeepsSession D.len D.faults disk.old disk.new self.old self.new (reply_of result) }
         ensures runs { CanRun B.meanings D.told D.len disk.new self.new }
     {
         if self.down {

@@ -10,7 +10,7 @@ ghost use Rattle.sb_txn.specs.Clauses.{LeavesWanted};
 ghost use Rattle.sb_session.specs.declared.session.Savepoint.{Savepoint};
 ghost use Rattle.sb_session.specs.Ends.{Ends, reply_of};
 ghost use Rattle.sb_session.specs.Points.{IsSaved, NotSaved, NotThere, is_named};
-ghost use Rattle.sb_session.specs.Sessions.{CanRun, HasFailed, IsFor, Keeps, Lacks, parts_of};
+ghost use Rattle.sb_session.specs.Sessions.{CanRun, HasFailed, IsFor, KeepsSession, Lacks, parts_of};
 
 use crate::session::{Open, Savepoint, Session};
 use sb_disk::Disk;
@@ -34,7 +34,7 @@ impl<B: Vectors> Session<B> {
         ensures disk { disk.new ≡ disk.old }
         ensures space { self.new.space ≡ self.old.space }
         ensures boxes { self.new.boxes ≡ self.old.boxes }
-        ensures keeps { Keeps D.len D.faults disk.old disk.new self.old self.new (reply_of result) }
+        ensures keeps { KeepsSession D.len D.faults disk.old disk.new self.old self.new (reply_of result) }
         ensures runs { CanRun B.meanings D.told D.len disk.new self.new }
     {
         if self.down {
@@ -57,7 +57,7 @@ impl<B: Vectors> Session<B> {
             (extensions_of (B.meanings self.old.boxes)) s (command.Rollback name.now) (reply_of result) }
         ensures any_moment { LeavesWanted (parts_of D.told D.len disk.old self.old) (parts_of D.told D.len disk.new self.new) }
         ensures boxes { self.new.boxes ≡ self.old.boxes }
-        ensures keeps { Keeps D.len D.faults disk.old disk.new self.old self.new (reply_of result) }
+        ensures keeps { KeepsSession D.len D.faults disk.old disk.new self.old self.new (reply_of result) }
         ensures runs { CanRun B.meanings D.told D.len disk.new self.new }
     {
         if self.down {

@@ -8,7 +8,7 @@ ghost use Rattle.sb_plain.specs.State.{State};
 ghost use Rattle.sb_plain.specs.declared.command.Command.TheVariants as command;
 ghost use Rattle.sb_txn.specs.Clauses.{LeavesWanted};
 ghost use Rattle.sb_session.specs.Ends.{Ends, reply_of};
-ghost use Rattle.sb_session.specs.Sessions.{CanRun, HasFailed, IsFor, Keeps, Lacks, parts_of};
+ghost use Rattle.sb_session.specs.Sessions.{CanRun, HasFailed, IsFor, KeepsSession, Lacks, parts_of};
 
 use crate::session::{Open, Session};
 use sb_disk::Disk;
@@ -28,7 +28,7 @@ impl<B: Vectors> Session<B> {
             (extensions_of (B.meanings self.old.boxes)) s command.Begin (reply_of result) }
         ensures any_moment { LeavesWanted (parts_of D.told D.len disk.old self.old) (parts_of D.told D.len disk.new self.new) }
         ensures boxes { self.new.boxes ≡ self.old.boxes }
-        ensures keeps { Keeps D.len D.faults disk.old disk.new self.old self.new (reply_of result) }
+        ensures keeps { KeepsSession D.len D.faults disk.old disk.new self.old self.new (reply_of result) }
         ensures runs { CanRun B.meanings D.told D.len disk.new self.new }
     {
         if self.down {
@@ -58,7 +58,7 @@ impl<B: Vectors> Session<B> {
             (extensions_of (B.meanings self.old.boxes)) s command.Abort (reply_of result) }
         ensures any_moment { LeavesWanted (parts_of D.told D.len disk.old self.old) (parts_of D.told D.len disk.new self.new) }
         ensures boxes { self.new.boxes ≡ self.old.boxes }
-        ensures keeps { Keeps D.len D.faults disk.old disk.new self.old self.new (reply_of result) }
+        ensures keeps { KeepsSession D.len D.faults disk.old disk.new self.old self.new (reply_of result) }
         ensures runs { CanRun B.meanings D.told D.len disk.new self.new }
     {
         if self.down {
@@ -83,7 +83,7 @@ impl<B: Vectors> Session<B> {
         ensures any_moment { LeavesWanted (parts_of D.told D.len disk.old self.old) (parts_of D.told D.len disk.new self.new) }
         ensures empties { OnOk result (used_of self.new.space.store.journal ≡ 0) }
         ensures boxes { self.new.boxes ≡ self.old.boxes }
-        ensures keeps { Keeps D.len D.faults disk.old disk.new self.old self.new (reply_of result) }
+        ensures keeps { KeepsSession D.len D.faults disk.old disk.new self.old self.new (reply_of result) }
         ensures runs { CanRun B.meanings D.told D.len disk.new self.new }
     {
         if self.down {

@@ -24,7 +24,7 @@ use Rattle.sb_cascade.specs.Runs.{is_free, MadeFrom, StopsFrom}
 use Rattle.sb_registry.specs.Boxes.{Meanings}
 use Rattle.sb_drive.specs.Spaces.{Wanted}
 use Rattle.sb_map.specs.declared.place.Place.{Place}
-use Rattle.sb_txn.specs.Clauses.{Parts, parts, IsStoreOf, LeavesWanted}
+use Rattle.sb_txn.specs.Clauses.{Parts, parts, HoldsPages, LeavesWanted}
 use Rattle.sb_txn.specs.State.{State}
 use Rattle.sb_space.specs.Works.{Works}
 use Rattle.sb_engine.specs.declared.running.Work.{Work}
@@ -173,7 +173,7 @@ module _ {D : Type 0} (told : D → Option Story) (len faults : D → ℕ) (m : 
     abbrev ext : Extensions
     ext = extensions_of m
 
-    store : IsStoreOf want at.1.has.now old
+    store : HoldsPages want at.1.has.now old
     store = at.1.has.stands.store
 
     before : LeavesOnly (told d) (told e) (Restores s.pool.geometry want)

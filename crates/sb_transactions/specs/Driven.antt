@@ -8,7 +8,7 @@ use Rattle.sb_registry.specs.Boxes.{Meanings}
 use Rattle.sb_drive.specs.Slots.{Slots}
 use Rattle.sb_drive.specs.Spaces.{LeadsOn, Wanted}
 use Rattle.sb_map.specs.declared.place.Place.{Place}
-use Rattle.sb_txn.specs.Clauses.{Parts, IsStoreOf, LeavesWanted}
+use Rattle.sb_txn.specs.Clauses.{Parts, HoldsPages, LeavesWanted}
 use Rattle.sb_space.specs.declared.durable.Durable.{Durable}
 use Rattle.sb_space.specs.Durable.{Leads, parts_in}
 use Rattle.sb_space.specs.View.{lent}
@@ -25,7 +25,7 @@ use Rattle.sb_transactions.specs.Transactions.{IsAt, IsPointOf, WasBegun, WasSo}
 -- a store that tells its bytes has one row of pages now, whatever pages are wanted
 abbrev pub OneNow : Type 0
 OneNow =
-    (want now other then : ℕ → List ℕ) (p : Parts) → is_some p.told ≡ true → IsStoreOf want now p → IsStoreOf other then p
+    (want now other then : ℕ → List ℕ) (p : Parts) → is_some p.told ≡ true → HoldsPages want now p → HoldsPages other then p
     → (n : ℕ) → n < p.store.pool.geometry.pages → now n ≡ then n
 
 -- so the pages that it has, by their owners, are the same, whatever pages are wanted

@@ -7,7 +7,7 @@ ghost use Rattle.sb_registry.specs.Boxes.{Meanings};
 ghost use Rattle.sb_drive.specs.Spaces.{Wanted};
 ghost use Rattle.sb_map.specs.declared.place.Place.{Place};
 ghost use Rattle.sb_txn.specs.Book.{Out, out_with};
-ghost use Rattle.sb_txn.specs.Clauses.{parts, IsIdle, LeavesWanted};
+ghost use Rattle.sb_txn.specs.Clauses.{parts, CommitAsksNothing, LeavesWanted};
 ghost use Rattle.sb_space.specs.Works.{Serves};
 ghost use Rattle.sb_engine.specs.Refusals.{HasCause};
 ghost use Rattle.sb_engine.specs.Working.{extensions_of};
@@ -72,7 +72,7 @@ pub fn commit<B: Boxes, D: Disk>(
     // Where nothing waits and no owner is to go it takes no memory, and makes no call on the disk where no page was changed.
     ensures quiet { HasNothingLeft transaction.work → IfErr result (λ e. IsOnlyFault e.refusal space.new.store) }
     ensures idle { HasNothingLeft transaction.work → (o : Out) → out_with transaction.tx.store.number space.old.store.book.out ≡ Some o
-        → IsIdle o disk.old disk.new space.old.store space.new.store }
+        → CommitAsksNothing o disk.old disk.new space.old.store space.new.store }
 
     ensures remains { Remains D.told D.len D.faults disk.old disk.new space.old.store space.new.store (by_refusal result) }
 {
@@ -105,7 +105,7 @@ pub fn commit_pages<D: Disk>(
     ensures up { OnOk result (space.old.store.book.down ≡ false) }
     ensures none { OnOk result (space.new.store.book.out ≡ []) }
     ensures idle { (o : Out) → out_with transaction.tx.store.number space.old.store.book.out ≡ Some o
-        → IsIdle o disk.old disk.new space.old.store space.new.store }
+        → CommitAsksNothing o disk.old disk.new space.old.store space.new.store }
     ensures err { IfErr result (λ r. IsOnlyFault r space.new.store) }
     ensures cause { IfErr result (λ r. HasCause (FailsOn D.faults) r (record { disk = disk.new; store = space.new.store })) }
     ensures remains { Remains D.told D.len D.faults disk.old disk.new space.old.store space.new.store result }

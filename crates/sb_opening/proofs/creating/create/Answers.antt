@@ -1,6 +1,6 @@
 use Rattle.std.proofs.Common.{[], List, subst}
 use Rattle.sb_recover.specs.FirstPages.{first_page}
-use Rattle.sb_recover.specs.SuperPage.{geometry_of}
+use Rattle.sb_images.specs.Layout.{geometry_of}
 use Rattle.sb_session.specs.Sessions.{IsFor}
 use Rattle.sb_opening.specs.declared.codes.Named.{Named}
 use Rattle.sb_opening.specs.Naming.{HasLive}
