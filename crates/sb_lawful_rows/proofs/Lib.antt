@@ -1,0 +1,7 @@
+pub mod Wishing
+pub mod Storing
+pub mod Following
+pub mod Changing
+pub mod Stepping
+pub mod Building
+mod WorkedPremises

@@ -1,0 +1,4 @@
+pub mod Storable
+pub mod Work
+pub mod States
+pub mod Laws

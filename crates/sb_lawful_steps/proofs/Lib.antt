@@ -1,0 +1,6 @@
+pub mod Keeping
+pub mod Names
+pub mod States
+pub mod Stepping
+pub mod Alike
+mod WorkedPlays
