@@ -5,6 +5,8 @@ pub mod PhrasesRead
 pub mod ActionsRead
 pub mod Branches
 pub mod AttachmentsRead
+pub mod RulesRead
+pub mod VerbsRead
 pub mod RelationsRead
 pub mod CommandsRead
 pub mod Loops

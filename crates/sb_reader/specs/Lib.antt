@@ -1,4 +1,6 @@
 pub mod Commands
 pub mod Gives
+pub mod Rules
+pub mod Verbs
 pub mod Outcome
 pub mod Line

@@ -1,61 +1,48 @@
 //! Readers of attachments, each as the command that attaches it.
 
+ghost use Rattle.std.specs.Prelude.{◌≡◌};
 ghost use Rattle.sb_tokens.specs.Rows.{tokens_of};
 ghost use Rattle.sb_reader.specs.Gives.{Gives, beside};
 ghost use Rattle.sb_reader.specs.Commands as spec;
+ghost use Rattle.sb_reader.specs.Rules.{word_of as keyword, attached_at, attachment_of};
 
-use crate::actions::read_triggered;
 use crate::fault::Fault;
-use crate::form::Form;
-use crate::lists::read_names;
-use crate::phrases::{read_flag, read_foreign_code, read_place};
-use crate::pieces::{
-    behind_word, is_word_next, read_int, read_key, read_mark, read_name, read_positive, read_word,
-};
-use crate::predicates::read_predicate;
+use crate::kind::RuleKind;
+use crate::phrases::{read_foreign_code, read_place};
+use crate::pieces::{is_word_next, read_key, read_word};
+use crate::rules::read_rule_of;
 use sb_plain::Command;
-use sb_rule::{Event, Mode, Rule, Side};
-use sb_tokens::{Placed, Sign};
+use sb_rule::Rule;
+use sb_tokens::Placed;
 use sb_value::Bytes;
 use std::alloc::Global;
 
-#[tactic(auto, unfolding(crate::specs::Commands::mode_at), using(crate::proofs::Loops::passes))]
-fn read_mode<'a>(tokens: &'a [Placed]) -> Result<(Mode, &'a [Placed]), Fault<'a>>
-    ensures { Gives beside result (spec.mode_at (tokens_of tokens.now)) }
+/// The first word of an attachment.
+fn word_of(kind: RuleKind) -> &'static [u8]
+    ensures { result.now ≡ keyword kind }
 {
-    if let Some(rest) = behind_word(b"restrict", tokens) {
-        return Ok((Mode::Restrict, rest));
+    match kind {
+        RuleKind::TreeIndex => b"treeindex",
+        RuleKind::HashIndex => b"hashindex",
+        RuleKind::JoinIndex => b"joinindex",
+        RuleKind::Stats => b"stats",
+        RuleKind::Check => b"check",
+        RuleKind::Refers => b"refers",
+        RuleKind::Trigger => b"trigger",
     }
-    let rest = read_word(b"cascade", tokens)?;
-    Ok((Mode::Cascade, rest))
 }
 
-#[tactic(auto, unfolding(crate::specs::Commands::event_at), using(crate::proofs::Loops::passes))]
-fn read_event<'a>(tokens: &'a [Placed]) -> Result<(Event, &'a [Placed]), Fault<'a>>
-    ensures { Gives beside result (spec.event_at (tokens_of tokens.now)) }
-{
-    if let Some(rest) = behind_word(b"insert", tokens) {
-        return Ok((Event::Insert, rest));
-    }
-    if let Some(rest) = behind_word(b"delete", tokens) {
-        return Ok((Event::Delete, rest));
-    }
-    let rest = read_word(b"update", tokens)?;
-    Ok((Event::Update, rest))
-}
-
-#[tactic(auto, unfolding(crate::specs::Commands::tree_index_at))]
-fn read_tree_index<'a>(
+#[tactic(auto, unfolding(crate::specs::Rules::attached_at))]
+fn read_attached<'a>(
+    kind: RuleKind,
     alloc: Global,
     tokens: &'a [Placed],
 ) -> Result<(Command, &'a [Placed]), Fault<'a>>
-    ensures { Gives beside result (spec.tree_index_at (tokens_of tokens.now)) }
+    ensures { Gives beside result (attached_at kind (tokens_of tokens.now)) }
 {
-    let rest = read_word(b"treeindex", tokens)?;
+    let rest = read_word(word_of(kind), tokens)?;
     let (name, relation, rest) = read_place(rest)?;
-    let (columns, rest) = read_names(alloc, rest)?;
-    let (unique, rest) = read_flag(b"unique", rest);
-    let rule = Rule::TreeIndex { columns, unique };
+    let (rule, rest) = read_rule_of(kind, alloc, rest)?;
     let command = Command::Attach {
         relation,
         name,
@@ -64,150 +51,15 @@ fn read_tree_index<'a>(
     Ok((command, rest))
 }
 
-#[tactic(auto, unfolding(crate::specs::Commands::hash_index_at))]
-fn read_hash_index<'a>(
+/// An attachment of this kind.
+fn read_attachment_of<'a>(
+    kind: RuleKind,
     alloc: Global,
     tokens: &'a [Placed],
 ) -> Result<(Command, &'a [Placed]), Fault<'a>>
-    ensures { Gives beside result (spec.hash_index_at (tokens_of tokens.now)) }
+    ensures { Gives beside result (attachment_of kind (tokens_of tokens.now)) }
 {
-    let rest = read_word(b"hashindex", tokens)?;
-    let (name, relation, rest) = read_place(rest)?;
-    let (columns, rest) = read_names(alloc, rest)?;
-    let rule = Rule::HashIndex { columns };
-    let command = Command::Attach {
-        relation,
-        name,
-        rule,
-    };
-    Ok((command, rest))
-}
-
-#[tactic(auto, unfolding(crate::specs::Commands::join_index_at))]
-fn read_join_index<'a>(
-    alloc: Global,
-    tokens: &'a [Placed],
-) -> Result<(Command, &'a [Placed]), Fault<'a>>
-    ensures { Gives beside result (spec.join_index_at (tokens_of tokens.now)) }
-{
-    let rest = read_word(b"joinindex", tokens)?;
-    let (name, relation, rest) = read_place(rest)?;
-    let (columns, rest) = read_names(alloc, rest)?;
-    let rest = read_word(b"with", rest)?;
-    let (other, rest) = read_name(rest)?;
-    let (others, rest) = read_names(alloc, rest)?;
-    let rule = Rule::JoinIndex {
-        side: Side::Main,
-        columns,
-        other,
-        others,
-    };
-    let command = Command::Attach {
-        relation,
-        name,
-        rule,
-    };
-    Ok((command, rest))
-}
-
-#[tactic(auto, unfolding(crate::specs::Commands::stats_at))]
-fn read_stats<'a>(tokens: &'a [Placed]) -> Result<(Command, &'a [Placed]), Fault<'a>>
-    ensures { Gives beside result (spec.stats_at (tokens_of tokens.now)) }
-{
-    let rest = read_word(b"stats", tokens)?;
-    let (name, relation, rest) = read_place(rest)?;
-    let rest = read_mark(Sign::Open, rest)?;
-    let (column, rest) = read_name(rest)?;
-    let rest = read_mark(Sign::Close, rest)?;
-    let rest = read_word(b"low", rest)?;
-    let (low, rest) = read_int(rest)?;
-    let rest = read_word(b"width", rest)?;
-    let (width, rest) = read_positive(rest)?;
-    let rule = Rule::Stats { column, low, width };
-    let command = Command::Attach {
-        relation,
-        name,
-        rule,
-    };
-    Ok((command, rest))
-}
-
-#[tactic(auto, unfolding(crate::specs::Commands::check_at))]
-fn read_check<'a>(alloc: Global, tokens: &'a [Placed]) -> Result<(Command, &'a [Placed]), Fault<'a>>
-    ensures { Gives beside result (spec.check_at (tokens_of tokens.now)) }
-{
-    let rest = read_word(b"check", tokens)?;
-    let (name, relation, rest) = read_place(rest)?;
-    let (pred, rest) = read_predicate(alloc, Form::Bare, rest)?;
-    let (deferred, rest) = read_flag(b"deferred", rest);
-    let rule = Rule::Check { pred, deferred };
-    let command = Command::Attach {
-        relation,
-        name,
-        rule,
-    };
-    Ok((command, rest))
-}
-
-#[tactic(auto, unfolding(crate::specs::Commands::refers_at))]
-fn read_refers<'a>(
-    alloc: Global,
-    tokens: &'a [Placed],
-) -> Result<(Command, &'a [Placed]), Fault<'a>>
-    ensures { Gives beside result (spec.refers_at (tokens_of tokens.now)) }
-{
-    let rest = read_word(b"refers", tokens)?;
-    let (name, relation, rest) = read_place(rest)?;
-    let (columns, rest) = read_names(alloc, rest)?;
-    let rest = read_word(b"to", rest)?;
-    let (other, rest) = read_name(rest)?;
-    let (others, rest) = read_names(alloc, rest)?;
-    let (mode, rest) = read_mode(rest)?;
-    let (deferred, rest) = read_flag(b"deferred", rest);
-    let rule = Rule::Refers {
-        side: Side::Main,
-        columns,
-        other,
-        others,
-        mode,
-        deferred,
-    };
-    let command = Command::Attach {
-        relation,
-        name,
-        rule,
-    };
-    Ok((command, rest))
-}
-
-#[tactic(auto, unfolding(crate::specs::Commands::trigger_at))]
-fn read_trigger<'a>(
-    alloc: Global,
-    tokens: &'a [Placed],
-) -> Result<(Command, &'a [Placed]), Fault<'a>>
-    ensures { Gives beside result (spec.trigger_at (tokens_of tokens.now)) }
-{
-    let rest = read_word(b"trigger", tokens)?;
-    let (name, relation, rest) = read_place(rest)?;
-    let rest = read_word(b"after", rest)?;
-    let (event, rest) = read_event(rest)?;
-    let rest = read_word(b"when", rest)?;
-    let (pred, rest) = read_predicate(alloc, Form::Full, rest)?;
-    let rest = read_word(b"do", rest)?;
-    let (action, rest) = read_triggered(alloc, rest)?;
-    let (deferred, rest) = read_flag(b"deferred", rest);
-    let rule = Rule::Trigger {
-        event,
-        pred,
-        action,
-        deferred,
-    };
-    let command = Command::Attach {
-        relation,
-        name,
-        rule,
-    };
-    Ok((command, rest))
+    read_attached(kind, alloc, tokens)
 }
 
 #[tactic(auto, unfolding(crate::specs::Commands::foreign_at))]
@@ -234,18 +86,18 @@ fn read_rule<'a>(alloc: Global, tokens: &'a [Placed]) -> Result<(Command, &'a [P
     ensures { Gives beside result (spec.rule_at (tokens_of tokens.now)) }
 {
     if is_word_next(b"check", tokens) {
-        return read_check(alloc, tokens);
+        return read_attachment_of(RuleKind::Check, alloc, tokens);
     }
     if is_word_next(b"refers", tokens) {
-        return read_refers(alloc, tokens);
+        return read_attachment_of(RuleKind::Refers, alloc, tokens);
     }
     if is_word_next(b"trigger", tokens) {
-        return read_trigger(alloc, tokens);
+        return read_attachment_of(RuleKind::Trigger, alloc, tokens);
     }
     if is_word_next(b"code", tokens) {
         return read_foreign(tokens);
     }
-    read_stats(tokens)
+    read_attachment_of(RuleKind::Stats, alloc, tokens)
 }
 
 /// An attachment, as the command that attaches it.
@@ -257,13 +109,13 @@ pub fn read_attachment<'a>(
     ensures { Gives beside result (spec.attachment_at (tokens_of tokens.now)) }
 {
     if is_word_next(b"treeindex", tokens) {
-        return read_tree_index(alloc, tokens);
+        return read_attachment_of(RuleKind::TreeIndex, alloc, tokens);
     }
     if is_word_next(b"hashindex", tokens) {
-        return read_hash_index(alloc, tokens);
+        return read_attachment_of(RuleKind::HashIndex, alloc, tokens);
     }
     if is_word_next(b"joinindex", tokens) {
-        return read_join_index(alloc, tokens);
+        return read_attachment_of(RuleKind::JoinIndex, alloc, tokens);
     }
     read_rule(alloc, tokens)
 }

@@ -1,58 +1,33 @@
-//! Readers of commands on transactions and extensions.
+//! Readers of commands on transactions and extensions, behind their first words.
 
 ghost use Rattle.sb_tokens.specs.Rows.{tokens_of};
 ghost use Rattle.sb_reader.specs.Gives.{Gives, beside};
 ghost use Rattle.sb_reader.specs.Commands as spec;
+ghost use Rattle.sb_reader.specs.Verbs as verbs;
 
 use crate::fault::Fault;
-use crate::pieces::{behind_word, is_word_next, read_name, read_number, read_word};
+use crate::pieces::{behind_word, read_name, read_number, read_word};
 use sb_plain::Command;
 use sb_tokens::Placed;
 
-#[tactic(auto, unfolding(crate::specs::Commands::begin_at))]
-fn read_begin<'a>(tokens: &'a [Placed]) -> Result<(Command, &'a [Placed]), Fault<'a>>
-    ensures { Gives beside result (spec.begin_at (tokens_of tokens.now)) }
+#[tactic(auto, unfolding(crate::specs::Verbs::savepoint_behind_at))]
+pub fn read_savepoint<'a>(tokens: &'a [Placed]) -> Result<(Command, &'a [Placed]), Fault<'a>>
+    ensures { Gives beside result (verbs.savepoint_behind_at (tokens_of tokens.now)) }
 {
-    let rest = read_word(b"begin", tokens)?;
-    Ok((Command::Begin, rest))
-}
-
-#[tactic(auto, unfolding(crate::specs::Commands::commit_at))]
-fn read_commit<'a>(tokens: &'a [Placed]) -> Result<(Command, &'a [Placed]), Fault<'a>>
-    ensures { Gives beside result (spec.commit_at (tokens_of tokens.now)) }
-{
-    let rest = read_word(b"commit", tokens)?;
-    Ok((Command::Commit, rest))
-}
-
-#[tactic(auto, unfolding(crate::specs::Commands::abort_at))]
-fn read_abort<'a>(tokens: &'a [Placed]) -> Result<(Command, &'a [Placed]), Fault<'a>>
-    ensures { Gives beside result (spec.abort_at (tokens_of tokens.now)) }
-{
-    let rest = read_word(b"abort", tokens)?;
-    Ok((Command::Abort, rest))
-}
-
-#[tactic(auto, unfolding(crate::specs::Commands::savepoint_at))]
-fn read_savepoint<'a>(tokens: &'a [Placed]) -> Result<(Command, &'a [Placed]), Fault<'a>>
-    ensures { Gives beside result (spec.savepoint_at (tokens_of tokens.now)) }
-{
-    let rest = read_word(b"savepoint", tokens)?;
-    let (name, rest) = read_name(rest)?;
+    let (name, rest) = read_name(tokens)?;
     Ok((Command::Savepoint { name }, rest))
 }
 
-#[tactic(auto, unfolding(crate::specs::Commands::rollback_at))]
-fn read_rollback<'a>(tokens: &'a [Placed]) -> Result<(Command, &'a [Placed]), Fault<'a>>
-    ensures { Gives beside result (spec.rollback_at (tokens_of tokens.now)) }
+#[tactic(auto, unfolding(crate::specs::Verbs::rollback_behind_at))]
+pub fn read_rollback<'a>(tokens: &'a [Placed]) -> Result<(Command, &'a [Placed]), Fault<'a>>
+    ensures { Gives beside result (verbs.rollback_behind_at (tokens_of tokens.now)) }
 {
-    let rest = read_word(b"rollback", tokens)?;
-    let (name, rest) = read_name(rest)?;
+    let (name, rest) = read_name(tokens)?;
     Ok((Command::Rollback { name }, rest))
 }
 
 #[tactic(auto, unfolding(crate::specs::Commands::checkpoint_at))]
-fn read_checkpoint<'a>(tokens: &'a [Placed]) -> Result<(Command, &'a [Placed]), Fault<'a>>
+pub fn read_checkpoint<'a>(tokens: &'a [Placed]) -> Result<(Command, &'a [Placed]), Fault<'a>>
     ensures { Gives beside result (spec.checkpoint_at (tokens_of tokens.now)) }
 {
     let rest = read_word(b"checkpoint", tokens)?;
@@ -79,51 +54,20 @@ fn read_any_code<'a>(tokens: &'a [Placed]) -> Result<(u16, &'a [Placed]), Fault<
     Ok((code as u16, rest))
 }
 
-#[tactic(auto, unfolding(crate::specs::Commands::register_at))]
-fn read_register<'a>(tokens: &'a [Placed]) -> Result<(Command, &'a [Placed]), Fault<'a>>
-    ensures { Gives beside result (spec.register_at (tokens_of tokens.now)) }
+#[tactic(auto, unfolding(crate::specs::Verbs::register_behind_at))]
+pub fn read_register<'a>(tokens: &'a [Placed]) -> Result<(Command, &'a [Placed]), Fault<'a>>
+    ensures { Gives beside result (verbs.register_behind_at (tokens_of tokens.now)) }
 {
-    let rest = read_word(b"register", tokens)?;
-    let (method, rest) = read_sort(rest)?;
+    let (method, rest) = read_sort(tokens)?;
     let (code, rest) = read_any_code(rest)?;
     Ok((Command::Register { method, code }, rest))
 }
 
-#[tactic(auto, unfolding(crate::specs::Commands::retire_at))]
-fn read_retire<'a>(tokens: &'a [Placed]) -> Result<(Command, &'a [Placed]), Fault<'a>>
-    ensures { Gives beside result (spec.retire_at (tokens_of tokens.now)) }
+#[tactic(auto, unfolding(crate::specs::Verbs::retire_behind_at))]
+pub fn read_retire<'a>(tokens: &'a [Placed]) -> Result<(Command, &'a [Placed]), Fault<'a>>
+    ensures { Gives beside result (verbs.retire_behind_at (tokens_of tokens.now)) }
 {
-    let rest = read_word(b"retire", tokens)?;
-    let (method, rest) = read_sort(rest)?;
+    let (method, rest) = read_sort(tokens)?;
     let (code, rest) = read_any_code(rest)?;
     Ok((Command::Retire { method, code }, rest))
-}
-
-/// A command on transactions or extensions.
-#[tactic(auto, unfolding(crate::specs::Commands::control_at))]
-pub fn read_control<'a>(tokens: &'a [Placed]) -> Result<(Command, &'a [Placed]), Fault<'a>>
-    ensures { Gives beside result (spec.control_at (tokens_of tokens.now)) }
-{
-    if is_word_next(b"begin", tokens) {
-        return read_begin(tokens);
-    }
-    if is_word_next(b"commit", tokens) {
-        return read_commit(tokens);
-    }
-    if is_word_next(b"abort", tokens) {
-        return read_abort(tokens);
-    }
-    if is_word_next(b"savepoint", tokens) {
-        return read_savepoint(tokens);
-    }
-    if is_word_next(b"rollback", tokens) {
-        return read_rollback(tokens);
-    }
-    if is_word_next(b"register", tokens) {
-        return read_register(tokens);
-    }
-    if is_word_next(b"retire", tokens) {
-        return read_retire(tokens);
-    }
-    read_checkpoint(tokens)
 }

@@ -3,11 +3,13 @@
 
 mod actions;
 mod attachments;
+mod commands;
 mod control;
 mod definitions;
 mod fault;
 mod form;
 mod indexes;
+mod kind;
 mod line;
 mod lists;
 mod phrases;
@@ -16,7 +18,9 @@ mod predicates;
 mod reading;
 mod relations;
 mod rows;
+mod rules;
 mod terms;
+mod verb;
 mod words;
 
 pub use fault::Fault;

@@ -7,8 +7,8 @@ ghost use Rattle.sb_plain.specs.declared.command.Command.{Command as Order};
 ghost use Rattle.sb_grammar.specs.Grammar.{Spells};
 ghost use Rattle.sb_reader.specs.Outcome.{IsOrMemory, FaultIsMisfit, IsMisfitOfLast, SpellsOneCommand};
 
+use crate::commands::read_front;
 use crate::fault::Fault;
-use crate::rows::read_front;
 use sb_plain::Command;
 use sb_tokens::Placed;
 use std::alloc::Global;

@@ -1,13 +1,13 @@
-//! Readers of commands on rows.
+//! Readers of commands on rows, behind their first words.
 
 ghost use Rattle.sb_tokens.specs.Rows.{tokens_of};
 ghost use Rattle.sb_reader.specs.Gives.{Gives, beside};
 ghost use Rattle.sb_reader.specs.Commands as spec;
+ghost use Rattle.sb_reader.specs.Verbs as verbs;
 
 use crate::actions::{read_add_action, read_matching, read_set_action};
 use crate::fault::Fault;
 use crate::form::Form;
-use crate::indexes::read_index;
 use crate::lists::read_constants;
 use crate::pieces::{is_key_next, is_word_next, read_key, read_name, read_number, read_word};
 use sb_plain::Command;
@@ -19,30 +19,28 @@ use std::alloc::Global;
 /// How many rows a scan may be told to stop at.
 const ROW_LIMIT: u32 = 1_000_000;
 
-#[tactic(auto, unfolding(crate::specs::Commands::insert_at))]
-fn read_insert<'a>(
+#[tactic(auto, unfolding(crate::specs::Verbs::insert_behind_at))]
+pub fn read_insert<'a>(
     alloc: Global,
     tokens: &'a [Placed],
 ) -> Result<(Command, &'a [Placed]), Fault<'a>>
-    ensures { Gives beside result (spec.insert_at (tokens_of tokens.now)) }
+    ensures { Gives beside result (verbs.insert_behind_at (tokens_of tokens.now)) }
 {
-    let rest = read_word(b"insert", tokens)?;
-    let (relation, rest) = read_name(rest)?;
+    let (relation, rest) = read_name(tokens)?;
     let rest = read_word(b"values", rest)?;
     let (values, rest) = read_constants(alloc, rest)?;
     Ok((Command::Insert { relation, values }, rest))
 }
 
 /// One row by its key, or the rows that match.
-#[tactic(auto, unfolding(crate::specs::Commands::delete_at, crate::specs::Commands::rows_at))]
-fn read_delete<'a>(
+#[tactic(auto, unfolding(crate::specs::Verbs::delete_behind_at, crate::specs::Commands::rows_at))]
+pub fn read_delete<'a>(
     alloc: Global,
     tokens: &'a [Placed],
 ) -> Result<(Command, &'a [Placed]), Fault<'a>>
-    ensures { Gives beside result (spec.delete_at (tokens_of tokens.now)) }
+    ensures { Gives beside result (verbs.delete_behind_at (tokens_of tokens.now)) }
 {
-    let rest = read_word(b"delete", tokens)?;
-    let (relation, rest) = read_name(rest)?;
+    let (relation, rest) = read_name(tokens)?;
     if is_key_next(rest) {
         let (at, rest) = read_key(rest)?;
         return Ok((Command::Delete { relation, at }, rest));
@@ -52,15 +50,14 @@ fn read_delete<'a>(
     Ok((Command::Act { action }, rest))
 }
 
-#[tactic(auto, unfolding(crate::specs::Commands::update_at))]
-fn read_update<'a>(
+#[tactic(auto, unfolding(crate::specs::Verbs::update_behind_at))]
+pub fn read_update<'a>(
     alloc: Global,
     tokens: &'a [Placed],
 ) -> Result<(Command, &'a [Placed]), Fault<'a>>
-    ensures { Gives beside result (spec.update_at (tokens_of tokens.now)) }
+    ensures { Gives beside result (verbs.update_behind_at (tokens_of tokens.now)) }
 {
-    let rest = read_word(b"update", tokens)?;
-    let (relation, rest) = read_name(rest)?;
+    let (relation, rest) = read_name(tokens)?;
     let (at, rest) = read_key(rest)?;
     let rest = read_word(b"values", rest)?;
     let (values, rest) = read_constants(alloc, rest)?;
@@ -73,7 +70,10 @@ fn read_update<'a>(
 }
 
 #[tactic(auto, unfolding(crate::specs::Commands::set_at))]
-fn read_set<'a>(alloc: Global, tokens: &'a [Placed]) -> Result<(Command, &'a [Placed]), Fault<'a>>
+pub fn read_set<'a>(
+    alloc: Global,
+    tokens: &'a [Placed],
+) -> Result<(Command, &'a [Placed]), Fault<'a>>
     ensures { Gives beside result (spec.set_at (tokens_of tokens.now)) }
 {
     let (action, rest) = read_set_action(alloc, Form::Constant, tokens)?;
@@ -81,19 +81,21 @@ fn read_set<'a>(alloc: Global, tokens: &'a [Placed]) -> Result<(Command, &'a [Pl
 }
 
 #[tactic(auto, unfolding(crate::specs::Commands::add_at))]
-fn read_add<'a>(alloc: Global, tokens: &'a [Placed]) -> Result<(Command, &'a [Placed]), Fault<'a>>
+pub fn read_add<'a>(
+    alloc: Global,
+    tokens: &'a [Placed],
+) -> Result<(Command, &'a [Placed]), Fault<'a>>
     ensures { Gives beside result (spec.add_at (tokens_of tokens.now)) }
 {
     let (action, rest) = read_add_action(alloc, Form::Constant, tokens)?;
     Ok((Command::Act { action }, rest))
 }
 
-#[tactic(auto, unfolding(crate::specs::Commands::get_at))]
-fn read_get<'a>(tokens: &'a [Placed]) -> Result<(Command, &'a [Placed]), Fault<'a>>
-    ensures { Gives beside result (spec.get_at (tokens_of tokens.now)) }
+#[tactic(auto, unfolding(crate::specs::Verbs::get_behind_at))]
+pub fn read_get<'a>(tokens: &'a [Placed]) -> Result<(Command, &'a [Placed]), Fault<'a>>
+    ensures { Gives beside result (verbs.get_behind_at (tokens_of tokens.now)) }
 {
-    let rest = read_word(b"get", tokens)?;
-    let (relation, rest) = read_name(rest)?;
+    let (relation, rest) = read_name(tokens)?;
     let (at, rest) = read_key(rest)?;
     Ok((Command::Get { relation, at }, rest))
 }
@@ -138,12 +140,11 @@ fn read_optional_limit<'a>(tokens: &'a [Placed]) -> Result<(Option<u32>, &'a [Pl
     Ok((None, tokens))
 }
 
-#[tactic(auto, unfolding(crate::specs::Commands::scan_at))]
-fn read_scan<'a>(tokens: &'a [Placed]) -> Result<(Command, &'a [Placed]), Fault<'a>>
-    ensures { Gives beside result (spec.scan_at (tokens_of tokens.now)) }
+#[tactic(auto, unfolding(crate::specs::Verbs::scan_behind_at))]
+pub fn read_scan<'a>(tokens: &'a [Placed]) -> Result<(Command, &'a [Placed]), Fault<'a>>
+    ensures { Gives beside result (verbs.scan_behind_at (tokens_of tokens.now)) }
 {
-    let rest = read_word(b"scan", tokens)?;
-    let (relation, rest) = read_name(rest)?;
+    let (relation, rest) = read_name(tokens)?;
     let (after, rest) = read_optional_after(rest)?;
     let (limit, rest) = read_optional_limit(rest)?;
     let command = Command::Scan {
@@ -152,36 +153,4 @@ fn read_scan<'a>(tokens: &'a [Placed]) -> Result<(Command, &'a [Placed]), Fault<
         limit,
     };
     Ok((command, rest))
-}
-
-/// The command at the front of the tokens.
-#[tactic(auto, unfolding(crate::specs::Commands::command_at))]
-pub fn read_front<'a>(
-    alloc: Global,
-    tokens: &'a [Placed],
-) -> Result<(Command, &'a [Placed]), Fault<'a>>
-    ensures { Gives beside result (spec.command_at (tokens_of tokens.now)) }
-{
-    if is_word_next(b"insert", tokens) {
-        return read_insert(alloc, tokens);
-    }
-    if is_word_next(b"delete", tokens) {
-        return read_delete(alloc, tokens);
-    }
-    if is_word_next(b"update", tokens) {
-        return read_update(alloc, tokens);
-    }
-    if is_word_next(b"set", tokens) {
-        return read_set(alloc, tokens);
-    }
-    if is_word_next(b"add", tokens) {
-        return read_add(alloc, tokens);
-    }
-    if is_word_next(b"get", tokens) {
-        return read_get(tokens);
-    }
-    if is_word_next(b"scan", tokens) {
-        return read_scan(tokens);
-    }
-    read_index(alloc, tokens)
 }
