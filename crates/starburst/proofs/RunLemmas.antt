@@ -38,18 +38,21 @@ played-from d m boxes named IsEarly db mounted first now items replies starts li
   played = played;
 }
 
-plays-from : {B D : Type 0} (w : World B D) (m : Meanings) (create : Bool) (mounted : D) (items : List Item) (replies : List Reply) (first now : At B D)
-    → HasStarted w m create mounted first.disk first.session → PlaysOut w m items replies first now
-    → PlaysFrom (tells w.told w.len w.faults) m create mounted now.disk now.starts items replies
-plays-from w m false mounted items replies first now started plays = λ g want db stored single.
+plays-from : {B D : Type 0} (w : World B D) (m : Meanings) (words : Words) (create : Bool) (mounted : D) (items : List Item) (replies : List Reply) (first now : At B D)
+    → HasStarted w m words create mounted first.disk first.session → PlaysOut w m items replies first now
+    → PlaysFrom (tells w.told w.len w.faults) m words create mounted now.disk now.starts items replies
+unfolding played-from
+plays-from w m words false mounted items replies first now started plays = λ g want db stored single.
     let start = started g want db stored in
     played-from (tells w.told w.len w.faults) m (w.meanings first.session.boxes) _ (λ image. Holds m image db) db mounted first.disk now.disk
     items replies now.starts start.live start.early (λ image holds. holds) (plays (opened (w.meanings first.session.boxes) db) start.now single)
-plays-from w m true mounted items replies first now started plays = λ told settled single.
-    let start = started told settled in
-    played-from (tells w.told w.len w.faults) m (w.meanings first.session.boxes) [] (λ image. IsNoStore image ⊎ Holds m image []) [] mounted
-    first.disk now.disk items replies now.starts start.live start.early (λ image holds. inr holds)
-    (plays (opened (w.meanings first.session.boxes) []) start.now single)
+plays-from w m words true mounted items replies first now started plays = λ told settled single.
+    let start = started told settled in (
+      played-from (tells w.told w.len w.faults) m (w.meanings first.session.boxes) [] (λ image. IsNoStore image ⊎ Holds m image []) [] mounted
+          first.disk now.disk items replies now.starts start.0.live start.0.early (λ image holds. inr holds)
+          (plays (opened (w.meanings first.session.boxes) []) start.0.now single),
+      start.1,
+    )
 
 -- what is known of the items and their replies, by what was known
 known-by : (most : ℕ) (left left_now held held_now : Option (List ℕ)) (ending : Ending) (starts : List ℕ)
@@ -73,15 +76,15 @@ known-by most left left_now held held_now ending starts IsKnown Follows leads en
 
 -- ---- what was run
 pub runs_mounted : {B D : Type 0} (w : World B D) (m : Meanings) (words : Words) (most : ℕ) (left left_now held held_now : Option (List ℕ))
-    (mounted first now : D) (x : Session B) (ending : Ending) (report : Report) → HasStarted w m words.create mounted first x
+    (mounted first now : D) (x : Session B) (ending : Ending) (report : Report) → HasStarted w m words words.create mounted first x
     → HasServed w m most left left_now ending (at first x held []) (at now x held_now report.starts) → report.status ≡ status_of ending
     → RunsMounted (tells w.told w.len w.faults) m words most (seen left held) (seen left_now held_now) mounted now report
 runs_mounted w m words most left left_now held held_now mounted first now x ending report started served status = Run (record {
   ending = ending;
   status = status;
   ended = known-by most left left_now held held_now ending report.starts _
-      (PlaysFrom (tells w.told w.len w.faults) m words.create mounted now report.starts)
-      (λ items replies plays. plays-from w m words.create mounted items replies (at first x held []) (at now x held_now report.starts) started plays)
+      (PlaysFrom (tells w.told w.len w.faults) m words words.create mounted now report.starts)
+      (λ items replies plays. plays-from w m words words.create mounted items replies (at first x held []) (at now x held_now report.starts) started plays)
       served;
 })
 

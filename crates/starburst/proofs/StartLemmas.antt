@@ -6,14 +6,14 @@ use Rattle.sb_disk.specs.Disk.{Story}
 use Rattle.sb_disk.specs.Moments.{IsSettled, LeavesOnly}
 use Rattle.sb_disk.proofs.MomentLemmas.{weaker}
 use Rattle.sb_images.specs.Images.{Restores}
-use Rattle.sb_images.specs.Layout.{need}
+use Rattle.sb_images.specs.Layout.{geometry_of, need}
 use Rattle.sb_images.specs.Store.{IfTold, IsMounted}
 use Rattle.sb_log.specs.declared.geometry.Geometry.{Geometry}
 use Rattle.sb_map.specs.declared.place.Place.{Place}
 use Rattle.sb_recover.specs.FirstPages.{first_page}
 use Rattle.sb_recover.specs.Formatting.{IsFormatting, KeepsStore}
 use Rattle.sb_recover.specs.Geometries.{HoldsNone}
-use Rattle.sb_recover.specs.SuperPage.{IsNoStore, geometry_of}
+use Rattle.sb_recover.specs.SuperPage.{IsNoStore}
 use Rattle.sb_recover.specs.declared.fault.OpenFault.{OpenFault}
 use Rattle.sb_recover.specs.declared.fault.OpenFault.TheVariants.{Fault, TooSmall}
 use Rattle.sb_relation.specs.Db.{Db}
@@ -49,7 +49,7 @@ if_told (Some s) A tells is = is
 abbrev pub IsPlaced : {B : Type 0} → Session B → Type 0
 IsPlaced x = x.place ≡ record { owner = 2; root = table_len x.space.store.pool.geometry.pages }
 
-module _ {B D E : Type 0} (w : World B D) (m : Meanings) (create : Bool) (mounted here : D) where
+module _ {B D E : Type 0} (w : World B D) (m : Meanings) (words : Words) (create : Bool) (mounted here : D) where
   pub opens : (r : Result (Session B) E) → create ≡ false
       → IfOk r (λ x. (g : Geometry) (want : Wanted) (db : Db) → IsStored m (w.told mounted) g want db
       → IsFor w.meanings w.told w.len want (opened (w.meanings x.boxes) db) here x)
@@ -57,10 +57,10 @@ module _ {B D E : Type 0} (w : World B D) (m : Meanings) (create : Bool) (mounte
       → HasLive m (named_in stored.committed.kept) (w.meanings x.boxes))
       → IfOk r IsPlaced
       → ((want : ℕ → List ℕ) (g : Geometry) → IsMounted want (w.told mounted) g → LeavesOnly (w.told mounted) (w.told here) (Restores g want))
-      → IfOk r (λ x. HasStarted w m create mounted here x)
+      → IfOk r (λ x. HasStarted w m words create mounted here x)
   opens (Err e) asked stands live place leaves = tt
   opens (Ok x) asked stands live place leaves =
-      subst (λ (create : Bool). HasStarted w m create mounted here x) (sym asked)
+      subst (λ (create : Bool). HasStarted w m words create mounted here x) (sym asked)
       (λ g want db stored. record {
         live = live g want db stored;
         now = record {
@@ -73,28 +73,30 @@ module _ {B D E : Type 0} (w : World B D) (m : Meanings) (create : Bool) (mounte
             (leaves want g stored.mounted);
       })
 
-  pub makes : (r : Result (Session B) E) (pages log : ℕ) → create ≡ true
-      → IfOk r (λ x. IfTold (w.told mounted) (IsFor w.meanings w.told w.len (first_page pages) (opened (w.meanings x.boxes) []) here x))
+  pub makes : (r : Result (Session B) E) → create ≡ true
+      → IfOk r (λ x. IfTold (w.told mounted) (IsFor w.meanings w.told w.len (first_page words.pages) (opened (w.meanings x.boxes) []) here x))
       → IfOk r (λ x. IfTold (w.told mounted) (HasLive m [] (w.meanings x.boxes)))
       → IfOk r IsPlaced
       → OnOk r (HoldsNone (w.told mounted))
-      → (IsSettled (w.told mounted) → HoldsNone (w.told mounted) → LeavesOnly (w.told mounted) (w.told here) (IsFormatting (geometry_of pages log)))
-      → IfOk r (λ x. HasStarted w m create mounted here x)
-  makes (Err e) pages log asked stands live place none leaves = tt
-  makes (Ok x) pages log asked stands live place none leaves =
-      subst (λ (create : Bool). HasStarted w m create mounted here x) (sym asked)
+      → (IsSettled (w.told mounted) → HoldsNone (w.told mounted) → LeavesOnly (w.told mounted) (w.told here) (IsFormatting (geometry_of words.pages words.log)))
+      → IfOk r (λ x. HasStarted w m words create mounted here x)
+  makes (Err e) asked stands live place none leaves = tt
+  makes (Ok x) asked stands live place none leaves =
+      subst (λ (create : Bool). HasStarted w m words create mounted here x) (sym asked)
       (λ tells settled.
-      let is_live : HasLive m [] (w.meanings x.boxes) = if_told (w.told mounted) _ tells live in
-      record {
-        live = is_live;
-        now = record {
-          same = is_live.same;
-          root = ap (λ (place : Place). place.root) place;
-          stands = record { want = first_page pages; is = if_told (w.told mounted) _ tells stands };
-        };
-        early = weaker (w.told mounted) (w.told here) (IsFormatting (geometry_of pages log)) (λ image. IsNoStore image ⊎ Holds m image [])
-            (holds-new m (geometry_of pages log)) (leaves settled none);
-      })
+      let is_live : HasLive m [] (w.meanings x.boxes) = if_told (w.told mounted) _ tells live in (
+        record {
+          live = is_live;
+          now = record {
+            same = is_live.same;
+            root = ap (λ (place : Place). place.root) place;
+            stands = record { want = first_page words.pages; is = if_told (w.told mounted) _ tells stands };
+          };
+          early = weaker (w.told mounted) (w.told here) (IsFormatting (geometry_of words.pages words.log)) (λ image. IsNoStore image ⊎ Holds m image [])
+              (holds-new m (geometry_of words.pages words.log)) (leaves settled none);
+        },
+        record { none = none; making = leaves settled none },
+      ))
 
 -- ---- no store
 or_fault : {T : Type 0} → OpenFault → Result T OpenFault → OpenFault

@@ -5,13 +5,13 @@ use Rattle.sb_disk.specs.Disk.{Mounted, Story}
 use Rattle.sb_disk.specs.Moments.{IsSettled, LeavesOnly, MayLeave, moment}
 use Rattle.sb_log.specs.declared.geometry.Geometry.{Geometry}
 use Rattle.sb_images.specs.Images.{Restores}
-use Rattle.sb_images.specs.Layout.{need}
+use Rattle.sb_images.specs.Layout.{geometry_of, need}
 use Rattle.sb_images.specs.Store.{IsMounted}
 use Rattle.sb_recover.specs.declared.fault.OpenFault.{OpenFault}
 use Rattle.sb_recover.specs.declared.fault.OpenFault.TheVariants.{BadExtensions, Fault, TooSmall}
 use Rattle.sb_recover.specs.Formatting.{IsFormatting, KeepsStore}
 use Rattle.sb_recover.specs.Geometries.{HoldsNone}
-use Rattle.sb_recover.specs.SuperPage.{IsNoStore, geometry_of}
+use Rattle.sb_recover.specs.SuperPage.{IsNoStore}
 use Rattle.sb_relation.specs.Db.{Db}
 use Rattle.sb_plain.specs.declared.reply.Reply.{Reply}
 use Rattle.sb_grammar.specs.Columns.{Item}
@@ -31,6 +31,7 @@ use Rattle.sb_words.specs.declared.words.Words.{Words}
 use Rattle.sb_words.specs.Words.{IsRead, IsRefused}
 use Rattle.starburst.specs.declared.report.Report.{Report}
 use Rattle.starburst.specs.Refusing.{IsRefusedBy, RefusesWords, WritesNothing}
+use Rattle.starburst.specs.Starting.{MakesStore}
 
 -- the bytes that the source has left and those that the sink holds, where they tell them
 pub record Seen : Type 0 where
@@ -61,21 +62,22 @@ pub record HasPlayedFrom {D : Type 0} (d : Tells D) (m : Meanings) (named : List
       → MayLeave (d.told now) t image → IsEarly image
   pub played : HasPlayedOut d.told d.faults m first (opened boxes db) items replies starts now
 
--- Over contents that stand for a database the play is from it, and early images hold it. A disk without a store becomes a new one, whose database
--- is empty.
-abbrev pub PlaysFrom : {D : Type 0} → Tells D → Meanings → (create : Bool) → (mounted now : D) → List ℕ → List Item → List Reply → Type 0
-PlaysFrom d m false mounted now starts items replies =
+-- Over contents that stand for a database the play is from it, and early images hold it. A disk without a store comes to hold a new one of the sizes
+-- that the words ask for, whose database is empty.
+abbrev pub PlaysFrom : {D : Type 0} → Tells D → Meanings → Words → (create : Bool) → (mounted now : D) → List ℕ → List Item → List Reply → Type 0
+PlaysFrom d m words false mounted now starts items replies =
     (g : Geometry) (want : Wanted) (db : Db) (stored : IsStored m (d.told mounted) g want db) → AreSingle (all_live m)
     → HasPlayedFrom d m (named_in stored.committed.kept) (λ image. Holds m image db) db mounted now items replies starts
-PlaysFrom d m true mounted now starts items replies =
+PlaysFrom d m words true mounted now starts items replies =
     is_some (d.told mounted) ≡ true → IsSettled (d.told mounted) → AreSingle (all_live m)
-    → HasPlayedFrom d m [] (λ image. IsNoStore image ⊎ Holds m image []) [] mounted now items replies starts
+    → (played : HasPlayedFrom d m [] (λ image. IsNoStore image ⊎ Holds m image []) [] mounted now items replies starts)
+    × MakesStore words (d.told mounted) (d.told played.first)
 
 -- a store was opened, or made and opened, and items were answered until the run ended
-pub record HasRun {D : Type 0} (d : Tells D) (m : Meanings) (create : Bool) (most : ℕ) (old new : Seen) (mounted now : D) (report : Report) : Type 0 where
+pub record HasRun {D : Type 0} (d : Tells D) (m : Meanings) (words : Words) (most : ℕ) (old new : Seen) (mounted now : D) (report : Report) : Type 0 where
   pub ending : Ending
   pub status : report.status ≡ status_of ending
-  pub ended : HasEndedSo most old.left new.left old.held new.held ending report.starts (PlaysFrom d m create mounted now report.starts)
+  pub ended : HasEndedSo most old.left new.left old.held new.held ending report.starts (PlaysFrom d m words words.create mounted now report.starts)
 
 -- ---- runs that don't begin
 -- the disk failed a call, where the refusal says so
@@ -108,7 +110,7 @@ pub data RunsMounted {D : Type 0} (d : Tells D) (m : Meanings) (words : Words) (
     : Type 0 where
   NotBegun : (e : OpenFault) → IsNoSession d m words words.create e mounted now → new.left ≡ old.left → IsRefusedBy e old.held new.held report
       → RunsMounted d m words most old new mounted now report
-  Run : HasRun d m words.create most old new mounted now report → RunsMounted d m words most old new mounted now report
+  Run : HasRun d m words most old new mounted now report → RunsMounted d m words most old new mounted now report
 
 -- the disk couldn't be mounted
 pub record HasNotMounted {D : Type 0} (d : Tells D) (old new : Seen) (disk now : D) (report : Report) : Type 0 where

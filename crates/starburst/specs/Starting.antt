@@ -1,9 +1,12 @@
 -- A session that is opened over a mounted disk, as the words ask.
-use Rattle.std.specs.Prelude.{◌≡◌, ◌⊎◌, ℕ, ◌≤◌, Bool, true, false, is_some, List, []}
+use Rattle.std.specs.Prelude.{◌≡◌, ◌⊎◌, ℕ, ◌≤◌, Bool, true, false, Option, is_some, List, []}
+use Rattle.sb_disk.specs.Disk.{Story}
 use Rattle.sb_disk.specs.Moments.{IsSettled, LeavesOnly}
-use Rattle.sb_images.specs.Layout.{IsGeometry}
+use Rattle.sb_images.specs.Layout.{geometry_of, IsGeometry}
 use Rattle.sb_log.specs.declared.geometry.Geometry.{Geometry}
-use Rattle.sb_recover.specs.SuperPage.{IsNoStore, geometry_of}
+use Rattle.sb_recover.specs.Formatting.{IsFormatting}
+use Rattle.sb_recover.specs.Geometries.{HoldsNone}
+use Rattle.sb_recover.specs.SuperPage.{IsNoStore}
 use Rattle.sb_relation.specs.Db.{Db}
 use Rattle.sb_registry.specs.Boxes.{Meanings}
 use Rattle.sb_drive.specs.Spaces.{Wanted}
@@ -28,10 +31,16 @@ pub record StartsAt {B D : Type 0} (w : World B D) (m : Meanings) (named : List 
   pub now : IsNow w m here x (opened (w.meanings x.boxes) db)
   pub early : LeavesOnly (w.told mounted) (w.told here) IsEarly
 
+-- A disk that held no store comes to hold a new one of the sizes that the words ask for; meanwhile a crash left none, or that one.
+pub record MakesStore (words : Words) (mounted here : Option Story) : Type 0 where
+  pub none : HoldsNone mounted
+  pub making : LeavesOnly mounted here (IsFormatting (geometry_of words.pages words.log))
+
 -- Over contents that stand for a database the session stands for it; a new store's database is empty.
-abbrev pub HasStarted : {B D : Type 0} → World B D → Meanings → (create : Bool) → (mounted now : D) → Session B → Type 0
-HasStarted w m false mounted now x =
+abbrev pub HasStarted : {B D : Type 0} → World B D → Meanings → Words → (create : Bool) → (mounted now : D) → Session B → Type 0
+HasStarted w m words false mounted now x =
     (g : Geometry) (want : Wanted) (db : Db) (stored : IsStored m (w.told mounted) g want db)
     → StartsAt w m (named_in stored.committed.kept) (λ image. Holds m image db) db mounted now x
-HasStarted w m true mounted now x =
-    is_some (w.told mounted) ≡ true → IsSettled (w.told mounted) → StartsAt w m [] (λ image. IsNoStore image ⊎ Holds m image []) [] mounted now x
+HasStarted w m words true mounted now x =
+    is_some (w.told mounted) ≡ true → IsSettled (w.told mounted)
+    → StartsAt w m [] (λ image. IsNoStore image ⊎ Holds m image []) [] mounted now x × MakesStore words (w.told mounted) (w.told now)

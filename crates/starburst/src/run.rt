@@ -11,9 +11,10 @@ ghost use Rattle.starburst.specs.Run.{IsNoSession, IsRun, RunsMounted, RunsOn, s
 use crate::refusing::{refuse_store, refuse_words};
 use crate::report::Report;
 use sb_disk::{Disk, Sink, Source};
+use sb_images::need;
 use sb_kernel::{Starts, serve};
 use sb_opening::{create, open};
-use sb_recover::{OpenFault, need};
+use sb_recover::OpenFault;
 use sb_registry::{Extensions, Meant, Registry};
 use sb_session::Session;
 use sb_value::Str;
@@ -31,8 +32,8 @@ fn start<B: Vectors + Drop, D: Disk>(
     requires words { AreSizes words.now }
     requires unique { repeated_in (B.meanings boxes) ≡ None }
 
-    ensures started { IfOk result (λ session. HasStarted (world B.meanings D.told D.len D.clock D.faults) (B.meanings boxes) words.now.create
-        disk.old disk.new session) }
+    ensures started { IfOk result (λ session. HasStarted (world B.meanings D.told D.len D.clock D.faults) (B.meanings boxes) words.now
+        words.now.create disk.old disk.new session) }
     ensures refused { IfErr result (λ e. IsNoSession (tells D.told D.len D.faults) (B.meanings boxes) words.now words.now.create e
         disk.old disk.new) }
     ensures runs { IfOk result (λ session. CanRun B.meanings D.told D.len disk.new session) }

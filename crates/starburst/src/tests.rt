@@ -9,7 +9,7 @@ mod rows;
 mod stops;
 
 use crate::report::Report;
-use crate::{run, run_to};
+use crate::run_to;
 use sb_heap::Heap;
 use sb_memdisk::{MemDisk, MemSink, MemSource};
 use sb_registry::Extensions;
@@ -42,8 +42,8 @@ struct Row<'a> {
     /// The calls on the source and the sink that fail.
     source_fails: Option<u64>,
     sink_fails: Option<u64>,
-    /// So many bytes are taken at most, where that isn't left to the program.
-    most: Option<u64>,
+    /// So many bytes are taken at most.
+    most: u64,
     output: &'static [u8],
     status: u8,
     /// How many items have begun.
@@ -58,7 +58,7 @@ const OPENED: Row<'static> = Row {
     script: b"",
     source_fails: None,
     sink_fails: None,
-    most: None,
+    most: 1 << 32,
     output: b"",
     status: 0,
     begun: 0,
@@ -71,9 +71,8 @@ const SMALLEST: [&str; 9] = [
 
 const SIZE: u64 = 2_428_928;
 
-/// Runs what a row says, with so many boxes for checks and triggers beside the heap and the tree. What was written, and the report.
-fn run_row(alloc: Global, row: &Row, disk: &mut MemDisk) -> Result<(MemSink, Report), AllocError> {
-    let words = words_of(alloc, row.words)?;
+/// The heap and the tree, and so many boxes for checks and triggers.
+fn boxes_of(alloc: Global, checks: usize, triggers: usize) -> Result<Extensions, AllocError> {
     let mut exts = Extensions {
         methods: Vec::new(alloc),
         attachments: Vec::new(alloc),
@@ -82,18 +81,22 @@ fn run_row(alloc: Global, row: &Row, disk: &mut MemDisk) -> Result<(MemSink, Rep
     };
     exts.methods.push(Box::new(alloc, Heap::new())?)?;
     exts.methods.push(Box::new(alloc, TreeMethod::new())?)?;
-    for _ in 0..row.checks {
+    for _ in 0..checks {
         exts.attachments.push(Box::new(alloc, Check::new())?)?;
     }
-    for _ in 0..row.triggers {
+    for _ in 0..triggers {
         exts.attachments.push(Box::new(alloc, Trigger::new())?)?;
     }
+    Ok(exts)
+}
+
+/// Runs what a row says. What was written, and the report.
+fn run_row(alloc: Global, row: &Row, disk: &mut MemDisk) -> Result<(MemSink, Report), AllocError> {
+    let words = words_of(alloc, row.words)?;
     let mut source = MemSource::new(alloc, row.script, PIECE, row.source_fails)?;
     let mut sink = MemSink::new(alloc, PIECE, row.sink_fails);
-    let report = match row.most {
-        None => run(alloc, &words, exts, &mut source, &mut sink, disk),
-        Some(most) => run_to(alloc, &words, exts, &mut source, &mut sink, disk, most),
-    };
+    let exts = boxes_of(alloc, row.checks, row.triggers)?;
+    let report = run_to(alloc, &words, exts, &mut source, &mut sink, disk, row.most);
     Ok((sink, report))
 }
 

@@ -43,14 +43,14 @@ const ROWS: [Row<'static>; 6] = [
         ..NEW
     },
     Row {
-        most: Some(10),
+        most: 10,
         script: b"create r using tree (k int) key (k)\n",
         status: 8,
         ..NEW
     },
     // Of the whole lines among the bytes taken each is answered.
     Row {
-        most: Some(16),
+        most: 16,
         script: b"tables\ntables\ntables\n",
         output: b"ok 0\nok 0\n",
         status: 8,

@@ -1,14 +1,11 @@
 //! Runs with boxes of another author beside those of the program.
 
-use super::{OPENED, PIECE, Row, SIZE, SMALLEST, run_row, words_of};
+use super::{OPENED, PIECE, Row, SIZE, SMALLEST, boxes_of, run_row, words_of};
 use crate::report::Report;
 use crate::run;
 use sb_foreign::{Count, Limit, Once, Strip};
-use sb_heap::Heap;
 use sb_memdisk::{MemDisk, MemSink, MemSource};
 use sb_registry::Extensions;
-use sb_rules::{Check, Trigger};
-use sb_treemethod::TreeMethod;
 use std::alloc::{AllocError, Global};
 use std::test::Fail;
 
@@ -142,6 +139,16 @@ const LACKING: Row<'static> = Row {
     ..OPENED
 };
 
+/// The program's boxes, and those of another author as spare ones.
+fn boxes_of_another_author(alloc: Global) -> Result<Extensions, AllocError> {
+    let mut exts = boxes_of(alloc, 1, 1)?;
+    exts.spare_methods.push(Box::new(alloc, Strip {})?)?;
+    exts.spare_attachments.push(Box::new(alloc, Limit {})?)?;
+    exts.spare_attachments.push(Box::new(alloc, Once {})?)?;
+    exts.spare_attachments.push(Box::new(alloc, Count {})?)?;
+    Ok(exts)
+}
+
 /// Runs what a row says, with spare boxes of another author beside those of the program.
 fn run_foreign(
     alloc: Global,
@@ -149,22 +156,9 @@ fn run_foreign(
     disk: &mut MemDisk,
 ) -> Result<(MemSink, Report), AllocError> {
     let words = words_of(alloc, row.words)?;
-    let mut exts = Extensions {
-        methods: Vec::new(alloc),
-        attachments: Vec::new(alloc),
-        spare_methods: Vec::new(alloc),
-        spare_attachments: Vec::new(alloc),
-    };
-    exts.methods.push(Box::new(alloc, Heap::new())?)?;
-    exts.methods.push(Box::new(alloc, TreeMethod::new())?)?;
-    exts.attachments.push(Box::new(alloc, Check::new())?)?;
-    exts.attachments.push(Box::new(alloc, Trigger::new())?)?;
-    exts.spare_methods.push(Box::new(alloc, Strip {})?)?;
-    exts.spare_attachments.push(Box::new(alloc, Limit {})?)?;
-    exts.spare_attachments.push(Box::new(alloc, Once {})?)?;
-    exts.spare_attachments.push(Box::new(alloc, Count {})?)?;
     let mut source = MemSource::new(alloc, row.script, PIECE, None)?;
     let mut sink = MemSink::new(alloc, PIECE, None);
+    let exts = boxes_of_another_author(alloc)?;
     let report = run(alloc, &words, exts, &mut source, &mut sink, disk);
     Ok((sink, report))
 }

@@ -2,13 +2,11 @@
 
 ghost use Rattle.std.specs.Prelude.{None};
 
-use super::{OPENED, Row, SIZE, SMALLEST, run_row, words_of};
+use super::{OPENED, Row, SIZE, SMALLEST, boxes_of, run_row, words_of};
 use crate::report::Report;
 use crate::run;
 use sb_disk::{Failed, Sink, Source};
 use sb_memdisk::MemDisk;
-use sb_registry::Extensions;
-use sb_treemethod::TreeMethod;
 use std::alloc::{AllocError, Global};
 use std::cell::Cell;
 use std::fs;
@@ -160,20 +158,14 @@ impl<'a> Source for WatchingSource<'a> {
     }
 }
 
-/// Runs over a new store and a tree alone.
+/// Runs over a new store, without a box for rules.
 fn run_watched<S: Source>(
     alloc: Global,
     source: &mut S,
     sink: &mut CountingSink,
 ) -> Result<Report, AllocError> {
     let words = words_of(alloc, &SMALLEST)?;
-    let mut exts = Extensions {
-        methods: Vec::new(alloc),
-        attachments: Vec::new(alloc),
-        spare_methods: Vec::new(alloc),
-        spare_attachments: Vec::new(alloc),
-    };
-    exts.methods.push(Box::new(alloc, TreeMethod::new())?)?;
+    let exts = boxes_of(alloc, 0, 0)?;
     let mut disk = MemDisk::new(alloc, SIZE)?;
     Ok(run(alloc, &words, exts, source, sink, &mut disk))
 }
