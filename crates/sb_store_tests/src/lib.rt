@@ -7,3 +7,5 @@ mod owners;
 mod pages;
 #[cfg(test)]
 mod store;
+#[cfg(test)]
+mod turns;

@@ -1,4 +1,4 @@
-//! Pages that are taken in a store of 64 pages, and given back at a mark, at an abort, or not at all.
+//! Pages that are taken in a store of 64 pages, and given back at a savepoint, at an abort, or not at all.
 
 ghost use Rattle.std.specs.Prelude.{◌≡◌, ◌≤◌, [], OnOk, IfSome};
 ghost use Rattle.sb_space.specs.Durable.{parts_in};
@@ -103,7 +103,7 @@ fn next<D: Disk>(
     next_page(alloc, &mut pages, low)
 }
 
-/// Takes a page, and another one behind a mark, and goes back to the mark: what is found before that and behind it.
+/// Takes a page, and another one behind a savepoint, and goes back to the savepoint: what is found before that and behind it.
 fn take_back<D: Disk>(
     alloc: Global,
     space: &mut Space,

@@ -109,7 +109,7 @@ fn put<D: Disk>(
     store.change(disk, tx, 1, page, LOW, bytes)
 }
 
-// Takes the changes behind the mark back.
+// Takes the changes behind the savepoint back.
 fn take_back<D: Disk>(
     store: &mut Store,
     disk: &mut D,
@@ -127,7 +127,7 @@ fn take_back<D: Disk>(
     store.back_to(disk, tx, mark)
 }
 
-// Commits what was done, or takes it out again.
+// Commits what was done, or undoes it.
 fn finish<D: Disk>(
     store: &mut Store,
     disk: &mut D,
@@ -222,7 +222,7 @@ fn second<D: Disk>(store: &mut Store, disk: &mut D) -> Result<(), StoreFault>
     finish(store, disk, tx, done)
 }
 
-// Puts bytes into a page by the first of two transactions that are out.
+// Puts bytes into a page by the first of two active transactions.
 fn put_low<D: Disk>(
     store: &mut Store,
     disk: &mut D,
@@ -285,7 +285,7 @@ fn take_turns<D: Disk>(
     put_low(store, disk, low, high, 2, b"ggg")
 }
 
-// Commits the second one, or takes it out again. The first is out still.
+// Commits the second one, or takes it out again. The first is active still.
 fn finish_high<D: Disk>(
     store: &mut Store,
     disk: &mut D,

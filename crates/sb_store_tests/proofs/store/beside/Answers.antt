@@ -1,6 +1,6 @@
 use Rattle.sb_txn.specs.Clauses.{parts}
 use Rattle.sb_txn.proofs.BesideLemmas.{IsOnly-one_out, AreTwo-begin, down-refused}
-use Rattle.sb_txn.proofs.KeepsLemmas.{not_both, Keeps-up}
+use Rattle.sb_txn.proofs.KeepsLemmas.{not_both, StaysReady-up}
 use Rattle.sb_store_tests.proofs.store.beside.Goals as goal
 
 pub returns-then-not-may_begin-clause-only : goal.returns-then-not-may_begin-clause-only
@@ -15,6 +15,6 @@ returns-in_err-high-clause-only g c up =
 pub take_turns-done-requires-clause-two : goal.take_turns-done-requires-clause-two
 take_turns-done-requires-clause-two g c up =
     let begun = c.in_ok-high.ensures in
-    let was = Keeps-up g.D.Disk.told g.D.Disk.len g.D.Disk.faults c.in_ok-high.high c.args.disk.now c.begin.new.disk c.args.store.now c.begin.new.self begun.keeps in
+    let was = StaysReady-up g.D.Disk.told g.D.Disk.len g.D.Disk.faults c.in_ok-high.high c.args.disk.now c.begin.new.disk c.args.store.now c.begin.new.self begun.keeps in
     AreTwo-begin _ (parts g.D.Disk.told g.D.Disk.len c.args.disk.now c.args.store.now) (parts g.D.Disk.told g.D.Disk.len c.begin.new.disk c.begin.new.self) c.args.low.now.number c.in_ok-high.high.number
     (c.requires.one was) begun.begins up begun.keeps.ready

@@ -1,0 +1,2 @@
+pub mod Scribes
+pub mod Turns
