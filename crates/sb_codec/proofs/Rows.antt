@@ -1,7 +1,8 @@
 -- Rows of spellings of which none begins another of its kind.
-use Rattle.std.proofs.Common.{◌≡◌, ℕ, ◌+◌, ◌≤◌, ◌<◌, List, [], ◌∷◌, ◌++◌, length, get_or, map, take, refl, sym, ap, ◌∙◌, append_assoc, arith}
+use Rattle.std.proofs.Common.{◌≡◌, ℕ, ◌+◌, ◌≤◌, ◌<◌, List, [], ◌∷◌, ◌++◌, length, get_or, map, take, All, refl, sym, ap, ◌∙◌, append_assoc, subst, arith}
 use Rattle.std.specs.List.{flat_map, AllByRecursion}
-use Rattle.std.proofs.lemmas.List.{flat_map_more}
+use Rattle.std.proofs.lemmas.List.{flat_map_more, take_more}
+use Rattle.std.proofs.lemmas.List.Elements.{All-push}
 use Rattle.std.proofs.lemmas.List.Folds.{length-flat_map-take}
 
 module _ {V K : Type 0} (kind : V → K) (Good : V → Type 0) (spell : V → List ℕ) where
@@ -34,3 +35,16 @@ pub row_more : {V : Type 0} (spell : V → List ℕ) (us : List V) (v : V) (byte
 row_more spell us v bytes x y before here =
     before ∙ ap (λ (l : List ℕ). flat_map spell us ++ l) here ∙ sym (append_assoc (flat_map spell us) (spell v) y)
     ∙ ap (λ (l : List ℕ). l ++ y) (flat_map_more spell [] us v)
+
+-- one more value is spelled behind those before it, and it is as good as they are
+pub spelled_more : {V : Type 0} (Good : V → Type 0) (spell : V → List ℕ) (items : List V) (i : ℕ) (v : V) (start before after : List ℕ)
+    → v ≡ get_or items i v → i < length items → All Good (take i items) → Good v
+    → before ≡ start ++ flat_map spell (take i items) → after ≡ before ++ spell v
+    → (after ≡ start ++ flat_map spell (take (i + 1) items)) × All Good (take (i + 1) items)
+spelled_more Good spell items i v start before after is within all good was now =
+    let more : take (i + 1) items ≡ take i items ++ v ∷ [] = take_more items i v within ∙ ap (λ x. take i items ++ x ∷ []) (sym is) in
+    let grown : flat_map spell (take i items) ++ spell v ≡ flat_map spell (take (i + 1) items) =
+    flat_map_more spell [] (take i items) v ∙ ap (flat_map spell) (sym more) in (
+      now ∙ ap (λ b. b ++ spell v) was ∙ append_assoc start (flat_map spell (take i items)) (spell v) ∙ ap (λ b. start ++ b) grown,
+      subst (All Good) (sym more) (All-push Good (take i items) v all good),
+    )

@@ -51,11 +51,12 @@ fn put_text(out: &mut Vec<u8>, bytes: &[u8]) -> Result<(), AllocError>
 
 /// Adds the code of a value.
 pub(crate) fn put_code(out: &mut Vec<u8>, value: &Value) -> Result<(), AllocError>
-    ensures { OnOk result (out.new.items ≡ out.old.items ++ value_code value.now) }
+    ensures code { OnOk result (out.new.items ≡ out.old.items ++ value_code value.now) }
+    ensures proper { IsProper value.now }
 {
     match value {
         Value::Int(number) => out.extend_from_slice(&flip(*number).to_be_bytes()),
-        Value::Text(text) => put_text(out, text.as_bytes()),
+        Value::Text(text) => put_text(out, text.as_str().as_bytes()),
     }
 }
 

@@ -11,7 +11,9 @@ use std::alloc::{AllocError, Global};
 
 /// The ordered code of the values.
 pub fn ordered_key(alloc: Global, values: &Tuple) -> Result<RecKey, AllocError>
-    ensures { IfOk result (λ key. key ≡ ordered_code values.now) }
+    ensures code { IfOk result (λ key. key ≡ ordered_code values.now) }
+    // What has this code can be read again by its kinds.
+    ensures proper { IfOk result (λ key. All IsProper values.now) }
 {
     let mut out = Vec::new(alloc);
     for value in values.as_slice() {

@@ -3,89 +3,117 @@ ghost use Rattle.sb_value.specs.Spelling.{IsShort};
 
 use super::*;
 use sb_value::{Kind, Str, Tuple, Value};
-use std::alloc::Global;
-use std::test::Fail;
+use std::alloc::{AllocError, Global};
 
-fn pair(alloc: Global, number: i64, text: &[u8]) -> Result<Tuple, Fail>
+fn pair(alloc: Global, number: i64, text: &str) -> Result<Tuple, AllocError>
     requires { length text.now ≤ 255 }
     ensures exact { IfOk result (λ t. t ≡ Value.Int number ∷ Value.Text text.now ∷ []) }
     ensures short { IfOk result (λ t. All IsShort t) }
 {
-    let mut values = Vec::new(alloc);
-    values.push(Value::Int(number))?;
-    values.push(Value::Text(Str::from_utf8(alloc, text)?.ok_or("UTF-8")?))?;
-    Ok(Tuple::from_vec(values))
+    let text = Value::Text(Str::from_string(String::from_str(alloc, text)?));
+    Ok(Tuple::from_vec(vec![in alloc; Value::Int(number), text]?))
 }
 
-fn is_pair(tuple: &Tuple, number: i64, text: &[u8]) -> bool {
-    match tuple.as_slice() {
-        [Value::Int(read), Value::Text(bytes)] => *read == number && bytes.as_bytes() == text,
+/// Whether the tuple is written so, and such bytes are read as it.
+fn is_spelled(alloc: Global, tuple: &Tuple, spelling: &[u8]) -> bool
+    requires few { length tuple.now ≤ 255 }
+    requires short { All IsShort tuple.now }
+{
+    let written = matches!(&encode_tuple(alloc, tuple), Ok(bytes) if bytes.as_slice() == spelling);
+    let read = matches!(&decode_tuple(alloc, spelling), Ok(Some(found)) if *found == *tuple);
+    written && read
+}
+
+/// Whether the pair has this code, and the code is read as it.
+fn is_coded(alloc: Global, pair: &Tuple, code: &[u8]) -> bool {
+    let kinds = [Kind::Int, Kind::Text];
+    let written = matches!(&ordered_key(alloc, pair), Ok(key) if key.as_slice() == code);
+    let read = matches!(&unordered_key(alloc, &kinds, code), Ok(Some(found)) if *found == *pair);
+    written && read
+}
+
+/// Whether the pair has this spelling and this code.
+fn is_row(alloc: Global, number: i64, text: &str, spelling: &[u8], code: &[u8]) -> bool
+    requires { length text.now ≤ 255 }
+{
+    match &pair(alloc, number, text) {
+        Ok(pair) => is_spelled(alloc, pair, spelling) && is_coded(alloc, pair, code),
+        Err(_) => false,
+    }
+}
+
+/// The numbers and texts of pairs, their spellings and their codes.
+const PAIRS: [(i64, &'static str, &'static [u8], &'static [u8]); 3] = [
+    (
+        5,
+        "ab",
+        b"\x02\x01\0\0\0\0\0\0\0\x05\x02\x02ab",
+        b"\x80\0\0\0\0\0\0\x05ab\0\0",
+    ),
+    (
+        5,
+        "b",
+        b"\x02\x01\0\0\0\0\0\0\0\x05\x02\x01b",
+        b"\x80\0\0\0\0\0\0\x05b\0\0",
+    ),
+    (
+        -2,
+        "a\0",
+        b"\x02\x01\xff\xff\xff\xff\xff\xff\xff\xfe\x02\x02a\0",
+        b"\x7f\xff\xff\xff\xff\xff\xff\xfea\0\xff\0\0",
+    ),
+];
+
+#[test]
+fn rows(rt: HostRuntime) {
+    for (number, text, spelling, code) in PAIRS.iter() {
+        assert!(rt; text.len() <= 255);
+        assert!(rt; is_row(rt.alloc(), *number, text, spelling, code));
+    }
+}
+
+/// The lengths of the spelling and of the code of `5, "ab"`.
+fn lengths_of_pair(alloc: Global) -> Option<(u32, u32)> {
+    match &pair(alloc, 5, "ab") {
+        Ok(pair) => Some((tuple_len(pair), key_len(pair))),
+        Err(_) => None,
+    }
+}
+
+#[test]
+fn lengths(rt: HostRuntime) {
+    assert!(rt; matches!(lengths_of_pair(rt.alloc()), Some((14, 12))));
+}
+
+const NO_TUPLES: [&'static [u8]; 4] = [
+    b"\x02\x01\0\0\0\0\0\0\0\x05\x02\x02ab\0",
+    b"\x00",
+    b"\x01\x02\x01\xff",
+    b"",
+];
+
+/// Whether this is the code of the text `a` alone.
+fn is_code_of_a(alloc: Global, bytes: &[u8]) -> bool {
+    match &unordered_key(alloc, &[Kind::Text], bytes) {
+        Ok(Some(read)) => { matches!(read.as_slice(), [Value::Text(text)] if text.as_str() == "a") }
         _ => false,
     }
 }
 
 #[test]
-fn rows(rt: HostRuntime) -> Result<(), Fail> {
+fn no_tuples_and_no_codes(rt: HostRuntime) {
     let alloc = rt.alloc();
-    let rows = [
-        (
-            5,
-            b"ab".as_slice(),
-            b"\x02\x01\0\0\0\0\0\0\0\x05\x02\x02ab".as_slice(),
-            b"\x80\0\0\0\0\0\0\x05ab\0\0".as_slice(),
-        ),
-        (
-            5,
-            b"b".as_slice(),
-            b"\x02\x01\0\0\0\0\0\0\0\x05\x02\x01b".as_slice(),
-            b"\x80\0\0\0\0\0\0\x05b\0\0".as_slice(),
-        ),
-        (
-            -2,
-            b"a\0".as_slice(),
-            b"\x02\x01\xff\xff\xff\xff\xff\xff\xff\xfe\x02\x02a\0".as_slice(),
-            b"\x7f\xff\xff\xff\xff\xff\xff\xfea\0\xff\0\0".as_slice(),
-        ),
-    ];
-    for (number, text, spelling, code) in rows {
-        assert!(rt; text.len() <= 255);
-        let tuple = pair(alloc, number, text)?;
-        assert_eq!(rt; encode_tuple(alloc, &tuple)?.as_slice(), spelling);
-        assert_eq!(rt; ordered_key(alloc, &tuple)?.as_slice(), code);
-        let read = decode_tuple(alloc, spelling)?.ok_or("a tuple")?;
-        assert!(rt; is_pair(&read, number, text));
-        let read = unordered_key(alloc, &[Kind::Int, Kind::Text], code)?.ok_or("a code")?;
-        assert!(rt; is_pair(&read, number, text));
+    for bytes in NO_TUPLES.iter() {
+        assert!(rt; matches!(decode_tuple(alloc, bytes), Ok(None)));
     }
-    Ok(())
-}
-
-#[test]
-fn lengths(rt: HostRuntime) -> Result<(), Fail> {
-    let tuple = pair(rt.alloc(), 5, b"ab")?;
-    assert_eq!(rt; tuple_len(&tuple), 14);
-    assert_eq!(rt; key_len(&tuple), 12);
-    Ok(())
-}
-
-#[test]
-fn no_tuples_and_no_codes(rt: HostRuntime) -> Result<(), Fail> {
-    let alloc = rt.alloc();
-    for bytes in [
-        b"\x02\x01\0\0\0\0\0\0\0\x05\x02\x02ab\0".as_slice(),
-        b"\x00".as_slice(),
-        b"\x01\x02\x01\xff".as_slice(),
-        b"".as_slice(),
-    ] {
-        assert!(rt; decode_tuple(alloc, bytes)?.is_none());
-    }
-    let read = unordered_key(alloc, &[Kind::Text], b"a\0\0")?.ok_or("a code")?;
+    assert!(rt; is_code_of_a(alloc, b"a\0\0"));
     assert!(rt;
-        matches!(read.as_slice(), [Value::Text(text)] if text.as_bytes() == b"a".as_slice())
+        matches!(
+            unordered_key(alloc, &[Kind::Text], b"a\0\x01\0\0"),
+            Ok(None)
+        )
     );
-    assert!(rt; unordered_key(alloc, &[Kind::Text], b"a\0\x01\0\0")?.is_none());
     keeps_order();
     one_list();
     one_tuple();
-    Ok(())
 }

@@ -15,7 +15,9 @@ const MAX_VALUES: u8 = 16;
 pub fn encode_tuple(alloc: Global, t: &Tuple) -> Result<Bytes, AllocError>
     requires few { length t.now ≤ 255 }
     requires short { All IsShort t.now }
-    ensures { IfOk result (λ bytes. bytes ≡ tuple_spelling t.now) }
+    ensures spelled { IfOk result (λ bytes. bytes ≡ tuple_spelling t.now) }
+    // What is written can be read again, where it has 1 to 16 values.
+    ensures storable { IfOk result (λ bytes. All IsStorable t.now) }
 {
     let values = t.as_slice();
     let mut out = Bytes::new(alloc);

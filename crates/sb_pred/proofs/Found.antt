@@ -91,6 +91,12 @@ no_fails limit bytes body e none _ rest f k = cc
 pub all_behind : (bytes : List ℕ) (at : ℕ) → take (length bytes - at) (drop at bytes) ≡ drop at bytes
 all_behind bytes at = rw (← length-drop at bytes) (take-length (drop at bytes))
 
+-- no predicate stands behind the last byte
+pub none_behind : (bytes : List ℕ) (at end : ℕ) (p : Tree) → length bytes < at → SpellsPred bytes at end p → ⊥
+none_behind bytes at end p past s =
+    let front = first_byte p (drop at bytes) (drop end bytes) s.spelled in
+    omega (arith, past, front.0, length-drop at bytes)
+
 -- the predicate that was found at a place is the only one that stands there
 pub alone : (bytes behind : List ℕ) (at end : ℕ) (p q : Tree) → at ≤ length bytes → IsStorablePred p
     → take (length bytes - at) (drop at bytes) ≡ pred_spelling p ++ behind → SpellsPred bytes at end q

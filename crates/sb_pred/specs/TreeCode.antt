@@ -1,8 +1,9 @@
 -- Predicates written as rows of signs, so that a proof can tell two of them apart.
-use Rattle.std.specs.Prelude.{◌≡◌, ℕ, ℤ, zero, suc, List, [], ◌∷◌, ◌++◌, refl, ◌⊎◌}
-use Rattle.std.specs.Coded.{Coded, code_by, coded_list, coded×, coded⊎, coded_ℕ, coded_ℤ}
+use Rattle.std.specs.Prelude.{◌≡◌, ℕ, ℤ, Bool, true, false, List, [], ◌∷◌, ◌++◌, refl, ◌⊎◌}
+use Rattle.std.specs.Coded.{Coded, code_by, coded_list, coded×, coded⊎, coded_ℕ, coded_ℤ, coded_bool}
 use Rattle.std.proofs.Common.{sym, ◌∙◌, ap, append_assoc, inl, inr}
 use Rattle.sb_value.specs.declared.value.Value.TheVariants.{Int, Text}
+use Rattle.sb_pred.specs.declared.predicate.Op.{Op}
 use Rattle.sb_pred.specs.declared.predicate.Term.{Term}
 use Rattle.sb_pred.specs.declared.predicate.Term.TheVariants.{Const, New, Old}
 use Rattle.sb_pred.specs.Op.{op_code, op_at, op_at-op_code}
@@ -30,27 +31,64 @@ unflat-flat (Const (Text s)) = refl
 unflat-flat (New s) = refl
 unflat-flat (Old s) = refl
 
--- one sign: a comparison, or the number of another node
-abbrev Sign : Type 0
-Sign = ℕ ⊎ (ℕ × (Flat × Flat))
+abbrev flat_code : Coded Flat
+flat_code = coded⊎ (coded⊎ coded_ℤ (coded_list coded_ℕ)) (coded⊎ (coded_list coded_ℕ) (coded_list coded_ℕ))
 
+-- one sign: what stands at a node, without the predicates under it
+pub data Sign : Type 0 where
+  Truth : Sign
+  Comparison : Op → Term → Term → Sign
+  Conjunction : Sign
+  Disjunction : Sign
+  Negation : Sign
+
+-- a sign, by which of the five it is
+abbrev FlatSign : Type 0
+FlatSign = (Bool × Bool) ⊎ (ℕ × (Flat × Flat))
+
+abbrev flat_sign : Sign → FlatSign
+flat_sign Truth = inl (false, false)
+flat_sign (Comparison o a b) = inr (op_code o, (flat a, flat b))
+flat_sign Conjunction = inl (true, false)
+flat_sign Disjunction = inl (true, true)
+flat_sign Negation = inl (false, true)
+
+abbrev sign_of : FlatSign → Sign
+sign_of (inl (false, false)) = Truth
+sign_of (inl (true, false)) = Conjunction
+sign_of (inl (true, true)) = Disjunction
+sign_of (inl (false, true)) = Negation
+sign_of (inr (o, (a, b))) = Comparison (op_at o) (unflat a) (unflat b)
+
+pub sign_of-flat_sign : (s : Sign) → sign_of (flat_sign s) ≡ s
+sign_of-flat_sign Truth = refl
+sign_of-flat_sign (Comparison o a b) = λ i. Comparison (op_at-op_code o i) (unflat-flat a i) (unflat-flat b i)
+sign_of-flat_sign Conjunction = refl
+sign_of-flat_sign Disjunction = refl
+sign_of-flat_sign Negation = refl
+
+abbrev sign_code : Coded Sign
+sign_code = code_by FlatSign (coded⊎ (coded× coded_bool coded_bool) (coded× coded_ℕ (coded× flat_code flat_code))) flat_sign sign_of sign_of-flat_sign
+
+-- the signs of a tree, each behind those of its parts
 abbrev signs : Tree → List Sign
-signs Always = inl 0 ∷ []
-signs (Compare o a b) = inr (op_code o, (flat a, flat b)) ∷ []
-signs (Both a b) = signs a ++ (signs b ++ inl 1 ∷ [])
-signs (Either a b) = signs a ++ (signs b ++ inl 2 ∷ [])
-signs (Fails a) = signs a ++ inl 3 ∷ []
+signs Always = Truth ∷ []
+signs (Compare o a b) = Comparison o a b ∷ []
+signs (Both a b) = signs a ++ (signs b ++ Conjunction ∷ [])
+signs (Either a b) = signs a ++ (signs b ++ Disjunction ∷ [])
+signs (Fails a) = signs a ++ Negation ∷ []
 
-abbrev place : ℕ → List Tree → List Tree
-place (suc zero) (b ∷ a ∷ ts) = Both a b ∷ ts
-place (suc (suc zero)) (b ∷ a ∷ ts) = Either a b ∷ ts
-place (suc (suc (suc zero))) (a ∷ ts) = Fails a ∷ ts
-place _ ts = Always ∷ ts
+-- a sign takes its parts from the trees so far, the last of them first
+abbrev placed : Sign → List Tree → List Tree
+placed (Comparison o a b) ts = Compare o a b ∷ ts
+placed Conjunction (b ∷ a ∷ ts) = Both a b ∷ ts
+placed Disjunction (b ∷ a ∷ ts) = Either a b ∷ ts
+placed Negation (a ∷ ts) = Fails a ∷ ts
+placed _ ts = Always ∷ ts
 
 abbrev built : List Sign → List Tree → List Tree
 built [] ts = ts
-built (inl n ∷ rest) ts = built rest (place n ts)
-built (inr (o, (a, b)) ∷ rest) ts = built rest (Compare (op_at o) (unflat a) (unflat b) ∷ ts)
+built (s ∷ rest) ts = built rest (placed s ts)
 
 abbrev first_tree : List Tree → Tree
 first_tree [] = Always
@@ -58,16 +96,16 @@ first_tree (t ∷ ts) = t
 
 built-signs : (t : Tree) (rest : List Sign) (ts : List Tree) → built (signs t ++ rest) ts ≡ built rest (t ∷ ts)
 built-signs Always rest ts = refl
-built-signs (Compare o a b) rest ts = λ i. built rest (Compare (op_at-op_code o i) (unflat-flat a i) (unflat-flat b i) ∷ ts)
+built-signs (Compare o a b) rest ts = refl
 built-signs (Both a b) rest ts =
     ap (λ s. built s ts)
-    (append_assoc (signs a) (signs b ++ inl 1 ∷ []) rest ∙ ap (λ s. signs a ++ s) (append_assoc (signs b) (inl 1 ∷ []) rest))
-    ∙ built-signs a (signs b ++ (inl 1 ∷ rest)) ts ∙ built-signs b (inl 1 ∷ rest) (a ∷ ts)
+    (append_assoc (signs a) (signs b ++ Conjunction ∷ []) rest ∙ ap (λ s. signs a ++ s) (append_assoc (signs b) (Conjunction ∷ []) rest))
+    ∙ built-signs a (signs b ++ (Conjunction ∷ rest)) ts ∙ built-signs b (Conjunction ∷ rest) (a ∷ ts)
 built-signs (Either a b) rest ts =
     ap (λ s. built s ts)
-    (append_assoc (signs a) (signs b ++ inl 2 ∷ []) rest ∙ ap (λ s. signs a ++ s) (append_assoc (signs b) (inl 2 ∷ []) rest))
-    ∙ built-signs a (signs b ++ (inl 2 ∷ rest)) ts ∙ built-signs b (inl 2 ∷ rest) (a ∷ ts)
-built-signs (Fails a) rest ts = ap (λ s. built s ts) (append_assoc (signs a) (inl 3 ∷ []) rest) ∙ built-signs a (inl 3 ∷ rest) ts
+    (append_assoc (signs a) (signs b ++ Disjunction ∷ []) rest ∙ ap (λ s. signs a ++ s) (append_assoc (signs b) (Disjunction ∷ []) rest))
+    ∙ built-signs a (signs b ++ (Disjunction ∷ rest)) ts ∙ built-signs b (Disjunction ∷ rest) (a ∷ ts)
+built-signs (Fails a) rest ts = ap (λ s. built s ts) (append_assoc (signs a) (Negation ∷ []) rest) ∙ built-signs a (Negation ∷ rest) ts
 
 append-nil : {A : Type 0} (xs : List A) → xs ++ [] ≡ xs
 append-nil [] = refl
@@ -79,8 +117,5 @@ tree_back s = first_tree (built s [])
 pub tree_same : (t : Tree) → tree_back (signs t) ≡ t
 tree_same t = ap tree_back (sym (append-nil (signs t))) ∙ ap first_tree (built-signs t [] [])
 
-abbrev flat_code : Coded Flat
-flat_code = coded⊎ (coded⊎ coded_ℤ (coded_list coded_ℕ)) (coded⊎ (coded_list coded_ℕ) (coded_list coded_ℕ))
-
 abbrev pub tree_code : Coded Tree
-tree_code = code_by (List Sign) (coded_list (coded⊎ coded_ℕ (coded× coded_ℕ (coded× flat_code flat_code)))) signs tree_back tree_same
+tree_code = code_by (List Sign) (coded_list sign_code) signs tree_back tree_same

@@ -154,14 +154,13 @@ fn pred_of(alloc: Global, bytes: &[u8], limit: u32) -> Result<Option<(Pred, &[u8
     }
 }
 
-/// The predicate of at most 32 nodes that is spelled from a place on, and the place behind it.
+/// The predicate of at most 32 nodes that is spelled from a place on, and the place behind it. Behind the last byte
+/// none is spelled.
 pub fn read_pred(
     alloc: Global,
     bytes: &[u8],
     at: usize,
 ) -> Result<Option<(Pred, usize)>, AllocError>
-    requires { at ≤ length bytes.now }
-
     // What is found stands there.
     ensures found { IfOk result (λ r. IfSome r (λ x. SpellsPred bytes.now at x.1 x.0)) }
     ensures within { IfOk result (λ r. IfSome r (λ x. x.1 ≤ length bytes.now)) }
@@ -170,6 +169,9 @@ pub fn read_pred(
     ensures only { (p : Tree) (end : ℕ) → SpellsPred bytes.now at end p → IfOk result (λ r. r ≡ Some (p, end)) }
     ensures none { IfOk result (λ r. IfNone r ((p : Tree) (end : ℕ) → SpellsPred bytes.now at end p → ⊥)) }
 {
+    if at > bytes.len() {
+        return Ok(None);
+    }
     match pred_of(alloc, &bytes[at..], NODE_LIMIT)? {
         Some((pred, rest)) => Ok(Some((pred, bytes.len() - rest.len()))),
         None => Ok(None),

@@ -1,6 +1,6 @@
 //! When a predicate holds.
 
-ghost use Rattle.std.specs.Prelude.{◌≡◌, List, Option, IfSome, IsTrue, is_some};
+ghost use Rattle.std.specs.Prelude.{◌≡◌, List, Option, Some, IfSome, IsTrue, is_some};
 ghost use Rattle.std.specs.Option.{option_copied};
 ghost use Rattle.sb_pred.specs.Columns.{column_value};
 ghost use Rattle.sb_pred.specs.Truth.{op_holds, term_value, truth, HaveOneKind};
@@ -42,10 +42,18 @@ fn holds(op: Op, order: Ordering) -> bool
     }
 }
 
-fn value_in<'a>(row: Option<&'a Tuple>, schema: &Schema, name: &Str) -> Option<&'a Value>
+/// What the row has in the first column of this name; `None` where there is no row or no such column.
+pub fn value_in<'a>(row: Option<&'a Tuple>, schema: &Schema, name: &Str) -> Option<&'a Value>
     ensures { option_copied result ≡ column_value schema.now (option_copied row.entry) name.now }
 {
     row?.as_slice().get(find_column(schema, name)?)
+}
+
+/// What a row has in the first column of this name; `None` where there is no such column.
+pub fn column_value<'a>(schema: &Schema, row: &'a Tuple, name: &Str) -> Option<&'a Value>
+    ensures { option_copied result ≡ column_value schema.now (Some row.now) name.now }
+{
+    row.as_slice().get(find_column(schema, name)?)
 }
 
 /// The term's value over an old and a new row of the schema; `None` where its row or its column isn't there.

@@ -8,7 +8,7 @@ use crate::predicate::{Node, Pred, Term};
 use sb_value::{Kind, Schema, Str};
 
 /// Where the first column of this name stands.
-pub(crate) fn find_column(schema: &Schema, name: &Str) -> Option<usize>
+pub fn find_column(schema: &Schema, name: &Str) -> Option<usize>
     ensures { result ≡ place_of schema.now name.now }
 {
     schema
@@ -17,14 +17,17 @@ pub(crate) fn find_column(schema: &Schema, name: &Str) -> Option<usize>
         .position(|column| column.name == *name)
 }
 
-fn kind_of_column(schema: &Schema, name: &Str) -> Option<Kind>
+/// The kind of the first column of this name; `None` where there is none.
+pub fn kind_of_column(schema: &Schema, name: &Str) -> Option<Kind>
     ensures { result ≡ column_kind schema.now name.now }
 {
     let column = schema.as_slice().get(find_column(schema, name)?)?;
     Some(column.kind)
 }
 
-fn kind_of_term(term: &Term, schema: &Schema, old: bool, new: bool) -> Option<Kind>
+/// The term's kind over the schema; `None` where its column isn't there, or its row isn't allowed. `old` and `new` say
+/// which rows are.
+pub fn kind_of_term(term: &Term, schema: &Schema, old: bool, new: bool) -> Option<Kind>
     ensures { result ≡ term_kind schema.now old new term.now }
 {
     match term {

@@ -1,2 +1,3 @@
 pub mod FitsLemmas
 pub mod SpellingLemmas
+pub mod Truths

@@ -1,187 +1,218 @@
-ghost use Rattle.std.specs.Prelude.{◌≡◌, ◌≤◌, IfOk, length};
+ghost use Rattle.std.specs.Prelude.{◌≡◌, ◌≤◌, length};
+ghost use Rattle.sb_value.specs.Spelling.{IsShort};
 
 use crate::{
     Bytes, Column, Kind, Names, RecKey, Schema, Str, Tuple, TypeFault, Value, put_value, take_value,
 };
-use std::alloc::{AllocError, Global};
+use std::alloc::Global;
 use std::collections::{BTreeMap, HashMap};
+use std::process::Abort;
 use std::test::*;
 
-fn text(alloc: Global, text: &str) -> Result<Str, AllocError>
-    ensures { IfOk result (λ s. s ≡ text.now) }
+// Want of memory ends a test at once: where a test went on to an `Err`, each value that it has would be dropped on the way,
+// which is dear to prove.
+
+fn text(rt: &impl Abort, alloc: Global, text: &str) -> Str
+    ensures { result ≡ text.now }
 {
-    Ok(Str::from_string(String::from_str(alloc, text)?))
+    Str::from_string(String::from_str(alloc, text).expect(rt, "memory"))
 }
 
-fn key(alloc: Global, items: &[u8]) -> Result<RecKey, AllocError> {
-    Ok(RecKey::from_vec(Vec::from_slice(alloc, items)?))
+fn key(rt: &impl Abort, alloc: Global, items: &[u8]) -> RecKey {
+    RecKey::from_vec(Vec::from_slice(alloc, items).expect(rt, "memory"))
 }
 
 /// A row of a number and some texts.
-fn row(alloc: Global, number: i64, texts: &[&str]) -> Result<Tuple, AllocError> {
+fn row(rt: &impl Abort, alloc: Global, number: i64, texts: &[&str]) -> Tuple {
     let mut values = Vec::new(alloc);
-    values.push(Value::Int(number))?;
+    values.push(Value::Int(number)).expect(rt, "memory");
     for short in texts {
-        values.push(Value::Text(text(alloc, short)?))?;
+        values
+            .push(Value::Text(text(rt, alloc, short)))
+            .expect(rt, "memory");
     }
-    Ok(Tuple::from_vec(values))
+    Tuple::from_vec(values)
 }
 
-fn column(alloc: Global, name: &str, kind: Kind, limit: u8) -> Result<Column, AllocError> {
-    Ok(Column {
-        name: text(alloc, name)?,
+fn column(rt: &impl Abort, alloc: Global, name: &str, kind: Kind, limit: u8) -> Column {
+    Column {
+        name: text(rt, alloc, name),
         kind,
         limit,
-    })
+    }
 }
 
 /// A number and a text of at most two bytes.
-fn schema(alloc: Global) -> Result<Schema, AllocError> {
-    let mut columns = Vec::new(alloc);
-    columns.push(column(alloc, "id", Kind::Int, 0)?)?;
-    columns.push(column(alloc, "name", Kind::Text, 2)?)?;
-    Ok(Schema::from_vec(columns))
+fn schema(rt: &impl Abort, alloc: Global) -> Schema {
+    let id = column(rt, alloc, "id", Kind::Int, 0);
+    let name = column(rt, alloc, "name", Kind::Text, 2);
+    Schema::from_vec(vec![in alloc; id, name].expect(rt, "memory"))
 }
 
-fn put_number(alloc: Global, number: i64) -> Result<Bytes, AllocError> {
-    let mut out = Bytes::new(alloc);
-    put_value(&Value::Int(number), &mut out)?;
-    Ok(out)
-}
-
-fn put_text(alloc: Global, short: &str) -> Result<Bytes, AllocError>
-    requires { length short.now ≤ 255 }
+fn is_written(rt: &impl Abort, alloc: Global, value: &Value, spelling: &[u8]) -> bool
+    requires { IsShort value.now }
 {
     let mut out = Bytes::new(alloc);
-    put_value(&Value::Text(text(alloc, short)?), &mut out)?;
-    Ok(out)
+    put_value(value, &mut out).expect(rt, "memory");
+    out.as_slice() == spelling
 }
 
+/// Whether the bytes between two places are read as the value.
+fn is_read(
+    rt: &impl Abort,
+    alloc: Global,
+    bytes: &[u8],
+    start: usize,
+    value: Value,
+    end: usize,
+) -> bool
+    requires { start ≤ length bytes.now }
+{
+    take_value(alloc, bytes, start).expect(rt, "memory") == Some((value, end))
+}
+
+const NUMBERS: [(i64, [u8; 9]); 3] = [
+    (5, [1, 0, 0, 0, 0, 0, 0, 0, 5]),
+    (-2, [1, 255, 255, 255, 255, 255, 255, 255, 254]),
+    (i64::MIN, [1, 128, 0, 0, 0, 0, 0, 0, 0]),
+];
+
 #[test]
-fn spells_numbers(rt: HostRuntime) -> Result<(), Fail> {
+fn spells_numbers(rt: HostRuntime) {
     let alloc = rt.alloc();
-    let rows: [(i64, [u8; 9]); 3] = [
-        (5, [1, 0, 0, 0, 0, 0, 0, 0, 5]),
-        (-2, [1, 255, 255, 255, 255, 255, 255, 255, 254]),
-        (i64::MIN, [1, 128, 0, 0, 0, 0, 0, 0, 0]),
-    ];
-    for (number, spelling) in rows {
-        assert_eq!(rt; put_number(alloc, number)?.as_slice(), spelling.as_slice());
-        let read = take_value(alloc, spelling.as_slice(), 0)?;
-        assert!(rt; read == Some((Value::Int(number), 9)));
+    for (number, spelling) in NUMBERS.iter() {
+        assert!(rt; is_written(&rt, alloc, &Value::Int(*number), spelling));
+        assert!(rt; is_read(&rt, alloc, spelling, 0, Value::Int(*number), 9));
     }
-    Ok(())
 }
 
 #[test]
-fn spells_texts(rt: HostRuntime) -> Result<(), Fail> {
+fn spells_texts(rt: HostRuntime) {
     let alloc = rt.alloc();
-    assert_eq!(rt;
-        put_text(alloc, "ab")?.as_slice(),
-        [2, 2, 0x61, 0x62].as_slice()
-    );
-    assert_eq!(rt; put_text(alloc, "")?.as_slice(), [2, 0].as_slice());
-    let read = take_value(alloc, &[9, 2, 2, 0x61, 0x62, 7], 1)?;
-    assert!(rt; read == Some((Value::Text(text(alloc, "ab")?), 5)));
-    Ok(())
+    let ab = Value::Text(text(&rt, alloc, "ab"));
+    assert!(rt; is_written(&rt, alloc, &ab, &[2, 2, 0x61, 0x62]));
+    assert!(rt; is_read(&rt, alloc, &[9, 2, 2, 0x61, 0x62, 7], 1, ab, 5));
+    assert!(rt; is_written(&rt, alloc, &Value::Text(text(&rt, alloc, "")), &[2, 0]));
+}
+
+const NO_VALUES: [&'static [u8]; 8] = [
+    &[],
+    &[0, 0],
+    &[3, 1, 0x61],
+    &[1, 0, 0, 0, 0, 0, 0, 0],
+    &[2],
+    &[2, 2, 0x61],
+    &[2, 1, 0xff],
+    &[2, 2, 0xc0, 0x80],
+];
+
+fn is_no_value(rt: &impl Abort, alloc: Global, bytes: &[u8]) -> bool {
+    take_value(alloc, bytes, 0).expect(rt, "memory").is_none()
 }
 
 #[test]
-fn reads_only_values(rt: HostRuntime) -> Result<(), Fail> {
-    let rows: [&[u8]; 8] = [
-        &[],
-        &[0, 0],
-        &[3, 1, 0x61],
-        &[1, 0, 0, 0, 0, 0, 0, 0],
-        &[2],
-        &[2, 2, 0x61],
-        &[2, 1, 0xff],
-        &[2, 2, 0xc0, 0x80],
-    ];
-    for bytes in rows {
-        assert!(rt; take_value(rt.alloc(), bytes, 0)?.is_none());
+fn reads_only_values(rt: HostRuntime) {
+    let alloc = rt.alloc();
+    for bytes in NO_VALUES.iter() {
+        assert!(rt; is_no_value(&rt, alloc, bytes));
     }
-    assert!(rt; Str::from_utf8(rt.alloc(), &[0xff])?.is_none());
-    Ok(())
+    let text = Str::from_utf8(alloc, &[0xff]);
+    assert!(rt; text.expect(&rt, "memory").is_none());
 }
 
+const FITS: [(&'static [&'static str], Result<(), TypeFault>); 3] = [
+    (&[], Err(TypeFault { column: 1 })),
+    (&["ab"], Ok(())),
+    (&["ab", "ab"], Err(TypeFault { column: 2 })),
+];
+
 #[test]
-fn finds_the_first_misfit(rt: HostRuntime) -> Result<(), Fail> {
+fn finds_the_first_misfit(rt: HostRuntime) {
     let alloc = rt.alloc();
-    let columns = schema(alloc)?;
-    let rows: [(&[&str], Result<(), TypeFault>); 3] = [
-        (&[], Err(TypeFault { column: 1 })),
-        (&["ab"], Ok(())),
-        (&["ab", "ab"], Err(TypeFault { column: 2 })),
-    ];
-    for (texts, answer) in rows {
-        assert_eq!(rt; columns.fits(&row(alloc, 5, texts)?), answer);
+    let columns = schema(&rt, alloc);
+    for (texts, answer) in FITS.iter() {
+        assert!(rt; columns.fits(&row(&rt, alloc, 5, texts)) == *answer);
     }
-    assert!(rt; columns.short_enough(&row(alloc, 5, &["ab"])?));
-    assert!(rt; !columns.short_enough(&row(alloc, 5, &["abc"])?));
-    Ok(())
+    assert!(rt; columns.short_enough(&row(&rt, alloc, 5, &["ab"])));
+    assert!(rt; !columns.short_enough(&row(&rt, alloc, 5, &["abc"])));
 }
 
 #[test]
-fn keeps_texts_and_bytes(rt: HostRuntime) -> Result<(), Fail> {
+fn keeps_texts(rt: HostRuntime) {
     let alloc = rt.alloc();
-    let ab = text(alloc, "ab")?.copy()?;
-    assert_eq!(rt; (ab.as_str(), ab.len(), ab.is_empty()), ("ab", 2, false));
-    assert_eq!(rt; ab.as_bytes(), [0x61, 0x62].as_slice());
-    assert_eq!(rt; ab.into_string().as_str(), "ab");
+    let ab = text(&rt, alloc, "ab").copy().expect(&rt, "memory");
+    assert!(rt; ab.len() == 2 && !ab.is_empty());
+    assert!(rt; ab.as_str() == "ab" && ab.as_bytes() == [0x61, 0x62].as_slice());
+    assert!(rt; ab.into_string().as_str() == "ab");
+}
+
+#[test]
+fn keeps_bytes(rt: HostRuntime) {
+    let alloc = rt.alloc();
     let mut bytes = Bytes::new(alloc);
-    bytes.push(1)?;
-    bytes.extend(&[2, 3])?;
+    bytes.push(1).expect(&rt, "memory");
+    bytes.extend(&[2, 3]).expect(&rt, "memory");
     bytes.truncate(2);
-    assert_eq!(rt; (bytes.len(), bytes.is_empty()), (2, false));
-    let copy = Bytes::from_vec(bytes.copy()?.into_vec());
-    assert_eq!(rt; copy.as_slice(), [1, 2].as_slice());
-    Ok(())
+    assert!(rt; bytes.len() == 2 && !bytes.is_empty());
+    let copy = Bytes::from_vec(bytes.copy().expect(&rt, "memory").into_vec());
+    assert!(rt; copy.as_slice() == [1, 2].as_slice());
 }
 
 #[test]
-fn keeps_keys_and_tuples(rt: HostRuntime) -> Result<(), Fail> {
+fn keeps_keys(rt: HostRuntime) {
     let alloc = rt.alloc();
-    let stored = key(alloc, &[1, 2])?.copy()?;
-    assert_eq!(rt; (stored.len(), stored.is_empty()), (2, false));
-    assert_eq!(rt; stored.as_slice(), [1, 2].as_slice());
-    assert_eq!(rt; stored.into_vec().as_slice(), [1, 2].as_slice());
-    let pair = row(alloc, 5, &["ab"])?;
-    assert_eq!(rt; (pair.len(), pair.is_empty()), (2, false));
-    assert!(rt; pair.copy()? == pair);
-    assert!(rt; pair.as_slice().first() == Some(&Value::Int(5)));
-    assert_eq!(rt; pair.into_vec().len(), 2);
-    Ok(())
+    let stored = key(&rt, alloc, &[1, 2]).copy().expect(&rt, "memory");
+    assert!(rt; stored.len() == 2 && !stored.is_empty());
+    assert!(rt; stored.as_slice() == [1, 2].as_slice());
+    assert!(rt; stored.into_vec().as_slice() == [1, 2].as_slice());
 }
 
 #[test]
-fn keeps_names_and_columns(rt: HostRuntime) -> Result<(), Fail> {
+fn keeps_tuples(rt: HostRuntime) {
     let alloc = rt.alloc();
-    let mut one = Vec::new(alloc);
-    one.push(text(alloc, "ab")?)?;
-    let names = Names::from_vec(one).copy()?;
-    assert_eq!(rt; (names.len(), names.is_empty()), (1, false));
-    assert!(rt; names.as_slice().first() == Some(&text(alloc, "ab")?));
-    assert_eq!(rt; names.into_vec().len(), 1);
-    let columns = schema(alloc)?.copy()?;
-    assert_eq!(rt; (columns.len(), columns.is_empty()), (2, false));
-    assert_eq!(rt;
-        columns.as_slice().first().map(|first| first.kind),
-        Some(Kind::Int)
-    );
-    assert_eq!(rt; columns.into_vec().len(), 2);
-    Ok(())
+    let pair = row(&rt, alloc, 5, &["ab"]);
+    assert!(rt; pair.len() == 2 && !pair.is_empty());
+    assert!(rt; pair.copy().expect(&rt, "memory") == pair);
+    assert!(rt; matches!(pair.as_slice().first(), Some(Value::Int(5))));
+    assert!(rt; pair.into_vec().len() == 2);
 }
 
 #[test]
-fn serves_as_a_key(rt: HostRuntime) -> Result<(), Fail> {
+fn keeps_names(rt: HostRuntime) {
+    let alloc = rt.alloc();
+    let one = vec![in alloc; text(&rt, alloc, "ab")].expect(&rt, "memory");
+    let names = Names::from_vec(one).copy().expect(&rt, "memory");
+    assert!(rt; names.len() == 1 && !names.is_empty());
+    assert!(rt; matches!(names.as_slice().first(), Some(name) if name.as_str() == "ab"));
+    assert!(rt; names.into_vec().len() == 1);
+}
+
+#[test]
+fn keeps_columns(rt: HostRuntime) {
+    let alloc = rt.alloc();
+    let columns = schema(&rt, alloc).copy().expect(&rt, "memory");
+    assert!(rt; columns.len() == 2 && !columns.is_empty());
+    let first = columns.as_slice().first();
+    assert!(rt; matches!(first, Some(first) if first.kind == Kind::Int));
+    assert!(rt; columns.into_vec().len() == 2);
+}
+
+#[test]
+fn serves_as_a_key(rt: HostRuntime) {
     let alloc = rt.alloc();
     let mut rows = BTreeMap::new(alloc);
-    rows.insert(key(alloc, &[2])?, 20)?;
-    rows.insert(key(alloc, &[1, 0])?, 10)?;
-    assert_eq!(rt; rows.get(&key(alloc, &[1, 0])?), Some(&10));
+    let added: Result<_, _> = rows.insert(key(&rt, alloc, &[2]), 20);
+    added.expect(&rt, "memory");
+    let added: Result<_, _> = rows.insert(key(&rt, alloc, &[1, 0]), 10);
+    added.expect(&rt, "memory");
+    assert!(rt; rows.get(&key(&rt, alloc, &[1, 0])) == Some(&10));
+}
+
+#[test]
+fn serves_as_a_name(rt: HostRuntime) {
+    let alloc = rt.alloc();
     let mut names = HashMap::new(alloc);
-    names.insert(text(alloc, "ab")?, 1)?;
-    assert_eq!(rt; names.get(&text(alloc, "ab")?), Some(&1));
-    Ok(())
+    let added: Result<_, _> = names.insert(text(&rt, alloc, "ab"), 1);
+    added.expect(&rt, "memory");
+    assert!(rt; names.get(&text(&rt, alloc, "ab")) == Some(&1));
 }

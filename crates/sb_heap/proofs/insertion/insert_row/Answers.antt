@@ -34,5 +34,5 @@ returns-in_err-fill c =
 
 pub returns : goal.returns
 returns c =
-    Changes-inserted c.args.inst.now c.args.tuple.now c.as_slice.result.now c.args.ctx.now c.spot_for.new.ctx c.fill.new.ctx c.in_ok-spot.spot c.in_ok-key.key c.requires.clean.unchanged c.requires.row (c.as_slice.ensures ∙ c.in_ok-row.ensures)
+    Changes-inserted c.args.inst.now c.args.tuple.now c.as_slice.result.now c.args.ctx.now c.spot_for.new.ctx c.fill.new.ctx c.in_ok-spot.spot c.in_ok-key.key c.requires.clean.unchanged c.requires.row (c.as_slice.ensures ∙ c.in_ok-row.ensures.spelled)
     c.in_ok-spot.ensures.spot c.in_ok-spot.ensures.given c.in_ok-key.ensures c.in_ok-fill.ensures

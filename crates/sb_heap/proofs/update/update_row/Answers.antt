@@ -77,7 +77,7 @@ returns c =
     let own = rw c.in-Some-2.is at c.in_ok-bytes.ensures.ok in
     let same : c.deref_mut.result.now ≡ c.in-Some-2.bytes.now = search rules in
     let at : IsAtPlace old key c.in-Some.page c.in-Some.slot.now c.in-Some-2.bytes.now c.in-Some-2.head c.in-Ok.i = record { parts = c.in-Some.ensures; low = own.1; held = own.2; place = sym c.in-Ok.ensures } in
-    let spelled = c.as_slice.ensures ∙ c.in_ok-row.ensures in
+    let spelled = c.as_slice.ensures ∙ c.in_ok-row.ensures.spelled in
     elim (subst (λ (b : List ℕ). Replaces old new inst.root c.in-Some.page (node_in b) c.in-Ok.i c.in-Some.slot.now row key (Ok c.in_ok-now.now)) same c.in_ok-now.ensures) [
       | inl kept ↦ subst (λ (k : List ℕ). Changes heap_method inst (Update key c.args.tuple.now) old new (Keyed k)) (sym kept.0)
           (Changes-replaced inst c.args.tuple.now row old new key c.in-Some.page c.in-Some.slot.now c.in-Some-2.bytes.now c.in-Some-2.head c.in-Ok.i c.requires.clean.unchanged c.requires.row spelled at kept.1)
