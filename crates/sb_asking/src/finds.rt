@@ -11,12 +11,12 @@ ghost use Rattle.sb_standing.specs.Standing.{StandRules};
 ghost use Rattle.sb_standing.specs.Tables.{Kept, Tables, db_of};
 ghost use Rattle.sb_opened.specs.Opened.{IsDurable};
 
-use crate::columns::{has_columns, has_values};
+use crate::columns::has_values;
 use sb_ctx::Keys;
 use sb_drive::{PageSpace, SpaceFault};
 use sb_map::Place;
 use sb_opened::open_relation;
-use sb_registry::Boxes;
+use sb_registry::{Boxes, has_columns};
 use sb_rows::{RowTest, keys_where};
 use sb_value::{Names, Schema, Str, Tuple};
 use std::alloc::Global;

@@ -16,7 +16,7 @@ use sb_drive::{PageSpace, SpaceFault};
 use sb_map::Place;
 use sb_registry::Boxes;
 use sb_relation::Change;
-use std::alloc::{AllocError, Global};
+use std::alloc::Global;
 
 /// What an attachment says of a change: it vetoes it, or admits it, with the actions that follow at once, those that wait
 /// for the commit, and the entries that are tested then.
@@ -53,7 +53,7 @@ pub fn ask_rule<S: PageSpace, B: Boxes>(
         → IsSound e) }
     ensures ready { S.is_ready space.new }
 {
-    let copy = copy_change(change)?;
+    let copy = change.copy()?;
     let call = AttachCall::Changed(copy);
     let made = ask(space, alloc, boxes, place, inst, &call)?;
     Ok(verdict_in(alloc, made))
@@ -72,26 +72,5 @@ fn verdict_in(alloc: Global, made: Move) -> Verdict
         Move::Acts { now, late, checks } => Verdict::Admitted { now, late, checks },
         Move::Veto => Verdict::Vetoed,
         _ => unreachable!(),
-    }
-}
-
-fn copy_change(change: &Change) -> Result<Change, AllocError>
-    ensures { IfOk result (λ copy. copy ≡ change.now) }
-{
-    match change {
-        Change::Insert { key, new } => Ok(Change::Insert {
-            key: key.copy()?,
-            new: new.copy()?,
-        }),
-        Change::Delete { key, old } => Ok(Change::Delete {
-            key: key.copy()?,
-            old: old.copy()?,
-        }),
-        Change::Update { from, old, to, new } => Ok(Change::Update {
-            from: from.copy()?,
-            old: old.copy()?,
-            to: to.copy()?,
-            new: new.copy()?,
-        }),
     }
 }

@@ -1,7 +1,6 @@
 -- How long spellings are.
-use Rattle.std.proofs.Common.{◌≡◌, ℕ, suc, ◌+◌, ◌*◌, ◌-◌, ◌^◌, ◌<◌, ◌≤◌, min, List, [], ◌∷◌, ◌++◌, length, take, get_or, All, sym, ap, ◌∙◌, length-append, arith}
+use Rattle.std.proofs.Common.{◌≡◌, ℕ, suc, ◌+◌, ◌*◌, ◌≤◌, List, [], ◌∷◌, ◌++◌, length, get_or, All, ◌∙◌, length-append, arith}
 use Rattle.std.specs.List.{flat_map, AllByRecursion}
-use Rattle.std.proofs.lemmas.List.{flat_map_more, take_more, take_all}
 use Rattle.std.proofs.lemmas.List.Elements.{recursion_from_All}
 use Rattle.std.proofs.Math.Nat.{suc-mul, mul-le-mul_right}
 use Rattle.sb_value.specs.declared.schema.Column.{Column}
@@ -12,23 +11,6 @@ use Rattle.sb_catalog.specs.declared.descriptor.Attached.{Attached}
 use Rattle.sb_catalog.specs.declared.descriptor.Descriptor.{Descriptor}
 use Rattle.sb_catalog.specs.Descriptors.{short_spelling, instance_spelling, attached_instance, method_instance, column_spelling, columns_spelling, counted_spelling, attached_spelling, attachments_spelling, descriptor_spelling, IsShortAttached, IsShortDescriptor}
 use Rattle.sb_catalog.proofs.Numbers.{length-short, length-instance}
-
--- one item more is counted
-pub one_more : {X : Type 0} (spell : X → List ℕ) (items : List X) (i : ℕ) (x : X) (len now most : ℕ) → i < length items → x ≡ get_or items i x
-    → len ≡ min (1 + length (flat_map spell (take i items))) most → now ≡ min (len + length (spell x)) most
-    → now ≡ min (1 + length (flat_map spell (take (i + 1) items))) most
-one_more spell items i x len now most within is was e =
-    let more : take (i + 1) items ≡ take i items ++ x ∷ [] = take_more items i x within ∙ ap (λ y. take i items ++ y ∷ []) (sym is) in
-    let longer : length (flat_map spell (take (i + 1) items)) ≡ length (flat_map spell (take i items)) + length (spell x) =
-    ap (λ l. length (flat_map spell l)) more ∙ ap (length {A = ℕ}) (sym (flat_map_more spell [] (take i items) x)) ∙ length-append (flat_map spell (take i items)) (spell x) in
-    omega (arith, was, e, longer)
-
--- all items are counted
-pub all_counted : {X : Type 0} (spell : X → List ℕ) (items : List X) (i len most : ℕ) → length items ≤ i
-    → len ≡ min (1 + length (flat_map spell (take i items))) most → len ≡ min (length (list_spelling spell items)) most
-all_counted spell items i len most ended was =
-    let whole : length (flat_map spell (take i items)) ≡ length (flat_map spell items) = ap (λ l. length (flat_map spell l)) (take_all i items ended) in
-    omega (arith, was, whole)
 
 -- a list of spellings of at most so many bytes
 each_at_most : {X : Type 0} (spell : X → List ℕ) (bound : ℕ) (items : List X) → AllByRecursion (λ x. length (spell x) ≤ bound) items

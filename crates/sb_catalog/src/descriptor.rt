@@ -2,7 +2,6 @@
 
 ghost use Rattle.std.specs.Prelude.{◌≡◌, ◌==◌, IfOk, length};
 
-use crate::rules::copy_rule;
 use sb_rule::Rule;
 use sb_value::{Names, Schema, Str};
 use std::alloc::{AllocError, Global};
@@ -27,7 +26,7 @@ impl Attached {
             owner: self.owner,
             root: self.root,
             name: self.name.copy()?,
-            rule: copy_rule(alloc, &self.rule)?,
+            rule: self.rule.copy(alloc)?,
         })
     }
 }

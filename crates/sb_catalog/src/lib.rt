@@ -6,7 +6,6 @@ mod descriptor;
 pub mod laws;
 mod lengths;
 mod reading;
-mod rules;
 mod writing;
 
 pub use cache::Cache;

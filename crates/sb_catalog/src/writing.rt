@@ -6,10 +6,9 @@ ghost use Rattle.sb_rule.specs.Spelling.{names_spelling, IsShortList, IsShortNam
 ghost use Rattle.sb_catalog.specs.Descriptors.{short_spelling, long_spelling, instance_spelling, kind_byte, column_spelling, columns_spelling, counted_spelling, attached_spelling, attachments_spelling, descriptor_spelling, IsShortCounted, IsShortAttached, IsShortDescriptor, IsStorableDescriptor, IsConsistent, IsInstance};
 ghost use Rattle.sb_catalog.specs.Writing.{IsNarrowColumn, IsNarrowAttached};
 
-use crate::lengths::rule_len;
 use crate::{Attached, AttachedList, Descriptor};
 use sb_pred::append_name;
-use sb_rule::{Rule, write_rule};
+use sb_rule::{Rule, rule_len, write_rule};
 use sb_value::{Bytes, Column, Kind, Names, Schema};
 use std::alloc::{AllocError, Global};
 

@@ -9,8 +9,7 @@ ghost use Rattle.sb_relation.specs.Fits.{are_one_kind, kinds_at, pairs_fit, acti
 ghost use Rattle.sb_relation.specs.Foreign.{AttachRules, MethodRules};
 ghost use Rattle.sb_kinds.specs.Others.{IsBeside, SaysFits};
 
-use crate::columns::{kind_of_column, kind_of_term};
-use sb_pred::{Pred, Term, well_typed};
+use sb_pred::{Pred, Term, kind_of_column, kind_of_term, well_typed};
 use sb_rule::{Action, Event, Rule};
 use sb_value::{Column, Kind, Names, Schema, Str, Value};
 

@@ -1,7 +1,6 @@
 //! Which relations may be made and which rules may stand, by names and kinds.
 #![tactic(auto)]
 
-mod columns;
 mod kinds;
 mod others;
 mod standing;

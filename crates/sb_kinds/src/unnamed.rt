@@ -7,8 +7,7 @@ ghost use Rattle.sb_relation.specs.Fits.{places_in, term_places, pred_places, pa
 ghost use Rattle.sb_kinds.specs.Others.{IsBeside};
 ghost use Rattle.sb_kinds.specs.Unnamed.{unnamed_in};
 
-use crate::columns::kind_of_column;
-use sb_pred::{Node, Pred, Term};
+use sb_pred::{Node, Pred, Term, kind_of_column};
 use sb_rule::{Action, Rule};
 use sb_value::{Schema, Str};
 

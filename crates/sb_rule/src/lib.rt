@@ -4,6 +4,8 @@
 mod action;
 mod binding;
 mod change;
+mod copies;
+mod lengths;
 mod parts;
 mod reading;
 mod rule;
@@ -12,6 +14,7 @@ mod writing;
 pub use action::{Action, Pairs, Terms};
 pub use binding::bind;
 pub use change::Change;
+pub use lengths::{names_len, rule_len, tie_len};
 pub use reading::read_rule;
 pub use rule::{Event, Mode, Rule, Side};
 pub use writing::write_rule;

@@ -1,17 +1,15 @@
 //! What instances keep.
 
-ghost use Rattle.std.specs.Prelude.{◌≡◌, Some, IfOk};
-ghost use Rattle.std.specs.Option.{option_copied};
-ghost use Rattle.sb_pred.specs.Columns.{place_of, column_value};
+ghost use Rattle.std.specs.Prelude.{◌≡◌, IfOk};
 ghost use Rattle.sb_relation.specs.Db.{values_in};
 ghost use Rattle.sb_ctx.specs.Attachment.{IsInstance};
 ghost use Rattle.sb_rules.specs.Checks.{check, is_in, AreNames, Keeps};
 ghost use Rattle.sb_rules.specs.Triggers.{trigger, KeepsTrigger};
 
 use sb_ctx::Instance;
-use sb_pred::Pred;
+use sb_pred::{Pred, column_value};
 use sb_relation::{Action, Event, Rule, read_rule};
-use sb_value::{Names, Schema, Str, Tuple, Value};
+use sb_value::{Names, Schema, Str, Tuple};
 use std::alloc::{AllocError, Global};
 
 /// The predicate that each row passes, and whether new rows are tested at the commit.
@@ -81,23 +79,6 @@ pub fn names_of(alloc: Global, schema: &Schema) -> Result<Names, AllocError>
     Ok(Names::from_vec(names))
 }
 
-/// Where the first column of this name stands.
-fn place_under(schema: &Schema, name: &Str) -> Option<usize>
-    ensures { result ≡ place_of schema.now name.now }
-{
-    schema
-        .as_slice()
-        .iter()
-        .position(|column| column.name == *name)
-}
-
-/// What the row has in the first column of this name.
-fn value_under<'a>(schema: &Schema, row: &'a Tuple, name: &Str) -> Option<&'a Value>
-    ensures { option_copied result ≡ column_value schema.now (Some row.now) name.now }
-{
-    row.as_slice().get(place_under(schema, name)?)
-}
-
 /// The row's values under these names.
 pub fn values_of(
     alloc: Global,
@@ -109,7 +90,7 @@ pub fn values_of(
 {
     let mut values = Vec::new(alloc);
     for name in names.as_slice() {
-        if let Some(value) = value_under(schema, row, name) {
+        if let Some(value) = column_value(schema, row, name) {
             values.push(value.copy()?)?;
         }
     }

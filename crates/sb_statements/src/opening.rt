@@ -1,7 +1,6 @@
 //! The relations of rows and actions, opened and tested.
 
 ghost use Rattle.std.specs.Prelude.{◌≡◌, true, List, All, OnOk, IfErr};
-ghost use Rattle.sb_pred.specs.Columns.{column_kind, place_of};
 ghost use Rattle.sb_fold.specs.Outcome.{Going};
 ghost use Rattle.sb_cascade.specs.Fitting.{IsFitting, IsFittingWish};
 ghost use Rattle.sb_cascade.specs.Runs.{LooksFrom};
@@ -22,6 +21,7 @@ use sb_engine::{Running, open_at, open_named, prepare, refusal_of};
 use sb_fold::Refusal;
 use sb_map::Place;
 use sb_opened::OpenRelation;
+use sb_pred::kind_of_column;
 use sb_registry::Boxes;
 use sb_rule::Action;
 use sb_value::{Kind, Schema, Str};
@@ -129,20 +129,4 @@ fn may_be_wished(schema: &Schema, wish: &Wish) -> bool
         Wish::Remove(_) => true,
         Wish::Raise(_, column, _) => matches!(kind_of_column(schema, column), Some(Kind::Int)),
     }
-}
-
-fn kind_of_column(schema: &Schema, name: &Str) -> Option<Kind>
-    ensures { result ≡ column_kind schema.now name.now }
-{
-    let column = schema.as_slice().get(find_column(schema, name)?)?;
-    Some(column.kind)
-}
-
-fn find_column(schema: &Schema, name: &Str) -> Option<usize>
-    ensures { result ≡ place_of schema.now name.now }
-{
-    schema
-        .as_slice()
-        .iter()
-        .position(|column| column.name == *name)
 }

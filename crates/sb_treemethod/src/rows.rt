@@ -1,8 +1,6 @@
 //! Rows as entries of a tree.
 
 ghost use Rattle.std.specs.Prelude.{◌≡◌, IfOk};
-ghost use Rattle.std.specs.Option.{option_copied};
-ghost use Rattle.sb_pred.specs.Columns.{column_value, place_of};
 ghost use Rattle.sb_ctx.specs.Method.{code_of};
 ghost use Rattle.sb_relation.specs.Db.{values_in};
 ghost use Rattle.sb_relation.specs.Lawful.{IsRow};
@@ -10,7 +8,8 @@ ghost use Rattle.sb_treemethod.specs.TreeMethod.{IsEntryOf};
 
 use sb_codec::{encode_tuple, ordered_key};
 use sb_ctx::Instance;
-use sb_value::{Bytes, Names, RecKey, Schema, Str, Tuple, Value};
+use sb_pred::column_value;
+use sb_value::{Bytes, Names, RecKey, Schema, Tuple};
 use std::alloc::{AllocError, Global};
 
 /// The record key of a row, and its spelling.
@@ -41,26 +40,9 @@ fn values_of(
 {
     let mut values = Vec::new(alloc);
     for name in names.as_slice() {
-        if let Some(value) = value_of(schema, row, name) {
+        if let Some(value) = column_value(schema, row, name) {
             values.push(value.copy()?)?;
         }
     }
     Ok(Tuple::from_vec(values))
-}
-
-/// Where the first column of a name stands.
-fn place_under(schema: &Schema, name: &Str) -> Option<usize>
-    ensures { result ≡ place_of schema.now name.now }
-{
-    schema
-        .as_slice()
-        .iter()
-        .position(|column| column.name == *name)
-}
-
-/// The value of a row in the named column.
-fn value_of<'a>(schema: &Schema, row: &'a Tuple, name: &Str) -> Option<&'a Value>
-    ensures { option_copied result ≡ column_value schema.now (Some row.now) name.now }
-{
-    row.as_slice().get(place_under(schema, name)?)
 }

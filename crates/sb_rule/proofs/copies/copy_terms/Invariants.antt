@@ -1,5 +1,5 @@
 use Rattle.std.proofs.Common.{◌≡◌, take}
-use Rattle.sb_catalog.proofs.rules.copy_terms.Given as goal
+use Rattle.sb_rule.proofs.copies.copy_terms.Given as goal
 
 abbrev pub invariant-loop-term : goal.invariant-loop-term
 invariant-loop-term l = l.copies.items ≡ take l.term-index l.term-items
