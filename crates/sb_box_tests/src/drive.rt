@@ -6,13 +6,13 @@ ghost use Rattle.sb_ctx.specs.Attachment.{plain_attachment};
 ghost use Rattle.sb_ctx.specs.Method.{plain_method};
 ghost use Rattle.sb_ctx.specs.MethodAnswers.{AsksFor};
 ghost use Rattle.sb_ctx.specs.View.{IsClean, dropped};
-ghost use Rattle.sb_drive.specs.Examples.{IsPlain, IsMade, IsFindOrNoMemory};
-ghost use Rattle.sb_drive.specs.Slots.{slots};
+ghost use Rattle.sb_memory.specs.Examples.{IsPlain, IsMade, IsFindOrNoMemory};
+ghost use Rattle.sb_memory.specs.Contents.{slots};
 ghost use Rattle.sb_drive.specs.Spaces.{HoldsOf};
 ghost use Rattle.sb_relation.specs.Images.{no_image};
 
 use sb_ctx::{AttachCall, Attachment, Ctx, Instance, Keys, MethodCall, Move, StorageMethod};
-use sb_drive::{DriveFault, Memory, drive_attachment, drive_method};
+use sb_memory::{DriveFault, Memory, drive_attachment, drive_method};
 use sb_relation::Change;
 use sb_value::{Bytes, Names, RecKey, Schema, Str, Tuple, Value};
 use std::alloc::{AllocError, Global};
@@ -293,12 +293,13 @@ fn a_page_is_taken_and_undone(rt: HostRuntime) -> Result<(), Fail> {
     let (owner, root) = memory.new_instance(&[])?;
     assert!(rt; owner == 3 && root == 0);
     memory.keep();
+    let start = memory.mark();
     let inst = instance(alloc, owner, root)?;
     let end = delete(&mut memory, alloc, &inst, b"take").map_err(|_| Stopped)?;
     assert!(rt; matches!(end, Move::Done) && memory.owner_of(1) == 3);
     assert_eq!(rt; memory.page(3, 1), [0; 4096].as_slice());
     assert!(rt; has_second(&mut memory, alloc, &inst)?);
-    memory.undo();
+    memory.back_to(start);
     assert!(rt; memory.owner_of(1) == 0 && memory.page(3, 0).len() == 4096);
     assert!(rt; !has_second(&mut memory, alloc, &inst)?);
     Ok(())
@@ -317,13 +318,14 @@ fn pages_are_written_and_freed(rt: HostRuntime) -> Result<(), Fail> {
     let mut memory = Memory::new(alloc);
     let (owner, root) = memory.new_instance(&[])?;
     memory.keep();
+    let start = memory.mark();
     let inst = instance(alloc, owner, root)?;
     for (bytes, first) in WRITES {
         let end = delete(&mut memory, alloc, &inst, bytes).map_err(|_| Stopped)?;
         assert!(rt; matches!(end, Move::Done));
         assert_eq!(rt; memory.page(3, 0).first().copied(), first);
     }
-    memory.undo();
+    memory.back_to(start);
     assert_eq!(rt; memory.page(3, 0), [0; 4096].as_slice());
     Ok(())
 }

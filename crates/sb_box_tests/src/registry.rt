@@ -6,7 +6,8 @@ ghost use Rattle.sb_ctx.specs.Attachment.{plain_attachment};
 ghost use Rattle.sb_ctx.specs.Method.{plain_method};
 
 use sb_ctx::{Attachment, Ctx, Instance, MethodCall, Move, StorageMethod};
-use sb_drive::{Memory, SpaceFault};
+use sb_drive::SpaceFault;
+use sb_memory::Memory;
 use sb_registry::{Boxes, Extensions, Registry};
 use sb_relation::Change;
 use sb_value::{Bytes, Names, RecKey, Schema, Str, Tuple};

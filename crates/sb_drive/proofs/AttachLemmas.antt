@@ -1,8 +1,6 @@
 -- One call of an attachment, and a turn of its driver.
-use Rattle.std.proofs.Common.{◌≡◌, ℕ, List, All, Some, true≢false, Result, Ok, Err, IfErr, sym, ap, subst, ◌∙◌}
-use Rattle.std.specs.Result.{IsErrAnd}
+use Rattle.std.proofs.Common.{◌≡◌, List, All, sym, ap, subst, ◌∙◌}
 use Rattle.sb_relation.specs.Changes.{changed}
-use Rattle.sb_relation.specs.Content.{Content}
 use Rattle.sb_relation.specs.Db.{Db}
 use Rattle.sb_forms.specs.Pages.{Pages}
 use Rattle.sb_ctx.specs.declared.instance.Instance.{Instance}
@@ -12,18 +10,15 @@ use Rattle.sb_ctx.specs.declared.held.Found.{Found}
 use Rattle.sb_ctx.specs.declared.moves.Move.{Move}
 use Rattle.sb_ctx.specs.declared.moves.Move.TheVariants.{Need, Fresh, After, Find, Broken, NoMemory}
 use Rattle.sb_ctx.specs.Attachment.{Attachment}
-use Rattle.sb_ctx.specs.AttachAnswers.{Answers, AsksFor, Changes, Ends, IsBroken, Looks, Spends, pages_of_new}
+use Rattle.sb_ctx.specs.AttachAnswers.{Answers, AsksFor, Changes, Ends, IsBroken, Looks, Spends}
 use Rattle.sb_ctx.specs.View.{View, given_at, dropped, HoldsPart, FoundIn, keys_with, stored, IsClean}
 use Rattle.sb_ctx.proofs.ViewLaws.{stored-clean}
-use Rattle.sb_ctx.specs.Laws.{IsAttachment}
 use Rattle.sb_ctx.proofs.PageLaws.{AreSomeOf-given}
-use Rattle.sb_drive.specs.declared.turns.DriveFault.{DriveFault}
-use Rattle.sb_drive.specs.declared.turns.DriveFault.TheVariants.{Damaged}
 use Rattle.sb_drive.specs.declared.space.SpaceFault.{SpaceFault}
 use Rattle.sb_drive.specs.declared.space.SpaceFault.TheVariants as fault
 use Rattle.sb_drive.specs.declared.turns.Turn.TheVariants.{Stop}
-use Rattle.sb_drive.specs.AttachCalls.{HasCause, HasSpaceCause}
-use Rattle.sb_drive.specs.Turns.{turn_of, in_memory, OnFind}
+use Rattle.sb_drive.specs.AttachCalls.{HasSpaceCause, IsAsking}
+use Rattle.sb_drive.specs.Turns.{turn_of}
 
 -- a reading call is one that changes nothing
 pub Changes-Looks : (a : Attachment) (inst : Instance) (call : AttachCall) (old new : View) (move : Move) → IsClean old → Looks a inst call old new move → Changes a inst call old new move
@@ -71,6 +66,13 @@ Spends-found a inst (calls.Late entry) c d P new move same spends = λ rule db s
 Spends-found a inst (calls.NextEntry low above) c d P new move same spends = spends
 Spends-found a inst calls.Sums c d P new move same spends = spends
 
+-- ---- a fresh page that is asked for
+pub IsAsking-asked : (a : Attachment) (inst : Instance) (call : AttachCall) (old handed c : View) (move : Move) → move ≡ Fresh → old.found ≡ handed.found → Changes a inst call old c move → IsAsking a inst call handed c
+IsAsking-asked a inst call old handed c move fresh found changes = record {
+  found = ap (λ (v : View). v.found) changes.given ∙ found;
+  asks = subst (λ (v : View). Changes a inst call v c Fresh) (sym changes.given) (subst (λ (to : Move). Changes a inst call old c to) fresh changes);
+}
+
 -- ---- a page that is called broken
 -- a driver stops at Damaged only where the box called that page broken
 pub HasSpaceCause-stop : (a : Attachment) (inst : Instance) (call : AttachCall) (c : View) (P after : Pages) (move : Move) (e : SpaceFault) → turn_of move ≡ Stop e → HoldsPart c P → IsBroken a inst c move → Answers a inst call c P after move
@@ -84,29 +86,8 @@ HasSpaceCause-stop a inst call c P after (Broken n) e is part broken answers =
 HasSpaceCause-stop a inst call c P after NoMemory e is part broken answers = let same : fault.NoMemory ≡ e = cc in subst (HasSpaceCause a inst call P) same tt
 HasSpaceCause-stop a inst call c P after move e is part broken answers = cc
 
--- the same over a memory
-pub HasCause-in_memory : {T : Type 0} (a : Attachment) (inst : Instance) (call : AttachCall) (P : Pages) (r : Result T DriveFault) (e : SpaceFault) → IsErrAnd r (λ f. f ≡ in_memory e) → HasSpaceCause a inst call P e → IfErr r (HasCause a inst call P)
-HasCause-in_memory a inst call P (Err f) e is cause = subst (HasCause a inst call P) (sym is) (by e cause)
-  where
-    by : (e : SpaceFault) → HasSpaceCause a inst call P e → HasCause a inst call P (in_memory e)
-    by (fault.Damaged n) cause = cause
-    by e cause = tt
-HasCause-in_memory a inst call P (Ok x) e is cause = tt
-
--- pages that are formed are never damaged
-pub HasCause-formed : (a : Attachment) (inst : Instance) (call : AttachCall) (P : Pages) (content : Content) (n : ℕ) → IsAttachment a → a.content inst P ≡ Some content → HasCause a inst call P (Damaged n) → ⊥
-HasCause-formed a inst call P content n law holds cause = true≢false (sym cause.may ∙ (law.formed inst P content holds).whole cause.held n cause.given)
-
--- nor are those of a new instance, when it is prepared
-pub HasCause-new : (a : Attachment) (inst : Instance) (P : Pages) (n : ℕ) → ((k : ℕ) → P k ≡ pages_of_new a inst k) → HasCause a inst calls.Prepare P (Damaged n) → ⊥
-HasCause-new a inst P n new cause = cause.not_new new
-
 -- ---- the end of a call
 -- the end of a call, once its edits are stored
 pub Answers-end : (a : Attachment) (inst : Instance) (call : AttachCall) (c : View) (P stored after : Pages) (move end : Move) → move ≡ end → after ≡ stored → Answers a inst call c P stored move → Answers a inst call c P after end
 Answers-end a inst call c P stored after move end is same answers =
     subst (λ (Q : Pages). Answers a inst call c P Q end) (sym same) (subst (λ (e : Move). Answers a inst call c P stored e) is answers)
-
-pub OnFind-so : (move : Move) (IsSo IsThen : Type 0) → (IsSo → IsThen) → OnFind move IsSo → OnFind move IsThen
-OnFind-so (Find relation columns values) IsSo IsThen then so = then so
-OnFind-so move IsSo IsThen then so = tt

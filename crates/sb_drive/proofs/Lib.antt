@@ -1,14 +1,10 @@
-pub mod SlotsLemmas
-pub mod SearchLemmas
-pub mod WritesLemmas
 pub mod WholeLemmas
 pub mod OwnedLemmas
 pub mod StoresLemmas
 pub mod TurnsLemmas
 pub mod MeasureLemmas
 pub mod AsksLemmas
+pub mod GiftLemmas
 pub mod SpacesLemmas
 pub mod MethodLemmas
 pub mod AttachLemmas
-pub mod MemoryLemmas
-pub mod TestLemmas

@@ -74,7 +74,7 @@ held_fewer c n h m none = by (n == m) (sym (ap (λ (o : Option HeldPage). is_non
     by false none = none
 
 -- whether it is held as a fresh one
-abbrev fresh_in : Option HeldPage → Bool
+abbrev pub fresh_in : Option HeldPage → Bool
 fresh_in o = elim o [ None ↦ false | Some h ↦ h.fresh ]
 
 pub holds_fresh-with_held : (c : View) (n : ℕ) (h : HeldPage) (m : ℕ) → holds_fresh (with_held n h c) m ≡ cond (n == m) h.fresh (holds_fresh c m)

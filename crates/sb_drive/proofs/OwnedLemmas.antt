@@ -4,7 +4,7 @@ use Rattle.std.proofs.lemmas.Bool.{cond-true, cond-false}
 use Rattle.std.proofs.lemmas.Bool.Decides.{nat_tests}
 use Rattle.sb_forms.specs.Pages.{new_pages, zeros}
 use Rattle.sb_drive.specs.Instances.{IsLeastOwner}
-use Rattle.sb_drive.specs.Slots.{Slot, Slots, bytes_for, owned, with_slot}
+use Rattle.sb_drive.specs.Slots.{Slot, Slots, nobodys, bytes_for, owned, with_slot}
 
 -- an owner sees the bytes of its own page
 pub bytes_for-own : (owner : ℕ) (bytes : List ℕ) → owner ≢ 0 → bytes_for owner (owner, bytes) ≡ bytes
@@ -26,6 +26,15 @@ bytes_for-free owner slot free = by (owner == 0) refl
     by : (b : Bool) → owner == 0 ≡ b → cond b [] (cond (slot.0 == owner) slot.1 []) ≡ []
     by true nobody = refl
     by false somebody = cond-false (slot.0 == owner) slot.1 [] (ne_eqb slot.0 owner (λ same. absurd (grind (arith, nat_tests))))
+
+-- nobody's page has none
+pub bytes_for-nobodys : (owner : ℕ) → bytes_for owner nobodys ≡ []
+bytes_for-nobodys owner = by (owner == 0) (0 == owner)
+  where
+    by : (b d : Bool) → ◌≡◌ {A = List ℕ} (cond b [] (cond d [] [])) []
+    by true d = refl
+    by false true = refl
+    by false false = refl
 
 -- ---- a new instance
 pub owned-new : (s : Slots) (taken : List ℕ) (owner root : ℕ) → IsLeastOwner s taken owner → owned (with_slot root (owner, zeros) s) owner ≡ new_pages root

@@ -63,23 +63,23 @@ WhereFull-store (TempFull used total) IsSo is = absurd is
 WhereFull-store e IsSo is = tt
 
 -- it is where a fresh one is asked for
-pub WhereFull-asked : {S : Type 0} (Leads : ℕ → S → S → Type 0) (durable : S → Bool) (total : S → ℕ) (owner : ℕ) (IsWithin : View → Type 0) (old space : S) (s : Slots) (c : View) (ask : Ask) (e : SpaceFault) →
-    Leads 0 old space → HoldsOf s owner (dropped c) → (ask ≡ Fresh → IsWithin c) → IsFull (durable space) (total space) s (dropped c) ask e → WhereFull e (IsFullFor Leads durable total owner IsWithin old s e)
-WhereFull-asked Leads durable total owner IsWithin old space s c ask e leads holds within full = by ask e within full
+pub WhereFull-asked : {S : Type 0} (Leads : ℕ → S → S → Type 0) (durable : S → Bool) (total : S → ℕ) (owner : ℕ) (Asks IsWithin : View → Type 0) (old space : S) (s : Slots) (c : View) (ask : Ask) (e : SpaceFault) → Leads 0 old space →
+    HoldsOf s owner (dropped c) → (ask ≡ Fresh → Asks c) → (ask ≡ Fresh → IsWithin c) → IsFull (durable space) (total space) s (dropped c) ask e → WhereFull e (IsFullFor Leads durable total owner Asks IsWithin old s e)
+WhereFull-asked Leads durable total owner Asks IsWithin old space s c ask e leads holds asks within full = by ask e asks within full
   where
-    so : (e : SpaceFault) → IsWithin c → IsFull (durable space) (total space) s (dropped c) Fresh e → IsFullFor Leads durable total owner IsWithin old s e
-    so e within full = record { space = space; ctx = c; leads = leads; holds = holds; within = within; full = full }
+    so : (e : SpaceFault) → Asks c → IsWithin c → IsFull (durable space) (total space) s (dropped c) Fresh e → IsFullFor Leads durable total owner Asks IsWithin old s e
+    so e asks within full = record { space = space; ctx = c; leads = leads; holds = holds; asks = asks; within = within; full = full }
 
-    by : (ask : Ask) (e : SpaceFault) → (ask ≡ Fresh → IsWithin c) → IsFull (durable space) (total space) s (dropped c) ask e → WhereFull e (IsFullFor Leads durable total owner IsWithin old s e)
-    by Fresh (DataFull used of) within full = so (DataFull used of) (within refl) full
-    by Fresh (TempFull used of) within full = so (TempFull used of) (within refl) full
-    by Fresh e within full = tt
-    by (Page n) (DataFull used of) within full = absurd full
-    by (Page n) (TempFull used of) within full = absurd full
-    by (Page n) e within full = tt
-    by (After low) (DataFull used of) within full = absurd full
-    by (After low) (TempFull used of) within full = absurd full
-    by (After low) e within full = tt
+    by : (ask : Ask) (e : SpaceFault) → (ask ≡ Fresh → Asks c) → (ask ≡ Fresh → IsWithin c) → IsFull (durable space) (total space) s (dropped c) ask e → WhereFull e (IsFullFor Leads durable total owner Asks IsWithin old s e)
+    by Fresh (DataFull used of) asks within full = so (DataFull used of) (asks refl) (within refl) full
+    by Fresh (TempFull used of) asks within full = so (TempFull used of) (asks refl) (within refl) full
+    by Fresh e asks within full = tt
+    by (Page n) (DataFull used of) asks within full = absurd full
+    by (Page n) (TempFull used of) asks within full = absurd full
+    by (Page n) e asks within full = tt
+    by (After low) (DataFull used of) asks within full = absurd full
+    by (After low) (TempFull used of) asks within full = absurd full
+    by (After low) e asks within full = tt
 
 -- ---- what is left unless a call on the disk has failed
 UnlessDown-err : (T U : Type 0) (e : SpaceFault) (A B : Type 0) → (A → B) → UnlessDown {T = T} (Err e) A → UnlessDown {T = U} (Err e) B

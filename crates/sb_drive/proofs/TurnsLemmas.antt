@@ -1,5 +1,5 @@
 -- What an answer means to a driver.
-use Rattle.std.proofs.Common.{◌≡◌, refl, subst}
+use Rattle.std.proofs.Common.{◌≡◌, ℕ, refl, subst}
 use Rattle.sb_ctx.specs.declared.moves.Move.{Move}
 use Rattle.sb_ctx.specs.declared.moves.Move.TheVariants.{Need, Fresh, After, Find, Broken, NoMemory}
 use Rattle.sb_ctx.specs.declared.calls.AttachCall.{AttachCall}
@@ -34,6 +34,15 @@ Fresh-asked (After low) is = cc
 Fresh-asked (Broken n) is = cc
 Fresh-asked NoMemory is = cc
 Fresh-asked move is = cc
+
+-- as a page of a number is
+pub Need-asked : (move : Move) (n : ℕ) → turn_of move ≡ Give (ask.Page n) → move ≡ Need n
+Need-asked (Need m) n is = let same : ◌≡◌ {A = Ask} (ask.Page m) (ask.Page n) = cc in cc
+Need-asked Fresh n is = cc
+Need-asked (After low) n is = cc
+Need-asked (Broken m) n is = cc
+Need-asked NoMemory n is = cc
+Need-asked move n is = cc
 
 -- an end is the answer itself
 pub end-is : (move end : Move) → turn_of move ≡ Ends end → move ≡ end

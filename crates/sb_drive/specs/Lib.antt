@@ -1,10 +1,7 @@
 pub mod Slots
-pub mod Writes
 pub mod Instances
 pub mod Turns
 pub mod Spaces
-pub mod MemorySpaces
 pub mod Stores
 pub mod MethodCalls
 pub mod AttachCalls
-pub mod Examples

@@ -6,13 +6,11 @@ use Rattle.sb_ctx.specs.declared.instance.Instance.{Instance}
 use Rattle.sb_ctx.specs.declared.calls.MethodCall.{MethodCall}
 use Rattle.sb_ctx.specs.declared.calls.MethodCall.TheVariants as call
 use Rattle.sb_ctx.specs.declared.moves.Move.TheVariants.{Fresh}
-use Rattle.sb_ctx.specs.View.{View, HeldPages, AreSomeOf}
+use Rattle.sb_ctx.specs.View.{View, HeldPages, AreSomeOf, dropped}
 use Rattle.sb_ctx.specs.Method.{Method, MayHold}
-use Rattle.sb_ctx.specs.MethodAnswers.{Before, HasRoom, NotNew, most_pages}
+use Rattle.sb_ctx.specs.MethodAnswers.{Before, Changes, HasRoom, NotNew, most_pages}
 use Rattle.sb_drive.specs.declared.space.SpaceFault.{SpaceFault}
 use Rattle.sb_drive.specs.declared.space.SpaceFault.TheVariants as space
-use Rattle.sb_drive.specs.declared.turns.DriveFault.{DriveFault}
-use Rattle.sb_drive.specs.declared.turns.DriveFault.TheVariants.{Damaged, NoMemory}
 
 -- what the box wants of the arguments of its call
 abbrev pub Fits : Method → Instance → MethodCall → Type 0
@@ -26,6 +24,10 @@ IsReading (call.Get key) = Unit {0}
 IsReading (call.Next low) = Unit {0}
 IsReading c = ⊥
 
+-- the box, made to answer with what it was given, asks for a fresh page
+abbrev pub IsAsking : Method → Instance → MethodCall → View → Type 0
+IsAsking m inst call c = Changes m inst call (dropped c) c Fresh
+
 -- over pages that hold rows a fresh page is within the room of the call
 abbrev pub HasRoomFor : Method → Instance → MethodCall → Pages → View → Type 0
 HasRoomFor m inst call P c = (rows : Rows) → Before m inst call P rows → HasRoom (most_pages m call (length rows)) P c Fresh
@@ -38,11 +40,6 @@ pub record IsDamaged (m : Method) (inst : Instance) (c : MethodCall) (P : Pages)
   pub not_new : NotNew inst c P
 
 -- Damaged names such a page
-abbrev pub HasCause : Method → Instance → MethodCall → Pages → DriveFault → Type 0
-HasCause m inst c P (Damaged n) = IsDamaged m inst c P n
-HasCause m inst c P NoMemory = Unit {0}
-
--- the same of a call over a space
 abbrev pub HasSpaceCause : Method → Instance → MethodCall → Pages → SpaceFault → Type 0
 HasSpaceCause m inst c P (space.Damaged n) = IsDamaged m inst c P n
 HasSpaceCause m inst c P e = Unit {0}

@@ -115,14 +115,15 @@ WhereFull (DataFull used total) IsSo = IsSo
 WhereFull (TempFull used total) IsSo = IsSo
 WhereFull e IsSo = Unit {0}
 
--- That no page is left is so at a moment before any change: the Ctx, as the call left it when it asked for a fresh page, holds a part of the
--- owner's pages and is within its room, and all pages that are nobody's are among its fresh ones.
-pub record IsFullFor {S : Type 0} (Leads : ℕ → S → S → Type 0) (durable : S → Bool) (total : S → ℕ) (owner : ℕ) (IsWithin : View → Type 0)
+-- That no page is left is so at a moment before any change: with this Ctx the call asked for a fresh page and was within its room; but for its
+-- edits the Ctx holds a part of the owner's pages, and all pages that are nobody's are among its fresh ones.
+pub record IsFullFor {S : Type 0} (Leads : ℕ → S → S → Type 0) (durable : S → Bool) (total : S → ℕ) (owner : ℕ) (Asks IsWithin : View → Type 0)
     (old : S) (s : Slots) (e : SpaceFault) : Type 0 where
   pub space : S
   pub ctx : View
   pub leads : Leads 0 old space
   pub holds : HoldsOf s owner (dropped ctx)
+  pub asks : Asks ctx
   pub within : IsWithin ctx
   pub full : IsFull (durable space) (total space) s (dropped ctx) Fresh e
 

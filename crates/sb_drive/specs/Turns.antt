@@ -4,10 +4,7 @@ use Rattle.sb_ctx.specs.declared.moves.Move.{Move}
 use Rattle.sb_ctx.specs.declared.moves.Move.TheVariants.{Need, Fresh, After, Find, Broken, NoMemory}
 use Rattle.sb_drive.specs.declared.turns.Ask.{Ask}
 use Rattle.sb_drive.specs.declared.turns.Ask.TheVariants as ask
-use Rattle.sb_drive.specs.declared.space.SpaceFault.{SpaceFault}
 use Rattle.sb_drive.specs.declared.space.SpaceFault.TheVariants as fault
-use Rattle.sb_drive.specs.declared.turns.DriveFault.{DriveFault}
-use Rattle.sb_drive.specs.declared.turns.DriveFault.TheVariants as drive
 use Rattle.sb_drive.specs.declared.turns.Turn.{Turn}
 use Rattle.sb_drive.specs.declared.turns.Turn.TheVariants.{Give, Stop, End}
 
@@ -49,8 +46,3 @@ is_find move = false
 abbrev pub OnFind : Move → Type 0 → Type 0
 OnFind (Find relation columns values) IsSo = IsSo
 OnFind move IsSo = Unit {0}
-
--- what a refusal is over a memory, which has neither a disk nor a log
-abbrev pub in_memory : SpaceFault → DriveFault
-in_memory (fault.Damaged n) = drive.Damaged n
-in_memory e = drive.NoMemory

@@ -5,7 +5,7 @@ ghost use Rattle.sb_ctx.specs.Attachment.{IsInstance};
 ghost use Rattle.sb_ctx.specs.AttachAnswers.{Answers, Changes, MayEnd, Reads, Spends};
 ghost use Rattle.sb_ctx.specs.View.{IsClean};
 ghost use Rattle.sb_ctx.specs.declared.moves.Move.TheVariants.{Fresh};
-ghost use Rattle.sb_drive.specs.AttachCalls.{CostsIn, Fits, IsReading, HandsUpIn, HasSpaceCause};
+ghost use Rattle.sb_drive.specs.AttachCalls.{CostsIn, Fits, IsAskedFor, IsAsking, IsGivenMore, IsReading, HandsUpIn, HasSpaceCause};
 ghost use Rattle.sb_drive.specs.Slots.{Slots, owned};
 ghost use Rattle.sb_drive.specs.Spaces.{HoldsOf, IsFullFor, IsReadFault, IsRefused, Leaves, LeadsOn, UnlessDown, Wanted, WhereFull};
 ghost use Rattle.sb_drive.specs.Turns.{IsEnd, OnFind};
@@ -38,6 +38,8 @@ pub fn run_attachment<S: PageSpace>(
     ensures ends { IfOk result IsEnd }
     ensures find { IfOk result (λ move. OnFind move (HandsUpIn S.has S.leads inst.now.owner space.old space.new ctx.new move)) }
     ensures found { ctx.new.found ≡ ctx.old.found }
+    ensures asks { (want : Wanted) (s : Slots) → S.has want s space.old
+        → IsGivenMore ctx.old ctx.new (λ n. IsAskedFor (attachment boxed.now) inst.now call.now ctx.old (owned s inst.now.owner) n) }
     ensures others { UnlessDown result ((want : Wanted) (s : Slots) → S.has want s space.old
         → Leaves S.has inst.now.owner want s space.new (λ after. Unit {0})) }
     ensures same { IsReading call.now → UnlessDown result ((want : Wanted) (s : Slots) → S.has want s space.old
@@ -45,7 +47,7 @@ pub fn run_attachment<S: PageSpace>(
     ensures damaged { IfErr result (λ e. (want : Wanted) (s : Slots) → S.has want s space.old
         → HasSpaceCause (attachment boxed.now) inst.now call.now (owned s inst.now.owner) e) }
     ensures full { IfErr result (λ e. (want : Wanted) (s : Slots) → S.has want s space.old
-        → WhereFull e (IsFullFor S.leads S.durable S.total inst.now.owner
+        → WhereFull e (IsFullFor S.leads S.durable S.total inst.now.owner (IsAsking (attachment boxed.now) inst.now call.now ctx.old)
         (λ c. Spends (attachment boxed.now) inst.now call.now ctx.old (owned s inst.now.owner) c Fresh) space.old s e)) }
 
     ensures leads { LeadsOn S.leads space.old space.new }

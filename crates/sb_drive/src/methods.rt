@@ -5,7 +5,7 @@ ghost use Rattle.sb_relation.specs.Db.{Rows};
 ghost use Rattle.sb_ctx.specs.Method.{IsInstance};
 ghost use Rattle.sb_ctx.specs.MethodAnswers.{Answers, Before, Changes, MayEnd, Reads};
 ghost use Rattle.sb_ctx.specs.View.{IsClean};
-ghost use Rattle.sb_drive.specs.MethodCalls.{Fits, IsReading, HasRoomFor, HasSpaceCause};
+ghost use Rattle.sb_drive.specs.MethodCalls.{Fits, IsAsking, IsReading, HasRoomFor, HasSpaceCause};
 ghost use Rattle.sb_drive.specs.Slots.{Slots, owned};
 ghost use Rattle.sb_drive.specs.Spaces.{IsFullFor, IsReadFault, IsRefused, Leaves, LeadsOn, LeadsWithin, UnlessDown, Wanted, WhereFull};
 ghost use Rattle.sb_drive.specs.Turns.{IsEnd};
@@ -40,7 +40,7 @@ pub fn run_method<S: PageSpace>(
     ensures damaged { IfErr result (λ e. (want : Wanted) (s : Slots) → S.has want s space.old
         → HasSpaceCause (method boxed.now) inst.now call.now (owned s inst.now.owner) e) }
     ensures full { IfErr result (λ e. (want : Wanted) (s : Slots) → S.has want s space.old
-        → WhereFull e (IsFullFor S.leads S.durable S.total inst.now.owner
+        → WhereFull e (IsFullFor S.leads S.durable S.total inst.now.owner (IsAsking (method boxed.now) inst.now call.now)
         (HasRoomFor (method boxed.now) inst.now call.now (owned s inst.now.owner)) space.old s e)) }
 
     ensures leads { LeadsOn S.leads space.old space.new }

@@ -1,12 +1,10 @@
 //! What a driver does with the answer of a call.
 
 ghost use Rattle.std.specs.Prelude.{◌≡◌};
-ghost use Rattle.sb_drive.specs.Turns.{AsksNumbered, turn_of, is_find, in_memory};
-ghost use Rattle.sb_drive.specs.declared.turns.DriveFault.TheVariants.{NoMemory};
+ghost use Rattle.sb_drive.specs.Turns.{AsksNumbered, turn_of, is_find};
 
 use crate::space::SpaceFault;
 use sb_ctx::Move;
-use std::alloc::AllocError;
 
 /// What a call asks a driver for: a page by its number, a fresh page, or the number of the next page behind this one.
 #[derive(Clone, Copy, Debug, PartialEq, Eq, Drop)]
@@ -14,33 +12,6 @@ pub enum Ask {
     Page(u32),
     Fresh,
     After(Option<u32>),
-}
-
-/// Why a call over a memory didn't come to its end. Damaged names a page that the box called broken.
-#[derive(Clone, Copy, Debug, PartialEq, Eq, Drop)]
-pub enum DriveFault {
-    Damaged { page: u32 },
-    NoMemory,
-}
-
-impl From<AllocError> for DriveFault {
-    ghost from_gives = { λ _ e. e ≡ NoMemory };
-
-    fn from(_error: AllocError) -> DriveFault {
-        DriveFault::NoMemory
-    }
-}
-
-/// A memory is refused nothing by a disk: what isn't a damaged page is want of memory or of a page.
-impl From<SpaceFault> for DriveFault {
-    ghost from_gives = { λ fault e. e ≡ in_memory fault };
-
-    fn from(fault: SpaceFault) -> DriveFault {
-        match fault {
-            SpaceFault::Damaged { page } => DriveFault::Damaged { page },
-            _ => DriveFault::NoMemory,
-        }
-    }
 }
 
 /// What is to be done: give what is asked for, stop, or end the call with this move.

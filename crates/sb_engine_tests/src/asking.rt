@@ -7,9 +7,10 @@ ghost use Rattle.sb_registry.specs.Live.{IsLive, IsLiveRule};
 
 use sb_asking::{Verdict, ask_rule, find_keys};
 use sb_ctx::{Attachment, Ctx, Instance, StorageMethod};
-use sb_drive::{Ask, Memory, PageSpace, SpaceFault};
+use sb_drive::{Ask, PageSpace, SpaceFault};
 use sb_foreign::{Once, Strip};
 use sb_map::{Place, make, put};
+use sb_memory::Memory;
 use sb_opened::open_relation;
 use sb_registry::{Boxes, Extensions, Registry};
 use sb_relation::Change;

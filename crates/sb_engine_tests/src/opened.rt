@@ -3,9 +3,10 @@
 ghost use Rattle.std.specs.Prelude.{◌≡◌, IfOk};
 
 use sb_ctx::{Attachment, Ctx, StorageMethod};
-use sb_drive::{Ask, Memory, PageSpace, SpaceFault};
+use sb_drive::{Ask, PageSpace, SpaceFault};
 use sb_foreign::{Limit, Strip};
 use sb_map::{Place, make, put};
+use sb_memory::Memory;
 use sb_opened::{OpenRelation, next_relation, open_relation};
 use sb_registry::{Extensions, Registry};
 use sb_value::Str;

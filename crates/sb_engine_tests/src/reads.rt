@@ -6,8 +6,9 @@ ghost use Rattle.sb_registry.specs.Live.{IsLive};
 ghost use Rattle.sb_rows.specs.Examples.{MayBeTaken};
 
 use sb_ctx::{Ctx, Instance, StorageMethod};
-use sb_drive::{Ask, Memory, PageSpace, SpaceFault};
+use sb_drive::{Ask, PageSpace, SpaceFault};
 use sb_map::{Place, make, put};
+use sb_memory::Memory;
 use sb_plain::{Command, Reply};
 use sb_reads::read;
 use sb_registry::{Boxes, Extensions, Registry};

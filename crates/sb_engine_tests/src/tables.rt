@@ -5,10 +5,11 @@ ghost use Rattle.sb_engine.specs.Working.{IsServing};
 
 use sb_ctx::{Ctx, StorageMethod};
 use sb_deferred::Queue;
-use sb_drive::{Ask, Memory, PageSpace, SpaceFault};
+use sb_drive::{Ask, PageSpace, SpaceFault};
 use sb_engine::{Running, Work, refusal_of};
 use sb_fold::Refusal;
 use sb_map::{Place, get, make};
+use sb_memory::Memory;
 use sb_owners::Owners;
 use sb_registry::{Boxes, Extensions, Registry};
 use sb_tables::{create, detach_named, drop_relation, free_gone};

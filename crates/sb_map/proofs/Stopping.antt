@@ -1,12 +1,13 @@
 -- Why a walk over the pages of an owner stops.
-use Rattle.std.proofs.Common.{◌≡◌, ℕ, ◌+◌, ◌*◌, ◌<◌, Bool, true≢false, List, length, Some, Result, Ok, Err, IfErr, sym, ap, subst, ◌∙◌, arith}
+use Rattle.std.proofs.Common.{◌≡◌, ℕ, ◌+◌, ◌*◌, ◌<◌, ◌≤◌, Bool, true≢false, List, length, Some, Result, Ok, Err, IfErr, sym, ap, subst, ◌∙◌, arith}
 use Rattle.std.specs.Result.{IsErrAnd}
+use Rattle.sb_fold.specs.Costs.{tree_cost}
 use Rattle.sb_node.specs.Entries.{Entry}
 use Rattle.sb_forms.specs.Pages.{Pages}
 use Rattle.sb_forms.specs.Read.{read_tree}
 use Rattle.sb_forms.specs.TreePages.{tree_met}
 use Rattle.sb_ctx.specs.Sound.{IsSound}
-use Rattle.sb_ctx.specs.View.{View, HoldsPart, dropped, page_of, stored}
+use Rattle.sb_ctx.specs.View.{View, HoldsPart, dropped, edits_of, page_of, stored}
 use Rattle.sb_ctx.proofs.ViewLaws.{given-page, stored-clean}
 use Rattle.sb_btree.specs.Broken.{breaks}
 use Rattle.sb_btree.specs.Inserts.{MayAsk, OverTrees}
@@ -22,7 +23,7 @@ use Rattle.sb_drive.specs.Slots.{Slots, owned}
 use Rattle.sb_drive.specs.Spaces.{HoldsOf, IsFull, IsFullFor, Wanted, WhereFull}
 use Rattle.sb_drive.proofs.SpacesLemmas.{IfErr-passed}
 use Rattle.sb_drive.proofs.StoresLemmas.{edits_of-clean}
-use Rattle.sb_map.specs.Calls.{IsWithin}
+use Rattle.sb_map.specs.Calls.{IsAsking, IsWithin}
 use Rattle.sb_map.specs.declared.place.Place.{Place}
 use Rattle.sb_map.specs.Maps.{OverMap, OverPages}
 use Rattle.sb_map.specs.Refusals.{HasCause, IsUndamaged}
@@ -56,18 +57,23 @@ whole Has place first (Ok u) cause = tt
 whole Has place first (Err e) cause = λ want s has es read. IsUndamaged-tree place.root (owned s place.owner) es e read (cause want s has)
 
 -- ---- a page that is wanting
--- a walk that asks for a fresh page is within its room
-within : {T : Type 0} (root : ℕ) (P : Pages) (c walked : View) (w : Walk T) → w ≡ walk.Fresh → dropped c ≡ c → IsSound c → HoldsPart c P → MayAsk walked w
-    → OverTrees c root (λ Q es. AsksWithin (2 * length es) (length (tree_met root (stored c Q))) c walked w) → IsWithin root P walked
-within {T} root P c walked w is clean sound part asks room = record {
+-- a walk asks for a fresh page
+IsAsking-walk : {T : Type 0} (root : ℕ) (c walked : View) (w : Walk T) → w ≡ walk.Fresh → dropped walked ≡ c → dropped c ≡ c → IsSound c → MayAsk walked w → OverTrees c root (λ Q es. edits_of walked ≤ edits_of c + tree_cost (length es))
+    → OverTrees c root (λ Q es. AsksWithin (2 * length es) (length (tree_met root (stored c Q))) c walked w) → IsAsking root walked
+IsAsking-walk {T} root c walked w is given clean sound asks edits room = record {
   taken = subst (λ (v : Walk T). MayAsk walked v) is asks;
-  few = λ es read.
-      let still : read_tree root (stored c P) ≡ Some es = ap (read_tree root) (stored-clean c P clean part) ∙ read in
-      let few = subst (λ (v : Walk T). AsksWithin (2 * length es) (length (tree_met root P)) c walked v) is
-      (subst (λ (Q : Pages). AsksWithin (2 * length es) (length (tree_met root Q)) c walked w) (stored-clean c P clean part) (room P es still)) in
+  edits = subst (λ (v : View). OverTrees v root (λ Q es. edits_of walked ≤ tree_cost (length es))) (sym given)
+      (λ Q es read. omega (arith, edits Q es read, edits_of-clean c sound clean));
+  room = subst (λ (v : View). OverTrees v root (λ Q es. length (tree_met root (stored v Q)) + taken_of walked < 2 * length es)) (sym given)
+      (λ Q es read.
+      let few = subst (λ (v : Walk T). AsksWithin (2 * length es) (length (tree_met root (stored c Q))) c walked v) is (room Q es read) in
       let none : taken_of c ≡ 0 = omega (arith, edits_of-clean c sound clean) in
-      omega (arith, few, none);
+      omega (arith, few, none));
 }
+
+-- and is within its room over the pages of which it was given a part
+within : (root : ℕ) (P : Pages) (c : View) → stored (dropped c) P ≡ P → IsAsking root c → IsWithin root P c
+within root P c same asking = λ es read. subst (λ (Q : Pages). length (tree_met root Q) + taken_of c < 2 * length es) same (asking.room P es (ap (read_tree root) same ∙ read))
 
 -- where it stops for want of a page, it asked for one
 WhereFull-stop : {T : Type 0} (w : Walk T) (IsSo : SpaceFault → Type 0) (e : SpaceFault) → StopsBy w e → (w ≡ walk.Fresh → IsSo e) → WhereFull e (IsSo e)
@@ -76,19 +82,26 @@ WhereFull-stop w IsSo (TempFull used of) fresh so = so fresh
 WhereFull-stop w IsSo e fresh so = tt
 
 pub full : {S T U : Type 0} (Has : Wanted → Slots → S → Type 0) (Leads : ℕ → S → S → Type 0) (durable : S → Bool) (total : S → ℕ) (place : Place) (first now : S) (c walked : View) (w : Walk T) (r : Result U SpaceFault) (e : SpaceFault)
-    → Walking Has Leads place.owner first now c → IsSound c → dropped walked ≡ dropped c → MayAsk walked w → OverTrees c place.root (λ Q es. AsksWithin (2 * length es) (length (tree_met place.root (stored c Q))) c walked w)
-    → IsErrAnd r (λ x. x ≡ e) → StopsBy w e → ((want : Wanted) (s : Slots) → Has want s now → IsFull (durable now) (total now) s (dropped walked) ask.Fresh e)
-    → IfErr r (λ x. (want : Wanted) (s : Slots) → Has want s first → WhereFull x (IsFullFor Leads durable total place.owner (IsWithin place.root (owned s place.owner)) first s x))
-full Has Leads durable total place first now c walked w r e before sound given asks room is stops fulls =
+    → Walking Has Leads place.owner first now c → IsSound c → dropped walked ≡ dropped c → MayAsk walked w → OverTrees c place.root (λ Q es. edits_of walked ≤ edits_of c + tree_cost (length es))
+    → OverTrees c place.root (λ Q es. AsksWithin (2 * length es) (length (tree_met place.root (stored c Q))) c walked w) → IsErrAnd r (λ x. x ≡ e) → StopsBy w e
+    → ((want : Wanted) (s : Slots) → Has want s now → IsFull (durable now) (total now) s (dropped walked) ask.Fresh e)
+    → IfErr r (λ x. (want : Wanted) (s : Slots) → Has want s first → WhereFull x (IsFullFor Leads durable total place.owner (IsAsking place.root) (IsWithin place.root (owned s place.owner)) first s x))
+full Has Leads durable total place first now c walked w r e before sound given asks edits room is stops fulls =
     let owner = place.owner in
-    IfErr-passed r e (λ x. (want : Wanted) (s : Slots) → Has want s first → WhereFull x (IsFullFor Leads durable total owner (IsWithin place.root (owned s owner)) first s x)) is
-    (λ want s has. WhereFull-stop w (λ x. IsFullFor Leads durable total owner (IsWithin place.root (owned s owner)) first s x) e stops
-    (λ fresh. record {
+    let clean = before.clean.unchanged in
+    let back : dropped walked ≡ c = given ∙ clean in
+    IfErr-passed r e (λ x. (want : Wanted) (s : Slots) → Has want s first → WhereFull x (IsFullFor Leads durable total owner (IsAsking place.root) (IsWithin place.root (owned s owner)) first s x)) is
+    (λ want s has. WhereFull-stop w (λ x. IsFullFor Leads durable total owner (IsAsking place.root) (IsWithin place.root (owned s owner)) first s x) e stops
+    (λ fresh.
+    let P = owned s owner in
+    let asking = IsAsking-walk place.root c walked w fresh back clean sound asks edits room in
+    record {
       space = now;
       ctx = walked;
       leads = before.leads;
-      holds = subst (HoldsOf s owner) (sym (given ∙ before.clean.unchanged)) (before.holds want s has);
-      within = within place.root (owned s owner) c walked w fresh before.clean.unchanged sound (before.holds want s has).part asks room;
+      holds = subst (HoldsOf s owner) (sym back) (before.holds want s has);
+      asks = asking;
+      within = within place.root P walked (ap (λ (v : View). stored v P) back ∙ stored-clean c P clean (before.holds want s has).part) asking;
       full = fulls want s (before.has want s has);
     }))
 

@@ -33,10 +33,10 @@ Becomes-same Has place first now key value same none = λ want s es has read.
 abbrev pub Stores : {S : Type 0} → (Wanted → Slots → S → Type 0) → ℕ → S → S → View → (Pages → Pages → Type 0) → Type 0
 Stores Has owner now new c IsSo = (want : Wanted) (s : Slots) → Has want s now → HoldsPart c (owned s owner) → Leaves Has owner want s new (IsSo (owned s owner))
 
-pub Works-stored : {S T U : Type 0} (Has : Wanted → Slots → S → Type 0) (Leads : ℕ → S → S → Type 0) (Fails : SpaceFault → S → S → Type 0) (durable : S → Bool) (total : S → ℕ) (place : Place) (first now new : S) (c : View) (x : T) (u : U)
+pub Works-stored : {S T U : Type 0} (Has : Wanted → Slots → S → Type 0) (Leads : ℕ → S → S → Type 0) (Fails : SpaceFault → S → S → Type 0) (durable : S → Bool) (total : S → ℕ) (place : Place) (Asks : View → Type 0) (first now new : S) (c : View) (x : T) (u : U)
     → GoesOn Leads → Looks {T = T} Has Leads Fails first now (Ok x) → OverPages Has place first (HoldsPart c) → OverTree Has place first (λ P es. edits_of c ≤ tree_cost (length es))
-    → Stores Has place.owner now new c (λ P after. after ≡ stored c P) → LeadsWithin Leads (edits_of c) now new → Works {T = U} Has Leads Fails durable total place first new (Ok u)
-Works-stored Has Leads Fails durable total place first now new c x u goes_on looks part cheap stores leads =
+    → Stores Has place.owner now new c (λ P after. after ≡ stored c P) → LeadsWithin Leads (edits_of c) now new → Works {T = U} Has Leads Fails durable total place Asks first new (Ok u)
+Works-stored Has Leads Fails durable total place Asks first now new c x u goes_on looks part cheap stores leads =
     let within = LeadsWithin-on Leads (edits_of c) first now new goes_on looks.leads leads in
     record {
       others = λ want s has. Leaves-so Has place.owner want s new (λ after. after ≡ stored c (owned s place.owner)) (λ after. Unit {0}) (λ after so. tt) (stores want s (looks.same want s has) (part want s has));
@@ -59,17 +59,17 @@ WhereFull-stored IsSo (DataFull used of) is = absurd is
 WhereFull-stored IsSo (TempFull used of) is = absurd is
 WhereFull-stored IsSo e is = tt
 
-pub Works-unstored : {S T U : Type 0} (Has : Wanted → Slots → S → Type 0) (Leads : ℕ → S → S → Type 0) (Fails : SpaceFault → S → S → Type 0) (durable : S → Bool) (total : S → ℕ) (place : Place) (first now new : S) (c : View) (x : T)
+pub Works-unstored : {S T U : Type 0} (Has : Wanted → Slots → S → Type 0) (Leads : ℕ → S → S → Type 0) (Fails : SpaceFault → S → S → Type 0) (durable : S → Bool) (total : S → ℕ) (place : Place) (Asks : View → Type 0) (first now new : S) (c : View) (x : T)
     (r : Result U SpaceFault) (e : SpaceFault) → GoesOn Leads → FailsOn Leads Fails → IsErrAnd r (λ y. y ≡ e) → Looks {T = T} Has Leads Fails first now (Ok x) → OverPages Has place first (HoldsPart c)
     → OverTree Has place first (λ P es. edits_of c ≤ tree_cost (length es)) → UnlessDown {T = Unit {0}} (Err e) (Stores Has place.owner now new c (λ P after. Unit {0})) → IsStoreFault e
-    → LeadsWithin Leads (edits_of c) now new → Fails e now new → Works Has Leads Fails durable total place first new r
-Works-unstored {S} {T} {U} Has Leads Fails durable total place first now new c x r e goes_on fails_on is looks part cheap stores undamaged leads fails =
+    → LeadsWithin Leads (edits_of c) now new → Fails e now new → Works Has Leads Fails durable total place Asks first new r
+Works-unstored {S} {T} {U} Has Leads Fails durable total place Asks first now new c x r e goes_on fails_on is looks part cheap stores undamaged leads fails =
     let within = LeadsWithin-on Leads (edits_of c) first now new goes_on looks.leads leads in
     record {
       others = UnlessDown-passed (Unit {0}) U r e (Stores Has place.owner now new c (λ P after. Unit {0})) ((want : Wanted) (s : Slots) → Has want s first → Leaves Has place.owner want s new (λ after. Unit {0})) is
           (λ stores want s has. stores want s (looks.same want s has) (part want s has)) stores;
-      full = IfErr-passed r e (λ y. (want : Wanted) (s : Slots) → Has want s first → WhereFull y (IsFullFor Leads durable total place.owner (IsWithin place.root (owned s place.owner)) first s y)) is
-          (λ want s has. WhereFull-stored (IsFullFor Leads durable total place.owner (IsWithin place.root (owned s place.owner)) first s e) e undamaged);
+      full = IfErr-passed r e (λ y. (want : Wanted) (s : Slots) → Has want s first → WhereFull y (IsFullFor Leads durable total place.owner Asks (IsWithin place.root (owned s place.owner)) first s y)) is
+          (λ want s has. WhereFull-stored (IsFullFor Leads durable total place.owner Asks (IsWithin place.root (owned s place.owner)) first s e) e undamaged);
       leads = (within.changes, within.leads);
       costs = λ want s has es read. LeadsWithin-more Leads (edits_of c) (tree_cost (length es)) first new (cheap want s has es read) within;
       refused = IfErr-passed r e (λ y. IsRefused (Leads 0 first new) (Fails y first new) y) is

@@ -11,7 +11,7 @@ ghost use Rattle.sb_forms.specs.TreePages.{tree_met};
 ghost use Rattle.sb_drive.specs.Slots.{Slots, owned};
 ghost use Rattle.sb_drive.specs.Spaces.{IsFullFor, Wanted, WhereFull};
 ghost use Rattle.sb_fold.specs.Costs.{tree_cost};
-ghost use Rattle.sb_map.specs.Calls.{IsWithin, Looks, Works};
+ghost use Rattle.sb_map.specs.Calls.{IsAsking, IsWithin, Looks, Works};
 ghost use Rattle.sb_map.specs.Changes.{IsMade, IsSmall, Makes, RemovesKey, changed, is_change};
 ghost use Rattle.sb_map.specs.Maps.{Becomes, OverMap, OverPages, OverTree};
 ghost use Rattle.sb_map.specs.Refusals.{HasCause, IsUndamaged};
@@ -40,7 +40,7 @@ pub fn put<S: PageSpace>(
     ensures damaged { IfErr result (λ e. OverPages S.has place space.old (λ P. HasCause place.root P e)) }
     ensures whole { IfErr result (λ e. OverMap S.has place space.old (λ es. IsUndamaged e)) }
 
-    ensures works { Works S.has S.leads S.fails S.durable S.total place space.old space.new result }
+    ensures works { Works S.has S.leads S.fails S.durable S.total place (IsAsking place.root) space.old space.new result }
     ensures ready { S.is_ready space.new }
 {
     change(space, alloc, place, key, Some(value))?;
@@ -61,7 +61,7 @@ pub fn remove<S: PageSpace>(
     ensures damaged { IfErr result (λ e. OverPages S.has place space.old (λ P. HasCause place.root P e)) }
     ensures whole { IfErr result (λ e. OverMap S.has place space.old (λ es. IsUndamaged e)) }
 
-    ensures works { Works S.has S.leads S.fails S.durable S.total place space.old space.new result }
+    ensures works { Works S.has S.leads S.fails S.durable S.total place (IsAsking place.root) space.old space.new result }
     ensures ready { S.is_ready space.new }
 {
     change(space, alloc, place, key, None)
@@ -83,7 +83,7 @@ fn change<S: PageSpace>(
     ensures becomes { OnOk result (Becomes S.has place space.old space.new (changed key.now (option_map (λ value. value.now) value.entry))) }
     ensures damaged { IfErr result (λ e. OverPages S.has place space.old (λ P. HasCause place.root P e)) }
     ensures whole { IfErr result (λ e. OverMap S.has place space.old (λ es. IsUndamaged e)) }
-    ensures works { Works S.has S.leads S.fails S.durable S.total place space.old space.new result }
+    ensures works { Works S.has S.leads S.fails S.durable S.total place (IsAsking place.root) space.old space.new result }
     ensures ready { S.is_ready space.new }
 {
     let (ctx, done) = make_change(space, alloc, place, key, value)?;
@@ -109,7 +109,8 @@ fn make_change<S: PageSpace>(
         (λ P es. IsMade key.now (option_map (λ value. value.now) value.entry) place.root P es made.0 made.1)) }
     ensures damaged { IfErr result (λ e. OverPages S.has place space.old (λ P. HasCause place.root P e)) }
     ensures full { IfErr result (λ e. (want : Wanted) (s : Slots) → S.has want s space.old
-        → WhereFull e (IsFullFor S.leads S.durable S.total place.owner (IsWithin place.root (owned s place.owner)) space.old s e)) }
+        → WhereFull e (IsFullFor S.leads S.durable S.total place.owner (IsAsking place.root)
+        (IsWithin place.root (owned s place.owner)) space.old s e)) }
     ensures looks { Looks S.has S.leads S.fails space.old space.new result }
     ensures ready { S.is_ready space.new }
 {

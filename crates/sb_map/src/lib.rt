@@ -11,6 +11,3 @@ pub use changes::{put, remove};
 pub use lookups::{get, next};
 pub use making::make;
 pub use place::Place;
-
-#[cfg(test)]
-mod tests;

@@ -4,7 +4,7 @@ ghost use Rattle.std.specs.Prelude.{◌≤◌, IfErr, IfOk, OnOk};
 ghost use Rattle.sb_ctx.specs.View.{HoldsPart, edits_of};
 ghost use Rattle.sb_drive.specs.Slots.{Slots, owned};
 ghost use Rattle.sb_drive.specs.Spaces.{IsFullFor, LeadsWithin, Wanted, WhereFull};
-ghost use Rattle.sb_map.specs.Calls.{IsWithin, Looks, Works};
+ghost use Rattle.sb_map.specs.Calls.{IsWithin, Looks, NeverAsks, Works};
 ghost use Rattle.sb_map.specs.Making.{Begins, IsNew, MakesEmpty};
 ghost use Rattle.sb_map.specs.Maps.{OverPages};
 ghost use Rattle.sb_map.specs.Refusals.{HasCause, IsUndamaged};
@@ -26,7 +26,7 @@ pub fn make<S: PageSpace>(space: &mut S, alloc: Global, place: Place) -> Result<
     ensures damaged { IfErr result (λ e. OverPages S.has place space.old (λ P. HasCause place.root P e)) }
     ensures whole { IfErr result (λ e. OverPages S.has place space.old (λ P. IsNew place.root P → IsUndamaged e)) }
 
-    ensures works { Works S.has S.leads S.fails S.durable S.total place space.old space.new result }
+    ensures works { Works S.has S.leads S.fails S.durable S.total place NeverAsks space.old space.new result }
     ensures ready { S.is_ready space.new }
 {
     let ctx = make_root(space, alloc, place)?;
@@ -43,7 +43,7 @@ fn make_root<S: PageSpace>(space: &mut S, alloc: Global, place: Place) -> Result
     ensures damaged { IfErr result (λ e. OverPages S.has place space.old (λ P. HasCause place.root P e)) }
     ensures whole { IfErr result (λ e. OverPages S.has place space.old (λ P. IsNew place.root P → IsUndamaged e)) }
     ensures full { IfErr result (λ e. (want : Wanted) (s : Slots) → S.has want s space.old
-        → WhereFull e (IsFullFor S.leads S.durable S.total place.owner (IsWithin place.root (owned s place.owner)) space.old s e)) }
+        → WhereFull e (IsFullFor S.leads S.durable S.total place.owner NeverAsks (IsWithin place.root (owned s place.owner)) space.old s e)) }
     ensures looks { Looks S.has S.leads S.fails space.old space.new result }
     ensures ready { S.is_ready space.new }
 {

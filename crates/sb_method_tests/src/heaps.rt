@@ -9,7 +9,7 @@ ghost use Rattle.sb_heap.specs.Heap.{heap_method};
 use crate::random::Random;
 use crate::rows::{Content, End, OWNER, X, Y, delete, insert, letters, next, prepared, update};
 use sb_ctx::Instance;
-use sb_drive::Memory;
+use sb_memory::Memory;
 use sb_node::{Head, form, kind, room};
 use std::alloc::{AllocError, Global};
 use std::collections::BTreeMap;

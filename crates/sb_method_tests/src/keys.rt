@@ -11,7 +11,7 @@ use crate::rows::{
     update,
 };
 use sb_ctx::{Instance, MethodCall};
-use sb_drive::Memory;
+use sb_memory::Memory;
 use std::alloc::{AllocError, Global};
 use std::test::*;
 

@@ -8,8 +8,9 @@ ghost use Rattle.sb_heap.specs.Heap.{heap_method};
 
 use crate::rows::{End, OWNER, X, Y, delete, insert, letters, prepared, row};
 use sb_ctx::{Ctx, Instance, StorageMethod};
-use sb_drive::{Memory, SpaceFault, Turn, answer, turn_of};
+use sb_drive::{SpaceFault, Turn, turn_of};
 use sb_heap::Heap;
+use sb_memory::{Memory, answer};
 use sb_value::Tuple;
 use std::alloc::{AllocError, Global};
 use std::test::*;

@@ -9,8 +9,8 @@ ghost use Rattle.sb_method_tests.specs.Pairs.{ArePairs, MayBePair, pair_columns}
 ghost use Rattle.sb_relation.specs.Db.{int_column};
 
 use sb_ctx::{Instance, MethodCall, Move};
-use sb_drive::{Memory, drive_method};
 use sb_heap::Heap;
+use sb_memory::{Memory, drive_method};
 use sb_value::{Bytes, Column, Kind, Names, RecKey, Schema, Str, Tuple, Value};
 use std::alloc::{AllocError, Global};
 

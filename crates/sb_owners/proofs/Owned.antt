@@ -2,7 +2,7 @@
 use Rattle.std.proofs.Common.{◌≡◌, ◌≢◌, ℕ, ◌==◌, Bool, true, false, cond, [], refl, sym, ◌∙◌, eqb-true, eq-eqb, true≢false}
 use Rattle.sb_drive.specs.Slots.{Slots, nobodys, bytes_for, owned}
 use Rattle.sb_drive.proofs.OwnedLemmas.{bytes_for-other}
-use Rattle.sb_drive.proofs.SlotsLemmas.{bytes_for-nobodys}
+use Rattle.sb_drive.proofs.OwnedLemmas.{bytes_for-nobodys}
 use Rattle.sb_owners.specs.Instances.{HasNone, without_owner}
 
 -- an owner that no page has

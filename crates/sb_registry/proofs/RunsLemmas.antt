@@ -61,17 +61,17 @@ sound-new Has a inst call old (Ok move) cause = tt
 sound-new Has a inst call old (Err e) cause = λ want s has new. IsSound-new a inst call (owned s inst.owner) e new (cause want s has)
 
 -- ---- no page is left
-WasFull-from : {S : Type 0} (Leads : ℕ → S → S → Type 0) (Durable : S → Bool) (Total : S → ℕ) (owner : ℕ) (IsWithin : View → Type 0) (old : S) (s : Slots) (e : SpaceFault) → Leads 0 old old
-    → WhereFull e (IsFullFor Leads Durable Total owner IsWithin old s e) → WasFull Leads Durable Total old e
-WasFull-from Leads Durable Total owner IsWithin old s (DataFull used of) stays at = record { space = at.space; leads = at.leads; full = (at.full.0, at.full.1.total_is, at.full.1.all) }
-WasFull-from Leads Durable Total owner IsWithin old s (TempFull used of) stays at = record { space = at.space; leads = at.leads; full = (at.full.0, at.full.1.total_is, at.full.1.all) }
-WasFull-from Leads Durable Total owner IsWithin old s e stays at = record { space = old; leads = stays; full = tt }
+WasFull-from : {S : Type 0} (Leads : ℕ → S → S → Type 0) (Durable : S → Bool) (Total : S → ℕ) (owner : ℕ) (Asks IsWithin : View → Type 0) (old : S) (s : Slots) (e : SpaceFault) → Leads 0 old old
+    → WhereFull e (IsFullFor Leads Durable Total owner Asks IsWithin old s e) → WasFull Leads Durable Total old e
+WasFull-from Leads Durable Total owner Asks IsWithin old s (DataFull used of) stays at = record { space = at.space; leads = at.leads; full = (at.full.0, at.full.1.total_is, at.full.1.all) }
+WasFull-from Leads Durable Total owner Asks IsWithin old s (TempFull used of) stays at = record { space = at.space; leads = at.leads; full = (at.full.0, at.full.1.total_is, at.full.1.all) }
+WasFull-from Leads Durable Total owner Asks IsWithin old s e stays at = record { space = old; leads = stays; full = tt }
 
-pub WasFull-each : {S : Type 0} (Has : Wanted → Slots → S → Type 0) (Leads : ℕ → S → S → Type 0) (Durable : S → Bool) (Total : S → ℕ) (owner : ℕ) (IsWithin : Slots → View → Type 0) (old : S) (result : Result Move SpaceFault)
-    → Leads 0 old old → IfErr result (λ e. (want : Wanted) (s : Slots) → Has want s old → WhereFull e (IsFullFor Leads Durable Total owner (IsWithin s) old s e))
+pub WasFull-each : {S : Type 0} (Has : Wanted → Slots → S → Type 0) (Leads : ℕ → S → S → Type 0) (Durable : S → Bool) (Total : S → ℕ) (owner : ℕ) (Asks : View → Type 0) (IsWithin : Slots → View → Type 0) (old : S) (result : Result Move SpaceFault)
+    → Leads 0 old old → IfErr result (λ e. (want : Wanted) (s : Slots) → Has want s old → WhereFull e (IsFullFor Leads Durable Total owner Asks (IsWithin s) old s e))
     → IfErr result (λ e. (want : Wanted) (s : Slots) → Has want s old → WasFull Leads Durable Total old e)
-WasFull-each Has Leads Durable Total owner IsWithin old (Ok move) stays full = tt
-WasFull-each Has Leads Durable Total owner IsWithin old (Err e) stays full = λ want s has. WasFull-from Leads Durable Total owner (IsWithin s) old s e stays (full want s has)
+WasFull-each Has Leads Durable Total owner Asks IsWithin old (Ok move) stays full = tt
+WasFull-each Has Leads Durable Total owner Asks IsWithin old (Err e) stays full = λ want s has. WasFull-from Leads Durable Total owner Asks (IsWithin s) old s e stays (full want s has)
 
 -- ---- the live attachment of a code is the one that is found
 pub Fits-live : (m : Meanings) (inst : Instance) (call : AttachCall) (a : Attachment) → Some a ≡ attachment_of inst.code m.attachments → IsLiveRule m inst

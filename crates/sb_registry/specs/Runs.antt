@@ -16,8 +16,8 @@ use Rattle.sb_ctx.specs.Attachment.{Attachment}
 use Rattle.sb_ctx.specs.AttachAnswers.{Answers as AnswersFor, Holds, Spends, pages_of_new}
 use Rattle.sb_drive.specs.declared.space.SpaceFault.{SpaceFault}
 use Rattle.sb_drive.specs.declared.space.SpaceFault.TheVariants.{DataFull, TempFull, Damaged}
-use Rattle.sb_drive.specs.AttachCalls.{CostsIn, HandsUpIn, HasSpaceCause as HasCauseFor}
-use Rattle.sb_drive.specs.MethodCalls.{HasRoomFor, HasSpaceCause}
+use Rattle.sb_drive.specs.AttachCalls.{CostsIn, HandsUpIn, HasSpaceCause as HasCauseFor, IsAsking as IsAskingFor}
+use Rattle.sb_drive.specs.MethodCalls.{HasRoomFor, HasSpaceCause, IsAsking}
 use Rattle.sb_drive.specs.Slots.{Slots, owned}
 use Rattle.sb_drive.specs.Spaces.{IsFullFor, IsReadFault, IsRefused, Leaves, LeadsOn, LeadsWithin, UnlessDown, Wanted, WhereFull}
 use Rattle.sb_drive.specs.Turns.{OnFind}
@@ -56,7 +56,7 @@ pub record Works {S T : Type 0} (Has : Wanted → Slots → S → Type 0) (Leads
   pub refused : IfErr result (λ e. IsRefused (Leads 0 old new) (Fails e old new) e)
 
 -- What a storage method's call comes to: it answers as the rows say; over pages with rows no page is called damaged, and else only one that the box calls broken; no page is left only
--- where the call was within its room; and it stays within its cost.
+-- where the box asked for one, within its room; and it stays within its cost.
 pub record Runs {S : Type 0} (Has : Wanted → Slots → S → Type 0) (Leads : ℕ → S → S → Type 0) (Durable : S → Bool) (Total : S → ℕ)
     (box : Method) (inst : Instance) (call : MethodCall) (old new : S) (result : Result Move SpaceFault) : Type 0 where
   pub answers : IfOk result (λ move. (want : Wanted) (s : Slots) → Has want s old
@@ -65,7 +65,7 @@ pub record Runs {S : Type 0} (Has : Wanted → Slots → S → Type 0) (Leads : 
       → Before box inst call (owned s inst.owner) rows → IsSound e)
   pub damaged : IfErr result (λ e. (want : Wanted) (s : Slots) → Has want s old → HasSpaceCause box inst call (owned s inst.owner) e)
   pub full : IfErr result (λ e. (want : Wanted) (s : Slots) → Has want s old
-      → WhereFull e (IsFullFor Leads Durable Total inst.owner (HasRoomFor box inst call (owned s inst.owner)) old s e))
+      → WhereFull e (IsFullFor Leads Durable Total inst.owner (IsAsking box inst call) (HasRoomFor box inst call (owned s inst.owner)) old s e))
   pub costs : (want : Wanted) (s : Slots) (rows : Rows) → Has want s old
       → Before box inst call (owned s inst.owner) rows → LeadsWithin Leads (box.cost call rows) old new
 
@@ -75,7 +75,7 @@ IsNewFor box inst Prepare P = (n : ℕ) → P n ≡ pages_of_new box inst n
 IsNewFor box inst call P = ⊥
 
 -- What an attachment's call comes to: it answers as the database says or hands a find up; over pages with content or of a new instance no page is called
--- damaged, and else only one that the box calls broken; no page is left only where the call was within its room; and it stays within its cost.
+-- damaged, and else only one that the box calls broken; no page is left only where the box asked for one, within its room; and it stays within its cost.
 pub record RunsRule {S : Type 0} (Has : Wanted → Slots → S → Type 0) (Leads : ℕ → S → S → Type 0) (Durable : S → Bool) (Total : S → ℕ)
     (box : Attachment) (inst : Instance) (call : AttachCall) (ctx after_ctx : View) (old new : S) (result : Result Move SpaceFault) : Type 0 where
   pub answers : IfOk result (λ move. (want : Wanted) (s : Slots) → Has want s old
@@ -87,5 +87,6 @@ pub record RunsRule {S : Type 0} (Has : Wanted → Slots → S → Type 0) (Lead
       → IsNewFor box inst call (owned s inst.owner) → IsSound e)
   pub damaged : IfErr result (λ e. (want : Wanted) (s : Slots) → Has want s old → HasCauseFor box inst call (owned s inst.owner) e)
   pub full : IfErr result (λ e. (want : Wanted) (s : Slots) → Has want s old
-      → WhereFull e (IsFullFor Leads Durable Total inst.owner (λ c. Spends box inst call ctx (owned s inst.owner) c Fresh) old s e))
+      → WhereFull e (IsFullFor Leads Durable Total inst.owner (IsAskingFor box inst call ctx)
+      (λ c. Spends box inst call ctx (owned s inst.owner) c Fresh) old s e))
   pub costs : CostsIn Has Leads box inst call old new ctx

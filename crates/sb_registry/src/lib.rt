@@ -9,5 +9,6 @@ mod extensions;
 mod registry;
 
 pub use calls::Boxes;
+pub use columns::has_columns;
 pub use extensions::{Extensions, Meant};
 pub use registry::Registry;

@@ -8,6 +8,3 @@ mod scans;
 pub use changes::{Placing, delete_row, insert_row, prepare_rows, update_row};
 pub use lookups::{get_row, next_row};
 pub use scans::{RowTest, keys_where, rows_where};
-
-#[cfg(test)]
-mod tests;

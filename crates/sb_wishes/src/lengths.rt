@@ -3,11 +3,10 @@
 ghost use Rattle.std.specs.Prelude.{◌≡◌, ◌-◌, ◌^◌, ◌==◌, min, length, true, false, count_by, All};
 ghost use Rattle.std.specs.Option.{option_copied};
 ghost use Rattle.std.specs.List.{flat_map, list_any};
-ghost use Rattle.sb_pred.specs.Columns.{column_value, place_of};
 ghost use Rattle.sb_relation.specs.Db.{values_in};
 ghost use Rattle.sb_relation.specs.Lawful.{IsRow, is_long_code, is_long_for, is_long_row};
 ghost use Rattle.sb_standing.specs.Tables.{IsWide};
-ghost use Rattle.sb_value.specs.Code.{escaped, ordered_code, value_code};
+ghost use Rattle.sb_value.specs.Code.{escaped, ordered_code};
 ghost use Rattle.sb_value.specs.Fits.{Fits, is_short_enough, is_within};
 ghost use Rattle.sb_value.specs.Spelling.{IsStorable};
 ghost use Rattle.sb_wishes.specs.Wished.{is_long_in, values_at};
@@ -15,6 +14,7 @@ ghost use Rattle.sb_wishes.specs.Wished.{is_long_in, values_at};
 use sb_catalog::Attached;
 use sb_codec::tuple_len;
 use sb_ctx::Instance;
+use sb_pred::column_value;
 use sb_rule::Rule;
 use sb_value::{Column, Schema, Str, Tuple, Value};
 
@@ -122,7 +122,7 @@ fn codes_len(schema: &Schema, names: &[Str], row: &Tuple) -> usize
 {
     match names.split_first() {
         Some((name, others)) => {
-            code_len(value_of(schema, row, name)).saturating_add(codes_len(schema, others, row))
+            code_len(column_value(schema, row, name)).saturating_add(codes_len(schema, others, row))
         }
         None => 0,
     }
@@ -149,21 +149,4 @@ fn zeros(bytes: &[u8]) -> usize
     ensures { result ≡ count_by (λ b. b == 0) bytes.now }
 {
     bytes.iter().filter(|b| **b == 0).count()
-}
-
-/// Where the first column of a name stands.
-pub(crate) fn place_under(schema: &Schema, name: &Str) -> Option<usize>
-    ensures { result ≡ place_of schema.now name.now }
-{
-    schema
-        .as_slice()
-        .iter()
-        .position(|column| column.name == *name)
-}
-
-/// The value of a row in the named column.
-pub(crate) fn value_of<'a>(schema: &Schema, row: &'a Tuple, name: &Str) -> Option<&'a Value>
-    ensures { option_copied result ≡ column_value schema.now (Some row.now) name.now }
-{
-    row.as_slice().get(place_under(schema, name)?)
 }

@@ -9,6 +9,3 @@ mod wishing;
 pub use lengths::is_long_for;
 pub use settling::Outcome;
 pub use wishing::carry_out;
-
-#[cfg(test)]
-mod tests;

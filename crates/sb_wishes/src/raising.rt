@@ -9,7 +9,7 @@ ghost use Rattle.sb_value.specs.declared.value.Value.TheVariants as value;
 ghost use Rattle.sb_value.specs.Fits.{Fits};
 ghost use Rattle.sb_wishes.specs.Wished.{number_of, raised_to};
 
-use crate::lengths::{place_under, value_of};
+use sb_pred::{column_value, find_column};
 use sb_value::{Schema, Str, Tuple, Value};
 use std::alloc::AllocError;
 
@@ -50,7 +50,7 @@ fn number_in(schema: &Schema, row: &Tuple, column: &Str) -> i64
 fn number_at(schema: &Schema, row: &Tuple, column: &Str) -> Option<i64>
     ensures { result ≡ number_of (column_value schema.now (Some row.now) column.now) }
 {
-    match value_of(schema, row, column)? {
+    match column_value(schema, row, column)? {
         Value::Int(number) => Some(*number),
         Value::Text(_) => None,
     }
@@ -60,7 +60,7 @@ fn number_at(schema: &Schema, row: &Tuple, column: &Str) -> Option<i64>
 fn with_number(schema: &Schema, row: &Tuple, column: &Str, number: i64) -> Result<Tuple, AllocError>
     ensures { IfOk result (λ new. new ≡ with_value schema.now column.now (value.Int number) row.now) }
 {
-    match place_under(schema, column) {
+    match find_column(schema, column) {
         Some(place) => set_number(row, place, number),
         None => row.copy(),
     }

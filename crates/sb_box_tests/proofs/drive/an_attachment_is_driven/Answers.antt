@@ -1,5 +1,5 @@
 use Rattle.std.proofs.Common.{refl}
-use Rattle.sb_drive.proofs.TestLemmas.{IsAttached-plain}
+use Rattle.sb_memory.proofs.TestLemmas.{IsAttached-plain}
 use Rattle.sb_box_tests.proofs.drive.an_attachment_is_driven.Goals as goal
 
 pub drive_attachment-end-requires-clause-inst : goal.drive_attachment-end-requires-clause-inst

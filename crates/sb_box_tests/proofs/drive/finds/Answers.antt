@@ -1,5 +1,5 @@
 use Rattle.std.proofs.Common.{refl}
-use Rattle.sb_drive.proofs.TestLemmas.{IsAttached-plain, found-answered}
+use Rattle.sb_memory.proofs.TestLemmas.{IsAttached-plain, found-answered}
 use Rattle.sb_box_tests.proofs.drive.finds.Goals as goal
 
 pub drive_attachment-requires-clause-inst : goal.drive_attachment-requires-clause-inst

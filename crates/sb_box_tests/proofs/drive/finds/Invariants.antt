@@ -1,5 +1,5 @@
 use Rattle.sb_ctx.specs.View.{IsClean}
-use Rattle.sb_drive.specs.Slots.{slots}
+use Rattle.sb_memory.specs.Contents.{slots}
 use Rattle.sb_drive.specs.Spaces.{HoldsOf}
 use Rattle.sb_box_tests.proofs.drive.finds.Given as goal
 

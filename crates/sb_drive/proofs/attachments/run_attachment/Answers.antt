@@ -1,20 +1,35 @@
-use Rattle.std.proofs.Common.{◌≡◌, ◌<◌, ◌∙◌, Err, true≢false, ap, sym, subst}
+use Rattle.std.proofs.Common.{◌≡◌, ◌<◌, ◌∙◌, Err, true≢false, refl, ap, sym, subst}
 use Rattle.sb_ctx.proofs.ViewLaws.{HoldsPart-from_dropped}
 use Rattle.sb_ctx.specs.declared.moves.Move.{Move}
 use Rattle.sb_ctx.specs.declared.moves.Move.TheVariants.{Fresh}
 use Rattle.sb_ctx.specs.AttachAnswers.{Answers, Spends}
 use Rattle.sb_ctx.specs.View.{View, HoldsPart, IsClean, dropped, edits_of, stored}
 use Rattle.sb_drive.specs.Slots.{Slots, owned}
+use Rattle.sb_drive.specs.AttachCalls.{IsAskedFor, IsAsking, IsGivenMore}
 use Rattle.sb_drive.specs.Spaces.{HoldsOf, IsFullFor, IsReadFault, Leaves, Wanted, WhereFull}
 use Rattle.sb_drive.specs.Turns.{AsksNumbered}
 use Rattle.sb_drive.specs.declared.turns.Turn.TheVariants.{Give}
 use Rattle.sb_drive.proofs.AsksLemmas.{IsAsked-dropped, IsClean-IsGift, HoldsOf-IsGivenIn, found-IsGift, to_ask-IsGift}
-use Rattle.sb_drive.proofs.AttachLemmas.{HasSpaceCause-stop, Answers-end, Answers-found, Spends-found}
+use Rattle.sb_drive.proofs.AttachLemmas.{HasSpaceCause-stop, Answers-end, Answers-found, IsAsking-asked, Spends-found}
+use Rattle.sb_drive.proofs.GiftLemmas.{Given, Given-none, Given-IsGift, IsGivenMore-given, IsGivenMore-made}
 use Rattle.sb_drive.proofs.MeasureLemmas.{to_ask}
 use Rattle.sb_drive.proofs.SpacesLemmas.{LeadsWithin-none, LeadsWithin-on, LeadsWithin-zero, Leaves-so, IfErr-passed, UnlessDown-passed, UnlessDown-so, WhereFull-asked}
 use Rattle.sb_drive.proofs.StoresLemmas.{edits_of-clean}
-use Rattle.sb_drive.proofs.TurnsLemmas.{Fresh-asked, IsAsked-attachment, IsReadFault-asked, IsReadFault-stop, Reads-attachment, end-is}
+use Rattle.sb_drive.proofs.TurnsLemmas.{Fresh-asked, Need-asked, IsAsked-attachment, IsReadFault-asked, IsReadFault-stop, Reads-attachment, end-is}
 use Rattle.sb_drive.proofs.attachments.run_attachment.Goals as goal
+
+pub loop-ask-init : goal.loop-ask-init
+loop-ask-init g c =
+    let a = (goal.Attachment-dyn g c.args.boxed.now).attachment c.args.boxed.now.1 in
+    record {
+      ready = c.requires.ready;
+      clean = c.requires.clean;
+      found = refl;
+      leads = g.met.S.PageSpace.stays c.args.space.now;
+      has = λ want s has. has;
+      holds = c.requires.holds;
+      given = λ want s has. Given-none c.args.ctx.now (IsAskedFor a c.args.inst.now c.args.call.now c.args.ctx.now (owned s c.args.inst.now.owner));
+    }
 
 pub loop-ask-smaller : goal.loop-ask-smaller
 loop-ask-smaller g c =
@@ -40,6 +55,17 @@ loop-ask-preserved g c =
       has = λ want s has. answer.pages want s (before.has want s has);
       holds = λ want s has. HoldsOf-IsGivenIn (g.S.PageSpace.total c.loop-ask.space) s owner (dropped ctx) c.answer.new.ctx c.in-Give.ask answer.gift (answer.given want s (before.has want s has))
           (subst (λ (v : View). HoldsOf s owner v) (sym given) (before.holds want s has));
+      given = λ want s has.
+          let a = (goal.Attachment-dyn g c.args.boxed.now).attachment c.args.boxed.now.1 in
+          let inst = c.args.inst.now in
+          let call = c.args.call.now in
+          let P = owned s owner in
+          let changes = c.make_call-made.ensures.changes in
+          let asks = sym c.turn_of.ensures.turn ∙ c.in-Give.is in
+          let spends = Spends-found a inst call c.loop-ask.ctx c.args.ctx.now P ctx c.make_call-made.result before.found (changes.spends c.is_ctx.ensures P (before.holds want s has).part) in
+          Given-IsGift c.args.ctx.now (dropped ctx) c.answer.new.ctx c.in-Give.ask (IsAskedFor a inst call c.args.ctx.now P) (IsAsked-dropped ctx c.in-Give.ask (IsAsked-attachment ctx c.make_call-made.result c.in-Give.ask asks changes.asks))
+          (λ n is. (ctx, subst (λ (move : Move). Spends a inst call c.args.ctx.now P ctx move) (Need-asked c.make_call-made.result n (asks ∙ ap Give is)) spends)) answer.gift
+          (subst (λ (v : View). Given c.args.ctx.now v (IsAskedFor a inst call c.args.ctx.now P)) (sym given) (before.given want s has));
     }
 
 -- ---- a page is refused
@@ -51,16 +77,18 @@ returns-in_err-answer-in-Give-clause-full g c =
     let ctx = c.make_call-made.new.ctx in
     let changes = c.make_call-made.ensures.changes in
     let fault = c.in_err-answer-in-Give.field-0.0 in
+    let asked = sym c.turn_of.ensures.turn ∙ c.in-Give.is in
     IfErr-passed c.from_residual.result fault
     (λ e. (want : Wanted) (s : Slots) → g.S.PageSpace.has want s c.args.space.now
-    → WhereFull e (IsFullFor g.S.PageSpace.leads g.S.PageSpace.durable g.S.PageSpace.total inst.owner (λ v. Spends a inst call c.args.ctx.now (owned s inst.owner) v Fresh) c.args.space.now s e))
+    → WhereFull e (IsFullFor g.S.PageSpace.leads g.S.PageSpace.durable g.S.PageSpace.total inst.owner (IsAsking a inst call c.args.ctx.now) (λ v. Spends a inst call c.args.ctx.now (owned s inst.owner) v Fresh) c.args.space.now s e))
     c.from_residual.ensures.1
     (λ want s has.
     let P = owned s inst.owner in
     let holds = c.loop-ask.invariant.holds want s has in
-    WhereFull-asked g.S.PageSpace.leads g.S.PageSpace.durable g.S.PageSpace.total inst.owner (λ v. Spends a inst call c.args.ctx.now P v Fresh) c.args.space.now c.loop-ask.space s ctx c.in-Give.ask fault c.loop-ask.invariant.leads
+    WhereFull-asked g.S.PageSpace.leads g.S.PageSpace.durable g.S.PageSpace.total inst.owner (IsAsking a inst call c.args.ctx.now) (λ v. Spends a inst call c.args.ctx.now P v Fresh) c.args.space.now c.loop-ask.space s ctx c.in-Give.ask fault c.loop-ask.invariant.leads
     (subst (λ (v : View). HoldsOf s inst.owner v) (sym changes.given) holds)
-    (λ fresh. subst (λ (move : Move). Spends a inst call c.args.ctx.now P ctx move) (Fresh-asked c.make_call-made.result (sym c.turn_of.ensures.turn ∙ c.in-Give.is ∙ ap Give fresh))
+    (λ fresh. IsAsking-asked a inst call c.loop-ask.ctx c.args.ctx.now ctx c.make_call-made.result (Fresh-asked c.make_call-made.result (asked ∙ ap Give fresh)) c.loop-ask.invariant.found changes)
+    (λ fresh. subst (λ (move : Move). Spends a inst call c.args.ctx.now P ctx move) (Fresh-asked c.make_call-made.result (asked ∙ ap Give fresh))
     (Spends-found a inst call c.loop-ask.ctx c.args.ctx.now P ctx c.make_call-made.result c.loop-ask.invariant.found (changes.spends c.is_ctx.ensures P holds.part)))
     (c.in_err-answer-in-Give.ensures.full want s (c.loop-ask.invariant.has want s has)))
 
@@ -243,3 +271,36 @@ pub returns-in-End-clause-same : goal.returns-in-End-clause-same
 returns-in-End-clause-same g c = λ reading want s has.
     let same = c.in_ok-store_edits-in-End.ensures.same (c.is_reading.ensures.1 reading) in
     subst (λ x. g.S.PageSpace.has want s x) (sym same) (c.loop-ask.invariant.has want s has)
+
+-- ---- what the Ctx was given more
+pub returns-in_err-answer-in-Give-clause-asks : goal.returns-in_err-answer-in-Give-clause-asks
+returns-in_err-answer-in-Give-clause-asks g c = λ want s has.
+    let a = (goal.Attachment-dyn g c.args.boxed.now).attachment c.args.boxed.now.1 in
+    let old = c.args.ctx.now in
+    let IsOn = IsAskedFor a c.args.inst.now c.args.call.now old (owned s c.args.inst.now.owner) in
+    subst (λ (v : View). IsGivenMore old v IsOn) (sym (c.in_err-answer-in-Give.ensures.kept ∙ c.make_call-made.ensures.changes.given)) (IsGivenMore-given old c.loop-ask.ctx IsOn (c.loop-ask.invariant.given want s has))
+
+pub returns-in-Stop-clause-asks : goal.returns-in-Stop-clause-asks
+returns-in-Stop-clause-asks g c = λ want s has.
+    let a = (goal.Attachment-dyn g c.args.boxed.now).attachment c.args.boxed.now.1 in
+    let old = c.args.ctx.now in
+    IsGivenMore-made old c.loop-ask.ctx c.make_call-made.new.ctx (IsAskedFor a c.args.inst.now c.args.call.now old (owned s c.args.inst.now.owner)) c.make_call-made.ensures.changes.given (c.loop-ask.invariant.given want s has)
+
+pub returns-then-is_find-clause-asks : goal.returns-then-is_find-clause-asks
+returns-then-is_find-clause-asks g c = λ want s has.
+    let a = (goal.Attachment-dyn g c.args.boxed.now).attachment c.args.boxed.now.1 in
+    let old = c.args.ctx.now in
+    let IsOn = IsAskedFor a c.args.inst.now c.args.call.now old (owned s c.args.inst.now.owner) in
+    subst (λ (v : View). IsGivenMore old v IsOn) (sym (c.drop_edits.ensures ∙ c.make_call-made.ensures.changes.given)) (IsGivenMore-given old c.loop-ask.ctx IsOn (c.loop-ask.invariant.given want s has))
+
+pub returns-in_err-store_edits-in-End-clause-asks : goal.returns-in_err-store_edits-in-End-clause-asks
+returns-in_err-store_edits-in-End-clause-asks g c = λ want s has.
+    let a = (goal.Attachment-dyn g c.args.boxed.now).attachment c.args.boxed.now.1 in
+    let old = c.args.ctx.now in
+    IsGivenMore-made old c.loop-ask.ctx c.make_call-made.new.ctx (IsAskedFor a c.args.inst.now c.args.call.now old (owned s c.args.inst.now.owner)) c.make_call-made.ensures.changes.given (c.loop-ask.invariant.given want s has)
+
+pub returns-in-End-clause-asks : goal.returns-in-End-clause-asks
+returns-in-End-clause-asks g c = λ want s has.
+    let a = (goal.Attachment-dyn g c.args.boxed.now).attachment c.args.boxed.now.1 in
+    let old = c.args.ctx.now in
+    IsGivenMore-made old c.loop-ask.ctx c.make_call-made.new.ctx (IsAskedFor a c.args.inst.now c.args.call.now old (owned s c.args.inst.now.owner)) c.make_call-made.ensures.changes.given (c.loop-ask.invariant.given want s has)

@@ -1,7 +1,9 @@
 use Rattle.std.proofs.Common.{◌≡◌}
 use Rattle.sb_ctx.specs.View.{IsClean}
-use Rattle.sb_drive.specs.Slots.{Slots}
+use Rattle.sb_drive.specs.AttachCalls.{IsAskedFor}
+use Rattle.sb_drive.specs.Slots.{Slots, owned}
 use Rattle.sb_drive.specs.Spaces.{HoldsOf, Wanted}
+use Rattle.sb_drive.proofs.GiftLemmas.{Given}
 use Rattle.sb_drive.proofs.MeasureLemmas.{to_ask}
 use Rattle.sb_drive.proofs.attachments.run_attachment.Given as goal
 
@@ -13,6 +15,7 @@ invariant-loop-ask g l = record {
   leads : g.S.PageSpace.leads 0 l.fn.space l.space;
   has : (want : Wanted) (s : Slots) → g.S.PageSpace.has want s l.fn.space → g.S.PageSpace.has want s l.space;
   holds : (want : Wanted) (s : Slots) → g.S.PageSpace.has want s l.fn.space → HoldsOf s l.inst.owner l.ctx;
+  given : (want : Wanted) (s : Slots) → g.S.PageSpace.has want s l.fn.space → Given l.fn.ctx l.ctx (IsAskedFor ((goal.Attachment-dyn g l.boxed.now).attachment l.boxed.now.1) l.inst l.call l.fn.ctx (owned s l.inst.owner));
 }
 
 -- what may still be asked for

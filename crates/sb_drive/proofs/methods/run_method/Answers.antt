@@ -5,13 +5,13 @@ use Rattle.sb_ctx.specs.declared.moves.Move.{Move}
 use Rattle.sb_ctx.specs.MethodAnswers.{Answers, HasRoom, most_pages}
 use Rattle.sb_ctx.specs.View.{View, HoldsPart, IsClean, dropped, edits_of, stored}
 use Rattle.sb_drive.specs.Slots.{Slots, owned}
-use Rattle.sb_drive.specs.MethodCalls.{HasRoomFor}
+use Rattle.sb_drive.specs.MethodCalls.{HasRoomFor, IsAsking}
 use Rattle.sb_drive.specs.Spaces.{HoldsOf, IsFullFor, IsReadFault, IsRefused, Leaves, Wanted, WhereFull}
 use Rattle.sb_drive.specs.Turns.{AsksNumbered}
 use Rattle.sb_drive.specs.declared.turns.Turn.TheVariants.{Give}
 use Rattle.sb_drive.proofs.AsksLemmas.{IsAsked-dropped, IsClean-IsGift, HoldsOf-nothing, HoldsOf-IsGivenIn, to_ask-IsGift}
 use Rattle.sb_drive.proofs.MeasureLemmas.{to_ask}
-use Rattle.sb_drive.proofs.MethodLemmas.{HasSpaceCause-stop, Answers-end}
+use Rattle.sb_drive.proofs.MethodLemmas.{HasSpaceCause-stop, Answers-end, IsAsking-asked}
 use Rattle.sb_drive.proofs.SpacesLemmas.{ArePages-few, LeadsWithin-more, LeadsWithin-none, LeadsWithin-on, LeadsWithin-zero, Leaves-so, UnlessDown-passed, UnlessDown-so, IfErr-passed, IsRefused-store, WhereFull-asked}
 use Rattle.sb_drive.proofs.StoresLemmas.{edits_of-clean}
 use Rattle.sb_drive.proofs.TurnsLemmas.{Fresh-asked, IsAsked-method, IsReadFault-asked, IsReadFault-stop, end-is}
@@ -62,16 +62,18 @@ returns-in_err-answer-in-Give-clause-full g c =
     let ctx = c.make_call-made.new.ctx in
     let changes = c.make_call-made.ensures.changes in
     let fault = c.in_err-answer-in-Give.field-0.0 in
+    let asked = sym c.turn_of.ensures.turn ∙ c.in-Give.is in
     IfErr-passed c.from_residual.result fault
     (λ e. (want : Wanted) (s : Slots) → g.S.PageSpace.has want s c.args.space.now
-    → WhereFull e (IsFullFor g.S.PageSpace.leads g.S.PageSpace.durable g.S.PageSpace.total inst.owner (HasRoomFor m inst call (owned s inst.owner)) c.args.space.now s e))
+    → WhereFull e (IsFullFor g.S.PageSpace.leads g.S.PageSpace.durable g.S.PageSpace.total inst.owner (IsAsking m inst call) (HasRoomFor m inst call (owned s inst.owner)) c.args.space.now s e))
     c.from_residual.ensures.1
     (λ want s has.
     let P = owned s inst.owner in
     let holds = c.loop-ask.invariant.holds want s has in
-    WhereFull-asked g.S.PageSpace.leads g.S.PageSpace.durable g.S.PageSpace.total inst.owner (HasRoomFor m inst call P) c.args.space.now c.loop-ask.space s ctx c.in-Give.ask fault c.loop-ask.invariant.leads
+    WhereFull-asked g.S.PageSpace.leads g.S.PageSpace.durable g.S.PageSpace.total inst.owner (IsAsking m inst call) (HasRoomFor m inst call P) c.args.space.now c.loop-ask.space s ctx c.in-Give.ask fault c.loop-ask.invariant.leads
     (subst (λ (v : View). HoldsOf s inst.owner v) (sym changes.given) holds)
-    (λ fresh rows before. subst (λ (move : Move). HasRoom (most_pages m call (length rows)) P ctx move) (Fresh-asked c.make_call-made.result (sym c.turn_of.ensures.turn ∙ c.in-Give.is ∙ ap Give fresh))
+    (λ fresh. IsAsking-asked m inst call c.loop-ask.ctx ctx c.make_call-made.result (Fresh-asked c.make_call-made.result (asked ∙ ap Give fresh)) changes)
+    (λ fresh rows before. subst (λ (move : Move). HasRoom (most_pages m call (length rows)) P ctx move) (Fresh-asked c.make_call-made.result (asked ∙ ap Give fresh))
     (changes.spends c.is_ctx.ensures P holds.part rows before).room)
     (c.in_err-answer-in-Give.ensures.full want s (c.loop-ask.invariant.has want s has)))
 

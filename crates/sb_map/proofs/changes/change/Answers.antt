@@ -1,5 +1,6 @@
 use Rattle.std.proofs.Common.{ℕ, true, true≢false, List, Bor, option_map, sym, ◌∙◌}
 use Rattle.sb_drive.proofs.SpacesLemmas.{IfErr-passed}
+use Rattle.sb_map.specs.Calls.{IsAsking}
 use Rattle.sb_map.specs.Changes.{changed}
 use Rattle.sb_map.specs.Maps.{OverPages}
 use Rattle.sb_map.specs.Refusals.{HasCause}
@@ -29,7 +30,7 @@ returns-then-not-done-clause-none g c = λ no. c.in_ok-ctx.ensures.looks.leads
 pub returns-in_err-store-clause-works : goal.returns-in_err-store-clause-works
 returns-in_err-store-clause-works g c =
     let store = c.in_err-store.ensures in
-    Works-unstored g.S.PageSpace.has g.S.PageSpace.leads g.S.PageSpace.fails g.S.PageSpace.durable g.S.PageSpace.total c.args.place c.args.space.now c.make_change.new.space c.store.new.self c.in_ok-ctx.ctx _ c.from_residual-in_err-store.result c.in_err-store.field-0.0
+    Works-unstored g.S.PageSpace.has g.S.PageSpace.leads g.S.PageSpace.fails g.S.PageSpace.durable g.S.PageSpace.total c.args.place (IsAsking c.args.place.root) c.args.space.now c.make_change.new.space c.store.new.self c.in_ok-ctx.ctx _ c.from_residual-in_err-store.result c.in_err-store.field-0.0
     g.met.S.PageSpace.goes_on g.met.S.PageSpace.fails_on c.from_residual-in_err-store.ensures.1 c.in_ok-ctx.ensures.looks c.in_ok-ctx.ensures.part (λ want s has es read. (c.in_ok-ctx.ensures.made want s has es read).edits)
     store.pages store.undamaged store.leads store.fails
 
@@ -45,7 +46,7 @@ returns-clause-becomes g c =
 pub returns-clause-works : goal.returns-clause-works
 returns-clause-works g c =
     let store = c.in_ok-store.ensures in
-    Works-stored g.S.PageSpace.has g.S.PageSpace.leads g.S.PageSpace.fails g.S.PageSpace.durable g.S.PageSpace.total c.args.place c.args.space.now c.make_change.new.space c.store.new.self c.in_ok-ctx.ctx _ true
+    Works-stored g.S.PageSpace.has g.S.PageSpace.leads g.S.PageSpace.fails g.S.PageSpace.durable g.S.PageSpace.total c.args.place (IsAsking c.args.place.root) c.args.space.now c.make_change.new.space c.store.new.self c.in_ok-ctx.ctx _ true
     g.met.S.PageSpace.goes_on c.in_ok-ctx.ensures.looks c.in_ok-ctx.ensures.part (λ want s has es read. (c.in_ok-ctx.ensures.made want s has es read).edits) store.pages store.leads
 
 pub returns-clause-none : goal.returns-clause-none

@@ -42,7 +42,7 @@ pub returns-in_err-done-clause-full : goal.returns-in_err-done-clause-full
 returns-in_err-done-clause-full g c =
     let walk = c.change_walk-walk.ensures in
     full g.S.PageSpace.has g.S.PageSpace.leads g.S.PageSpace.durable g.S.PageSpace.total c.args.place c.args.space.now c.loop-ctx.space c.loop-ctx.ctx c.change_walk-walk.new.ctx c.change_walk-walk.result c.from_residual.result
-    c.in_err-done.field-0.0 c.loop-ctx.invariant.walking c.is_ctx.ensures.sound walk.given walk.asks walk.room c.from_residual.ensures.1 c.in_err-done.ensures.stops c.in_err-done.ensures.full
+    c.in_err-done.field-0.0 c.loop-ctx.invariant.walking c.is_ctx.ensures.sound walk.given walk.asks walk.edits walk.room c.from_residual.ensures.1 c.in_err-done.ensures.stops c.in_err-done.ensures.full
 
 pub returns-in-Some-clause-made : goal.returns-in-Some-clause-made
 returns-in-Some-clause-made g c = λ want s has es read.

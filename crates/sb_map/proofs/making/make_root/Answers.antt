@@ -7,7 +7,7 @@ use Rattle.sb_map.proofs.Emptying.{MakesEmpty-ended, whole_new}
 use Rattle.sb_drive.specs.Slots.{Slots}
 use Rattle.sb_drive.specs.Spaces.{IsFullFor}
 use Rattle.sb_drive.specs.declared.space.SpaceFault.{SpaceFault}
-use Rattle.sb_map.specs.Calls.{IsWithin}
+use Rattle.sb_map.specs.Calls.{IsWithin, NeverAsks}
 use Rattle.sb_btree.specs.Prepared.{Prepares}
 use Rattle.sb_map.proofs.Stopping.{damaged, never_full}
 use Rattle.sb_map.proofs.Walking.{HoldsPart-ended, Looks-refused, Turned-answered, Turned-ended, Walking-begins, Walking-on}
@@ -38,7 +38,7 @@ pub returns-in_err-turn-clause-full : goal.returns-in_err-turn-clause-full
 returns-in_err-turn-clause-full g c =
     let place = c.args.place in
     let space = c.args.space.now in
-    never_full g.S.PageSpace.has space (λ (s : Slots) (e : SpaceFault). IsFullFor g.S.PageSpace.leads g.S.PageSpace.durable g.S.PageSpace.total place.owner (IsWithin place.root (owned s place.owner)) space s e) c.prepare-walk.result c.from_residual.result
+    never_full g.S.PageSpace.has space (λ (s : Slots) (e : SpaceFault). IsFullFor g.S.PageSpace.leads g.S.PageSpace.durable g.S.PageSpace.total place.owner NeverAsks (IsWithin place.root (owned s place.owner)) space s e) c.prepare-walk.result c.from_residual.result
     c.in_err-turn.field-0.0 (λ fresh. subst (Prepares c.loop-ctx.ctx c.prepare-walk.new.ctx place.root) fresh c.prepare-walk.ensures.prepares) c.from_residual.ensures.1 c.in_err-turn.ensures.stops
 
 pub returns-in_err-turn-clause-looks : goal.returns-in_err-turn-clause-looks

@@ -1,5 +1,6 @@
 use Rattle.sb_ctx.specs.AttachAnswers.{Spends}
 use Rattle.sb_ctx.specs.declared.moves.Move.TheVariants.{Fresh}
+use Rattle.sb_drive.specs.AttachCalls.{IsAsking}
 use Rattle.sb_drive.specs.Slots.{owned}
 use Rattle.sb_registry.proofs.RunsLemmas.{sound-Holds, sound-new, WasFull-each}
 use Rattle.sb_registry.proofs.calls.call_attachment.Goals as goal
@@ -25,7 +26,7 @@ returns-clause-works g c =
     record {
       others = made.others;
       leads = made.leads;
-      full = WasFull-each g.S.PageSpace.has g.S.PageSpace.leads g.S.PageSpace.durable g.S.PageSpace.total inst.owner (λ s at. Spends a inst c.args.call.now c.args.ctx.now (owned s inst.owner) at Fresh) c.args.space.now
+      full = WasFull-each g.S.PageSpace.has g.S.PageSpace.leads g.S.PageSpace.durable g.S.PageSpace.total inst.owner (IsAsking a inst c.args.call.now c.args.ctx.now) (λ s at. Spends a inst c.args.call.now c.args.ctx.now (owned s inst.owner) at Fresh) c.args.space.now
           c.run_attachment.result (g.met.S.PageSpace.stays c.args.space.now) made.full;
       refused = made.refused;
     }

@@ -1,4 +1,4 @@
-use Rattle.sb_drive.specs.MethodCalls.{HasRoomFor}
+use Rattle.sb_drive.specs.MethodCalls.{HasRoomFor, IsAsking}
 use Rattle.sb_drive.specs.Slots.{owned}
 use Rattle.sb_registry.proofs.RunsLemmas.{sound-Before, WasFull-each}
 use Rattle.sb_registry.proofs.calls.call_method.Goals as goal
@@ -22,7 +22,7 @@ returns-clause-works g c =
     record {
       others = made.others;
       leads = made.leads;
-      full = WasFull-each g.S.PageSpace.has g.S.PageSpace.leads g.S.PageSpace.durable g.S.PageSpace.total inst.owner (λ s. HasRoomFor m inst c.args.call.now (owned s inst.owner)) c.args.space.now c.run_method.result
+      full = WasFull-each g.S.PageSpace.has g.S.PageSpace.leads g.S.PageSpace.durable g.S.PageSpace.total inst.owner (IsAsking m inst c.args.call.now) (λ s. HasRoomFor m inst c.args.call.now (owned s inst.owner)) c.args.space.now c.run_method.result
           (g.met.S.PageSpace.stays c.args.space.now) made.full;
       refused = made.refused;
     }

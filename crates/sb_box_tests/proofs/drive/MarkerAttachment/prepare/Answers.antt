@@ -1,5 +1,5 @@
 use Rattle.std.proofs.Common.{refl}
-use Rattle.sb_drive.proofs.TestLemmas.{Changes-no_memory_for}
+use Rattle.sb_memory.proofs.TestLemmas.{Changes-no_memory_for}
 use Rattle.sb_box_tests.proofs.drive.MarkerAttachment.prepare.Goals as goal
 
 pub returns : goal.returns

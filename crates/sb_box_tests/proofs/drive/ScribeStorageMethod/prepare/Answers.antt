@@ -1,5 +1,5 @@
 use Rattle.std.proofs.Common.{refl}
-use Rattle.sb_drive.proofs.TestLemmas.{Changes-no_memory}
+use Rattle.sb_memory.proofs.TestLemmas.{Changes-no_memory}
 use Rattle.sb_box_tests.proofs.drive.ScribeStorageMethod.prepare.Goals as goal
 
 pub returns : goal.returns

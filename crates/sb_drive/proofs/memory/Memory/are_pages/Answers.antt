@@ -1,9 +1,0 @@
-use Rattle.sb_drive.proofs.WholeLemmas.{HasPages-now, ArePages-now, ArePages-was}
-use Rattle.sb_drive.proofs.memory.Memory.are_pages.Goals as goal
-
-pub returns : goal.returns
-returns c = record {
-  has = HasPages-now c.self.inside.pages.items c.self.inside.undo.items c.args.self.now c.self.view_is c.self.invariant;
-  now = λ owner. ArePages-now c.self.inside.pages.items c.self.inside.undo.items c.args.self.now owner c.self.view_is c.self.invariant;
-  was = λ owner. ArePages-was c.self.inside.pages.items c.self.inside.undo.items c.args.self.now owner c.self.view_is c.self.invariant;
-}

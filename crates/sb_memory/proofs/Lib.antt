@@ -1,0 +1,12 @@
+pub mod SlotsLemmas
+pub mod SearchLemmas
+pub mod WritesLemmas
+pub mod WholeLemmas
+pub mod StackLemmas
+pub mod StoresLemmas
+pub mod MethodLemmas
+pub mod AttachLemmas
+pub mod MemoryLemmas
+pub mod Freeing
+pub mod Memories
+pub mod TestLemmas

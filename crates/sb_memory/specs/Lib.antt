@@ -1,0 +1,9 @@
+pub mod Contents
+pub mod Writes
+pub mod MemorySpaces
+pub mod Stores
+pub mod Faults
+pub mod MethodCalls
+pub mod AttachCalls
+pub mod Freeing
+pub mod Examples
