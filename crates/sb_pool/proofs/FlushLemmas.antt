@@ -18,7 +18,7 @@ use Rattle.sb_pool.specs.Calls.{Serves, AreImaged}
 use Rattle.sb_pool.specs.Frames.{Put, dirty_from, puts}
 use Rattle.sb_pool.specs.Pages.{bytes_or, pool_page, IsClean, AgreesOn, KeepsPages, AreFlushed}
 use Rattle.sb_pool.specs.State.{Held, State, held, IsWritten, IsDirty, NoneMoreDirty, cleaned, flushed}
-use Rattle.sb_pool.proofs.PutLemmas.{All, IsPut, All-dirty, IsPut-dirty, dirty-IsPut}
+use Rattle.sb_pool.proofs.PutLemmas.{All, IsPut, All-dirty, dirty-IsPut}
 use Rattle.sb_pool.proofs.PutRuns.{IsPage, ArePut, StandsOn-puts, StandsOn-puts_err, puts_ok, is_put, none_told}
 
 -- ---- the dirty pages

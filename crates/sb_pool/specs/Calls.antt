@@ -17,6 +17,17 @@ use Rattle.sb_pool.specs.declared.fault.PoolFault.TheVariants.{Fault}
 use Rattle.sb_pool.specs.Pages.{AgreesOn, KeepsPages}
 use Rattle.sb_pool.specs.State.{State, AreClean, IsHeld, IsDirty, NoneMoreDirty}
 
+-- A pool over its disk at a moment: what the disk tells, how long it is, how many of its calls have failed, and the journal beside the pool.
+pub record Moment : Type 0 where
+  pub told : Option Story
+  pub size : ℕ
+  pub faults : ℕ
+  pub journal : journal.State
+  pub pool : State
+
+abbrev pub moment : {D : Type 0} → (D → Option Story) → (D → ℕ) → (D → ℕ) → D → journal.State → State → Moment
+moment told len faults disk j p = record { told = told disk; size = len disk; faults = faults disk; journal = j; pool = p }
+
 -- The disk has room for a store of these sizes. In its regions a clean journal stands, with a gate for what is pending.
 pub record Serves (told : Option Story) (size : ℕ) (j : journal.State) (g : Geometry) : Type 0 where
   pub sizes : IsGeometry g
@@ -29,38 +40,33 @@ pub record Serves (told : Option Story) (size : ℕ) (j : journal.State) (g : Ge
 
 -- What each call keeps: the sizes, at a fault the position, that disk and journal serve the pool, and that clean pages are as the disk has them. Its
 -- Fault means that the disk failed a call, now or in an earlier call of the journal.
-pub record KeepsPool {D T : Type 0} (told : D → Option Story) (len faults : D → ℕ) (old new : D) (j k : journal.State) (pool after : State)
-    (result : Result T PoolFault) : Type 0 where
-  pub size : len new ≡ len old
-  pub geometry : after.geometry ≡ pool.geometry
-  pub position : OnErr result (after.position ≡ pool.position)
-  pub later : faults old ≤ faults new
+pub record KeepsPool {T : Type 0} (old new : Moment) (result : Result T PoolFault) : Type 0 where
+  pub size : new.size ≡ old.size
+  pub geometry : new.pool.geometry ≡ old.pool.geometry
+  pub position : OnErr result (new.pool.position ≡ old.pool.position)
+  pub later : old.faults ≤ new.faults
   pub fault : IfErr result (λ e. e ≡ Fault)
-  pub cause : IsErrOf result Fault → (j.failed ≡ true) ⊎ Rose (faults old) (faults new)
-  pub serves : Serves (told new) (len new) k after.geometry
-  pub agrees : AgreesOn (told new) k after
-  pub sound : Sound j → Sound k
+  pub cause : IsErrOf result Fault → (old.journal.failed ≡ true) ⊎ Rose old.faults new.faults
+  pub serves : Serves new.told new.size new.journal new.pool.geometry
+  pub agrees : AgreesOn new.told new.journal new.pool
+  pub sound : Sound old.journal → Sound new.journal
 
 -- The same of a flush. After a failed one a page that was pending on the disk may read as anything, so it says nothing of clean pages then.
-pub record KeepsFlushed {D T : Type 0} (told : D → Option Story) (len faults : D → ℕ) (old new : D) (j k : journal.State) (pool after : State)
-    (result : Result T PoolFault) : Type 0 where
-  pub size : len new ≡ len old
-  pub geometry : after.geometry ≡ pool.geometry
-  pub position : OnErr result (after.position ≡ pool.position)
-  pub later : faults old ≤ faults new
+pub record KeepsFlushed {T : Type 0} (old new : Moment) (result : Result T PoolFault) : Type 0 where
+  pub size : new.size ≡ old.size
+  pub geometry : new.pool.geometry ≡ old.pool.geometry
+  pub position : OnErr result (new.pool.position ≡ old.pool.position)
+  pub later : old.faults ≤ new.faults
   pub fault : IfErr result (λ e. e ≡ Fault)
-  pub cause : IsErrOf result Fault → (j.failed ≡ true) ⊎ Rose (faults old) (faults new)
-  pub serves : Serves (told new) (len new) k after.geometry
-  pub agrees : OnOk result (AgreesOn (told new) k after)
-  pub sound : Sound j → Sound k
+  pub cause : IsErrOf result Fault → (old.journal.failed ≡ true) ⊎ Rose old.faults new.faults
+  pub serves : Serves new.told new.size new.journal new.pool.geometry
+  pub agrees : OnOk result (AgreesOn new.told new.journal new.pool)
+  pub sound : Sound old.journal → Sound new.journal
 
--- What a force keeps: the disk's length, the regions, that the state is sound and that the journal stands. Where it fails, the disk failed a call,
--- now or earlier.
-pub record KeepsForced {D T E : Type 0} (told : D → Option Story) (len faults : D → ℕ) (old new : D) (j k : journal.State)
-    (result : Result T E) : Type 0 where
+-- What a force keeps: the disk's length, the regions, that the state is sound and that the journal stands.
+pub record KeepsForced {D : Type 0} (told : D → Option Story) (len faults : D → ℕ) (old new : D) (j k : journal.State) : Type 0 where
   pub size : len new ≡ len old
   pub later : faults old ≤ faults new
-  pub cause : OnErr result ((j.failed ≡ true) ⊎ Rose (faults old) (faults new))
   pub gates : k.gates ≡ j.gates
   pub log : k.log ≡ j.log
   pub sound : Sound k
@@ -107,11 +113,11 @@ pub record FlushesImages {T : Type 0} (want : ℕ → List ℕ) (g : Geometry) (
   pub ready : OnOk result (IsReadyStill want g recs [] k old new)
 
 -- The call has brought the page into memory, where it answers Ok. Each page is as it was last written, and no more of them are dirty.
-pub record IsLoad {D T : Type 0} (told : D → Option Story) (len faults : D → ℕ) (old new : D) (j k : journal.State) (pool after : State)
-    (page : ℕ) (result : Result T PoolFault) : Type 0 where
-  pub held : OnOk result (IsHeld after page × (after.position ≡ pool.position))
-  pub pages : KeepsPages k pool after (told old) (told new)
-  pub dirty : NoneMoreDirty pool after
-  pub images : InStore (told old) j pool (λ want recs. KeepsImages want pool.geometry recs k (told old) (told new) result)
-  pub journal : OnOk result (IsSameOrForced j k)
-  pub keeps : KeepsPool told len faults old new j k pool after result
+pub record IsLoad {T : Type 0} (old new : Moment) (page : ℕ) (result : Result T PoolFault) : Type 0 where
+  pub held : OnOk result (IsHeld new.pool page × (new.pool.position ≡ old.pool.position))
+  pub pages : KeepsPages new.journal old.pool new.pool old.told new.told
+  pub dirty : NoneMoreDirty old.pool new.pool
+  pub images : InStore old.told old.journal old.pool (λ want recs.
+      KeepsImages want old.pool.geometry recs new.journal old.told new.told result)
+  pub journal : OnOk result (IsSameOrForced old.journal new.journal)
+  pub keeps : KeepsPool old new result

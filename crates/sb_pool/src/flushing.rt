@@ -1,8 +1,8 @@
 //! The calls on the disk that write the pages of a pool.
 
-ghost use Rattle.std.specs.Prelude.{◌≡◌, ◌<◌, ◌≤◌, true, false, length, map, OnOk, OnErr};
+ghost use Rattle.std.specs.Prelude.{◌≡◌, ◌⊎◌, ◌<◌, ◌≤◌, true, false, length, map, OnOk, OnErr};
 ghost use Rattle.std.specs.List.{All};
-ghost use Rattle.sb_disk.specs.Causes.{HasCause};
+ghost use Rattle.sb_disk.specs.Causes.{HasCause, Rose};
 ghost use Rattle.sb_disk.specs.Disk.{WhereTold};
 ghost use Rattle.sb_disk.specs.Moments.{LeavesOnly, RanOk, RanErr};
 ghost use Rattle.sb_images.specs.Layout.{need, IsGeometry};
@@ -29,7 +29,8 @@ pub(crate) fn force<D: Disk>(disk: &mut D, journal: &mut Journal) -> Result<(), 
     ensures forced { OnOk result (WhereTold (D.told disk.old) (D.told disk.new) (Forced journal.old journal.new)) }
     ensures err { OnErr result (journal.new ≡ after_fault journal.old) }
     ensures any_moment { LeavesOnly (D.told disk.old) (D.told disk.new) (IsForcedOn (D.told disk.old) journal.old) }
-    ensures keeps { KeepsForced D.told D.len D.faults disk.old disk.new journal.old journal.new result }
+    ensures cause { OnErr result ((journal.old.failed ≡ true) ⊎ Rose (D.faults disk.old) (D.faults disk.new)) }
+    ensures keeps { KeepsForced D.told D.len D.faults disk.old disk.new journal.old journal.new }
 {
     match journal.force(disk) {
         Ok(()) => Ok(()),

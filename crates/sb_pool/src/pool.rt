@@ -6,7 +6,7 @@ ghost use Rattle.sb_images.specs.Store.{IfTold};
 ghost use Rattle.sb_journal.specs.State.{State, after_force};
 ghost use Rattle.sb_log.specs.Restored.{imaged};
 ghost use Rattle.sb_pool.specs.declared.fault.PoolFault.TheVariants.{NoMemory};
-ghost use Rattle.sb_pool.specs.Calls.{Serves, KeepsPool, KeepsFlushed, IsSameOrForced, InStore, KeepsImages, FlushesImages, IsLoad, ReadsClean};
+ghost use Rattle.sb_pool.specs.Calls.{moment, Serves, KeepsPool, KeepsFlushed, IsSameOrForced, InStore, KeepsImages, FlushesImages, IsLoad, ReadsClean};
 ghost use Rattle.sb_pool.specs.Pages.{AgreesOn, Becomes, KeepsPages, AreFlushed, with_bytes, pool_page, bytes_or};
 ghost use Rattle.sb_pool.specs.State.{held, IsHeld, IsDirty, is_dirty, NoneMoreDirty, empty_pool, flushed};
 
@@ -101,7 +101,8 @@ impl Pool {
         ensures reads { ReadsClean self.old journal.old journal.new (D.told disk.old) (D.told disk.new) }
 
         ensures journal { OnOk result (IsSameOrForced journal.old journal.new) }
-        ensures keeps { KeepsPool D.told D.len D.faults disk.old disk.new journal.old journal.new self.old self.new result }
+        ensures keeps { KeepsPool (moment D.told D.len D.faults disk.old journal.old self.old)
+            (moment D.told D.len D.faults disk.new journal.new self.new) result }
     {
         let at = place_of(self.geometry, page);
         let frame = &mut self.frames[page as usize];
@@ -135,7 +136,8 @@ impl Pool {
 
         // The pool is left as `load` leaves it.
         ensures* after { sem 𝓛 (follows_so the_row the_row self.entry.ghost_name none (λ _ _. ⊤) (λ pool.
-            IsLoad D.told D.len D.faults disk.old disk.new journal.old journal.new self.old pool page result)) }
+            IsLoad (moment D.told D.len D.faults disk.old journal.old self.old)
+            (moment D.told D.len D.faults disk.new journal.new pool) page result)) }
     {
         self.load(disk, journal, page)?;
         Ok(self.page(page))
@@ -168,7 +170,8 @@ impl Pool {
             → KeepsImages want self.old.geometry recs journal.new (D.told disk.old) (D.told disk.new) result) }
 
         ensures journal { OnOk result (IsSameOrForced journal.old journal.new) }
-        ensures keeps { KeepsPool D.told D.len D.faults disk.old disk.new journal.old journal.new self.old self.new result }
+        ensures keeps { KeepsPool (moment D.told D.len D.faults disk.old journal.old self.old)
+            (moment D.told D.len D.faults disk.new journal.new self.new) result }
     {
         self.load(disk, journal, page)?;
         let frame = &mut self.frames[page as usize];
@@ -197,7 +200,8 @@ impl Pool {
         ensures images { InStore (D.told disk.old) journal.old self.old (λ want recs.
             FlushesImages want self.old.geometry recs journal.new (D.told disk.old) (D.told disk.new) result) }
 
-        ensures keeps { KeepsFlushed D.told D.len D.faults disk.old disk.new journal.old journal.new self.old self.new result }
+        ensures keeps { KeepsFlushed (moment D.told D.len D.faults disk.old journal.old self.old)
+            (moment D.told D.len D.faults disk.new journal.new self.new) result }
     {
         force(disk, journal)?;
         put_all_out(&self.frames, self.geometry, disk)?;

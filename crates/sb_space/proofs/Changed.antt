@@ -10,14 +10,15 @@ use Rattle.sb_log.specs.declared.geometry.Geometry.{Geometry}
 use Rattle.sb_pool.specs.Pages.{with_bytes}
 use Rattle.sb_txn.specs.declared.fault.StoreFault.{StoreFault}
 use Rattle.sb_txn.specs.declared.fault.StoreFault.TheVariants.{Fault, LogFull, GatesFull, Down, NoMemory}
-use Rattle.sb_txn.specs.Book.{Undo, Out, Book, out_with, others, changed_out, leading, wants_of}
-use Rattle.sb_txn.specs.Clauses.{parts, HoldsPages, StaysReady, LeavesWanted, Changes, ChangeErr, Refused, undo_in, unwound}
+use Rattle.sb_txn.specs.Book.{Undo, ActiveTransaction, Book, transaction_with, others, changed_transaction, leading, wants_of}
+use Rattle.sb_txn.specs.Clauses.{HoldsPages, StaysReady, LeavesWanted, Changes, ChangeErr, Refused, undo_in, unwound}
+use Rattle.sb_txn.specs.Parts.{parts}
 use Rattle.sb_txn.specs.State.{State}
-use Rattle.sb_txn.proofs.CalledLemmas.{out_with-among, out_with-tx, out_with-split}
+use Rattle.sb_txn.proofs.CalledLemmas.{transaction_with-among, transaction_with-tx, transaction_with-split}
 use Rattle.sb_txn.proofs.LawLemmas.{last_is_undone}
 use Rattle.sb_txn.proofs.LoggedLemmas.{change_len-most}
 use Rattle.sb_txn.proofs.OnlyLemmas.{IsOnly-change}
-use Rattle.sb_txn.proofs.PlaceLemmas.{out_with-first, others-first}
+use Rattle.sb_txn.proofs.PlaceLemmas.{transaction_with-first, others-first}
 use Rattle.sb_txn.proofs.RoomLemmas.{SameRoom-forced, Grows-rest}
 use Rattle.sb_drive.specs.Spaces.{UnlessDown}
 use Rattle.sb_space.specs.Faults.{fault_of}
@@ -43,13 +44,13 @@ AreWhole-changed pages now n offset bytes within small whole p less =
     ]
 
 -- the transaction is the only active one
-pub alone_out : (tx : ℕ) (os : List Out) (o : Out) → out_with tx os ≡ Some o → others tx os ≡ [] → os ≡ o ∷ []
-alone_out tx os o found none =
-    let at = out_with-split tx os o found in
+pub alone_active : (tx : ℕ) (os : List ActiveTransaction) (o : ActiveTransaction) → transaction_with tx os ≡ Some o → others tx os ≡ [] → os ≡ o ∷ []
+alone_active tx os o found none =
+    let at = transaction_with-split tx os o found in
     at.is ∙ by at.before at.behind (sym at.rest_is ∙ none)
   where
-    by : (xs ys : List Out) → xs ++ ys ≡ [] → xs ++ o ∷ ys ≡ o ∷ []
-    by [] ys none = ap (λ (l : List Out). o ∷ l) none
+    by : (xs ys : List ActiveTransaction) → xs ++ ys ≡ [] → xs ++ o ∷ ys ≡ o ∷ []
+    by [] ys none = ap (λ (l : List ActiveTransaction). o ∷ l) none
     by (x ∷ xs) ys none = absurd cc
 
 -- ---- the transaction of the call
@@ -64,31 +65,31 @@ module _ {D : Type 0} (told : D → Option Story) (len faults : D → ℕ) (tx :
 
   module _ (keeps : StaysReady {T = Unit {0}} told len faults d e s t (Ok tt)) (leaves : LeavesWanted (parts told len d s) (parts told len e t)) (only : IsAlone tx s.book)
       (owner page offset : ℕ) (bytes : List ℕ) (within : offset + length bytes ≤ 4096) (less : page < s.pool.geometry.pages) (small : All (λ b. b < 256) bytes)
-      (changes : (o : Out) → out_with tx s.book.out ≡ Some o → Changes (parts told len d s) (parts told len e t) o (others tx s.book.out) owner page offset bytes) where
+      (changes : (o : ActiveTransaction) → transaction_with tx s.book.actives ≡ Some o → Changes (parts told len d s) (parts told len e t) o (others tx s.book.actives) owner page offset bytes) where
     abbrev up : s.book.down ≡ false
     up = was_up {T = Unit {0}} (Ok tt) keeps (no_error tt Down)
 
-    abbrev found : (o : Out) × (out_with tx s.book.out ≡ Some o)
-    found = out_with-among tx s.book.out (only up).0
+    abbrev found : (o : ActiveTransaction) × (transaction_with tx s.book.actives ≡ Some o)
+    found = transaction_with-among tx s.book.actives (only up).0
 
-    abbrev made : Changes (parts told len d s) (parts told len e t) found.0 (others tx s.book.out) owner page offset bytes
+    abbrev made : Changes (parts told len d s) (parts told len e t) found.0 (others tx s.book.actives) owner page offset bytes
     made = changes found.0 found.1
 
     abbrev undo : Undo
     undo = undo_in page offset made.image bytes
 
-    out : t.book.out ≡ changed_out found.0 undo ∷ others tx s.book.out
-    out = ap (λ (b : Book). b.out) made.book
+    actives : t.book.actives ≡ changed_transaction found.0 undo ∷ others tx s.book.actives
+    actives = ap (λ (b : Book). b.actives) made.book
 
     abbrev number : found.0.tx ≡ tx
-    number = out_with-tx tx s.book.out found.0 found.1
+    number = transaction_with-tx tx s.book.actives found.0 found.1
 
-    abbrev undos_in : Option Out → List Undo
+    abbrev undos_in : Option ActiveTransaction → List Undo
     undos_in o = elim o [ None ↦ [] | Some x ↦ x.undos ]
 
-    own : undos_of tx t.book.out ≡ undos_of tx s.book.out ++ undo ∷ []
-    own = ap (λ (os : List Out). undos_in (out_with tx os)) out ∙ ap undos_in (out_with-first tx (changed_out found.0 undo) (others tx s.book.out) number)
-        ∙ ap (λ (o : Option Out). undos_in o ++ undo ∷ []) (sym found.1)
+    own : undos_of tx t.book.actives ≡ undos_of tx s.book.actives ++ undo ∷ []
+    own = ap (λ (os : List ActiveTransaction). undos_in (transaction_with tx os)) actives ∙ ap undos_in (transaction_with-first tx (changed_transaction found.0 undo) (others tx s.book.actives) number)
+        ∙ ap (λ (o : Option ActiveTransaction). undos_in o ++ undo ∷ []) (sym found.1)
 
     stands_still : (want now : ℕ → List ℕ) → HoldsPages want now (parts told len d s) → AreWhole s.pool.geometry.pages now → made.image ≡ now page → (p : ℕ) → unwound (undo ∷ []) (with_bytes page offset bytes now) p ≡ now p
     stands_still want now store whole image p =
@@ -107,7 +108,7 @@ module _ {D : Type 0} (told : D → Option Story) (len faults : D → ℕ) (tx :
       undos = undo ∷ [];
       few = omega arith;
       own = own;
-      others = ap (λ (os : List Out). others tx os) out ∙ others-first tx (changed_out found.0 undo) (others tx s.book.out) number;
+      others = ap (λ (os : List ActiveTransaction). others tx os) actives ∙ others-first tx (changed_transaction found.0 undo) (others tx s.book.actives) number;
       pages = λ want now store. record {
         pages = with_bytes page offset bytes now;
         store = made.pages want now store;
@@ -138,32 +139,32 @@ module _ {D : Type 0} (told : D → Option Story) (len faults : D → ℕ) (tx :
 
   -- ---- it is refused, and nothing has changed
   module _ (f : StoreFault) (keeps : StaysReady {T = Unit {0}} told len faults d e s t (Err f)) (leaves : LeavesWanted (parts told len d s) (parts told len e t)) (only : IsAlone tx s.book) (other : IsErrOf {T = Unit {0}} (Err f) Down → ⊥)
-      (refused : (o : Out) → out_with tx s.book.out ≡ Some o → Refused o.tx (parts told len d s) (parts told len e t)) where
+      (refused : (o : ActiveTransaction) → transaction_with tx s.book.actives ≡ Some o → Refused o.tx (parts told len d s) (parts told len e t)) where
     abbrev up-2 : s.book.down ≡ false
     up-2 = was_up {T = Unit {0}} (Err f) keeps other
 
-    abbrev found-2 : (o : Out) × (out_with tx s.book.out ≡ Some o)
-    found-2 = out_with-among tx s.book.out (only up-2).0
+    abbrev found-2 : (o : ActiveTransaction) × (transaction_with tx s.book.actives ≡ Some o)
+    found-2 = transaction_with-among tx s.book.actives (only up-2).0
 
     abbrev number-2 : found-2.0.tx ≡ tx
-    number-2 = out_with-tx tx s.book.out found-2.0 found-2.1
+    number-2 = transaction_with-tx tx s.book.actives found-2.0 found-2.1
 
     abbrev still : Refused found-2.0.tx (parts told len d s) (parts told len e t)
     still = refused found-2.0 found-2.1
 
-    out-2 : t.book.out ≡ found-2.0 ∷ others tx s.book.out
-    out-2 = ap (λ (b : Book). b.out) still.book ∙ (λ i. leading (out_with (number-2 i) s.book.out) (others (number-2 i) s.book.out)) ∙ ap (λ (o : Option Out). leading o (others tx s.book.out)) found-2.1
+    actives-2 : t.book.actives ≡ found-2.0 ∷ others tx s.book.actives
+    actives-2 = ap (λ (b : Book). b.actives) still.book ∙ (λ i. leading (transaction_with (number-2 i) s.book.actives) (others (number-2 i) s.book.actives)) ∙ ap (λ (o : Option ActiveTransaction). leading o (others tx s.book.actives)) found-2.1
 
-    abbrev undos_in-2 : Option Out → List Undo
+    abbrev undos_in-2 : Option ActiveTransaction → List Undo
     undos_in-2 o = elim o [ None ↦ [] | Some x ↦ x.undos ]
 
     Makes-refused : Makes tx 1 (parts told len d s) (parts told len e t)
     Makes-refused = record {
       undos = [];
       few = omega arith;
-      own = ap (λ (os : List Out). undos_in-2 (out_with tx os)) out-2 ∙ ap undos_in-2 (out_with-first tx found-2.0 (others tx s.book.out) number-2)
-          ∙ ap undos_in-2 (sym found-2.1) ∙ nothing_more (undos_of tx s.book.out);
-      others = ap (λ (os : List Out). others tx os) out-2 ∙ others-first tx found-2.0 (others tx s.book.out) number-2;
+      own = ap (λ (os : List ActiveTransaction). undos_in-2 (transaction_with tx os)) actives-2 ∙ ap undos_in-2 (transaction_with-first tx found-2.0 (others tx s.book.actives) number-2)
+          ∙ ap undos_in-2 (sym found-2.1) ∙ nothing_more (undos_of tx s.book.actives);
+      others = ap (λ (os : List ActiveTransaction). others tx os) actives-2 ∙ others-first tx found-2.0 (others tx s.book.actives) number-2;
       pages = λ want now store. record {
         pages = now;
         store = still.pages want now store;
@@ -192,14 +193,14 @@ module _ {D : Type 0} (told : D → Option Story) (len faults : D → ℕ) (tx :
 
 -- ---- a refusal, whatever it is
 module _ {D : Type 0} (told : D → Option Story) (len faults : D → ℕ) (tx : ℕ) (d e : D) (s t : State) (leaves : LeavesWanted (parts told len d s) (parts told len e t)) (only : IsAlone tx s.book) (page count : ℕ) (few : count ≤ 4096) where
-  pub Works-err : (f : StoreFault) → StaysReady {T = Unit {0}} told len faults d e s t (Err f) → ((o : Out) → out_with tx s.book.out ≡ Some o → ChangeErr (parts told len d s) (parts told len e t) o page count f) → Works told len faults tx 1 d e s t
+  pub Works-err : (f : StoreFault) → StaysReady {T = Unit {0}} told len faults d e s t (Err f) → ((o : ActiveTransaction) → transaction_with tx s.book.actives ≡ Some o → ChangeErr (parts told len d s) (parts told len e t) o page count f) → Works told len faults tx 1 d e s t
   Works-err Fault keeps err = Works-failed {T = Unit {0}} told len faults tx d e s t Fault keeps leaves 1 tt
   Works-err Down keeps err = Works-failed {T = Unit {0}} told len faults tx d e s t Down keeps leaves 1 tt
   Works-err (LogFull used need total) keeps err = Works-refused told len faults tx d e s t (LogFull used need total) keeps leaves only (λ x. cc) (λ o is. (err o is).4)
   Works-err (GatesFull used total) keeps err = Works-refused told len faults tx d e s t (GatesFull used total) keeps leaves only (λ x. cc) (λ o is. (err o is).4)
   Works-err NoMemory keeps err = Works-refused told len faults tx d e s t NoMemory keeps leaves only (λ x. cc) (λ o is. err o is)
 
-  pub Stands-err : (f : StoreFault) → StaysReady {T = Unit {0}} told len faults d e s t (Err f) → ((o : Out) → out_with tx s.book.out ≡ Some o → ChangeErr (parts told len d s) (parts told len e t) o page count f)
+  pub Stands-err : (f : StoreFault) → StaysReady {T = Unit {0}} told len faults d e s t (Err f) → ((o : ActiveTransaction) → transaction_with tx s.book.actives ≡ Some o → ChangeErr (parts told len d s) (parts told len e t) o page count f)
       → UnlessDown {T = Unit {0}} (Err (fault_of f)) ((want now : ℕ → List ℕ) → Stands want now (parts told len d s) → Stands want now (parts told len e t))
   Stands-err Fault keeps err = tt
   Stands-err Down keeps err = tt
@@ -214,32 +215,32 @@ module _ {D : Type 0} (told : D → Option Story) (len faults : D → ℕ) (tx :
   up-err (GatesFull used total) keeps = λ on. ⊎_elim (λ (was : s.book.down ≡ true). was) (λ (x : IsErrOf {T = Unit {0}} (Err (GatesFull used total)) Fault). absurd cc) (keeps.up on)
   up-err NoMemory keeps = λ on. ⊎_elim (λ (was : s.book.down ≡ true). was) (λ (x : IsErrOf {T = Unit {0}} (Err NoMemory) Fault). absurd cc) (keeps.up on)
 
-  pub Fails-err : (f : StoreFault) → StaysReady {T = Unit {0}} told len faults d e s t (Err f) → ((o : Out) → out_with tx s.book.out ≡ Some o → ChangeErr (parts told len d s) (parts told len e t) o page count f) → Fails faults (fault_of f) d e s t
+  pub Fails-err : (f : StoreFault) → StaysReady {T = Unit {0}} told len faults d e s t (Err f) → ((o : ActiveTransaction) → transaction_with tx s.book.actives ≡ Some o → ChangeErr (parts told len d s) (parts told len e t) o page count f) → Fails faults (fault_of f) d e s t
   Fails-err Fault keeps err = keeps.fault refl
   Fails-err Down keeps err = let on = keeps.only refl in (keeps.later, inl on, ap (λ (x : State). x.book.down) (keeps.down on).store ∙ on)
   Fails-err NoMemory keeps err = tt
   Fails-err (LogFull used need total) keeps err =
       let up = was_up told len faults tx d e s t {T = Unit {0}} (Err (LogFull used need total)) keeps (λ x. cc) in
-      let found = out_with-among tx s.book.out (only up).0 in
+      let found = transaction_with-among tx s.book.actives (only up).0 in
       let is = err found.0 found.1 in
       let same = SameRoom-forced s.journal t.journal is.4.journal in
-      let one = ap (λ (os : List Out). length os) (alone_out tx s.book.out found.0 found.1 (only up).1) in
+      let one = ap (λ (os : List ActiveTransaction). length os) (alone_active tx s.book.actives found.0 found.1 (only up).1) in
       let most = change_len-most (wants_of s.book found.0 page) count few in
       let sizes = ap (λ (r : Range). r.len) same.log_is in
       (is.0 ∙ sym same.used, omega (arith, is.1, one, most), is.2 ∙ sym sizes, is.3)
   Fails-err (GatesFull used total) keeps err =
       let up = was_up told len faults tx d e s t {T = Unit {0}} (Err (GatesFull used total)) keeps (λ x. cc) in
-      let found = out_with-among tx s.book.out (only up).0 in
+      let found = transaction_with-among tx s.book.actives (only up).0 in
       let is = err found.0 found.1 in
       let same = SameRoom-forced s.journal t.journal is.4.journal in
-      let one = ap (λ (os : List Out). length os) (alone_out tx s.book.out found.0 found.1 (only up).1) in
+      let one = ap (λ (os : List ActiveTransaction). length os) (alone_active tx s.book.actives found.0 found.1 (only up).1) in
       let sizes = ap (λ (r : Range). r.len) same.gates_is in
       (is.1, is.2 ∙ sym sizes, omega (arith, is.3, one))
 
 -- ---- and the store serves on
 pub Serves-changed : {D : Type 0} (told : D → Option Story) (len faults : D → ℕ) (tx : ℕ) (d e : D) (s t : State) (r : Result (Unit {0}) StoreFault) (owner page offset : ℕ) (bytes : List ℕ) → StaysReady told len faults d e s t r
-    → OnOk r ((o : Out) → out_with tx s.book.out ≡ Some o → Changes (parts told len d s) (parts told len e t) o (others tx s.book.out) owner page offset bytes)
-    → IfErr r (λ f. (o : Out) → out_with tx s.book.out ≡ Some o → ChangeErr (parts told len d s) (parts told len e t) o page (length bytes) f)
+    → OnOk r ((o : ActiveTransaction) → transaction_with tx s.book.actives ≡ Some o → Changes (parts told len d s) (parts told len e t) o (others tx s.book.actives) owner page offset bytes)
+    → IfErr r (λ f. (o : ActiveTransaction) → transaction_with tx s.book.actives ≡ Some o → ChangeErr (parts told len d s) (parts told len e t) o page (length bytes) f)
     → Serves tx (parts told len d s) → Serves tx (parts told len e t)
 Serves-changed told len faults tx d e s t r owner page offset bytes keeps changes refused serves = record {
   ready = keeps.ready;

@@ -6,7 +6,7 @@ use Rattle.sb_drive.specs.Slots.{Slot, Slots, nobodys, bytes_for}
 use Rattle.sb_drive.specs.declared.space.SpaceFault.{SpaceFault}
 use Rattle.sb_drive.specs.Spaces.{UnlessDown, Wanted}
 use Rattle.sb_owners.specs.Instances.{without_owner}
-use Rattle.sb_txn.specs.Clauses.{Parts}
+use Rattle.sb_txn.specs.Parts.{Parts}
 use Rattle.sb_space.specs.Instances.{AreCleared, entry_without, rewritten, without_in}
 use Rattle.sb_space.specs.Stored.{if_ok, KeepsOthers}
 use Rattle.sb_space.specs.Table.{IsTable, owner_at, shown, slots_in, table_len}

@@ -8,7 +8,7 @@ use Rattle.sb_drive.specs.Spaces.{Leaves, Wanted}
 use Rattle.sb_drive.proofs.OwnedLemmas.{owned-beside}
 use Rattle.sb_owners.specs.Instances.{HasCome, HasNone, IsUnbroken, without_owner}
 use Rattle.sb_owners.proofs.Owned.{HasNone-unused, HasNone-without}
-use Rattle.sb_txn.specs.Clauses.{Parts}
+use Rattle.sb_txn.specs.Parts.{Parts}
 use Rattle.sb_space.specs.Instances.{IsNewFault, IsNewInstance}
 use Rattle.sb_space.specs.Stored.{Ends}
 use Rattle.sb_space.specs.Works.{HasPages}

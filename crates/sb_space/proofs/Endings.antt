@@ -7,7 +7,7 @@ use Rattle.sb_drive.specs.declared.space.SpaceFault.{SpaceFault}
 use Rattle.sb_drive.specs.Slots.{Slots, owned}
 use Rattle.sb_drive.specs.Spaces.{UnlessDown, Wanted}
 use Rattle.sb_drive.specs.Stores.{bytes_in}
-use Rattle.sb_txn.specs.Clauses.{Parts}
+use Rattle.sb_txn.specs.Parts.{Parts}
 use Rattle.sb_space.specs.Stored.{taken_in, Ends, Touches, AreSet}
 use Rattle.sb_space.specs.Works.{HasPages}
 use Rattle.sb_space.proofs.Calling.{UnlessDown-map}

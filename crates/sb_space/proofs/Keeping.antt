@@ -6,7 +6,7 @@ use Rattle.sb_drive.specs.declared.space.SpaceFault.{SpaceFault}
 use Rattle.sb_drive.specs.Slots.{Slots, Slot, owned, bytes_for, with_slot}
 use Rattle.sb_drive.specs.Spaces.{Wanted}
 use Rattle.sb_drive.specs.Stores.{bytes_in}
-use Rattle.sb_txn.specs.Clauses.{Parts}
+use Rattle.sb_txn.specs.Parts.{Parts}
 use Rattle.sb_space.specs.Stored.{if_ok, Ends, IsSet, KeepsOthers}
 use Rattle.sb_space.specs.Works.{HasPages}
 use Rattle.sb_space.proofs.Looking.{not_eq, bytes_for-other, bytes_for-nobody}

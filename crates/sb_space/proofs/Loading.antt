@@ -6,7 +6,8 @@ use Rattle.sb_log.specs.declared.geometry.Geometry.{Geometry}
 use Rattle.sb_txn.specs.declared.fault.StoreFault.{StoreFault}
 use Rattle.sb_txn.specs.declared.fault.StoreFault.TheVariants.{Fault, LogFull, GatesFull, Down, NoMemory}
 use Rattle.sb_txn.specs.Book.{Book, others}
-use Rattle.sb_txn.specs.Clauses.{Parts, parts, StaysReady, LeavesWanted, Loads, IsFaultOrDown}
+use Rattle.sb_txn.specs.Clauses.{StaysReady, LeavesWanted, Loads, IsFaultOrDown}
+use Rattle.sb_txn.specs.Parts.{Parts, parts}
 use Rattle.sb_txn.specs.State.{State}
 use Rattle.sb_txn.proofs.RoomLemmas.{Grows-rest}
 use Rattle.sb_drive.specs.Spaces.{UnlessDown}
@@ -37,8 +38,8 @@ pub Makes-loads : (tx : ℕ) (a b : Parts) → Loads a b → Makes tx 0 a b
 Makes-loads tx a b loads = record {
   undos = [];
   few = omega arith;
-  own = ap (λ (x : Book). undos_of tx x.out) loads.book ∙ nothing_more (undos_of tx a.store.book.out);
-  others = ap (λ (x : Book). others tx x.out) loads.book;
+  own = ap (λ (x : Book). undos_of tx x.actives) loads.book ∙ nothing_more (undos_of tx a.store.book.actives);
+  others = ap (λ (x : Book). others tx x.actives) loads.book;
   pages = λ want now store. record {
     pages = now;
     store = loads.pages want now store;

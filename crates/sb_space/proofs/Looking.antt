@@ -15,7 +15,8 @@ use Rattle.sb_drive.specs.declared.turns.Ask.{Ask}
 use Rattle.sb_drive.specs.declared.turns.Ask.TheVariants.{Fresh}
 use Rattle.sb_drive.specs.Spaces.{Wanted, IsFull}
 use Rattle.sb_txn.specs.Book.{Undo}
-use Rattle.sb_txn.specs.Clauses.{Parts, parts, HoldsPages, unwound}
+use Rattle.sb_txn.specs.Clauses.{HoldsPages, unwound}
+use Rattle.sb_txn.specs.Parts.{Parts, parts}
 use Rattle.sb_txn.specs.State.{State}
 use Rattle.sb_space.specs.Durable.{Lent, Leads, parts_in}
 use Rattle.sb_space.specs.Table.{AreWhole, IsTable, owner_at, shown, slots_in}

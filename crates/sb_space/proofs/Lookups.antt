@@ -10,7 +10,8 @@ use Rattle.sb_drive.specs.Slots.{Slots}
 use Rattle.sb_drive.specs.Spaces.{UnlessDown, Wanted}
 use Rattle.sb_txn.specs.declared.fault.StoreFault.{StoreFault}
 use Rattle.sb_txn.specs.declared.fault.StoreFault.TheVariants as store
-use Rattle.sb_txn.specs.Clauses.{Parts, parts, IsFaultOrDown, StaysReady, LeavesWanted, Loads}
+use Rattle.sb_txn.specs.Clauses.{IsFaultOrDown, StaysReady, LeavesWanted, Loads}
+use Rattle.sb_txn.specs.Parts.{Parts, parts}
 use Rattle.sb_txn.specs.State.{State}
 use Rattle.sb_space.specs.Faults.{fault_of}
 use Rattle.sb_space.specs.Opening.{Looks}

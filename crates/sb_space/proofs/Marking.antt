@@ -10,7 +10,7 @@ use Rattle.sb_drive.specs.declared.turns.Ask.TheVariants.{Fresh}
 use Rattle.sb_drive.specs.Instances.{IsLeastOwner, IsLeastFree}
 use Rattle.sb_drive.specs.Slots.{Slots, nobodys}
 use Rattle.sb_drive.specs.Spaces.{IsFull, Wanted}
-use Rattle.sb_txn.specs.Clauses.{Parts}
+use Rattle.sb_txn.specs.Parts.{Parts}
 use Rattle.sb_space.specs.Instances.{AreMarked, free_next, IsFirstFree, IsUnmarked, marks_set, unmarked}
 use Rattle.sb_space.specs.Table.{owner_at, shown, table_len}
 use Rattle.sb_space.specs.Works.{HasPages}

@@ -16,8 +16,10 @@ use Rattle.sb_pool.specs.Pages.{bytes_or, ArePagesOn}
 use Rattle.sb_recover.specs.declared.fault.OpenFault.{OpenFault}
 use Rattle.sb_recover.specs.declared.fault.OpenFault.TheVariants.{Fault, TooSmall, NotStore, BadLog, MissingExtension, Damaged, BadExtensions, AlreadyStore, NoMemory}
 use Rattle.sb_recover.specs.Restarted.{IsRestarted}
-use Rattle.sb_txn.specs.Book.{Book, actives, empty_book}
-use Rattle.sb_txn.specs.Clauses.{Parts, parts, Holds, IsReady, HoldsPages, StaysReady, Loads}
+use Rattle.sb_txn.specs.Book.{Book, views, empty_book}
+use Rattle.sb_txn.specs.Clauses.{IsReady, HoldsPages, StaysReady, Loads}
+use Rattle.sb_txn.specs.Parts.{Parts, parts}
+use Rattle.sb_txn.specs.Tied.{Holds}
 use Rattle.sb_txn.specs.Opened.{IsOpened, OpenErr}
 use Rattle.sb_txn.specs.State.{State}
 use Rattle.sb_space.specs.Table.{IsTable, table_len}
@@ -45,9 +47,9 @@ one_now p n want other a b less one two tells = by_told p.told tells one.2.pages
 now-long : (p : Parts) (n : ℕ) → n < p.store.pool.geometry.pages → WhereNow p (λ now. length (now n) ≡ 4096)
 now-long p n less want now store tells = by_told p.told tells store.2.store
   where
-    by_told : (told : Option Story) → is_some told ≡ true → IsStoreOn want now told p.store.journal p.store.pool.geometry store.0 store.1 (actives p.store.book.out) → length (now n) ≡ 4096
+    by_told : (told : Option Story) → is_some told ≡ true → IsStoreOn want now told p.store.journal p.store.pool.geometry store.0 store.1 (views p.store.book.actives) → length (now n) ≡ 4096
     by_told None tells on = absurd (false≢true tells)
-    by_told (Some t) tells on = IsPage-long (store.0 ++ store.1) (actives p.store.book.out) _ (now n) n (on.whole.pages n less)
+    by_told (Some t) tells on = IsPage-long (store.0 ++ store.1) (views p.store.book.actives) _ (now n) n (on.whole.pages n less)
 
 -- ---- a fresh store
 module _ (p : Parts) (fresh : IsFresh p) where
@@ -57,8 +59,8 @@ module _ (p : Parts) (fresh : IsFresh p) where
   pub fresh-few : p.store.pool.geometry.pages ≤ 65536
   fresh-few = let some = fresh.ready fresh-up in some.2.2.serves.sizes.pages.1
 
-  pub fresh-none : p.store.book.out ≡ []
-  fresh-none = ap (λ (b : Book). b.out) fresh.book
+  pub fresh-none : p.store.book.actives ≡ []
+  fresh-none = ap (λ (b : Book). b.actives) fresh.book
 
   -- no page of it has an image, so that none is dirty
   pub fresh-clean : AreClean p.store.pool

@@ -8,7 +8,7 @@ use Rattle.sb_drive.specs.Slots.{Slots, nobodys, with_slot}
 use Rattle.sb_drive.specs.declared.space.SpaceFault.{SpaceFault}
 use Rattle.sb_drive.specs.Spaces.{UnlessDown, Wanted}
 use Rattle.sb_pool.specs.Pages.{with_bytes}
-use Rattle.sb_txn.specs.Clauses.{Parts}
+use Rattle.sb_txn.specs.Parts.{Parts}
 use Rattle.sb_space.specs.Table.{AreWhole, IsTable, owner_at, shown, slots_in, table_len}
 use Rattle.sb_space.specs.Works.{HasPages, Stands}
 use Rattle.sb_space.specs.Stored.{if_ok}

@@ -9,26 +9,27 @@ use Rattle.sb_drive.specs.declared.space.SpaceFault.{SpaceFault}
 use Rattle.sb_drive.specs.declared.space.SpaceFault.TheVariants as space
 use Rattle.sb_drive.specs.Slots.{Slots}
 use Rattle.sb_drive.specs.Spaces.{Wanted}
-use Rattle.sb_txn.specs.Book.{Out, Book, new_out, out_with, others, standing_of, IsOnly, with_out}
-use Rattle.sb_txn.specs.Clauses.{Parts, parts, StaysReady, IsFaultOrDown, HoldsPages, LeavesWanted, Begins, GoesBack, Aborts, Commits, LeavesOne}
+use Rattle.sb_txn.specs.Book.{ActiveTransaction, Book, new_transaction, transaction_with, others, standing_of, IsOnly, with_actives}
+use Rattle.sb_txn.specs.Clauses.{StaysReady, IsFaultOrDown, HoldsPages, LeavesWanted, Begins, GoesBack, Aborts, Commits, LeavesOne}
+use Rattle.sb_txn.specs.Parts.{Parts, parts}
 use Rattle.sb_txn.specs.State.{State}
 use Rattle.sb_txn.specs.declared.fault.StoreFault.{StoreFault}
 use Rattle.sb_txn.specs.declared.fault.StoreFault.TheVariants.{Fault, LogFull, GatesFull, Down, NoMemory}
-use Rattle.sb_txn.proofs.CalledLemmas.{out_with-among}
+use Rattle.sb_txn.proofs.CalledLemmas.{transaction_with-among}
 use Rattle.sb_txn.proofs.KeepsLemmas.{StaysReady-up, LeavesWanted-none}
 use Rattle.sb_txn.proofs.OnlyLemmas.{IsOnly-back}
 use Rattle.sb_txn.proofs.PlaceLemmas.{IsOnly-one, standing_of-first}
 use Rattle.sb_space.specs.Faults.{fault_of}
 use Rattle.sb_space.specs.Table.{AreWhole, IsTable, slots_in}
-use Rattle.sb_space.specs.Transactions.{Kept, WasAt, AreFormed}
+use Rattle.sb_space.specs.Transactions.{KeepsSpace, WasAt, AreFormed}
 use Rattle.sb_space.specs.Works.{Serves, HasPages, IsAlone}
-use Rattle.sb_space.proofs.Changed.{alone_out}
+use Rattle.sb_space.proofs.Changed.{alone_active}
 use Rattle.sb_space.proofs.GoingBack.{HasPages-through, HasPages-back}
 use Rattle.sb_space.proofs.Loading.{no_error}
 
 -- ---- what each call keeps
 module _ {D : Type 0} (told : D → Option Story) (len faults : D → ℕ) (d e : D) (s t : State) where
-  pub Kept-ok : {T U : Type 0} (x : T) (y : U) → StaysReady told len faults d e s t (Ok x) → Kept told len faults d e s t (Ok y)
+  pub Kept-ok : {T U : Type 0} (x : T) (y : U) → StaysReady told len faults d e s t (Ok x) → KeepsSpace told len faults d e s t (Ok y)
   Kept-ok x y keeps = record {
     size = keeps.size;
     later = keeps.later;
@@ -41,7 +42,7 @@ module _ {D : Type 0} (told : D → Option Story) (len faults : D → ℕ) (d e 
     fails = tt;
   }
 
-  Kept-failed : {T U : Type 0} (f : StoreFault) → IsFaultOrDown f → StaysReady {T = T} told len faults d e s t (Err f) → Kept {T = U} told len faults d e s t (Err (fault_of f))
+  Kept-failed : {T U : Type 0} (f : StoreFault) → IsFaultOrDown f → StaysReady {T = T} told len faults d e s t (Err f) → KeepsSpace {T = U} told len faults d e s t (Err (fault_of f))
   Kept-failed Fault is keeps = record {
     size = keeps.size;
     later = keeps.later;
@@ -68,30 +69,30 @@ module _ {D : Type 0} (told : D → Option Story) (len faults : D → ℕ) (d e 
   Kept-failed (GatesFull used total) is keeps = absurd is
   Kept-failed NoMemory is keeps = absurd is
 
-  pub Kept-err : {T U : Type 0} (f : StoreFault) (x : SpaceFault) → x ≡ fault_of f → IsFaultOrDown f → StaysReady {T = T} told len faults d e s t (Err f) → Kept {T = U} told len faults d e s t (Err x)
-  Kept-err {T = T} {U = U} f x same is keeps = subst (λ (y : SpaceFault). Kept {T = U} told len faults d e s t (Err y)) (sym same) (Kept-failed {T = T} {U = U} f is keeps)
+  pub Kept-err : {T U : Type 0} (f : StoreFault) (x : SpaceFault) → x ≡ fault_of f → IsFaultOrDown f → StaysReady {T = T} told len faults d e s t (Err f) → KeepsSpace {T = U} told len faults d e s t (Err x)
+  Kept-err {T = T} {U = U} f x same is keeps = subst (λ (y : SpaceFault). KeepsSpace {T = U} told len faults d e s t (Err y)) (sym same) (Kept-failed {T = T} {U = U} f is keeps)
 
   pub sizes-same : {T : Type 0} (r : Result T StoreFault) → StaysReady told len faults d e s t r → t.pool.geometry.pages ≡ s.pool.geometry.pages
   sizes-same r keeps = ap (λ (g : Geometry). g.pages) keeps.geometry
 
   -- ---- a begin
-  module _ {T : Type 0} (x : T) (tx : ℕ) (keeps : StaysReady told len faults d e s t (Ok x)) (begins : Begins (parts told len d s) (parts told len e t) tx) (none : s.book.down ≡ false → s.book.out ≡ []) where
-    out-begun : t.book.out ≡ new_out tx ∷ []
-    out-begun = begins.out ∙ ap (λ (os : List Out). os ++ new_out tx ∷ []) (none (StaysReady-up told len faults x d e s t keeps))
+  module _ {T : Type 0} (x : T) (tx : ℕ) (keeps : StaysReady told len faults d e s t (Ok x)) (begins : Begins (parts told len d s) (parts told len e t) tx) (none : s.book.down ≡ false → s.book.actives ≡ []) where
+    actives-begun : t.book.actives ≡ new_transaction tx ∷ []
+    actives-begun = begins.actives ∙ ap (λ (os : List ActiveTransaction). os ++ new_transaction tx ∷ []) (none (StaysReady-up told len faults x d e s t keeps))
 
     pub Serves-begun : s.pool.geometry.pages ≤ 65536 → Serves tx (parts told len e t)
     Serves-begun few = record {
       ready = keeps.ready;
-      alone = λ up. subst (λ (os : List Out). IsOnly tx os) (sym out-begun) (IsOnly-one tx (new_out tx) refl);
+      alone = λ up. subst (λ (os : List ActiveTransaction). IsOnly tx os) (sym actives-begun) (IsOnly-one tx (new_transaction tx) refl);
       few = subst (λ (g : Geometry). g.pages ≤ 65536) (sym keeps.geometry) few;
     }
 
-    pub standing-begun : standing_of tx t.book.out ≡ 0
-    standing-begun = ap (λ (os : List Out). standing_of tx os) out-begun ∙ standing_of-first tx (new_out tx) [] refl
+    pub standing-begun : standing_of tx t.book.actives ≡ 0
+    standing-begun = ap (λ (os : List ActiveTransaction). standing_of tx os) actives-begun ∙ standing_of-first tx (new_transaction tx) [] refl
 
 -- ---- a way back
 pub Serves-back : {D : Type 0} (told : D → Option Story) (len faults : D → ℕ) (tx : ℕ) (d e : D) (s t : State) (r : Result (Unit {0}) StoreFault) (n : ℕ) → StaysReady told len faults d e s t r
-    → OnOk r ((o : Out) → out_with tx s.book.out ≡ Some o → GoesBack (parts told len d s) (parts told len e t) o (others tx s.book.out) n) → IfErr r IsFaultOrDown
+    → OnOk r ((o : ActiveTransaction) → transaction_with tx s.book.actives ≡ Some o → GoesBack (parts told len d s) (parts told len e t) o (others tx s.book.actives) n) → IfErr r IsFaultOrDown
     → Serves tx (parts told len d s) → Serves tx (parts told len e t)
 Serves-back told len faults tx d e s t r n keeps back err serves = record {
   ready = keeps.ready;
@@ -117,20 +118,20 @@ module _ {D : Type 0} (told : D → Option Story) (len faults : D → ℕ) (tx :
   up = StaysReady-up told len faults tt d e s t keeps
 
   -- that one
-  pub the_one : (o : Out) × (out_with tx s.book.out ≡ Some o)
-  the_one = out_with-among tx s.book.out (only up).0
+  pub the_one : (o : ActiveTransaction) × (transaction_with tx s.book.actives ≡ Some o)
+  the_one = transaction_with-among tx s.book.actives (only up).0
 
-  pub none_else : others tx s.book.out ≡ []
+  pub none_else : others tx s.book.actives ≡ []
   none_else = (only up).1
 
   sizes : t.pool.geometry.pages ≡ s.pool.geometry.pages
   sizes = ap (λ (g : Geometry). g.pages) keeps.geometry
 
-  pub none-ended : (rest : List Out) → rest ≡ [] → t.book ≡ with_out s.book rest → t.book.out ≡ []
-  none-ended rest none is = ap (λ (b : Book). b.out) is ∙ none
+  pub none-ended : (rest : List ActiveTransaction) → rest ≡ [] → t.book ≡ with_actives s.book rest → t.book.actives ≡ []
+  none-ended rest none is = ap (λ (b : Book). b.actives) is ∙ none
 
   -- it is aborted
-  module _ (leaves : LeavesWanted (parts told len d s) (parts told len e t)) (aborts : Aborts (parts told len d s) (parts told len e t) the_one.0 (others tx s.book.out)) where
+  module _ (leaves : LeavesWanted (parts told len d s) (parts told len e t)) (aborts : Aborts (parts told len d s) (parts told len e t) the_one.0 (others tx s.book.actives)) where
     pub HasPages-aborted : (want : Wanted) (u : Slots) → WasAt tx want u 0 (parts told len d s) → HasPages want u (parts told len e t)
     HasPages-aborted want u was = HasPages-back tx 0 p q the_one.0 the_one.1 sizes leaves aborts.pages want u was
 
@@ -139,10 +140,10 @@ module _ {D : Type 0} (told : D → Option Story) (len faults : D → ℕ) (tx :
         HasPages-through p q sizes leaves want has.now want (slots_in s.pool.geometry.pages want) has.stands (aborts.alone none_else want has.now has.stands.store) formed.whole formed.table refl
 
   -- it is committed
-  pub HasPages-committed : ((o : Out) → s.book.out ≡ o ∷ [] → LeavesOne (parts told len d s) (parts told len e t)) → Commits (parts told len d s) (parts told len e t) the_one.0 (others tx s.book.out)
+  pub HasPages-committed : ((o : ActiveTransaction) → s.book.actives ≡ o ∷ [] → LeavesOne (parts told len d s) (parts told len e t)) → Commits (parts told len d s) (parts told len e t) the_one.0 (others tx s.book.actives)
       → (want : Wanted) (u : Slots) (has : HasPages want u (parts told len d s)) → HasPages has.now u (parts told len e t)
   HasPages-committed leaves commits want u has =
-      let one = leaves the_one.0 (alone_out tx s.book.out the_one.0 the_one.1 none_else) want has.now has.stands.store in
+      let one = leaves the_one.0 (alone_active tx s.book.actives the_one.0 the_one.1 none_else) want has.now has.stands.store in
       record {
         now = has.now;
         stands = record {
@@ -156,14 +157,14 @@ module _ {D : Type 0} (told : D → Option Story) (len faults : D → ℕ) (tx :
 
 -- at each moment of a commit
 module _ {D T : Type 0} (told : D → Option Story) (len faults : D → ℕ) (tx : ℕ) (d e : D) (s t : State) (r : Result T StoreFault) (keeps : StaysReady told len faults d e s t r) (only : IsAlone tx s.book) where
-  pub LeavesOnly-commit : ((o : Out) → s.book.out ≡ o ∷ [] → LeavesOne (parts told len d s) (parts told len e t)) → (want : Wanted) (u : Slots) (has : HasPages want u (parts told len d s))
+  pub LeavesOnly-commit : ((o : ActiveTransaction) → s.book.actives ≡ o ∷ [] → LeavesOne (parts told len d s) (parts told len e t)) → (want : Wanted) (u : Slots) (has : HasPages want u (parts told len d s))
       → LeavesOnly (told d) (told e) (IsOldOrNew s.pool.geometry want has.now)
   LeavesOnly-commit leaves want u has = by_case s.book.down refl
     where
       by_case : (b : Bool) → s.book.down ≡ b → LeavesOnly (told d) (told e) (IsOldOrNew s.pool.geometry want has.now)
       by_case false off =
-          let found = out_with-among tx s.book.out (only off).0 in
-          leaves found.0 (alone_out tx s.book.out found.0 found.1 (only off).1) want has.now has.stands.store
+          let found = transaction_with-among tx s.book.actives (only off).0 in
+          leaves found.0 (alone_active tx s.book.actives found.0 found.1 (only off).1) want has.now has.stands.store
       by_case true on =
           subst (λ (x : D). LeavesOnly (told d) (told x) (IsOldOrNew s.pool.geometry want has.now)) (sym (keeps.down on).disk)
           (weaker (told d) (told d) (Restores s.pool.geometry want) (IsOldOrNew s.pool.geometry want has.now) (λ image is. inl is) ((LeavesWanted-none (parts told len d s)).each want has.now has.stands.store))

@@ -13,7 +13,8 @@ use Rattle.sb_images.specs.Images.{Restores}
 use Rattle.sb_log.specs.declared.geometry.Geometry.{Geometry}
 use Rattle.sb_disk.specs.Disk.{splice}
 use Rattle.sb_txn.specs.Book.{Undo}
-use Rattle.sb_txn.specs.Clauses.{Parts, parts, LeavesWanted, Grows, unwound}
+use Rattle.sb_txn.specs.Clauses.{LeavesWanted, Grows, unwound}
+use Rattle.sb_txn.specs.Parts.{Parts, parts}
 use Rattle.sb_txn.specs.State.{State}
 use Rattle.sb_txn.proofs.KeepsLemmas.{LeavesWanted-none}
 use Rattle.sb_txn.proofs.RoomLemmas.{Grows-rest, Grows-sum}
@@ -95,7 +96,7 @@ pub Makes-none : (tx : ℕ) (p : Parts) → Makes tx 0 p p
 Makes-none tx p = record {
   undos = [];
   few = omega arith;
-  own = nothing_more (undos_of tx p.store.book.out);
+  own = nothing_more (undos_of tx p.store.book.actives);
   others = refl;
   pages = λ want now store. record {
     pages = now;
@@ -127,7 +128,7 @@ module _ (tx : ℕ) (k l : ℕ) (a b c : Parts) (pages_same : b.store.pool.geome
   Makes-then leaves one two = record {
     undos = one.undos ++ two.undos;
     few = let len = length-append one.undos two.undos in omega (arith, len, one.few, two.few);
-    own = two.own ∙ ap (λ (us : List Undo). us ++ two.undos) one.own ∙ append_assoc (undos_of tx a.store.book.out) one.undos two.undos;
+    own = two.own ∙ ap (λ (us : List Undo). us ++ two.undos) one.own ∙ append_assoc (undos_of tx a.store.book.actives) one.undos two.undos;
     others = two.others ∙ one.others;
     pages = λ want now store. let first = one.pages want now store in Turns-then want now one.undos two.undos (leaves.each want now store).tells first (two.pages want first.pages first.store);
     grows =

@@ -8,7 +8,7 @@ use Rattle.sb_drive.specs.Instances.{IsLeastOwner, IsLeastFree}
 use Rattle.sb_drive.specs.Slots.{Slots, owned, with_slot}
 use Rattle.sb_drive.specs.Spaces.{Wanted}
 use Rattle.sb_owners.specs.Instances.{without_owner}
-use Rattle.sb_txn.specs.Clauses.{Parts}
+use Rattle.sb_txn.specs.Parts.{Parts}
 use Rattle.sb_space.specs.Works.{HasPages}
 
 -- ---- a new instance

@@ -15,7 +15,9 @@ use Rattle.sb_recover.specs.declared.fault.OpenFault.{OpenFault}
 use Rattle.sb_recover.specs.declared.fault.OpenFault.TheVariants.{Fault, Damaged}
 use Rattle.sb_recover.specs.FirstPages.{first_page, empty_leaf}
 use Rattle.sb_txn.specs.Book.{empty_book}
-use Rattle.sb_txn.specs.Clauses.{Parts, parts, Holds, HoldsAll, IsReady, HoldsPages, LeavesWanted, Loads}
+use Rattle.sb_txn.specs.Clauses.{HoldsAll, IsReady, HoldsPages, LeavesWanted, Loads}
+use Rattle.sb_txn.specs.Parts.{Parts, parts}
+use Rattle.sb_txn.specs.Tied.{Holds}
 use Rattle.sb_txn.specs.Opened.{OpenErr, WasRestarted}
 use Rattle.sb_txn.specs.State.{State}
 use Rattle.sb_space.specs.Table.{AreWhole, IsTable, slots_in, table_len}
@@ -61,7 +63,7 @@ pub record IsSpace (p : Parts) : Type 0 where
   pub has : (want now : ℕ → List ℕ) → HoldsPages want now p → is_some p.told ≡ true → ((n : ℕ) → n < p.store.pool.geometry.pages → AreBytes (now n))
       → HasPages want (slots_in p.store.pool.geometry.pages now) p
   pub few : p.store.pool.geometry.pages ≤ 65536
-  pub none : p.store.book.out ≡ []
+  pub none : p.store.book.actives ≡ []
 
 -- A refusal Damaged names the first page of the table that hasn't the form, where the disk tells which pages it holds.
 abbrev pub NamesDamage : OpenFault → Option Story → Type 0

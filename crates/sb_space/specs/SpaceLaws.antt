@@ -6,7 +6,7 @@ use Rattle.sb_forms.specs.Pages.{IsWhole}
 use Rattle.sb_drive.specs.declared.space.SpaceFault.{SpaceFault}
 use Rattle.sb_drive.specs.Slots.{Slots, nobodys, AreWhole, IsPage}
 use Rattle.sb_drive.specs.Spaces.{Wanted}
-use Rattle.sb_txn.specs.Clauses.{Parts}
+use Rattle.sb_txn.specs.Parts.{Parts}
 use Rattle.sb_space.specs.Durable.{Lent, Leads}
 use Rattle.sb_space.specs.Table.{owner_at, shown}
 use Rattle.sb_space.specs.Works.{HasPages, Works, Fails}

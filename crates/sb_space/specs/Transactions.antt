@@ -7,7 +7,8 @@ use Rattle.sb_drive.specs.Spaces.{Wanted}
 use Rattle.sb_drive.specs.declared.space.SpaceFault.{SpaceFault}
 use Rattle.sb_drive.specs.declared.space.SpaceFault.TheVariants.{Fault, Down}
 use Rattle.sb_txn.specs.Book.{Book, standing_of}
-use Rattle.sb_txn.specs.Clauses.{Parts, parts, IsReady}
+use Rattle.sb_txn.specs.Clauses.{IsReady}
+use Rattle.sb_txn.specs.Parts.{Parts, parts}
 use Rattle.sb_txn.specs.State.{State}
 use Rattle.sb_space.specs.Durable.{Lent, Leads, parts_in}
 use Rattle.sb_space.specs.Table.{AreWhole, IsTable, slots_in}
@@ -22,7 +23,7 @@ pub record WasDown {D T : Type 0} (old new : D) (s t : State) (result : Result T
 
 -- The disk's length and the sizes stay, and the store is ready again. It goes down only in a call that answers Fault, since the disk failed a call.
 -- A refusal means what `Fails` says.
-pub record Kept {D T : Type 0} (told : D → Option Story) (len faults : D → ℕ) (old new : D) (s t : State) (result : Result T SpaceFault) : Type 0 where
+pub record KeepsSpace {D T : Type 0} (told : D → Option Story) (len faults : D → ℕ) (old new : D) (s t : State) (result : Result T SpaceFault) : Type 0 where
   pub size : len new ≡ len old
   pub later : faults old ≤ faults new
   pub geometry : t.pool.geometry ≡ s.pool.geometry
@@ -36,11 +37,11 @@ pub record Kept {D T : Type 0} (told : D → Option Story) (len faults : D → �
 -- ---- going back
 -- Going back to the first n changes of the transaction, which stand, gives these pages, each with its owner.
 pub record WasAt (tx : ℕ) (want : Wanted) (s : Slots) (n : ℕ) (p : Parts) : Type 0 where
-  pub within : n ≤ standing_of tx p.store.book.out
+  pub within : n ≤ standing_of tx p.store.book.actives
   pub now : ℕ → List ℕ
   pub stands : Stands want now p
   pub was : ℕ → List ℕ
-  pub back : LeadsBack p.store.pool.geometry.pages (drop n (undos_of tx p.store.book.out)) was now
+  pub back : LeadsBack p.store.pool.geometry.pages (drop n (undos_of tx p.store.book.actives)) was now
   pub table : IsTable p.store.pool.geometry.pages was
   pub slots : s ≡ slots_in p.store.pool.geometry.pages was
 
@@ -52,7 +53,7 @@ pub record AreFormed (pages : ℕ) (now : ℕ → List ℕ) : Type 0 where
 -- ---- laws
 -- the pages now are those that going back to all changes that stand gives
 abbrev pub MarkHasPages : Type 0
-MarkHasPages = (tx : ℕ) (want : Wanted) (s : Slots) (p : Parts) → HasPages want s p → WasAt tx want s (standing_of tx p.store.book.out) p
+MarkHasPages = (tx : ℕ) (want : Wanted) (s : Slots) (p : Parts) → HasPages want s p → WasAt tx want s (standing_of tx p.store.book.actives) p
 
 -- whatever calls are driven, going back gives what it gave, unless the store went down
 abbrev pub DrivenKeepsWas : {D : Type 0} → (D → Option Story) → (D → ℕ) → (D → ℕ) → Type 0
@@ -68,7 +69,7 @@ DrivenKeepsWanted {D = D} told len faults =
 
 -- A store that is up was up before, and each change of the transaction that stood stands.
 abbrev pub KeepsChanges : ℕ → Book → Book → Type 0
-KeepsChanges tx old new = new.down ≡ false → (old.down ≡ false) × (standing_of tx old.out ≤ standing_of tx new.out)
+KeepsChanges tx old new = new.down ≡ false → (old.down ≡ false) × (standing_of tx old.actives ≤ standing_of tx new.actives)
 
 abbrev pub DrivenKeepsChanges : {D : Type 0} → (D → Option Story) → (D → ℕ) → (D → ℕ) → Type 0
 DrivenKeepsChanges {D = D} told len faults = (k : ℕ) (a b : Lent D) → Leads told len faults k a b → KeepsChanges a.tx a.store.now.book b.store.now.book

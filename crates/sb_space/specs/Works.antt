@@ -8,19 +8,20 @@ use Rattle.sb_drive.specs.declared.space.SpaceFault.{SpaceFault}
 use Rattle.sb_drive.specs.declared.space.SpaceFault.TheVariants.{DataFull, Fault, TempFull, LogFull, GatesFull, Damaged, Down, NoMemory}
 use Rattle.sb_drive.specs.Slots.{Slots}
 use Rattle.sb_drive.specs.Spaces.{Wanted}
-use Rattle.sb_txn.specs.Book.{Undo, Out, Book, IsOnly, out_with, others}
-use Rattle.sb_txn.specs.Clauses.{Parts, parts, HoldsPages, IsReady, LeavesWanted, Grows, unwound}
+use Rattle.sb_txn.specs.Book.{Undo, ActiveTransaction, Book, IsOnly, transaction_with, others}
+use Rattle.sb_txn.specs.Clauses.{HoldsPages, IsReady, LeavesWanted, Grows, unwound}
+use Rattle.sb_txn.specs.Parts.{Parts, parts}
 use Rattle.sb_txn.specs.State.{State}
 use Rattle.sb_space.specs.Table.{AreWhole, IsTable, slots_in}
 
 -- ---- the transaction, by its number
 -- its changes that stand
-abbrev pub undos_of : ℕ → List Out → List Undo
-undos_of tx out = elim (out_with tx out) [ None ↦ [] | Some o ↦ o.undos ]
+abbrev pub undos_of : ℕ → List ActiveTransaction → List Undo
+undos_of tx actives = elim (transaction_with tx actives) [ None ↦ [] | Some o ↦ o.undos ]
 
 -- until a call has failed it is the active one
 abbrev pub IsAlone : ℕ → Book → Type 0
-IsAlone tx book = book.down ≡ false → IsOnly tx book.out
+IsAlone tx book = book.down ≡ false → IsOnly tx book.actives
 
 -- the store serves it, and has 65,536 pages at most
 pub record Serves (tx : ℕ) (p : Parts) : Type 0 where
@@ -58,8 +59,8 @@ pub record Turns (want now : ℕ → List ℕ) (undos : List Undo) (old new : Pa
 pub record Makes (tx : ℕ) (changes : ℕ) (old new : Parts) : Type 0 where
   pub undos : List Undo
   pub few : length undos ≤ changes
-  pub own : undos_of tx new.store.book.out ≡ undos_of tx old.store.book.out ++ undos
-  pub others : others tx new.store.book.out ≡ others tx old.store.book.out
+  pub own : undos_of tx new.store.book.actives ≡ undos_of tx old.store.book.actives ++ undos
+  pub others : others tx new.store.book.actives ≡ others tx old.store.book.actives
   pub pages : (want now : ℕ → List ℕ) → HoldsPages want now old → Turns want now undos old new
   pub grows : Grows old.store new.store (12400 * changes) (3 * changes)
 

@@ -12,7 +12,8 @@ ghost use Rattle.sb_recover.specs.declared.fault.OpenFault.TheVariants.{Fault};
 ghost use Rattle.sb_space.specs.Opening.{AreEntries, AreTablePages, IsEntry, IsFresh, IsSpace, IsTablePage, Looks, NamesDamage, OnlyLoads, PageErr, SpaceErr, TableErr, WhereNow};
 ghost use Rattle.sb_space.specs.Table.{owner_at, table_len};
 ghost use Rattle.sb_space.specs.Works.{MeansDown, Stands};
-ghost use Rattle.sb_txn.specs.Clauses.{parts, IsReady};
+ghost use Rattle.sb_txn.specs.Clauses.{IsReady};
+ghost use Rattle.sb_txn.specs.Parts.{parts};
 ghost use Rattle.sb_txn.specs.Opened.{IsOpened};
 
 use crate::changing::TABLE;

@@ -6,10 +6,11 @@ ghost use Rattle.sb_drive.specs.Slots.{Slots};
 ghost use Rattle.sb_drive.specs.Spaces.{UnlessDown, Wanted};
 ghost use Rattle.sb_images.specs.Images.{IsOldOrNew};
 ghost use Rattle.sb_journal.specs.State.{used_of};
-ghost use Rattle.sb_txn.specs.Book.{Out, out_with, standing_of};
-ghost use Rattle.sb_txn.specs.Clauses.{parts, AsksNothing, Begins, Grows, CommitAsksNothing, IsReady, LeavesWanted};
+ghost use Rattle.sb_txn.specs.Book.{ActiveTransaction, transaction_with, standing_of};
+ghost use Rattle.sb_txn.specs.Clauses.{AsksNothing, Begins, Grows, CommitAsksNothing, IsReady, LeavesWanted};
+ghost use Rattle.sb_txn.specs.Parts.{parts};
 ghost use Rattle.sb_space.specs.Table.{slots_in};
-ghost use Rattle.sb_space.specs.Transactions.{AreFormed, Kept, WasAt};
+ghost use Rattle.sb_space.specs.Transactions.{AreFormed, KeepsSpace, WasAt};
 ghost use Rattle.sb_space.specs.Works.{HasPages, MeansDown, Serves};
 
 use crate::fault::fault_of;
@@ -53,18 +54,18 @@ impl Space {
     /// Begins a transaction. A checkpoint is taken first where more than half of the log or of its gates is used, or of the numbers of transactions; else disk and journal stay as they were.
     pub fn begin<D: Disk>(&mut self, disk: &mut D) -> Result<Tx, SpaceFault>
         requires ready { IsReady (parts D.told D.len disk.old self.old.store) }
-        requires none { self.old.store.book.down ≡ false → self.old.store.book.out ≡ [] }
+        requires none { self.old.store.book.down ≡ false → self.old.store.book.actives ≡ [] }
         requires few { self.old.store.pool.geometry.pages ≤ 65536 }
 
         ensures begun { IfOk result (λ tx. Serves tx.store.number (parts D.told D.len disk.new self.new.store)
-            × (standing_of tx.store.number self.new.store.book.out ≡ 0)) }
+            × (standing_of tx.store.number self.new.store.book.actives ≡ 0)) }
         ensures begins { IfOk result (λ tx. Begins (parts D.told D.len disk.old self.old.store) (parts D.told D.len disk.new self.new.store) tx.store.number) }
         ensures pages { UnlessDown result ((want : Wanted) (s : Slots) → HasPages want s (parts D.told D.len disk.old self.old.store)
             → HasPages want s (parts D.told D.len disk.new self.new.store)) }
         ensures quiet { AsksNothing disk.old disk.new self.old.store }
         ensures any_moment { LeavesWanted (parts D.told D.len disk.old self.old.store) (parts D.told D.len disk.new self.new.store) }
         ensures err { IfErr result MeansDown }
-        ensures keeps { Kept D.told D.len D.faults disk.old disk.new self.old.store self.new.store result }
+        ensures keeps { KeepsSpace D.told D.len D.faults disk.old disk.new self.old.store self.new.store result }
     {
         match self.store.begin(disk) {
             Ok(store) => Ok(Tx { store }),
@@ -74,7 +75,7 @@ impl Space {
 
     /// How many changes of the transaction stand now.
     pub fn mark(&self, tx: &Tx) -> Mark
-        ensures { result.store.changes ≡ standing_of tx.now.store.number self.now.store.book.out }
+        ensures { result.store.changes ≡ standing_of tx.now.store.number self.now.store.book.actives }
     {
         Mark {
             store: self.store.mark(&tx.store),
@@ -84,7 +85,7 @@ impl Space {
     /// Takes back the changes of the transaction that were made behind the savepoint, which must not have been passed on the way back before. The log gets no record of it.
     pub fn back_to<D: Disk>(&mut self, disk: &mut D, tx: &Tx, mark: Mark) -> Result<(), SpaceFault>
         requires ready { Serves tx.now.store.number (parts D.told D.len disk.old self.old.store) }
-        requires mark { self.old.store.book.down ≡ false → mark.store.changes ≤ standing_of tx.now.store.number self.old.store.book.out }
+        requires mark { self.old.store.book.down ≡ false → mark.store.changes ≤ standing_of tx.now.store.number self.old.store.book.actives }
 
         ensures back { OnOk result ((want : Wanted) (s : Slots)
             → WasAt tx.now.store.number want s mark.store.changes (parts D.told D.len disk.old self.old.store)
@@ -92,12 +93,12 @@ impl Space {
         ensures earlier { OnOk result ((want : Wanted) (s : Slots) (n : ℕ) → n ≤ mark.store.changes
             → WasAt tx.now.store.number want s n (parts D.told D.len disk.old self.old.store)
             → WasAt tx.now.store.number want s n (parts D.told D.len disk.new self.new.store)) }
-        ensures standing { OnOk result (standing_of tx.now.store.number self.new.store.book.out ≡ mark.store.changes) }
+        ensures standing { OnOk result (standing_of tx.now.store.number self.new.store.book.actives ≡ mark.store.changes) }
         ensures serves { Serves tx.now.store.number (parts D.told D.len disk.new self.new.store) }
         ensures grows { OnOk result (Grows self.old.store self.new.store 0 0) }
         ensures any_moment { LeavesWanted (parts D.told D.len disk.old self.old.store) (parts D.told D.len disk.new self.new.store) }
         ensures err { IfErr result MeansDown }
-        ensures keeps { Kept D.told D.len D.faults disk.old disk.new self.old.store self.new.store result }
+        ensures keeps { KeepsSpace D.told D.len D.faults disk.old disk.new self.old.store self.new.store result }
     {
         match self.store.back_to(disk, &tx.store, mark.store) {
             Ok(()) => Ok(()),
@@ -117,11 +118,11 @@ impl Space {
             → AreFormed self.old.store.pool.geometry.pages want
             → HasPages want (slots_in self.old.store.pool.geometry.pages want) (parts D.told D.len disk.new self.new.store)) }
 
-        ensures none { OnOk result (self.new.store.book.out ≡ []) }
+        ensures none { OnOk result (self.new.store.book.actives ≡ []) }
         ensures grows { OnOk result (Grows self.old.store self.new.store 0 0) }
         ensures any_moment { LeavesWanted (parts D.told D.len disk.old self.old.store) (parts D.told D.len disk.new self.new.store) }
         ensures err { IfErr result MeansDown }
-        ensures keeps { Kept D.told D.len D.faults disk.old disk.new self.old.store self.new.store result }
+        ensures keeps { KeepsSpace D.told D.len D.faults disk.old disk.new self.old.store self.new.store result }
     {
         let Tx { store } = tx;
         match self.store.abort(disk, store) {
@@ -138,12 +139,12 @@ impl Space {
             → HasPages has.now s (parts D.told D.len disk.new self.new.store)) }
         ensures any_moment { (want : Wanted) (s : Slots) (has : HasPages want s (parts D.told D.len disk.old self.old.store))
             → LeavesOnly (D.told disk.old) (D.told disk.new) (IsOldOrNew self.old.store.pool.geometry want has.now) }
-        ensures none { OnOk result (self.new.store.book.out ≡ []) }
-        ensures idle { (o : Out) → out_with tx.store.number self.old.store.book.out ≡ Some o
+        ensures none { OnOk result (self.new.store.book.actives ≡ []) }
+        ensures idle { (o : ActiveTransaction) → transaction_with tx.store.number self.old.store.book.actives ≡ Some o
             → CommitAsksNothing o disk.old disk.new self.old.store self.new.store }
         ensures grows { OnOk result (Grows self.old.store self.new.store 1024 1) }
         ensures err { IfErr result MeansDown }
-        ensures keeps { Kept D.told D.len D.faults disk.old disk.new self.old.store self.new.store result }
+        ensures keeps { KeepsSpace D.told D.len D.faults disk.old disk.new self.old.store self.new.store result }
     {
         let Tx { store } = tx;
         match self.store.commit(disk, store) {
@@ -155,15 +156,15 @@ impl Space {
     /// Writes the changed pages to the disk and empties the log.
     pub fn checkpoint<D: Disk>(&mut self, disk: &mut D) -> Result<(), SpaceFault>
         requires ready { IsReady (parts D.told D.len disk.old self.old.store) }
-        requires none { self.old.store.book.down ≡ false → self.old.store.book.out ≡ [] }
+        requires none { self.old.store.book.down ≡ false → self.old.store.book.actives ≡ [] }
 
         ensures pages { UnlessDown result ((want : Wanted) (s : Slots) → HasPages want s (parts D.told D.len disk.old self.old.store)
             → HasPages want s (parts D.told D.len disk.new self.new.store)) }
         ensures empties { OnOk result (used_of self.new.store.journal ≡ 0) }
-        ensures none { OnOk result (self.new.store.book.out ≡ []) }
+        ensures none { OnOk result (self.new.store.book.actives ≡ []) }
         ensures any_moment { LeavesWanted (parts D.told D.len disk.old self.old.store) (parts D.told D.len disk.new self.new.store) }
         ensures err { IfErr result MeansDown }
-        ensures keeps { Kept D.told D.len D.faults disk.old disk.new self.old.store self.new.store result }
+        ensures keeps { KeepsSpace D.told D.len D.faults disk.old disk.new self.old.store self.new.store result }
     {
         match self.store.checkpoint(disk) {
             Ok(()) => Ok(()),

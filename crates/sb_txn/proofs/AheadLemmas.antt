@@ -13,15 +13,16 @@ use Rattle.sb_pool.specs.State.{IsDirty}
 use Rattle.sb_pool.specs.State as pool
 use Rattle.sb_pool.proofs.StoreLemmas.{ArePagesOn-write, IsStoreOn-with}
 use Rattle.sb_txn.specs.Ahead.{Leans}
-use Rattle.sb_txn.specs.Book.{Book, actives}
+use Rattle.sb_txn.specs.Book.{Book, views}
 use Rattle.sb_txn.specs.Clauses.{HoldsAll}
+use Rattle.sb_txn.specs.Parts.{stored}
 use Rattle.sb_txn.specs.State.{together}
 use Rattle.sb_txn.specs.Tied.{IsBookOf}
 use Rattle.sb_txn.proofs.RoomLemmas.{SameRoom-forced}
 use Rattle.sb_txn.proofs.TiedLemmas.{HasReserve-same}
 
 module _ (want now : ℕ → List ℕ) (told new : Option Story) (size len : ℕ) (j k : journal.State) (p after : pool.State) (book : Book) (opened pending : List Record) (page offset : ℕ) (bytes : List ℕ) where
-  pub HoldsAll-written : Leans want now (with_bytes page offset bytes now) told size j p book opened pending → imaged (opened ++ pending) page ≡ true
+  pub HoldsAll-written : Leans want now (with_bytes page offset bytes now) opened pending (stored told size j p book) → imaged (opened ++ pending) page ≡ true
       → after.geometry ≡ p.geometry → after.position ≡ used_of j → Becomes (with_bytes page offset bytes (pool_page told p)) k after told new
       → ((q : ℕ) → IsDirty after q → IsDirty p q ⊎ (q ≡ page)) → IsReadyWith want p.geometry (opened ++ pending) k told new
       → IsSameOrForced j k → Serves new len k after.geometry → AgreesOn new k after
@@ -29,12 +30,12 @@ module _ (want now : ℕ → List ℕ) (told new : Option Story) (size len : ℕ
   HoldsAll-written leans covered sizes position wrote others still forced serves agrees =
       let room = SameRoom-forced j k forced in
       let then : ℕ → List ℕ = with_bytes page offset bytes now in
-      let goes = IsStoreOn-with want then j k p.geometry opened pending (actives book.out) told new leans.store still in (
+      let goes = IsStoreOn-with want then j k p.geometry opened pending (views book.actives) told new leans.store still in (
         goes.opened_now,
         goes.pending_now,
         record {
           up = room.up ∙ leans.up;
-          store = subst (λ (g : Geometry). IsStoreOn want then new k g goes.opened_now goes.pending_now (actives book.out)) (sym sizes) goes.store;
+          store = subst (λ (g : Geometry). IsStoreOn want then new k g goes.opened_now goes.pending_now (views book.actives)) (sym sizes) goes.store;
           serves = serves;
           agrees = agrees;
           pages = ArePagesOn-write j k (λ up. sym room.up ∙ up) now p after sizes page offset bytes told new wrote leans.pages;

@@ -20,11 +20,12 @@ use Rattle.sb_pool.specs.Pages.{AgreesOn, ArePagesOn}
 use Rattle.sb_pool.specs.State.{Held, held, IsWritten, IsDirty, cleaned, flushed}
 use Rattle.sb_pool.specs.State as pool
 use Rattle.std.proofs.Math.ListN as list
-use Rattle.sb_txn.specs.Book.{Out, Book, actives, begun_in, new_out, begun_book, emptied_book}
-use Rattle.sb_txn.specs.Tied.{AreUndos, IsOut, AreOut, AreOnce, IsBookOf, HasReserve, Ties}
-use Rattle.sb_txn.specs.Clauses.{Parts, Checkpoints, MakesRoom}
+use Rattle.sb_txn.specs.Book.{ActiveTransaction, Book, views, begun_in, new_transaction, begun_book, emptied_book}
+use Rattle.sb_txn.specs.Tied.{AreUndos, IsTransactionOf, AreTransactionsOf, AreOnce, IsBookOf, HasReserve, Holds}
+use Rattle.sb_txn.specs.Clauses.{Checkpoints, MakesRoom}
+use Rattle.sb_txn.specs.Parts.{Parts, stored}
 use Rattle.sb_txn.specs.Steps.{TakesCheckpoint}
-use Rattle.sb_txn.proofs.CalledLemmas.{actives-append}
+use Rattle.sb_txn.proofs.CalledLemmas.{views-append}
 
 -- ---- a checkpoint
 cleaned_dirty : (h : Option Held) → IsWritten (cleaned h) → ⊥
@@ -34,39 +35,39 @@ cleaned_dirty (Some x) dirty = false≢true dirty
 none_dirty : (p : pool.State) (q : ℕ) → IsDirty (flushed p) q → ⊥
 none_dirty p q dirty = cleaned_dirty (held p q) (subst IsWritten (list.get_or-map cleaned p.pages q None) dirty)
 
-IsBookOf-emptied : (count : ℕ) (recs : List Record) (book : Book) → book.out ≡ [] → IsBookOf count recs book → IsBookOf count [] (emptied_book book)
+IsBookOf-emptied : (count : ℕ) (recs : List Record) (book : Book) → book.actives ≡ [] → IsBookOf count recs book → IsBookOf count [] (emptied_book book)
 IsBookOf-emptied count recs book none knows = record {
   images = λ q lt. get_or-replicate (length book.imaged) q false false (let e = knows.count in omega arith);
   count = length-replicate (length book.imaged) false ∙ knows.count;
-  out = subst (λ (l : List Out). AreOut count [] 1 l) (sym none) tt;
+  actives = subst (λ (l : List ActiveTransaction). AreTransactionsOf count [] 1 l) (sym none) tt;
   fresh = tt;
   once = knows.once;
   most = knows.most;
 }
 
-HasReserve-emptied : (j : journal.State) (book : Book) → book.out ≡ [] → HasReserve (after_close j) (emptied_book book)
+HasReserve-emptied : (j : journal.State) (book : Book) → book.actives ≡ [] → HasReserve (after_close j) (emptied_book book)
 HasReserve-emptied j book none =
-    let empty : HasReserve (after_close j) (record { next = 1; imaged = replicate (length book.imaged) false; out = []; down = book.down }) = record {
-      few = All-nil (λ (o : Out). length o.undos ≤ 0);
+    let empty : HasReserve (after_close j) (record { next = 1; imaged = replicate (length book.imaged) false; actives = []; down = book.down }) = record {
+      few = All-nil (λ (o : ActiveTransaction). length o.undos ≤ 0);
       room = omega arith;
       gates = omega arith;
     } in
-    subst (λ (l : List Out). HasReserve (after_close j) (record { next = 1; imaged = replicate (length book.imaged) false; out = l; down = book.down })) (sym none) empty
+    subst (λ (l : List ActiveTransaction). HasReserve (after_close j) (record { next = 1; imaged = replicate (length book.imaged) false; actives = l; down = book.down })) (sym none) empty
 
 module _ (want now : ℕ → List ℕ) (told new : Option Story) (size len : ℕ) (j l : journal.State) (p after : pool.State) (book : Book) (opened pending : List Record) where
-  pub Ties-checkpoint : Ties want now told size j p book opened pending → book.out ≡ [] → l ≡ after_close (after_force j) → after ≡ flushed p → IsStoreOn want now new l p.geometry [] [] []
-      → Serves new len l after.geometry → AgreesOn new l after → ArePagesOn now new l after → Ties want now new len l after (emptied_book book) [] []
-  Ties-checkpoint ties none done is store serves agrees pages =
+  pub Holds-checkpoint : Holds want now opened pending (stored told size j p book) → book.actives ≡ [] → l ≡ after_close (after_force j) → after ≡ flushed p → IsStoreOn want now new l p.geometry [] [] []
+      → Serves new len l after.geometry → AgreesOn new l after → ArePagesOn now new l after → Holds want now [] [] (stored new len l after (emptied_book book))
+  Holds-checkpoint holds none done is store serves agrees pages =
       let same : after.geometry ≡ p.geometry = ap (λ (x : pool.State). x.geometry) is in
       record {
-        up = ap (λ (x : journal.State). x.failed) done ∙ ties.up;
-        store = subst (λ (o : List Out). IsStoreOn want now new l after.geometry [] [] (actives o)) (sym none) (subst (λ (g : Geometry). IsStoreOn want now new l g [] [] []) (sym same) store);
+        up = ap (λ (x : journal.State). x.failed) done ∙ holds.up;
+        store = subst (λ (o : List ActiveTransaction). IsStoreOn want now new l after.geometry [] [] (views o)) (sym none) (subst (λ (g : Geometry). IsStoreOn want now new l g [] [] []) (sym same) store);
         serves = serves;
         agrees = agrees;
         pages = pages;
         dirty = λ q dirty. absurd (none_dirty p q (subst (λ (x : pool.State). IsDirty x q) is dirty));
         position = let e = ap (λ (x : pool.State). x.position) is in omega arith;
-        knows = subst (λ (g : Geometry). IsBookOf g.pages [] (emptied_book book)) (sym same) (IsBookOf-emptied p.geometry.pages (opened ++ pending) book none ties.knows);
+        knows = subst (λ (g : Geometry). IsBookOf g.pages [] (emptied_book book)) (sym same) (IsBookOf-emptied p.geometry.pages (opened ++ pending) book none holds.knows);
         spare = subst (λ (k : journal.State). HasReserve k (emptied_book book)) (sym done) (HasReserve-emptied (after_force j) book none);
       }
 
@@ -78,8 +79,8 @@ module _ (count tx : ℕ) (recs : List Record) where
   take_none : (cs : List Change) → own_changes tx (keep tx 0 cs) ≡ []
   take_none cs = own_changes-keep tx 0 cs
 
-  pub IsOut-new : (next : ℕ) → tx < next → count_of tx (standing recs) ≡ 0 → IsOut count recs next (new_out tx)
-  IsOut-new next lt none = record {
+  pub IsTransactionOf-new : (next : ℕ) → tx < next → count_of tx (standing recs) ≡ 0 → IsTransactionOf count recs next (new_transaction tx)
+  IsTransactionOf-new next lt none = record {
     undos = subst (λ (cs : List Change). AreUndos [] cs) (sym (take_none (standing recs))) tt;
     logged = λ _. omega arith;
     none = λ _. refl;
@@ -88,81 +89,81 @@ module _ (count tx : ℕ) (recs : List Record) where
   }
 
 -- ---- it is the last of the active ones
-begun_in-last : (os : List Out) (o : Out) → begun_in (os ++ o ∷ []) ≡ begun_in os + cond o.begun 1 0
+begun_in-last : (os : List ActiveTransaction) (o : ActiveTransaction) → begun_in (os ++ o ∷ []) ≡ begun_in os + cond o.begun 1 0
 begun_in-last [] o = omega arith
 begun_in-last (x ∷ os) o = let e = begun_in-last os o in omega arith
 
 module _ (count : ℕ) (recs : List Record) (next more : ℕ) (le : next ≤ more) where
-  AreOut-last : (os : List Out) (o : Out) → AreOut count recs next os → IsOut count recs more o → AreOut count recs more (os ++ o ∷ [])
-  AreOut-last [] o out is = (is, tt)
-  AreOut-last (x ∷ os) o out is = (
-    record { undos = out.0.undos; logged = out.0.logged; none = out.0.none; number = let h = out.0.number in omega arith; fit = out.0.fit },
-    AreOut-last os o out.1 is,
+  AreTransactionsOf-last : (os : List ActiveTransaction) (o : ActiveTransaction) → AreTransactionsOf count recs next os → IsTransactionOf count recs more o → AreTransactionsOf count recs more (os ++ o ∷ [])
+  AreTransactionsOf-last [] o are is = (is, tt)
+  AreTransactionsOf-last (x ∷ os) o are is = (
+    record { undos = are.0.undos; logged = are.0.logged; none = are.0.none; number = let h = are.0.number in omega arith; fit = are.0.fit },
+    AreTransactionsOf-last os o are.1 is,
   )
 
 -- its number is none of theirs
-IsInactive-next : (count : ℕ) (recs : List Record) (next : ℕ) (os : List Out) → AreOut count recs next os → IsInactive next (actives os)
-IsInactive-next count recs next [] out = tt
-IsInactive-next count recs next (o ∷ os) out = ((λ e. absurd (let h = out.0.number in omega arith)), IsInactive-next count recs next os out.1)
+IsInactive-next : (count : ℕ) (recs : List Record) (next : ℕ) (os : List ActiveTransaction) → AreTransactionsOf count recs next os → IsInactive next (views os)
+IsInactive-next count recs next [] are = tt
+IsInactive-next count recs next (o ∷ os) are = ((λ e. absurd (let h = are.0.number in omega arith)), IsInactive-next count recs next os are.1)
 
-IsInactive-last : (tx : ℕ) (os : List Out) (o : Out) → IsInactive tx (actives os) → (o.tx ≡ tx → ⊥) → IsInactive tx (actives (os ++ o ∷ []))
+IsInactive-last : (tx : ℕ) (os : List ActiveTransaction) (o : ActiveTransaction) → IsInactive tx (views os) → (o.tx ≡ tx → ⊥) → IsInactive tx (views (os ++ o ∷ []))
 IsInactive-last tx [] o idle other = (other, tt)
 IsInactive-last tx (x ∷ os) o idle other = (idle.0, IsInactive-last tx os o idle.1 other)
 
-AreOnce-last : (os : List Out) (o : Out) → AreOnce os → IsInactive o.tx (actives os) → AreOnce (os ++ o ∷ [])
+AreOnce-last : (os : List ActiveTransaction) (o : ActiveTransaction) → AreOnce os → IsInactive o.tx (views os) → AreOnce (os ++ o ∷ [])
 AreOnce-last [] o once idle = (tt, tt)
 AreOnce-last (x ∷ os) o once idle = (IsInactive-last x.tx os o once.0 (λ e. idle.0 (sym e)), AreOnce-last os o once.1 idle.1)
 
-module _ (want now : ℕ → List ℕ) (told : Option Story) (size : ℕ) (j : journal.State) (p : pool.State) (book : Book) (opened pending : List Record) (ties : Ties want now told size j p book opened pending) (few : length book.out < 8) where
+module _ (want now : ℕ → List ℕ) (told : Option Story) (size : ℕ) (j : journal.State) (p : pool.State) (book : Book) (opened pending : List Record) (holds : Holds want now opened pending (stored told size j p book)) (few : length book.actives < 8) where
   abbrev recs : List Record
   recs = opened ++ pending
 
-  idle : IsInactive book.next (actives book.out)
-  idle = IsInactive-next p.geometry.pages recs book.next book.out ties.knows.out
+  idle : IsInactive book.next (views book.actives)
+  idle = IsInactive-next p.geometry.pages recs book.next book.actives holds.knows.actives
 
-  store_begin : IsStoreOn want now told j p.geometry opened pending (actives (book.out ++ new_out book.next ∷ []))
+  store_begin : IsStoreOn want now told j p.geometry opened pending (views (book.actives ++ new_transaction book.next ∷ []))
   store_begin =
-      subst (λ (l : List Active). IsStoreOn want now told j p.geometry opened pending l) (sym (actives-append book.out (new_out book.next ∷ [])))
-      (IsStoreOn-step want now j p.geometry opened pending (actives book.out) now (actives book.out ++ active_with book.next 0 ∷ []) told
-      (λ disk whole. IsWhole-place p.geometry.pages disk now opened pending (actives book.out) (active_with book.next 0) []
-      (subst (λ (l : List Active). IsWhole p.geometry.pages disk now opened pending (active_with book.next 0 ∷ l)) (sym (append-nil (actives book.out)))
-      (IsWhole-active p.geometry.pages disk now opened pending book.next (actives book.out) (AreBelow-committed book.next recs ties.knows.fresh) idle whole)))
-      ties.store)
+      subst (λ (l : List Active). IsStoreOn want now told j p.geometry opened pending l) (sym (views-append book.actives (new_transaction book.next ∷ [])))
+      (IsStoreOn-step want now j p.geometry opened pending (views book.actives) now (views book.actives ++ active_with book.next 0 ∷ []) told
+      (λ disk whole. IsWhole-place p.geometry.pages disk now opened pending (views book.actives) (active_with book.next 0) []
+      (subst (λ (l : List Active). IsWhole p.geometry.pages disk now opened pending (active_with book.next 0 ∷ l)) (sym (append-nil (views book.actives)))
+      (IsWhole-active p.geometry.pages disk now opened pending book.next (views book.actives) (AreBelow-committed book.next recs holds.knows.fresh) idle whole)))
+      holds.store)
 
-  pub Ties-begin : Ties want now told size j p (begun_book book) opened pending
-  Ties-begin =
-      let fresh = ties.knows.fresh in
+  pub Holds-begin : Holds want now opened pending (stored told size j p (begun_book book))
+  Holds-begin =
+      let fresh = holds.knows.fresh in
       let none : count_of book.next (standing recs) ≡ 0 = count_of-none book.next (standing recs) (AreBelow-standing book.next recs fresh) in
-      let begun = begun_in-last book.out (new_out book.next) in
+      let begun = begun_in-last book.actives (new_transaction book.next) in
       record {
-        up = ties.up;
+        up = holds.up;
         store = store_begin;
-        serves = ties.serves;
-        agrees = ties.agrees;
-        pages = ties.pages;
-        dirty = ties.dirty;
-        position = ties.position;
+        serves = holds.serves;
+        agrees = holds.agrees;
+        pages = holds.pages;
+        dirty = holds.dirty;
+        position = holds.position;
         knows = record {
-          images = ties.knows.images;
-          count = ties.knows.count;
-          out = AreOut-last p.geometry.pages recs book.next (book.next + 1) (omega arith) book.out (new_out book.next) ties.knows.out
-              (IsOut-new p.geometry.pages book.next recs (book.next + 1) (omega arith) none);
+          images = holds.knows.images;
+          count = holds.knows.count;
+          actives = AreTransactionsOf-last p.geometry.pages recs book.next (book.next + 1) (omega arith) book.actives (new_transaction book.next) holds.knows.actives
+              (IsTransactionOf-new p.geometry.pages book.next recs (book.next + 1) (omega arith) none);
           fresh = AreBelow-higher book.next (book.next + 1) recs (omega arith) fresh;
-          once = AreOnce-last book.out (new_out book.next) ties.knows.once idle;
-          most = let e = length_push book.out (new_out book.next) in omega arith;
+          once = AreOnce-last book.actives (new_transaction book.next) holds.knows.once idle;
+          most = let e = length_push book.actives (new_transaction book.next) in omega arith;
         };
         spare = record {
-          few = All-append (λ (o : Out). length o.undos ≤ used_of j) book.out (new_out book.next ∷ []) ties.spare.few
-              (All-cons (λ (o : Out). length o.undos ≤ used_of j) (new_out book.next) [] (omega arith) (All-nil (λ (o : Out). length o.undos ≤ used_of j)));
-          room = let h = ties.spare.room in omega arith;
-          gates = let h = ties.spare.gates in omega arith;
+          few = All-append (λ (o : ActiveTransaction). length o.undos ≤ used_of j) book.actives (new_transaction book.next ∷ []) holds.spare.few
+              (All-cons (λ (o : ActiveTransaction). length o.undos ≤ used_of j) (new_transaction book.next) [] (omega arith) (All-nil (λ (o : ActiveTransaction). length o.undos ≤ used_of j)));
+          room = let h = holds.spare.room in omega arith;
+          gates = let h = holds.spare.gates in omega arith;
         };
       }
 
 -- ---- a checkpoint before it
 pub MakesRoom-checkpoint : (old new : Parts) → TakesCheckpoint old.store.journal old.store.book → Checkpoints old new → MakesRoom old new
 MakesRoom-checkpoint old new takes done = record {
-  out = done.out ∙ sym takes.none;
+  actives = done.actives ∙ sym takes.none;
   pages = λ want now store. ([], [], done.pages want now store);
   stays = λ not. absurd (not takes);
   empties = λ _. done;

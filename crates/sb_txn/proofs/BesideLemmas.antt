@@ -5,15 +5,16 @@ use Rattle.std.proofs.lemmas.Bool.{ne_eqb}
 use Rattle.std.proofs.lemmas.List.{length-take}
 use Rattle.std.proofs.lemmas.List.Elements.{All-nil, All-cons, All-head, All-tail, All-append}
 use Rattle.sb_disk.specs.Disk.{Story}
-use Rattle.sb_txn.specs.Book.{Undo, Out, Book, MayBegin, IsClear, AreClear, out_with, IsAmong, others, IsOnly, leading, called, changed_out}
+use Rattle.sb_txn.specs.Book.{Undo, ActiveTransaction, Book, MayBegin, IsClear, AreClear, transaction_with, IsAmong, others, IsOnly, leading, called, changed_transaction}
 use Rattle.sb_txn.specs.Tied.{AreOnce}
 use Rattle.sb_txn.specs.Beside.{IsOn, AreOn, IsOne, AreTwo}
-use Rattle.sb_txn.specs.Clauses.{Parts, parts, IsReady, StaysReady, Refused, Begins, undo_in, Changes, ChangeErr, IsFaultOrDown}
+use Rattle.sb_txn.specs.Clauses.{IsReady, StaysReady, Refused, Begins, undo_in, Changes, ChangeErr, IsFaultOrDown}
+use Rattle.sb_txn.specs.Parts.{Parts, parts}
 use Rattle.sb_txn.specs.State.{State}
 use Rattle.sb_txn.specs.declared.fault.StoreFault.{StoreFault}
 use Rattle.sb_txn.specs.declared.fault.StoreFault.TheVariants.{Fault, LogFull, GatesFull, Down, NoMemory}
 use Rattle.sb_txn.proofs.KeepsLemmas.{not_both, StaysReady-up}
-use Rattle.sb_txn.proofs.PlaceLemmas.{out_with-first, others-first, IsOnly-one}
+use Rattle.sb_txn.proofs.PlaceLemmas.{transaction_with-first, others-first, IsOnly-one}
 
 -- ---- sides
 not_not : (b : Bool) → not (not b) ≡ b
@@ -36,8 +37,8 @@ clear_all low page offset count (u ∷ us) on beside = All-cons (IsClear page of
     (clear_all low page offset count us on (All-tail (λ (v : Undo). IsOn (not low) v.offset (length v.before)) u us beside))
 
 -- ---- the one of a call and the other
-pub AreTwo-swap : (low : Bool) (tx other : ℕ) (out : List Out) → AreTwo low tx other out → AreTwo (not low) other tx out
-AreTwo-swap low tx other out two = record {
+pub AreTwo-swap : (low : Bool) (tx other : ℕ) (actives : List ActiveTransaction) → AreTwo low tx other actives → AreTwo (not low) other tx actives
+AreTwo-swap low tx other actives two = record {
   first = two.second;
   second = two.first;
   own = two.others;
@@ -45,40 +46,40 @@ AreTwo-swap low tx other out two = record {
   differ = λ e. two.differ (sym e);
   on = two.beside;
   beside = subst (λ (b : Bool). AreOn b two.first.undos) (sym (not_not low)) two.on;
-  is = ⊎_elim (λ (e : out ≡ two.first ∷ two.second ∷ []). inr e) (λ (e : out ≡ two.second ∷ two.first ∷ []). inl e) two.is;
+  is = ⊎_elim (λ (e : actives ≡ two.first ∷ two.second ∷ []). inr e) (λ (e : actives ≡ two.second ∷ two.first ∷ []). inl e) two.is;
 }
 
-module _ (low : Bool) (tx other : ℕ) (out : List Out) (two : AreTwo low tx other out) where
-  abbrev a : Out
+module _ (low : Bool) (tx other : ℕ) (actives : List ActiveTransaction) (two : AreTwo low tx other actives) where
+  abbrev a : ActiveTransaction
   a = two.first
 
-  abbrev b : Out
+  abbrev b : ActiveTransaction
   b = two.second
 
   not_own : b.tx ≡ tx → ⊥
   not_own e = two.differ (sym e ∙ two.others)
 
-  pub found_two : out_with tx out ≡ Some a
+  pub found_two : transaction_with tx actives ≡ Some a
   found_two = ⊎_elim
-      (λ (e : out ≡ a ∷ b ∷ []). ap (out_with tx) e ∙ out_with-first tx a (b ∷ []) two.own)
-      (λ (e : out ≡ b ∷ a ∷ []). ap (out_with tx) e ∙ ap (λ (t : Bool). cond t (Some b) (out_with tx (a ∷ []))) (ne_eqb b.tx tx not_own) ∙ out_with-first tx a [] two.own)
+      (λ (e : actives ≡ a ∷ b ∷ []). ap (transaction_with tx) e ∙ transaction_with-first tx a (b ∷ []) two.own)
+      (λ (e : actives ≡ b ∷ a ∷ []). ap (transaction_with tx) e ∙ ap (λ (t : Bool). cond t (Some b) (transaction_with tx (a ∷ []))) (ne_eqb b.tx tx not_own) ∙ transaction_with-first tx a [] two.own)
       two.is
 
-  pub others_two : others tx out ≡ b ∷ []
+  pub others_two : others tx actives ≡ b ∷ []
   others_two = ⊎_elim
-      (λ (e : out ≡ a ∷ b ∷ []). ap (others tx) e ∙ others-first tx a (b ∷ []) two.own)
-      (λ (e : out ≡ b ∷ a ∷ []). ap (others tx) e ∙ ap (λ (t : Bool). cond t (a ∷ []) (b ∷ others tx (a ∷ []))) (ne_eqb b.tx tx not_own) ∙ ap (λ (l : List Out). b ∷ l) (others-first tx a [] two.own))
+      (λ (e : actives ≡ a ∷ b ∷ []). ap (others tx) e ∙ others-first tx a (b ∷ []) two.own)
+      (λ (e : actives ≡ b ∷ a ∷ []). ap (others tx) e ∙ ap (λ (t : Bool). cond t (a ∷ []) (b ∷ others tx (a ∷ []))) (ne_eqb b.tx tx not_own) ∙ ap (λ (l : List ActiveTransaction). b ∷ l) (others-first tx a [] two.own))
       two.is
 
-  pub IsAmong-two : IsAmong tx out
+  pub IsAmong-two : IsAmong tx actives
   IsAmong-two = subst IsSome (sym found_two) refl
 
-  pub AreClear-two : (page offset count : ℕ) → IsOn low offset count → AreClear page offset count (others tx out)
-  AreClear-two page offset count on = subst (λ (l : List Out). AreClear page offset count l) (sym others_two)
-      (All-cons (λ (o : Out). All (IsClear page offset count) o.undos) b [] (clear_all low page offset count b.undos on two.beside) (All-nil (λ (o : Out). All (IsClear page offset count) o.undos)))
+  pub AreClear-two : (page offset count : ℕ) → IsOn low offset count → AreClear page offset count (others tx actives)
+  AreClear-two page offset count on = subst (λ (l : List ActiveTransaction). AreClear page offset count l) (sym others_two)
+      (All-cons (λ (o : ActiveTransaction). All (IsClear page offset count) o.undos) b [] (clear_all low page offset count b.undos on two.beside) (All-nil (λ (o : ActiveTransaction). All (IsClear page offset count) o.undos)))
 
   -- with it in front
-  two_called : AreTwo low tx other (leading (out_with tx out) (others tx out))
+  two_called : AreTwo low tx other (leading (transaction_with tx actives) (others tx actives))
   two_called = record {
     first = a;
     second = b;
@@ -87,15 +88,15 @@ module _ (low : Bool) (tx other : ℕ) (out : List Out) (two : AreTwo low tx oth
     differ = two.differ;
     on = two.on;
     beside = two.beside;
-    is = inl (ap (λ (o : Option Out). leading o (others tx out)) found_two ∙ ap (λ (l : List Out). a ∷ l) others_two);
+    is = inl (ap (λ (o : Option ActiveTransaction). leading o (others tx actives)) found_two ∙ ap (λ (l : List ActiveTransaction). a ∷ l) others_two);
   }
 
   -- with a change more
-  two_changed : (page offset : ℕ) (image bytes : List ℕ) → IsOn low offset (length bytes) → AreTwo low tx other (changed_out a (undo_in page offset image bytes) ∷ others tx out)
+  two_changed : (page offset : ℕ) (image bytes : List ℕ) → IsOn low offset (length bytes) → AreTwo low tx other (changed_transaction a (undo_in page offset image bytes) ∷ others tx actives)
   two_changed page offset image bytes on =
       let u : Undo = undo_in page offset image bytes in
       record {
-        first = changed_out a u;
+        first = changed_transaction a u;
         second = b;
         own = two.own;
         others = two.others;
@@ -103,33 +104,33 @@ module _ (low : Bool) (tx other : ℕ) (out : List Out) (two : AreTwo low tx oth
         on = All-append (λ (v : Undo). IsOn low v.offset (length v.before)) a.undos (u ∷ []) two.on
             (All-cons (λ (v : Undo). IsOn low v.offset (length v.before)) u [] (on_undo low page offset image bytes on) (All-nil (λ (v : Undo). IsOn low v.offset (length v.before))));
         beside = two.beside;
-        is = inl (ap (λ (l : List Out). changed_out a u ∷ l) others_two);
+        is = inl (ap (λ (l : List ActiveTransaction). changed_transaction a u ∷ l) others_two);
       }
 
 -- ---- a begin
-pub MayBegin-none : (b : Book) → b.out ≡ [] → MayBegin b
+pub MayBegin-none : (b : Book) → b.actives ≡ [] → MayBegin b
 MayBegin-none b none = record {
-  few = let e = ap (λ (l : List Out). length l) none in omega arith;
-  numbered = λ some. absurd (let e = ap (λ (l : List Out). length l) none in omega arith);
+  few = let e = ap (λ (l : List ActiveTransaction). length l) none in omega arith;
+  numbered = λ some. absurd (let e = ap (λ (l : List ActiveTransaction). length l) none in omega arith);
 }
 
-pub IsOne-begin : (low : Bool) (old new : Parts) (tx : ℕ) → old.store.book.out ≡ [] → Begins old new tx → IsOne low tx new.store.book.out
+pub IsOne-begin : (low : Bool) (old new : Parts) (tx : ℕ) → old.store.book.actives ≡ [] → Begins old new tx → IsOne low tx new.store.book.actives
 IsOne-begin low old new tx none begins = record {
   first = record { tx = tx; undos = []; begun = false; undone = false };
-  is = begins.out ∙ ap (λ (l : List Out). l ++ record { tx = tx; undos = []; begun = false; undone = false } ∷ []) none;
+  is = begins.actives ∙ ap (λ (l : List ActiveTransaction). l ++ record { tx = tx; undos = []; begun = false; undone = false } ∷ []) none;
   own = refl;
   on = All-nil (λ (u : Undo). IsOn low u.offset (length u.before));
 }
 
-pub IsOnly-one_out : (low : Bool) (tx : ℕ) (out : List Out) → IsOne low tx out → IsOnly tx out
-IsOnly-one_out low tx out one = subst (λ (l : List Out). IsOnly tx l) (sym one.is) (IsOnly-one tx one.first one.own)
+pub IsOnly-one_active : (low : Bool) (tx : ℕ) (actives : List ActiveTransaction) → IsOne low tx actives → IsOnly tx actives
+IsOnly-one_active low tx actives one = subst (λ (l : List ActiveTransaction). IsOnly tx l) (sym one.is) (IsOnly-one tx one.first one.own)
 
-pub AreTwo-begin : (low : Bool) (old new : Parts) (one tx : ℕ) → IsOne low one old.store.book.out → Begins old new tx → new.store.book.down ≡ false → IsReady new → AreTwo low one tx new.store.book.out
+pub AreTwo-begin : (low : Bool) (old new : Parts) (one tx : ℕ) → IsOne low one old.store.book.actives → Begins old new tx → new.store.book.down ≡ false → IsReady new → AreTwo low one tx new.store.book.actives
 AreTwo-begin low old new one tx was begins up ready =
-    let second : Out = record { tx = tx; undos = []; begun = false; undone = false } in
-    let out : new.store.book.out ≡ was.first ∷ second ∷ [] = begins.out ∙ ap (λ (l : List Out). l ++ second ∷ []) was.is in
+    let second : ActiveTransaction = record { tx = tx; undos = []; begun = false; undone = false } in
+    let actives : new.store.book.actives ≡ was.first ∷ second ∷ [] = begins.actives ∙ ap (λ (l : List ActiveTransaction). l ++ second ∷ []) was.is in
     let store = ready up in
-    let once = subst AreOnce out store.2.2.knows.once in
+    let once = subst AreOnce actives store.2.2.knows.once in
     record {
       first = was.first;
       second = second;
@@ -138,36 +139,36 @@ AreTwo-begin low old new one tx was begins up ready =
       differ = λ e. once.0.0 (sym e ∙ sym was.own);
       on = was.on;
       beside = All-nil (λ (u : Undo). IsOn (not low) u.offset (length u.before));
-      is = inl out;
+      is = inl actives;
     }
 
 -- ---- the calls of one of them
-module _ {D : Type 0} (told : D → Option Story) (len faults : D → ℕ) (old new : D) (s t : State) (low : Bool) (tx other : ℕ) (two : s.book.down ≡ false → AreTwo low tx other s.book.out) (up : t.book.down ≡ false) where
-  down_two : StaysReady {T = Unit {0}} told len faults old new s t (Err Down) → AreTwo low tx other t.book.out
+module _ {D : Type 0} (told : D → Option Story) (len faults : D → ℕ) (old new : D) (s t : State) (low : Bool) (tx other : ℕ) (two : s.book.down ≡ false → AreTwo low tx other s.book.actives) (up : t.book.down ≡ false) where
+  down_two : StaysReady {T = Unit {0}} told len faults old new s t (Err Down) → AreTwo low tx other t.book.actives
   down_two keeps =
       let same = ap (λ (x : State). x.book) (keeps.down (keeps.only refl)).store in
-      subst (λ (b : Book). AreTwo low tx other b.out) (sym same) (two (ap (λ (b : Book). b.down) (sym same) ∙ up))
+      subst (λ (b : Book). AreTwo low tx other b.actives) (sym same) (two (ap (λ (b : Book). b.down) (sym same) ∙ up))
 
-  fault_two : StaysReady {T = Unit {0}} told len faults old new s t (Err Fault) → AreTwo low tx other t.book.out
+  fault_two : StaysReady {T = Unit {0}} told len faults old new s t (Err Fault) → AreTwo low tx other t.book.actives
   fault_two keeps = not_both t.book.down up (keeps.fault refl).1
 
-  refused_two : (e : StoreFault) → StaysReady {T = Unit {0}} told len faults old new s t (Err e) → (IsErrOf {T = Unit {0}} (Err e) Down → ⊥) → ((o : Out) → out_with tx s.book.out ≡ Some o → Refused o.tx (parts told len old s) (parts told len new t)) → AreTwo low tx other t.book.out
+  refused_two : (e : StoreFault) → StaysReady {T = Unit {0}} told len faults old new s t (Err e) → (IsErrOf {T = Unit {0}} (Err e) Down → ⊥) → ((o : ActiveTransaction) → transaction_with tx s.book.actives ≡ Some o → Refused o.tx (parts told len old s) (parts told len new t)) → AreTwo low tx other t.book.actives
   refused_two e keeps not_down refused =
       let was = two (by_case s.book.down (λ on. not_down (keeps.down on).answer)) in
-      let book = subst (λ (n : ℕ). t.book ≡ called n s.book) was.own (refused was.first (found_two low tx other s.book.out was)).book in
-      subst (λ (b : Book). AreTwo low tx other b.out) (sym book) (two_called low tx other s.book.out was)
+      let book = subst (λ (n : ℕ). t.book ≡ called n s.book) was.own (refused was.first (found_two low tx other s.book.actives was)).book in
+      subst (λ (b : Book). AreTwo low tx other b.actives) (sym book) (two_called low tx other s.book.actives was)
     where
       by_case : (b : Bool) → (b ≡ true → ⊥) → b ≡ false
       by_case true off = absurd (off refl)
       by_case false off = refl
 
   pub AreTwo-change : (result : Result (Unit {0}) StoreFault) (owner page offset : ℕ) (bytes : List ℕ) → IsOn low offset (length bytes) → StaysReady told len faults old new s t result
-      → OnOk result ((o : Out) → out_with tx s.book.out ≡ Some o → Changes (parts told len old s) (parts told len new t) o (others tx s.book.out) owner page offset bytes)
-      → IfErr result (λ e. (o : Out) → out_with tx s.book.out ≡ Some o → ChangeErr (parts told len old s) (parts told len new t) o page (length bytes) e) → AreTwo low tx other t.book.out
+      → OnOk result ((o : ActiveTransaction) → transaction_with tx s.book.actives ≡ Some o → Changes (parts told len old s) (parts told len new t) o (others tx s.book.actives) owner page offset bytes)
+      → IfErr result (λ e. (o : ActiveTransaction) → transaction_with tx s.book.actives ≡ Some o → ChangeErr (parts told len old s) (parts told len new t) o page (length bytes) e) → AreTwo low tx other t.book.actives
   AreTwo-change (Ok x) owner page offset bytes on keeps changes refused =
       let was = two (StaysReady-up told len faults x old new s t keeps) in
-      let change = changes was.first (found_two low tx other s.book.out was) in
-      subst (λ (b : Book). AreTwo low tx other b.out) (sym change.book) (two_changed low tx other s.book.out was page offset change.image bytes on)
+      let change = changes was.first (found_two low tx other s.book.actives was) in
+      subst (λ (b : Book). AreTwo low tx other b.actives) (sym change.book) (two_changed low tx other s.book.actives was page offset change.image bytes on)
   AreTwo-change (Err Fault) owner page offset bytes on keeps changes refused = fault_two keeps
   AreTwo-change (Err Down) owner page offset bytes on keeps changes refused = down_two keeps
   AreTwo-change (Err NoMemory) owner page offset bytes on keeps changes refused = refused_two NoMemory keeps (λ e. cc) (λ o is. refused o is)
@@ -175,18 +176,18 @@ module _ {D : Type 0} (told : D → Option Story) (len faults : D → ℕ) (old 
   AreTwo-change (Err (GatesFull used total)) owner page offset bytes on keeps changes refused = refused_two (GatesFull used total) keeps (λ e. cc) (λ o is. (refused o is).4)
 
   -- the other is active still when this one has ended
-  other_alone : t.book.out ≡ others tx s.book.out → AreTwo low tx other s.book.out → IsOnly other t.book.out
-  other_alone is was = subst (λ (l : List Out). IsOnly other l) (sym (is ∙ others_two low tx other s.book.out was)) (IsOnly-one other was.second was.others)
+  other_alone : t.book.actives ≡ others tx s.book.actives → AreTwo low tx other s.book.actives → IsOnly other t.book.actives
+  other_alone is was = subst (λ (l : List ActiveTransaction). IsOnly other l) (sym (is ∙ others_two low tx other s.book.actives was)) (IsOnly-one other was.second was.others)
 
-  was_down : StaysReady {T = Unit {0}} told len faults old new s t (Err Down) → IsOnly other t.book.out
+  was_down : StaysReady {T = Unit {0}} told len faults old new s t (Err Down) → IsOnly other t.book.actives
   was_down keeps =
       let on = keeps.only refl in
       not_both t.book.down up (ap (λ (x : State). x.book.down) (keeps.down on).store ∙ on)
 
-  pub IsOnly-ended : (result : Result (Unit {0}) StoreFault) → StaysReady told len faults old new s t result → OnOk result ((o : Out) → out_with tx s.book.out ≡ Some o → t.book.out ≡ others tx s.book.out) → IfErr result IsFaultOrDown → IsOnly other t.book.out
+  pub IsOnly-ended : (result : Result (Unit {0}) StoreFault) → StaysReady told len faults old new s t result → OnOk result ((o : ActiveTransaction) → transaction_with tx s.book.actives ≡ Some o → t.book.actives ≡ others tx s.book.actives) → IfErr result IsFaultOrDown → IsOnly other t.book.actives
   IsOnly-ended (Ok x) keeps ends err =
       let was = two (StaysReady-up told len faults x old new s t keeps) in
-      other_alone (ends was.first (found_two low tx other s.book.out was)) was
+      other_alone (ends was.first (found_two low tx other s.book.actives was)) was
   IsOnly-ended (Err Fault) keeps ends err = not_both t.book.down up (keeps.fault refl).1
   IsOnly-ended (Err Down) keeps ends err = was_down keeps
   IsOnly-ended (Err NoMemory) keeps ends err = absurd err

@@ -8,11 +8,12 @@ use Rattle.sb_pool.specs.Pages.{with_bytes}
 use Rattle.sb_txn.specs.declared.changing.Wants.{Wants}
 use Rattle.sb_txn.specs.declared.fault.StoreFault.{StoreFault}
 use Rattle.sb_txn.specs.declared.fault.StoreFault.TheVariants.{Fault, LogFull, GatesFull, Down, NoMemory}
-use Rattle.sb_txn.specs.Book.{Out, Book, wants_of, change_len, with_change, out_with, IsAmong, others, standing_of, IsFirst, standing_in, with_out, leading, called}
-use Rattle.sb_txn.specs.Clauses.{Parts, Holds, HoldsPages, IsReady, Leads, LeavesWanted, StaysReady, Grows, IsLogged, Refused, records_of, change_in, undo_in, Changes, ChangeErr, HasRoom, need_of, unwound, cut_back, GoesBack, Aborts, committed_pages, Commits, LeavesCommit, LeavesOne}
+use Rattle.sb_txn.specs.Book.{ActiveTransaction, Book, wants_of, change_len, with_change, transaction_with, IsAmong, others, standing_of, IsFirst, standing_in, with_actives, leading, called}
+use Rattle.sb_txn.specs.Clauses.{HoldsPages, IsReady, Leads, LeavesWanted, StaysReady, Grows, IsLogged, Refused, records_of, change_in, undo_in, Changes, ChangeErr, HasRoom, need_of, unwound, cut_back, GoesBack, Aborts, committed_pages, Commits, LeavesCommit, LeavesOne}
+use Rattle.sb_txn.specs.Parts.{Parts, stored}
 use Rattle.sb_txn.specs.State.{State, together}
-use Rattle.sb_txn.specs.Tied.{Ties}
-use Rattle.sb_txn.proofs.CalledLemmas.{out_with-tx, out_with-among, standing_of-found, length-called, leading-called, Ties-called}
+use Rattle.sb_txn.specs.Tied.{Holds}
+use Rattle.sb_txn.proofs.CalledLemmas.{transaction_with-tx, transaction_with-among, standing_of-found, length-called, leading-called, Holds-called}
 use Rattle.sb_txn.proofs.KeepsLemmas.{not_both}
 
 -- the store with this book
@@ -20,29 +21,29 @@ abbrev with_book : Parts → Book → Parts
 with_book p b = record { told = p.told; size = p.size; store = together p.store.journal p.store.pool b }
 
 -- ---- the store with the book called
-module _ (old : Parts) (b : Book) (tx : ℕ) (among : IsAmong tx old.store.book.out) (first : b ≡ called tx old.store.book) where
-  Holds-called : (want now : ℕ → List ℕ) (opened pending : List Record) → Holds want now opened pending old → Holds want now opened pending (with_book old b)
-  Holds-called want now opened pending ties =
-      subst (λ (x : Book). Ties want now old.told old.size old.store.journal old.store.pool x opened pending) (sym first)
-      (Ties-called want now old.told old.size old.store.journal old.store.pool old.store.book opened pending tx among ties)
+module _ (old : Parts) (b : Book) (tx : ℕ) (among : IsAmong tx old.store.book.actives) (first : b ≡ called tx old.store.book) where
+  called_holds : (want now : ℕ → List ℕ) (opened pending : List Record) → Holds want now opened pending old → Holds want now opened pending (with_book old b)
+  called_holds want now opened pending holds =
+      subst (λ (x : Book). Holds want now opened pending (stored old.told old.size old.store.journal old.store.pool x)) (sym first)
+      (Holds-called want now old.told old.size old.store.journal old.store.pool old.store.book opened pending tx among holds)
 
   pub HoldsPages-called : (want now : ℕ → List ℕ) → HoldsPages want now old → HoldsPages want now (with_book old b)
-  HoldsPages-called want now store = (store.0, store.1, Holds-called want now store.0 store.1 store.2)
+  HoldsPages-called want now store = (store.0, store.1, called_holds want now store.0 store.1 store.2)
 
   pub IsReady-called : old.store.book.down ≡ false → IsReady old → IsReady (with_book old b)
   IsReady-called up ready _ = let store = ready up in (store.0, store.1, HoldsPages-called store.0 store.1 store.2)
 
-  found : (o : Out) × (out_with tx old.store.book.out ≡ Some o)
-  found = out_with-among tx old.store.book.out among
+  found : (o : ActiveTransaction) × (transaction_with tx old.store.book.actives ≡ Some o)
+  found = transaction_with-among tx old.store.book.actives among
 
-  found_out : b.out ≡ found.0 ∷ others tx old.store.book.out
-  found_out = ap (λ (x : Book). x.out) first ∙ leading-called tx old.store.book.out found.0 found.1
+  found_first : b.actives ≡ found.0 ∷ others tx old.store.book.actives
+  found_first = ap (λ (x : Book). x.actives) first ∙ leading-called tx old.store.book.actives found.0 found.1
 
-  pub IsFirst-called : IsFirst tx b.out
-  IsFirst-called = subst (λ (l : List Out). IsFirst tx l) (sym found_out) (out_with-tx tx old.store.book.out found.0 found.1)
+  pub IsFirst-called : IsFirst tx b.actives
+  IsFirst-called = subst (λ (l : List ActiveTransaction). IsFirst tx l) (sym found_first) (transaction_with-tx tx old.store.book.actives found.0 found.1)
 
-  pub standing-called : standing_in b.out ≡ standing_of tx old.store.book.out
-  standing-called = ap standing_in found_out ∙ sym (standing_of-found tx old.store.book.out found.0 found.1)
+  pub standing-called : standing_in b.actives ≡ standing_of tx old.store.book.actives
+  standing-called = ap standing_in found_first ∙ sym (standing_of-found tx old.store.book.actives found.0 found.1)
 
   -- ---- what a call leaves
   Leads-called : (new : Parts) (change : (ℕ → List ℕ) → ℕ → List ℕ) → Leads (with_book old b) new change → Leads old new change
@@ -52,18 +53,18 @@ module _ (old : Parts) (b : Book) (tx : ℕ) (among : IsAmong tx old.store.book.
   LeavesWanted-called new leaves = record { each = λ want now store. leaves.each want now (HoldsPages-called want now store) }
 
 -- ---- what it says of the transaction
-module _ (old : Parts) (b : Book) (tx : ℕ) (o : Out) (is : out_with tx old.store.book.out ≡ Some o) (first : b ≡ called tx old.store.book) where
-  among_one : IsAmong tx old.store.book.out
+module _ (old : Parts) (b : Book) (tx : ℕ) (o : ActiveTransaction) (is : transaction_with tx old.store.book.actives ≡ Some o) (first : b ≡ called tx old.store.book) where
+  among_one : IsAmong tx old.store.book.actives
   among_one = subst IsSome (sym is) refl
 
-  abbrev rest : List Out
-  rest = others tx old.store.book.out
+  abbrev rest : List ActiveTransaction
+  rest = others tx old.store.book.actives
 
-  pub out-called : b.out ≡ o ∷ rest
-  out-called = ap (λ (x : Book). x.out) first ∙ leading-called tx old.store.book.out o is
+  pub actives-called : b.actives ≡ o ∷ rest
+  actives-called = ap (λ (x : Book). x.actives) first ∙ leading-called tx old.store.book.actives o is
 
-  count_same : length b.out ≡ length old.store.book.out
-  count_same = ap (λ (x : Book). length x.out) first ∙ length-called tx old.store.book.out o is
+  count_same : length b.actives ≡ length old.store.book.actives
+  count_same = ap (λ (x : Book). length x.actives) first ∙ length-called tx old.store.book.actives o is
 
   wants_same : (page : ℕ) → wants_of b o page ≡ wants_of old.store.book o page
   wants_same page = ap (λ (x : Book). wants_of x o page) first
@@ -75,10 +76,10 @@ module _ (old : Parts) (b : Book) (tx : ℕ) (o : Out) (is : out_with tx old.sto
   again : called o.tx b ≡ called o.tx old.store.book
   again =
       let book : Book = old.store.book in
-      let whole : called tx book ≡ with_out book (o ∷ rest) = ap (λ (l : List Out). with_out book l) (leading-called tx book.out o is) in
+      let whole : called tx book ≡ with_actives book (o ∷ rest) = ap (λ (l : List ActiveTransaction). with_actives book l) (leading-called tx book.actives o is) in
       ap (λ (x : Book). called o.tx x) (first ∙ whole)
-      ∙ ap (λ (t : Bool). with_out book (leading (cond t (Some o) (out_with o.tx rest)) (cond t rest (o ∷ others o.tx rest)))) (eq-eqb o.tx o.tx refl)
-      ∙ sym whole ∙ ap (λ (n : ℕ). called n book) (sym (out_with-tx tx book.out o is))
+      ∙ ap (λ (t : Bool). with_actives book (leading (cond t (Some o) (transaction_with o.tx rest)) (cond t rest (o ∷ others o.tx rest)))) (eq-eqb o.tx o.tx refl)
+      ∙ sym whole ∙ ap (λ (n : ℕ). called n book) (sym (transaction_with-tx tx book.actives o is))
 
   pub HasRoom-called : (page count : ℕ) → HasRoom (with_book old b).store o page count → HasRoom old.store o page count
   HasRoom-called page count room = record {
@@ -99,8 +100,8 @@ module _ (old : Parts) (b : Book) (tx : ℕ) (o : Out) (is : out_with tx old.sto
           was = λ want now store. changes.was want now (HoldsPages-called old b tx among_one first want now store);
           book = changes.book ∙ ap (λ (x : Book). with_change x o rest (undo_in page offset changes.image bytes)) first;
           pages = Leads-called old b tx among_one first new (with_bytes page offset bytes) changes.pages;
-          logged = λ want now opened pending ties.
-              let done = changes.logged want now opened pending (Holds-called old b tx among_one first want now opened pending ties) in
+          logged = λ want now opened pending holds.
+              let done = changes.logged want now opened pending (called_holds old b tx among_one first want now opened pending holds) in
               (done.0, done.1, done.2, done.3 ∙ ap (λ (v : Wants). (opened ++ pending) ++ records_of v o changes.image (change_in o owner page offset changes.image bytes)) w);
           journal = subst (λ (v : Wants). IsLogged old.store.journal new.store.journal (change_len v (length bytes))) w changes.journal;
           grows = grows_same changes.grows;
@@ -120,7 +121,7 @@ module _ (old : Parts) (b : Book) (tx : ℕ) (o : Out) (is : out_with tx old.sto
         let room = err.0 in
         let over = err.3 in
         let need = need_same page count in
-        let out = count_same in
+        let count = count_same in
         (omega arith, err.1, err.2, omega arith, Refused-called err.4)
     ChangeErr-called page count NoMemory err = Refused-called err
     ChangeErr-called page count Fault err = tt
@@ -128,14 +129,14 @@ module _ (old : Parts) (b : Book) (tx : ℕ) (o : Out) (is : out_with tx old.sto
 
     pub GoesBack-called : (n : ℕ) → GoesBack (with_book old b) new o rest n → GoesBack old new o rest n
     GoesBack-called n back = record {
-      book = back.book ∙ ap (λ (x : Book). with_out x (cut_back o n ∷ rest)) first;
+      book = back.book ∙ ap (λ (x : Book). with_actives x (cut_back o n ∷ rest)) first;
       pages = Leads-called old b tx among_one first new (unwound (drop n o.undos)) back.pages;
       journal = back.journal;
     }
 
     pub Aborts-called : Aborts (with_book old b) new o rest → Aborts old new o rest
     Aborts-called aborts = record {
-      book = aborts.book ∙ ap (λ (x : Book). with_out x rest) first;
+      book = aborts.book ∙ ap (λ (x : Book). with_actives x rest) first;
       pages = Leads-called old b tx among_one first new (unwound o.undos) aborts.pages;
       alone = λ none want now store. aborts.alone none want now (HoldsPages-called old b tx among_one first want now store);
       journal = aborts.journal;
@@ -143,15 +144,15 @@ module _ (old : Parts) (b : Book) (tx : ℕ) (o : Out) (is : out_with tx old.sto
 
     pub Commits-called : Commits (with_book old b) new o rest → Commits old new o rest
     Commits-called commits = record {
-      book = commits.book ∙ ap (λ (x : Book). with_out x rest) first;
-      pages = λ want now opened pending ties. commits.pages want now opened pending (Holds-called old b tx among_one first want now opened pending ties);
+      book = commits.book ∙ ap (λ (x : Book). with_actives x rest) first;
+      pages = λ want now opened pending holds. commits.pages want now opened pending (called_holds old b tx among_one first want now opened pending holds);
       alone = λ last want now store. commits.alone last want now (HoldsPages-called old b tx among_one first want now store);
       grows = grows_same commits.grows;
       chunks = commits.chunks;
     }
 
     pub LeavesCommit-called : LeavesCommit (with_book old b) new o → LeavesCommit old new o
-    LeavesCommit-called leaves want now opened pending ties = leaves want now opened pending (Holds-called old b tx among_one first want now opened pending ties)
+    LeavesCommit-called leaves want now opened pending holds = leaves want now opened pending (called_holds old b tx among_one first want now opened pending holds)
 
 -- ---- what it keeps
 module _ {D T : Type 0} (told : D → Option Story) (len faults : D → ℕ) (disk new : D) (s t : State) (b : Book) (tx : ℕ) (up : s.book.down ≡ false) (first : b ≡ called tx s.book) (result : Result T StoreFault) where
@@ -171,8 +172,8 @@ module _ {D T : Type 0} (told : D → Option Story) (len faults : D → ℕ) (di
       still = ap (λ (x : Book). x.down) first
 
 -- ---- a commit of which a crash leaves the pages wanted
-pub LeavesCommit-wanted : (old new : Parts) (o : Out) → LeavesWanted old new → LeavesCommit old new o
-LeavesCommit-wanted old new o leaves want now opened pending ties = LeavesOnly-old want (committed_pages (opened ++ pending) o want) old.store.pool.geometry old.told new.told (leaves.each want now (opened, pending, ties))
+pub LeavesCommit-wanted : (old new : Parts) (o : ActiveTransaction) → LeavesWanted old new → LeavesCommit old new o
+LeavesCommit-wanted old new o leaves want now opened pending holds = LeavesOnly-old want (committed_pages (opened ++ pending) o want) old.store.pool.geometry old.told new.told (leaves.each want now (opened, pending, holds))
 
 pub LeavesOne-wanted : (old new : Parts) → LeavesWanted old new → LeavesOne old new
 LeavesOne-wanted old new leaves want now store = LeavesOnly-old want now old.store.pool.geometry old.told new.told (leaves.each want now store)

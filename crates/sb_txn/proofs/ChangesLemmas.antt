@@ -9,10 +9,10 @@ use Rattle.sb_log.specs.Standing.{keep, standing, own_changes, count_of, IsBelow
 use Rattle.sb_log.proofs.RestoredLemmas.{imaged-append}
 use Rattle.sb_log.proofs.StandingLemmas.{stood_all-append, keep-enough, count_of-keep, count_of-append, AreBelow-append}
 use Rattle.sb_txn.specs.declared.changing.Wants.{Wants}
-use Rattle.sb_txn.specs.Book.{Undo, Out, changed_out}
-use Rattle.sb_txn.specs.Changing.{behind}
+use Rattle.sb_txn.specs.Book.{Undo, ActiveTransaction, changed_transaction}
+use Rattle.sb_txn.specs.Changing.{before, behind}
 use Rattle.sb_txn.specs.Steps.{some}
-use Rattle.sb_txn.specs.Tied.{IsUndo, AreUndos, UndoFits, UndosFit, IsOut}
+use Rattle.sb_txn.specs.Tied.{IsUndo, AreUndos, UndoFits, UndosFit, IsTransactionOf}
 use Rattle.sb_txn.proofs.ChangeLemmas.{imaged-some, standing-some, imaged-behind}
 
 -- ---- one record more, where it is wanted
@@ -52,7 +52,7 @@ module _ (opened pending : List Record) (w : Wants) (tx n page : ℕ) (image : L
   imaged_now = backed ++ some w.image (Image page image)
 
   abbrev pub changed : List Record
-  changed = behind pending w tx n page image ++ Changed c ∷ []
+  changed = behind pending (before w tx n page image) ++ Changed c ∷ []
 
   pub imaged-changed : (q : ℕ) → imaged (opened ++ pending) q ≡ true → imaged (opened ++ changed) q ≡ true
   imaged-changed q is = imaged-still opened imaged_now true (Changed c) q (imaged-still opened backed w.image (Image page image) q (imaged-still opened begun w.back (Back tx n) q (imaged-still opened pending w.begin (Begin tx) q is)))
@@ -91,7 +91,7 @@ UndosFit-more count recs more (v ∷ us) u keeps fit is = (record { page = fit.0
 own_last : (tx : ℕ) (cs : List Change) (c : Change) → c.tx ≡ tx → own_changes tx (cs ++ c ∷ []) ≡ own_changes tx cs ++ c ∷ []
 own_last tx cs c own = filter-append (λ (d : Change). d.tx == tx) cs (c ∷ []) ∙ ap (λ (l : List Change). own_changes tx cs ++ l) (rw (eq-eqb c.tx tx own) refl)
 
-module _ (count : ℕ) (opened pending : List Record) (next page : ℕ) (image : List ℕ) (o : Out) (w : Wants) (u : Undo) (c : Change) (back : w.back ≡ o.undone) (own : c.tx ≡ o.tx) (same : IsUndo u c) (out : IsOut count (opened ++ pending) next o) where
+module _ (count : ℕ) (opened pending : List Record) (next page : ℕ) (image : List ℕ) (o : ActiveTransaction) (w : Wants) (u : Undo) (c : Change) (back : w.back ≡ o.undone) (own : c.tx ≡ o.tx) (same : IsUndo u c) (is_one : IsTransactionOf count (opened ++ pending) next o) where
   abbrev n : ℕ
   n = length o.undos
 
@@ -102,7 +102,7 @@ module _ (count : ℕ) (opened pending : List Record) (next page : ℕ) (image :
   then = opened ++ changed opened pending w o.tx (length o.undos) page image c
 
   stands : standing then ≡ keep o.tx n (standing recs) ++ c ∷ []
-  stands = standing-all opened pending w o.tx n page image c (λ off. out.logged (sym back ∙ off))
+  stands = standing-all opened pending w o.tx n page image c (λ off. is_one.logged (sym back ∙ off))
 
   few : count_of o.tx (standing then) ≤ suc n
   few = subst (λ (cs : List Change). count_of o.tx cs ≤ suc n) (sym stands) (let a = count_of-append o.tx (keep o.tx n (standing recs)) c in let b = count_of-keep o.tx n (standing recs) in omega arith)
@@ -115,11 +115,11 @@ module _ (count : ℕ) (opened pending : List Record) (next page : ℕ) (image :
       ∙ ap (λ (cs : List Change). own_changes o.tx cs) (keep-enough o.tx (suc n) (standing then) few ∙ stands)
       ∙ own_last o.tx (keep o.tx n (standing recs)) c own
 
-  pub IsOut-changed : UndoFits count then u → IsOut count then next (changed_out o u)
-  IsOut-changed fits = record {
-    undos = subst (λ (cs : List Change). AreUndos (o.undos ++ u ∷ []) cs) (sym kept) (AreUndos-more o.undos (own_changes o.tx (keep o.tx n (standing recs))) u c out.undos same);
+  pub IsTransactionOf-changed : UndoFits count then u → IsTransactionOf count then next (changed_transaction o u)
+  IsTransactionOf-changed fits = record {
+    undos = subst (λ (cs : List Change). AreUndos (o.undos ++ u ∷ []) cs) (sym kept) (AreUndos-more o.undos (own_changes o.tx (keep o.tx n (standing recs))) u c is_one.undos same);
     logged = λ off. omega (arith, few, long);
     none = λ off. absurd (false≢true (sym off));
-    number = out.number;
-    fit = UndosFit-more count recs then o.undos u (imaged-changed opened pending w o.tx n page image c) out.fit fits;
+    number = is_one.number;
+    fit = UndosFit-more count recs then o.undos u (imaged-changed opened pending w o.tx n page image c) is_one.fit fits;
   }

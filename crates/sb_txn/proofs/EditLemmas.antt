@@ -14,124 +14,156 @@ use Rattle.sb_images.specs.Store.{IfTold, IsStoreOn}
 use Rattle.sb_pool.specs.Calls.{IsSameOrForced}
 use Rattle.sb_pool.specs.Pages.{bytes_or, ArePagesOn, with_bytes}
 use Rattle.sb_pool.specs.State.{held, IsHeld}
-use Rattle.sb_pool.specs.State as pool
 use Rattle.sb_txn.specs.declared.changing.Wants.{Wants}
 use Rattle.sb_txn.specs.declared.fault.StoreFault.{StoreFault}
 use Rattle.sb_txn.specs.declared.fault.StoreFault.TheVariants.{Fault, LogFull, GatesFull, Down, NoMemory}
 use Rattle.sb_txn.specs.Ahead.{Leans, IsAhead, CatchesUp, LeavesAhead}
-use Rattle.sb_txn.specs.Book.{Undo, Out, Book, AreClear, with_change, wants_of, change_len, actives, IsFirst, standing_in}
-use Rattle.sb_txn.specs.Changes.{AddErr}
-use Rattle.sb_txn.specs.Changing.{IsNext, behind}
-use Rattle.sb_txn.specs.Clauses.{Parts, HoldsPages, IsFaultOrDown, LeavesWanted, IsLogged, Changes, HasRoom}
+use Rattle.sb_txn.specs.Book.{Undo, ActiveTransaction, Book, AreClear, with_change, wants_of, change_len, views, IsFirst, standing_in}
+use Rattle.sb_txn.specs.Changes.{AddsUndo, AddErr}
+use Rattle.sb_txn.specs.Changing.{Before, before, IsNext, behind}
+use Rattle.sb_txn.specs.Clauses.{HoldsPages, IsFaultOrDown, LeavesWanted, IsLogged, Changes, HasRoom}
+use Rattle.sb_txn.specs.Parts.{Parts, stored}
 use Rattle.sb_txn.specs.Logging.{HasSpace, records_len}
-use Rattle.sb_txn.specs.State.{together}
 use Rattle.sb_txn.specs.Steps.{some}
 use Rattle.sb_txn.proofs.LoggedLemmas.{is_now, change_len-some, change_len-most, size_of, edit_space, edit_leaves, Leans-logged, covered-logged}
 use Rattle.sb_txn.proofs.RoomLemmas.{IsLogged-of, Grows-logged, least-logged}
 
 -- What the records of a change make of a store, whatever pages it has.
-pub record StoresChange (told new : Option Story) (j k : journal.State) (g : Geometry) (page : ℕ) (image : List ℕ) (w : Wants) (tx n : ℕ) (c : Change) : Type 0 where
-  pub each : (want now : ℕ → List ℕ) (opened pending : List Record) (rest : List Active) → IsNext w tx n page image now opened pending rest c → IsStoreOn want now told j g opened pending (active_with tx n ∷ rest)
-      → IsStoreOn want (with_range c c.after now) new k g opened (behind pending w tx n page image ++ Changed c ∷ []) (active_with tx (suc n) ∷ rest)
+pub record StoresChange (told new : Option Story) (j k : journal.State) (g : Geometry) (b : Before) (c : Change) : Type 0 where
+  pub each : (want now : ℕ → List ℕ) (opened pending : List Record) (rest : List Active) → IsNext b now opened pending rest c → IsStoreOn want now told j g opened pending (active_with b.tx b.count ∷ rest)
+      → IsStoreOn want (with_range c c.after now) new k g opened (behind pending b ++ Changed c ∷ []) (active_with b.tx (suc b.count) ∷ rest)
 
 -- what a crash leaves meanwhile
-pub record LeavesChange (told new : Option Story) (j : journal.State) (g : Geometry) (page : ℕ) (image : List ℕ) (w : Wants) (tx n : ℕ) (c : Change) : Type 0 where
-  pub each : (want now : ℕ → List ℕ) (opened pending : List Record) (rest : List Active) → IsNext w tx n page image now opened pending rest c → IsStoreOn want now told j g opened pending (active_with tx n ∷ rest)
+pub record LeavesChange (told new : Option Story) (j : journal.State) (g : Geometry) (b : Before) (c : Change) : Type 0 where
+  pub each : (want now : ℕ → List ℕ) (opened pending : List Record) (rest : List Active) → IsNext b now opened pending rest c → IsStoreOn want now told j g opened pending (active_with b.tx b.count ∷ rest)
       → LeavesOnly told new (Restores g want)
-
--- a fact of four things that are others too
-pub four : {A B C D : Type 0} (P : A → B → C → D → Type 0) (a x : A) (b y : B) (c z : C) (d w : D) → a ≡ x → b ≡ y → c ≡ z → d ≡ w → P a b c d → P x y z w
-four P a x b y c z d w e f g h p = subst (λ v. P x y z v) h (subst (λ v. P x y v d) g (subst (λ v. P x v c d) f (subst (λ v. P v b c d) e p)))
 
 -- the records of a change stand behind all others
 same_records : (opened pending : List Record) (w : Wants) (tx n page : ℕ) (image : List ℕ) (c : Change)
-    → opened ++ (behind pending w tx n page image ++ Changed c ∷ []) ≡ (opened ++ pending) ++ (some w.begin (Begin tx) ++ (some w.back (Back tx n) ++ (some w.image (Image page image) ++ Changed c ∷ [])))
+    → opened ++ (behind pending (before w tx n page image) ++ Changed c ∷ []) ≡ (opened ++ pending) ++ (some w.begin (Begin tx) ++ (some w.back (Back tx n) ++ (some w.image (Image page image) ++ Changed c ∷ [])))
 same_records opened pending w tx n page image c = simp append_assoc
 
 -- ---- one change
-module _ (told : Option Story) (size : ℕ) (j : journal.State) (p : pool.State) (book : Book) (o : Out) (rest : List Out) (owner page offset : ℕ) (image bytes : List ℕ)
-    (is : book.out ≡ o ∷ rest) (lt : page < p.geometry.pages) (range : offset + length bytes ≤ 4096) (long : length image ≡ 4096)
-    (has : IsHeld p page) (bytes_held : bytes_or [] (held p page) ≡ image) (room : HasRoom (together j p book) o page (length bytes)) (clear : AreClear page offset (length bytes) rest) where
-  abbrev w : Wants
-  w = wants_of book o page
+-- A change of the first transaction, before those behind it: the range of a page that has this image, and the bytes for it.
+pub record Edit : Type 0 where
+  pub o : ActiveTransaction
+  pub rest : List ActiveTransaction
+  pub owner : ℕ
+  pub page : ℕ
+  pub offset : ℕ
+  pub image : List ℕ
+  pub bytes : List ℕ
 
-  abbrev pub the_change : Change
-  the_change = record { tx = o.tx; owner = owner; page = page; offset = offset; before = take (length bytes) (drop offset image); after = bytes }
+-- The page is held, the log has room, and no change of another transaction meets the range.
+pub record MayEdit (s : Parts) (e : Edit) : Type 0 where
+  pub is : s.store.book.actives ≡ e.o ∷ e.rest
+  pub lt : e.page < s.store.pool.geometry.pages
+  pub range : e.offset + length e.bytes ≤ 4096
+  pub long : length e.image ≡ 4096
+  pub has : IsHeld s.store.pool e.page
+  pub held : bytes_or [] (held s.store.pool e.page) ≡ e.image
+  pub room : HasRoom s.store e.o e.page (length e.bytes)
+  pub clear : AreClear e.page e.offset (length e.bytes) e.rest
 
-  abbrev pub the_undo : Undo
-  the_undo = record { page = page; offset = offset; before = take (length bytes) (drop offset image) }
+abbrev pub the_wants : Parts → Edit → Wants
+the_wants s e = wants_of s.store.book e.o e.page
 
-  abbrev old : Parts
-  old = record { told = told; size = size; store = together j p book }
+abbrev pub the_before : Parts → Edit → Before
+the_before s e = before (the_wants s e) e.o.tx (length e.o.undos) e.page e.image
 
-  pub HasSpace-edit : (want now : ℕ → List ℕ) → HoldsPages want now old → HasSpace (records_len w (length (spelling (Changed the_change)))) j
-  HasSpace-edit want now store = edit_space want now told size j p book store.0 store.1 o rest owner page offset image bytes store.2 is lt range long has bytes_held room clear
+abbrev pub the_change : Edit → Change
+the_change e = record { tx = e.o.tx; owner = e.owner; page = e.page; offset = e.offset; before = take (length e.bytes) (drop e.offset e.image); after = e.bytes }
 
-  module _ (new : Option Story) (tells : is_some told ≡ is_some new) (leaves_change : LeavesChange told new j p.geometry page image w o.tx (length o.undos) the_change) where
-    leaves_edit : (want now : ℕ → List ℕ) → HoldsPages want now old → LeavesOnly told new (Restores p.geometry want)
-    leaves_edit want now store = edit_leaves want now told size j p book store.0 store.1 o rest owner page offset image bytes store.2 is lt range long has bytes_held room clear new tells
-        (λ next at. leaves_change.each want now store.0 store.1 (actives rest) next at)
+abbrev pub the_undo : Edit → Undo
+the_undo e = record { page = e.page; offset = e.offset; before = take (length e.bytes) (drop e.offset e.image) }
 
-    pub LeavesWanted-edit : (len : ℕ) (k : journal.State) (b : Book) → LeavesWanted old (record { told = new; size = len; store = together k p b })
+-- the bytes of its records
+abbrev pub the_len : Parts → Edit → ℕ
+the_len s e = records_len (the_wants s e) (length (spelling (Changed (the_change e))))
+
+-- What is known of disk, journal and book behind its records.
+pub record HasLogged (s : Parts) (e : Edit) (new : Option Story) (len : ℕ) (k : journal.State) (b : Book) : Type 0 where
+  pub leaves : LeavesChange s.told new s.store.journal s.store.pool.geometry (the_before s e) (the_change e)
+  pub stores : StoresChange s.told new s.store.journal k s.store.pool.geometry (the_before s e) (the_change e)
+  pub done : k ≡ after_append (the_len s e) s.store.journal
+  pub added : b ≡ with_change s.store.book e.o e.rest (the_undo e)
+  pub tells : is_some s.told ≡ is_some new
+  pub same : WhereTold s.told new (λ t u. AgreesBut (s.store.journal.log ∷ []) t.now.reads u.now.reads)
+  pub stands : StandsOn new k
+  pub sized : len ≡ s.size
+
+module _ (s : Parts) (e : Edit) (may : MayEdit s e) where
+  pub added-edit : (b : Book) → AddsUndo (held s.store.pool e.page) s.store.book b e.page e.offset (length e.bytes) → b ≡ with_change s.store.book e.o e.rest (the_undo e)
+  added-edit b adds = adds e.o e.rest may.is ∙ ap (λ (l : List ℕ). with_change s.store.book e.o e.rest (record { page = e.page; offset = e.offset; before = take (length e.bytes) (drop e.offset l) })) may.held
+
+  pub HasSpace-edit : (want now : ℕ → List ℕ) → HoldsPages want now s → HasSpace (the_len s e) s.store.journal
+  HasSpace-edit want now store = edit_space want now s.told s.size s.store.journal s.store.pool s.store.book store.0 store.1 e.o e.rest e.owner e.page e.offset e.image e.bytes store.2 may.is may.lt may.range may.long may.has may.held may.room may.clear
+
+  module _ (new : Option Story) (tells : is_some s.told ≡ is_some new) (leaves : LeavesChange s.told new s.store.journal s.store.pool.geometry (the_before s e) (the_change e)) where
+    leaves_edit : (want now : ℕ → List ℕ) → HoldsPages want now s → LeavesOnly s.told new (Restores s.store.pool.geometry want)
+    leaves_edit want now store = edit_leaves want now s.told s.size s.store.journal s.store.pool s.store.book store.0 store.1 e.o e.rest e.owner e.page e.offset e.image e.bytes store.2 may.is may.lt may.range may.long may.has may.held may.room may.clear new tells
+        (λ next at. leaves.each want now store.0 store.1 (views e.rest) next at)
+
+    pub LeavesWanted-edit : (len : ℕ) (k : journal.State) (b : Book) → LeavesWanted s (stored new len k s.store.pool b)
     LeavesWanted-edit len k b = record { each = leaves_edit }
 
-    module _ (len : ℕ) (k : journal.State) (b : Book) (stores : StoresChange told new j k p.geometry page image w o.tx (length o.undos) the_change) (added : b ≡ with_change book o rest the_undo) (done : k ≡ after_append (records_len w (length (spelling (Changed the_change)))) j)
-        (same : WhereTold told new (λ s t. AgreesBut (j.log ∷ []) s.now.reads t.now.reads)) (stands : StandsOn new k) (sized : len ≡ size) where
-      abbrev mid : Parts
-      mid = record { told = new; size = len; store = together k p b }
+  module _ (new : Option Story) (len : ℕ) (k : journal.State) (b : Book) (logged : HasLogged s e new len k b) where
+    abbrev mid : Parts
+    mid = stored new len k s.store.pool b
 
-      abbrev pub IsAhead-edit : (want now : ℕ → List ℕ) → HoldsPages want now old → IsAhead want now page offset bytes mid
-      IsAhead-edit want now store = record {
-        opened = store.0;
-        pending = behind store.1 w o.tx (length o.undos) page image ++ Changed the_change ∷ [];
-        leans = subst (λ (x : Book). Leans want now (with_bytes page offset bytes now) new len k p x store.0 (behind store.1 w o.tx (length o.undos) page image ++ Changed the_change ∷ [])) (sym added)
-            (Leans-logged want now told size j p book store.0 store.1 o rest owner page offset image bytes store.2 is lt range long has bytes_held room clear new tells len k done same stands sized
-            (λ next at. stores.each want now store.0 store.1 (actives rest) next at));
-        covered = covered-logged want now told size j p book store.0 store.1 o rest owner page offset image bytes store.2 is lt range long has bytes_held room clear new tells len k done same stands sized;
-      }
+    abbrev pub IsAhead-edit : (want now : ℕ → List ℕ) → HoldsPages want now s → IsAhead want now e.page e.offset e.bytes mid
+    IsAhead-edit want now store = record {
+      opened = store.0;
+      pending = behind store.1 (the_before s e) ++ Changed (the_change e) ∷ [];
+      leans = subst (λ (x : Book). Leans want now (with_bytes e.page e.offset e.bytes now) store.0 (behind store.1 (the_before s e) ++ Changed (the_change e) ∷ []) (stored new len k s.store.pool x)) (sym logged.added)
+          (Leans-logged want now s.told s.size s.store.journal s.store.pool s.store.book store.0 store.1 e.o e.rest e.owner e.page e.offset e.image e.bytes store.2 may.is may.lt may.range may.long may.has may.held may.room may.clear new logged.tells len k logged.done logged.same logged.stands logged.sized
+          (λ next at. logged.stores.each want now store.0 store.1 (views e.rest) next at));
+      covered = covered-logged want now s.told s.size s.store.journal s.store.pool s.store.book store.0 store.1 e.o e.rest e.owner e.page e.offset e.image e.bytes store.2 may.is may.lt may.range may.long may.has may.held may.room may.clear new logged.tells len k logged.done logged.same logged.stands logged.sized;
+    }
 
-      was_at : (a : Option Story) (now : ℕ → List ℕ) → j.failed ≡ false → ArePagesOn now a j p → IfTold a (image ≡ now page)
-      was_at None now up pages = tt
-      was_at (Some s) now up pages = is_now now s j p page image up has bytes_held lt pages
+    was_at : (a : Option Story) (now : ℕ → List ℕ) → s.store.journal.failed ≡ false → ArePagesOn now a s.store.journal s.store.pool → IfTold a (e.image ≡ now e.page)
+    was_at None now up pages = tt
+    was_at (Some t) now up pages = is_now now t s.store.journal s.store.pool e.page e.image up may.has may.held may.lt pages
 
-      -- behind the write
-      module _ (end : Parts) where
-        pub LeavesWanted-edited : LeavesAhead mid end page offset bytes → LeavesWanted old end
-        LeavesWanted-edited leaves = record { each = λ want now store. and_then told new end.told (Restores p.geometry want) (leaves_edit want now store) (leaves.each want now (IsAhead-edit want now store)) }
+    -- behind the write
+    module _ (end : Parts) where
+      pub LeavesWanted-edited : LeavesAhead mid end e.page e.offset e.bytes → LeavesWanted s end
+      LeavesWanted-edited ahead = record { each = λ want now store. and_then s.told new end.told (Restores s.store.pool.geometry want) (leaves_edit new logged.tells logged.leaves want now store) (ahead.each want now (IsAhead-edit want now store)) }
 
-        pub Changes-edited : (want now : ℕ → List ℕ) → HoldsPages want now old → CatchesUp mid end page offset bytes → Changes old end o rest owner page offset bytes
-        Changes-edited want now store caught =
-            let size = size_of want now told size j p book store.0 store.1 o rest owner page offset image bytes store.2 is lt range long has bytes_held room clear in
-            let logged : IsLogged j end.store.journal (change_len w (length bytes)) = IsLogged-of j j end.store.journal (change_len w (length bytes)) (change_len-some w (length bytes)) (inl refl)
-            (subst (λ (n : ℕ). IsSameOrForced (after_append n j) end.store.journal) size (subst (λ (x : journal.State). IsSameOrForced x end.store.journal) done caught.journal)) in
-            record {
-              image = image;
-              was = λ wanted then at. was_at told then at.2.up at.2.pages;
-              book = caught.book ∙ added;
-              pages = λ wanted then at. caught.pages wanted then (IsAhead-edit wanted then at);
-              logged = λ wanted then opened pending ties.
-                  let h = caught.logged wanted then (IsAhead-edit wanted then (opened, pending, ties)) in
-                  (h.0, h.1, h.2, h.3 ∙ same_records opened pending w o.tx (length o.undos) page image the_change);
-              journal = logged;
-              grows = Grows-logged old.store end.store (change_len w (length bytes)) (change_len-some w (length bytes)) (change_len-most w (length bytes) (omega arith)) logged;
-              least = least-logged j end.store.journal (change_len w (length bytes)) logged;
-            }
+      pub Changes-edited : (want now : ℕ → List ℕ) → HoldsPages want now s → CatchesUp mid end e.page e.offset e.bytes → Changes s end e.o e.rest e.owner e.page e.offset e.bytes
+      Changes-edited want now store caught =
+          let size = size_of want now s.told s.size s.store.journal s.store.pool s.store.book store.0 store.1 e.o e.rest e.owner e.page e.offset e.image e.bytes store.2 may.is may.lt may.range may.long may.has may.held may.room may.clear in
+          let within = may.range in
+          let grown : IsLogged s.store.journal end.store.journal (change_len (the_wants s e) (length e.bytes)) = IsLogged-of s.store.journal s.store.journal end.store.journal (change_len (the_wants s e) (length e.bytes)) (change_len-some (the_wants s e) (length e.bytes)) (inl refl)
+          (subst (λ (n : ℕ). IsSameOrForced (after_append n s.store.journal) end.store.journal) size (subst (λ (x : journal.State). IsSameOrForced x end.store.journal) logged.done caught.journal)) in
+          record {
+            image = e.image;
+            was = λ wanted then at. was_at s.told then at.2.up at.2.pages;
+            book = caught.book ∙ logged.added;
+            pages = λ wanted then at. caught.pages wanted then (IsAhead-edit wanted then at);
+            logged = λ wanted then opened pending holds.
+                let h = caught.logged wanted then (IsAhead-edit wanted then (opened, pending, holds)) in
+                (h.0, h.1, h.2, h.3 ∙ same_records opened pending (the_wants s e) e.o.tx (length e.o.undos) e.page e.image (the_change e));
+            journal = grown;
+            grows = Grows-logged s.store end.store (change_len (the_wants s e) (length e.bytes)) (change_len-some (the_wants s e) (length e.bytes)) (change_len-most (the_wants s e) (length e.bytes) (omega arith)) grown;
+            least = least-logged s.store.journal end.store.journal (change_len (the_wants s e) (length e.bytes)) grown;
+          }
 
 -- ---- the same with the numbers that the call has
 -- the first transaction has the number
-pub record HasTx (tx : ℕ) (os : List Out) : Type 0 where
-  pub o : Out
-  pub rest : List Out
+pub record HasTx (tx : ℕ) (os : List ActiveTransaction) : Type 0 where
+  pub o : ActiveTransaction
+  pub rest : List ActiveTransaction
   pub is : os ≡ o ∷ rest
   pub own : tx ≡ o.tx
 
-pub first_with : (tx : ℕ) (os : List Out) → IsFirst tx os → HasTx tx os
+pub first_with : (tx : ℕ) (os : List ActiveTransaction) → IsFirst tx os → HasTx tx os
 first_with tx [] first = absurd first
 first_with tx (o ∷ rest) first = record { o = o; rest = rest; is = refl; own = sym first }
 
 -- there is one first transaction
-pub one_first : (P : Out → List Out → Type 0) (os : List Out) (o x : Out) (rest xs : List Out) → os ≡ o ∷ rest → os ≡ x ∷ xs → P o rest → P x xs
-one_first P os o x rest xs is also has = subst (λ (l : List Out). P x l) same_rest (subst (λ (y : Out). P y rest) same has)
+pub one_first : (P : ActiveTransaction → List ActiveTransaction → Type 0) (os : List ActiveTransaction) (o x : ActiveTransaction) (rest xs : List ActiveTransaction) → os ≡ o ∷ rest → os ≡ x ∷ xs → P o rest → P x xs
+one_first P os o x rest xs is also has = subst (λ (l : List ActiveTransaction). P x l) same_rest (subst (λ (y : ActiveTransaction). P y rest) same has)
   where
     same : o ≡ x
     same = cc
@@ -146,17 +178,31 @@ code_change tx owner page offset image bytes = record { tx = tx; owner = owner; 
 pub code_change-is : (tx owner page offset : ℕ) (image bytes : List ℕ) → code_change tx owner page offset image bytes ≡ record { tx = tx; owner = owner; page = page; offset = offset; before = take (length bytes) (drop offset image); after = bytes }
 code_change-is tx owner page offset image bytes = ap (λ (n : ℕ). record { tx = tx; owner = owner; page = page; offset = offset; before = take n (drop offset image); after = bytes }) (let e : (offset + length bytes) - offset ≡ length bytes = omega arith in e)
 
-module _ (owner page offset : ℕ) (image bytes : List ℕ) (w : Wants) (tx n : ℕ) (book : Book) (o : Out) (rest : List Out) (is : book.out ≡ o ∷ rest) (wants : w ≡ wants_of book o page) (own : tx ≡ o.tx) (stand : n ≡ standing_in book.out) where
-  n_is : n ≡ length o.undos
-  n_is = stand ∙ ap (λ (os : List Out). standing_in os) is
+module _ (s : Parts) (e : Edit) (w : Wants) (tx n : ℕ) (is : s.store.book.actives ≡ e.o ∷ e.rest) (wants : w ≡ the_wants s e) (own : tx ≡ e.o.tx) (stand : n ≡ standing_in s.store.book.actives) where
+  b_is : before w tx n e.page e.image ≡ the_before s e
+  b_is = ap (λ (v : Wants). before v tx n e.page e.image) wants ∙ ap (λ (t : ℕ). before (the_wants s e) t n e.page e.image) own
+      ∙ ap (λ (k : ℕ). before (the_wants s e) e.o.tx k e.page e.image) (stand ∙ ap (λ (os : List ActiveTransaction). standing_in os) is)
 
-  c_is : code_change tx owner page offset image bytes ≡ record { tx = o.tx; owner = owner; page = page; offset = offset; before = take (length bytes) (drop offset image); after = bytes }
-  c_is = code_change-is tx owner page offset image bytes ∙ ap (λ (t : ℕ). record { tx = t; owner = owner; page = page; offset = offset; before = take (length bytes) (drop offset image); after = bytes }) own
+  c_is : code_change tx e.owner e.page e.offset e.image e.bytes ≡ the_change e
+  c_is = code_change-is tx e.owner e.page e.offset e.image e.bytes ∙ ap (λ (t : ℕ). record { tx = t; owner = e.owner; page = e.page; offset = e.offset; before = take (length e.bytes) (drop e.offset e.image); after = e.bytes }) own
 
-  pub as_edit : (P : Wants → ℕ → ℕ → Change → Type 0) → P w tx n (code_change tx owner page offset image bytes)
-      → P (wants_of book o page) o.tx (length o.undos) (record { tx = o.tx; owner = owner; page = page; offset = offset; before = take (length bytes) (drop offset image); after = bytes })
-  as_edit P has = four P w (wants_of book o page) tx o.tx n (length o.undos) (code_change tx owner page offset image bytes) (record { tx = o.tx; owner = owner; page = page; offset = offset; before = take (length bytes) (drop offset image); after = bytes })
-      wants own n_is c_is has
+  -- what is said of them is so of the edit
+  pub as_edit : (P : Before → Change → Type 0) → P (before w tx n e.page e.image) (code_change tx e.owner e.page e.offset e.image e.bytes) → P (the_before s e) (the_change e)
+  as_edit P has = subst (λ (c : Change). P (the_before s e) c) c_is (subst (λ (b : Before). P b (code_change tx e.owner e.page e.offset e.image e.bytes)) b_is has)
+
+  pub HasLogged-as : (new : Option Story) (len : ℕ) (k : journal.State) (b : Book) → LeavesChange s.told new s.store.journal s.store.pool.geometry (before w tx n e.page e.image) (code_change tx e.owner e.page e.offset e.image e.bytes)
+      → StoresChange s.told new s.store.journal k s.store.pool.geometry (before w tx n e.page e.image) (code_change tx e.owner e.page e.offset e.image e.bytes) → k ≡ after_append (records_len w (length (spelling (Changed (code_change tx e.owner e.page e.offset e.image e.bytes))))) s.store.journal
+      → b ≡ with_change s.store.book e.o e.rest (the_undo e) → is_some s.told ≡ is_some new → WhereTold s.told new (λ t u. AgreesBut (s.store.journal.log ∷ []) t.now.reads u.now.reads) → StandsOn new k → len ≡ s.size → HasLogged s e new len k b
+  HasLogged-as new len k b leaves stores done added tells same stands sized = record {
+    leaves = as_edit (LeavesChange s.told new s.store.journal s.store.pool.geometry) leaves;
+    stores = as_edit (StoresChange s.told new s.store.journal k s.store.pool.geometry) stores;
+    done = as_edit (λ p c. k ≡ after_append (records_len p.wants (length (spelling (Changed c)))) s.store.journal) done;
+    added = added;
+    tells = tells;
+    same = same;
+    stands = stands;
+    sized = sized;
+  }
 
 -- the write fails only with a fault
 pub AddErr-write : {T : Type 0} (result : Result T StoreFault) (a b : Parts) → IfErr result IsFaultOrDown → (IsErrOf result Down → ⊥) → IfErr result (AddErr a b)

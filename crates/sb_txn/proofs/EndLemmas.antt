@@ -28,13 +28,13 @@ use Rattle.sb_pool.specs.Calls.{AreImaged}
 use Rattle.sb_pool.specs.Pages.{ArePagesOn}
 use Rattle.sb_pool.specs.State as pool
 use Rattle.sb_pool.proofs.StoreLemmas.{SamePages, AgreesOn-same, ArePagesOn-same}
-use Rattle.sb_txn.specs.Book.{Undo, Out, Book, actives, begun_in, with_out, IsFirst, standing_in}
-use Rattle.sb_txn.specs.Clauses.{Parts, committed_pages, Commits, LeavesCommit, LeavesOne}
-use Rattle.sb_txn.specs.State.{together}
+use Rattle.sb_txn.specs.Book.{Undo, ActiveTransaction, Book, views, begun_in, with_actives, IsFirst, standing_in}
+use Rattle.sb_txn.specs.Clauses.{committed_pages, Commits, LeavesCommit, LeavesOne}
+use Rattle.sb_txn.specs.Parts.{Parts, stored}
 use Rattle.sb_txn.specs.Steps.{some, KeepsDisk, filled}
-use Rattle.sb_txn.specs.Tied.{IsOut, AreOut, AreOnce, IsBookOf, Ties, reserve, gates_used}
+use Rattle.sb_txn.specs.Tied.{IsTransactionOf, AreTransactionsOf, AreOnce, IsBookOf, Holds, reserve, gates_used}
 use Rattle.sb_txn.proofs.LogLemmas.{SamePages-as}
-use Rattle.sb_txn.proofs.OthersLemmas.{own-ended, AreOut-still}
+use Rattle.sb_txn.proofs.OthersLemmas.{own-ended, AreTransactionsOf-still}
 use Rattle.sb_txn.proofs.RoomLemmas.{SameRoom-force, lens-gates, filled-used, used-append, gates-append}
 
 -- ---- a Back in front
@@ -47,53 +47,53 @@ own_of-back true opened pending tx n =
 own_of-back false opened pending tx n = ap (λ (l : List Record). own_of (opened ++ l) (active_with tx n)) (append-nil pending)
 
 -- ---- the first active transaction
-pub few_more : (n m : ℕ) (os : List Out) → n ≤ m → All (λ (x : Out). length x.undos ≤ n) os → All (λ (x : Out). length x.undos ≤ m) os
-few_more n m [] more few = All-nil (λ (x : Out). length x.undos ≤ m)
+pub few_more : (n m : ℕ) (os : List ActiveTransaction) → n ≤ m → All (λ (x : ActiveTransaction). length x.undos ≤ n) os → All (λ (x : ActiveTransaction). length x.undos ≤ m) os
+few_more n m [] more few = All-nil (λ (x : ActiveTransaction). length x.undos ≤ m)
 few_more n m (o ∷ os) more few =
-    All-cons (λ (x : Out). length x.undos ≤ m) o os (let h = All-head (λ (x : Out). length x.undos ≤ n) o os few in omega arith) (few_more n m os more (All-tail (λ (x : Out). length x.undos ≤ n) o os few))
+    All-cons (λ (x : ActiveTransaction). length x.undos ≤ m) o os (let h = All-head (λ (x : ActiveTransaction). length x.undos ≤ n) o os few in omega arith) (few_more n m os more (All-tail (λ (x : ActiveTransaction). length x.undos ≤ n) o os few))
 
-module _ (want now : ℕ → List ℕ) (told : Option Story) (size : ℕ) (j : journal.State) (p : pool.State) (book : Book) (o : Out) (rest : List Out) (is : book.out ≡ o ∷ rest) (opened pending : List Record)
-    (ties : Ties want now told size j p book opened pending) where
-  pub first_out : IsOut p.geometry.pages (opened ++ pending) book.next o
-  first_out = (subst (λ (l : List Out). AreOut p.geometry.pages (opened ++ pending) book.next l) is ties.knows.out).0
+module _ (want now : ℕ → List ℕ) (told : Option Story) (size : ℕ) (j : journal.State) (p : pool.State) (book : Book) (o : ActiveTransaction) (rest : List ActiveTransaction) (is : book.actives ≡ o ∷ rest) (opened pending : List Record)
+    (holds : Holds want now opened pending (stored told size j p book)) where
+  pub first_transaction : IsTransactionOf p.geometry.pages (opened ++ pending) book.next o
+  first_transaction = (subst (λ (l : List ActiveTransaction). AreTransactionsOf p.geometry.pages (opened ++ pending) book.next l) is holds.knows.actives).0
 
-  pub first_store : IsStoreOn want now told j p.geometry opened pending (active_with o.tx (length o.undos) ∷ actives rest)
-  first_store = subst (λ (l : List Out). IsStoreOn want now told j p.geometry opened pending (actives l)) is ties.store
+  pub first_store : IsStoreOn want now told j p.geometry opened pending (active_with o.tx (length o.undos) ∷ views rest)
+  first_store = subst (λ (l : List ActiveTransaction). IsStoreOn want now told j p.geometry opened pending (views l)) is holds.store
 
-  pub first_once : IsInactive o.tx (actives rest) × AreOnce rest
-  first_once = subst (λ (l : List Out). AreOnce l) is ties.knows.once
+  pub first_once : IsInactive o.tx (views rest) × AreOnce rest
+  first_once = subst (λ (l : List ActiveTransaction). AreOnce l) is holds.knows.once
 
   pub rest_most : suc (length rest) ≤ 8
-  rest_most = let e = ap (λ (l : List Out). length l) is in let h = ties.knows.most in omega arith
+  rest_most = let e = ap (λ (l : List ActiveTransaction). length l) is in let h = holds.knows.most in omega arith
 
   pub first_room : used_of j + reserve * (cond o.begun 1 0 + begun_in rest) ≤ j.log.len
-  first_room = let e = ap begun_in is in let h = ties.spare.room in omega arith
+  first_room = let e = ap begun_in is in let h = holds.spare.room in omega arith
 
   pub first_gates : gates_used j + (cond o.begun 1 0 + begun_in rest) ≤ j.gates.len
-  first_gates = let e = ap begun_in is in let h = ties.spare.gates in omega arith
+  first_gates = let e = ap begun_in is in let h = holds.spare.gates in omega arith
 
   pub first_few : length o.undos ≤ used_of j
-  first_few = All-head (λ (x : Out). length x.undos ≤ used_of j) o rest (subst (λ (l : List Out). All (λ (x : Out). length x.undos ≤ used_of j) l) is ties.spare.few)
+  first_few = All-head (λ (x : ActiveTransaction). length x.undos ≤ used_of j) o rest (subst (λ (l : List ActiveTransaction). All (λ (x : ActiveTransaction). length x.undos ≤ used_of j) l) is holds.spare.few)
 
-  pub rest_few : (n : ℕ) → used_of j ≤ n → All (λ (x : Out). length x.undos ≤ n) rest
-  rest_few n more = few_more (used_of j) n rest more (All-tail (λ (x : Out). length x.undos ≤ used_of j) o rest (subst (λ (l : List Out). All (λ (x : Out). length x.undos ≤ used_of j) l) is ties.spare.few))
+  pub rest_few : (n : ℕ) → used_of j ≤ n → All (λ (x : ActiveTransaction). length x.undos ≤ n) rest
+  rest_few n more = few_more (used_of j) n rest more (All-tail (λ (x : ActiveTransaction). length x.undos ≤ used_of j) o rest (subst (λ (l : List ActiveTransaction). All (λ (x : ActiveTransaction). length x.undos ≤ used_of j) l) is holds.spare.few))
 
-  pub rest_out : AreOut p.geometry.pages (opened ++ pending) book.next rest
-  rest_out = (subst (λ (l : List Out). AreOut p.geometry.pages (opened ++ pending) book.next l) is ties.knows.out).1
+  pub rest_transactions : AreTransactionsOf p.geometry.pages (opened ++ pending) book.next rest
+  rest_transactions = (subst (λ (l : List ActiveTransaction). AreTransactionsOf p.geometry.pages (opened ++ pending) book.next l) is holds.knows.actives).1
 
   -- none of its changes stands
-  pub Ties-drop : o.undos ≡ [] → Ties want now told size j p (with_out book rest) opened pending
-  Ties-drop none = record {
-    up = ties.up;
-    store = IsStoreOn-step want now j p.geometry opened pending (active_with o.tx 0 ∷ actives rest) now (actives rest) told
-        (λ disk whole. IsWhole-drop p.geometry.pages disk now opened pending o.tx (actives rest) whole)
-        (subst (λ (us : List Undo). IsStoreOn want now told j p.geometry opened pending (active_with o.tx (length us) ∷ actives rest)) none first_store);
-    serves = ties.serves;
-    agrees = ties.agrees;
-    pages = ties.pages;
-    dirty = ties.dirty;
-    position = ties.position;
-    knows = record { images = ties.knows.images; count = ties.knows.count; out = rest_out; fresh = ties.knows.fresh; once = first_once.1; most = let h = rest_most in omega arith };
+  pub Holds-drop : o.undos ≡ [] → Holds want now opened pending (stored told size j p (with_actives book rest))
+  Holds-drop none = record {
+    up = holds.up;
+    store = IsStoreOn-step want now j p.geometry opened pending (active_with o.tx 0 ∷ views rest) now (views rest) told
+        (λ disk whole. IsWhole-drop p.geometry.pages disk now opened pending o.tx (views rest) whole)
+        (subst (λ (us : List Undo). IsStoreOn want now told j p.geometry opened pending (active_with o.tx (length us) ∷ views rest)) none first_store);
+    serves = holds.serves;
+    agrees = holds.agrees;
+    pages = holds.pages;
+    dirty = holds.dirty;
+    position = holds.position;
+    knows = record { images = holds.knows.images; count = holds.knows.count; actives = rest_transactions; fresh = holds.knows.fresh; once = first_once.1; most = let h = rest_most in omega arith };
     spare = record { few = rest_few (used_of j) (omega arith); room = let h = first_room in omega arith; gates = let h = first_gates in omega arith };
   }
 
@@ -106,18 +106,18 @@ IsStoreOn-idle want now (Some s) j g opened pending store = record {
   whole = store.whole;
 }
 
-pub Ties-idle : (want now : ℕ → List ℕ) (told : Option Story) (size : ℕ) (j : journal.State) (p : pool.State) (book : Book) (opened pending : List Record) → book.out ≡ [] → Ties want now told size j p book opened pending → Ties now now told size j p book opened pending
-Ties-idle want now told size j p book opened pending none ties = record {
-  up = ties.up;
-  store = subst (λ (l : List Out). IsStoreOn now now told j p.geometry opened pending (actives l)) (sym none)
-      (IsStoreOn-idle want now told j p.geometry opened pending (subst (λ (l : List Out). IsStoreOn want now told j p.geometry opened pending (actives l)) none ties.store));
-  serves = ties.serves;
-  agrees = ties.agrees;
-  pages = ties.pages;
-  dirty = ties.dirty;
-  position = ties.position;
-  knows = ties.knows;
-  spare = ties.spare;
+pub Holds-idle : (want now : ℕ → List ℕ) (told : Option Story) (size : ℕ) (j : journal.State) (p : pool.State) (book : Book) (opened pending : List Record) → book.actives ≡ [] → Holds want now opened pending (stored told size j p book) → Holds now now opened pending (stored told size j p book)
+Holds-idle want now told size j p book opened pending none holds = record {
+  up = holds.up;
+  store = subst (λ (l : List ActiveTransaction). IsStoreOn now now told j p.geometry opened pending (views l)) (sym none)
+      (IsStoreOn-idle want now told j p.geometry opened pending (subst (λ (l : List ActiveTransaction). IsStoreOn want now told j p.geometry opened pending (views l)) none holds.store));
+  serves = holds.serves;
+  agrees = holds.agrees;
+  pages = holds.pages;
+  dirty = holds.dirty;
+  position = holds.position;
+  knows = holds.knows;
+  spare = holds.spare;
 }
 
 -- the pages now are those wanted
@@ -137,44 +137,41 @@ pages_wanted : (want now : ℕ → List ℕ) (told : Option Story) (j : journal.
 pages_wanted want now None j p opened pending store pages = tt
 pages_wanted want now (Some s) j p opened pending store pages = λ up q lt. pages up q lt ∙ IsStore-idle want now j p.geometry opened pending [] s refl store q lt
 
-pub Ties-wanted : (want now : ℕ → List ℕ) (told : Option Story) (size : ℕ) (j : journal.State) (p : pool.State) (book : Book) (opened pending : List Record) → book.out ≡ [] → Ties want now told size j p book opened pending → Ties want want told size j p book opened pending
-Ties-wanted want now told size j p book opened pending none ties =
-    let store = subst (λ (l : List Out). IsStoreOn want now told j p.geometry opened pending (actives l)) none ties.store in
+pub Holds-wanted : (want now : ℕ → List ℕ) (told : Option Story) (size : ℕ) (j : journal.State) (p : pool.State) (book : Book) (opened pending : List Record) → book.actives ≡ [] → Holds want now opened pending (stored told size j p book) → Holds want want opened pending (stored told size j p book)
+Holds-wanted want now told size j p book opened pending none holds =
+    let store = subst (λ (l : List ActiveTransaction). IsStoreOn want now told j p.geometry opened pending (views l)) none holds.store in
     record {
-      up = ties.up;
-      store = subst (λ (l : List Out). IsStoreOn want want told j p.geometry opened pending (actives l)) (sym none) (wanted want now told j p.geometry opened pending store);
-      serves = ties.serves;
-      agrees = ties.agrees;
-      pages = pages_wanted want now told j p opened pending store ties.pages;
-      dirty = ties.dirty;
-      position = ties.position;
-      knows = ties.knows;
-      spare = ties.spare;
+      up = holds.up;
+      store = subst (λ (l : List ActiveTransaction). IsStoreOn want want told j p.geometry opened pending (views l)) (sym none) (wanted want now told j p.geometry opened pending store);
+      serves = holds.serves;
+      agrees = holds.agrees;
+      pages = pages_wanted want now told j p opened pending store holds.pages;
+      dirty = holds.dirty;
+      position = holds.position;
+      knows = holds.knows;
+      spare = holds.spare;
     }
 
 -- ---- a commit of a transaction that has no record
-abbrev at : Option Story → ℕ → journal.State → pool.State → Book → Parts
-at told size j p book = record { told = told; size = size; store = together j p book }
-
-pub Commits-idle : (told : Option Story) (size : ℕ) (j : journal.State) (p : pool.State) (book : Book) (o : Out) (rest : List Out) → book.out ≡ o ∷ rest → o.begun ≡ false → Commits (at told size j p book) (at told size j p (with_out book rest)) o rest
+pub Commits-idle : (told : Option Story) (size : ℕ) (j : journal.State) (p : pool.State) (book : Book) (o : ActiveTransaction) (rest : List ActiveTransaction) → book.actives ≡ o ∷ rest → o.begun ≡ false → Commits (stored told size j p book) (stored told size j p (with_actives book rest)) o rest
 Commits-idle told size j p book o rest is off = record {
   book = refl;
-  pages = λ want now opened pending ties.
-      let none = (first_out want now told size j p book o rest is opened pending ties).none off in
-      let dropped = Ties-drop want now told size j p book o rest is opened pending ties none in
+  pages = λ want now opened pending holds.
+      let none = (first_transaction want now told size j p book o rest is opened pending holds).none off in
+      let dropped = Holds-drop want now told size j p book o rest is opened pending holds none in
       let nothing : own_of (opened ++ pending) (active_with o.tx (length o.undos)) ≡ [] = ap (λ (us : List Undo). own_of (opened ++ pending) (active_with o.tx (length us))) none ∙ own_changes-keep o.tx 0 (standing (opened ++ pending)) in
-      (opened, pending, subst (λ (cs : List Change). Ties (with_changes cs want) now told size j p (with_out book rest) opened pending) (sym nothing) dropped);
+      (opened, pending, subst (λ (cs : List Change). Holds (with_changes cs want) now opened pending (stored told size j p (with_actives book rest))) (sym nothing) dropped);
   alone = λ last want now store.
-      let none = (first_out want now told size j p book o rest is store.0 store.1 store.2).none off in
-      (store.0, store.1, Ties-idle want now told size j p (with_out book rest) store.0 store.1 last (Ties-drop want now told size j p book o rest is store.0 store.1 store.2 none));
+      let none = (first_transaction want now told size j p book o rest is store.0 store.1 store.2).none off in
+      (store.0, store.1, Holds-idle want now told size j p (with_actives book rest) store.0 store.1 last (Holds-drop want now told size j p book o rest is store.0 store.1 store.2 none));
   grows = record { bytes = omega arith; least = omega arith; gates = omega arith };
   chunks = omega arith;
 }
 
-pub LeavesCommit-idle : (told : Option Story) (size : ℕ) (j : journal.State) (p : pool.State) (book after : Book) (o : Out) → LeavesCommit (at told size j p book) (at told size j p after) o
-LeavesCommit-idle told size j p book after o want now opened pending ties =
+pub LeavesCommit-idle : (told : Option Story) (size : ℕ) (j : journal.State) (p : pool.State) (book after : Book) (o : ActiveTransaction) → LeavesCommit (stored told size j p book) (stored told size j p after) o
+LeavesCommit-idle told size j p book after o want now opened pending holds =
     LeavesOnly-old want (committed_pages (opened ++ pending) o want) p.geometry told told
-    (LeavesOnly-idle want j p.geometry opened pending told (IsStoreOn-ready want now told j p.geometry opened pending (actives book.out) ties.store))
+    (LeavesOnly-idle want j p.geometry opened pending told (IsStoreOn-ready want now told j p.geometry opened pending (views book.actives) holds.store))
 
 -- ---- the active one
 -- with its changes the pages wanted are those now
@@ -193,7 +190,7 @@ leaves_alone want now (Some s) new j g opened pending a store run =
     weaker (Some s) new (IsOldOrNew g want (with_changes (own_of (opened ++ pending) a) want)) (IsOldOrNew g want now)
     (λ image old_or_new. IsOldOrNew-as g want (with_changes (own_of (opened ++ pending) a) want) now image (alone_pages want now s j g opened pending a store) old_or_new) run
 
-pub LeavesOne-commit : (old new : Parts) (o : Out) → old.store.book.out ≡ o ∷ [] → LeavesCommit old new o → LeavesOne old new
+pub LeavesOne-commit : (old new : Parts) (o : ActiveTransaction) → old.store.book.actives ≡ o ∷ [] → LeavesCommit old new o → LeavesOne old new
 LeavesOne-commit old new o is run want now store =
     leaves_alone want now old.told new.told old.store.journal old.store.pool.geometry store.0 store.1 (active_with o.tx (length o.undos))
     (first_store want now old.told old.size old.store.journal old.store.pool old.store.book o [] is store.0 store.1 store.2) (run want now store.0 store.1 store.2)
@@ -263,7 +260,7 @@ IsFinished-after j m some =
 IsFinished-done : (j k : journal.State) (undone : Bool) → k ≡ after_force (after_append (cond undone 9 0 + 5) j) → IsFinished j k (cond undone 9 0 + 5)
 IsFinished-done j k undone done = subst (λ (l : journal.State). IsFinished j l (cond undone 9 0 + 5)) (sym done) (IsFinished-after j (cond undone 9 0 + 5) (ends-len undone).1)
 
-module _ (told new : Option Story) (size len : ℕ) (j k : journal.State) (p : pool.State) (book : Book) (o : Out) (rest : List Out) (is : book.out ≡ o ∷ rest) (begun : o.begun ≡ true) (long : len ≡ size)
+module _ (told new : Option Story) (size len : ℕ) (j k : journal.State) (p : pool.State) (book : Book) (o : ActiveTransaction) (rest : List ActiveTransaction) (is : book.actives ≡ o ∷ rest) (begun : o.begun ≡ true) (long : len ≡ size)
     (finish : Finishes told new j k o.tx (length o.undos) o.undone) where
   finished : IsFinished j k (cond o.undone 9 0 + 5)
   finished = IsFinished-done j k o.undone finish.done
@@ -274,18 +271,18 @@ module _ (told new : Option Story) (size len : ℕ) (j k : journal.State) (p : p
   finish_more : used_of j ≤ used_of k
   finish_more = let e = finished.used in let f = (filled-used j).1 in omega arith
 
-  module _ (want now : ℕ → List ℕ) (opened pending : List Record) (ties : Ties want now told size j p book opened pending) where
+  module _ (want now : ℕ → List ℕ) (opened pending : List Record) (holds : Holds want now opened pending (stored told size j p book)) where
     abbrev tail : List Record
     tail = ends o.undone o.tx (length o.undos)
 
     abbrev recs : List Record
     recs = (opened ++ pending) ++ tail
 
-    out : IsOut p.geometry.pages (opened ++ pending) book.next o
-    out = first_out want now told size j p book o rest is opened pending ties
+    is_one : IsTransactionOf p.geometry.pages (opened ++ pending) book.next o
+    is_one = first_transaction want now told size j p book o rest is opened pending holds
 
     same_disk : WhereTold told new (SamePages p.geometry)
-    same_disk = SamePages-as p.geometry told new (finish.pages p.geometry ties.serves.gates ties.serves.log)
+    same_disk = SamePages-as p.geometry told new (finish.pages p.geometry holds.serves.gates holds.serves.log)
 
     was_up : k.failed ≡ false → j.failed ≡ false
     was_up up = sym finished.up ∙ up
@@ -293,45 +290,45 @@ module _ (told new : Option Story) (size len : ℕ) (j k : journal.State) (p : p
     all : recs ≡ recs ++ []
     all = sym (append-nil recs)
 
-    pub Ties-finish : Ties (committed_pages (opened ++ pending) o want) now new len k p (with_out book rest) recs []
-    Ties-finish = record {
-      up = finished.up ∙ ties.up;
-      store = subst (λ (l : List Record). IsStoreOn (committed_pages (opened ++ pending) o want) now new k p.geometry l [] (actives rest)) (same_records opened pending o.undone o.tx (length o.undos))
-          (finish.store want now p.geometry opened pending (actives rest) (first_store want now told size j p book o rest is opened pending ties) out.logged);
+    pub Holds-finish : Holds (committed_pages (opened ++ pending) o want) now recs [] (stored new len k p (with_actives book rest))
+    Holds-finish = record {
+      up = finished.up ∙ holds.up;
+      store = subst (λ (l : List Record). IsStoreOn (committed_pages (opened ++ pending) o want) now new k p.geometry l [] (views rest)) (same_records opened pending o.undone o.tx (length o.undos))
+          (finish.store want now p.geometry opened pending (views rest) (first_store want now told size j p book o rest is opened pending holds) is_one.logged);
       serves = record {
-        sizes = ties.serves.sizes;
-        room = let h = ties.serves.room in omega arith;
-        gates = finished.gates_is ∙ ties.serves.gates;
-        log = finished.log_is ∙ ties.serves.log;
+        sizes = holds.serves.sizes;
+        room = let h = holds.serves.room in omega arith;
+        gates = finished.gates_is ∙ holds.serves.gates;
+        log = finished.log_is ∙ holds.serves.log;
         stands = finish.stands;
-        clean = finished.clean ∙ ties.serves.clean;
+        clean = finished.clean ∙ holds.serves.clean;
         free = λ some. absurd (let e = finished.none in omega arith);
       };
-      agrees = AgreesOn-same j k was_up p told new same_disk ties.agrees;
-      pages = ArePagesOn-same j k was_up now p told new same_disk ties.pages;
-      dirty = subst (λ (l : List Record). AreImaged p l) all (λ q dirty. no_image (opened ++ pending) o.undone o.tx (length o.undos) q ∙ ties.dirty q dirty);
-      position = let h = ties.position in let m = finish_more in omega arith;
-      knows = subst (λ (l : List Record). IsBookOf p.geometry.pages l (with_out book rest)) all (record {
-        images = λ q lt. ties.knows.images q lt ∙ sym (no_image (opened ++ pending) o.undone o.tx (length o.undos) q);
-        count = ties.knows.count;
-        out = AreOut-still p.geometry.pages (opened ++ pending) recs book.next o.tx rest (first_once want now told size j p book o rest is opened pending ties).0
+      agrees = AgreesOn-same j k was_up p told new same_disk holds.agrees;
+      pages = ArePagesOn-same j k was_up now p told new same_disk holds.pages;
+      dirty = subst (λ (l : List Record). AreImaged p l) all (λ q dirty. no_image (opened ++ pending) o.undone o.tx (length o.undos) q ∙ holds.dirty q dirty);
+      position = let h = holds.position in let m = finish_more in omega arith;
+      knows = subst (λ (l : List Record). IsBookOf p.geometry.pages l (with_actives book rest)) all (record {
+        images = λ q lt. holds.knows.images q lt ∙ sym (no_image (opened ++ pending) o.undone o.tx (length o.undos) q);
+        count = holds.knows.count;
+        actives = AreTransactionsOf-still p.geometry.pages (opened ++ pending) recs book.next o.tx rest (first_once want now told size j p book o rest is opened pending holds).0
             (λ t other. ap (λ (l : List Record). own_changes t (standing l)) (sym (same_records opened pending o.undone o.tx (length o.undos))) ∙ own-ended opened pending t o.tx other o.undone (length o.undos))
-            (λ q has. no_image (opened ++ pending) o.undone o.tx (length o.undos) q ∙ has) (rest_out want now told size j p book o rest is opened pending ties);
-        fresh = AreBelow-append book.next (opened ++ pending) tail ties.knows.fresh (ends-below o.undone o.tx (length o.undos) book.next out.number);
-        once = (first_once want now told size j p book o rest is opened pending ties).1;
-        most = let h = rest_most want now told size j p book o rest is opened pending ties in omega arith;
+            (λ q has. no_image (opened ++ pending) o.undone o.tx (length o.undos) q ∙ has) (rest_transactions want now told size j p book o rest is opened pending holds);
+        fresh = AreBelow-append book.next (opened ++ pending) tail holds.knows.fresh (ends-below o.undone o.tx (length o.undos) book.next is_one.number);
+        once = (first_once want now told size j p book o rest is opened pending holds).1;
+        most = let h = rest_most want now told size j p book o rest is opened pending holds in omega arith;
       });
       spare = record {
-        few = rest_few want now told size j p book o rest is opened pending ties (used_of k) finish_more;
+        few = rest_few want now told size j p book o rest is opened pending holds (used_of k) finish_more;
         room =
             let one = one_if o.begun begun in
-            let h = first_room want now told size j p book o rest is opened pending ties in
+            let h = first_room want now told size j p book o rest is opened pending holds in
             let m = finish_bytes in
             let l = ap (λ (r : Range). r.len) finished.log_is in
             omega arith;
         gates =
             let one = one_if o.begun begun in
-            let h = first_gates want now told size j p book o rest is opened pending ties in
+            let h = first_gates want now told size j p book o rest is opened pending holds in
             let e = finished.gates in
             let m = lens-gates j in
             let l = ap (λ (r : Range). r.len) finished.gates_is in
@@ -339,12 +336,12 @@ module _ (told new : Option Story) (size len : ℕ) (j k : journal.State) (p : p
       };
     }
 
-  pub Commits-finish : Commits (at told size j p book) (at new len k p (with_out book rest)) o rest
+  pub Commits-finish : Commits (stored told size j p book) (stored new len k p (with_actives book rest)) o rest
   Commits-finish = record {
     book = refl;
-    pages = λ want now opened pending ties. (recs want now opened pending ties, [], Ties-finish want now opened pending ties);
+    pages = λ want now opened pending holds. (recs want now opened pending holds, [], Holds-finish want now opened pending holds);
     alone = λ last want now store.
-        (recs want now store.0 store.1 store.2, [], Ties-idle (committed_pages (store.0 ++ store.1) o want) now new len k p (with_out book rest) (recs want now store.0 store.1 store.2) [] last (Ties-finish want now store.0 store.1 store.2));
+        (recs want now store.0 store.1 store.2, [], Holds-idle (committed_pages (store.0 ++ store.1) o want) now new len k p (with_actives book rest) (recs want now store.0 store.1 store.2) [] last (Holds-finish want now store.0 store.1 store.2));
     grows = record {
       bytes = let m = finish_bytes in omega arith;
       least = finish_more;
@@ -358,21 +355,21 @@ pub record LeavesFinish (told new : Option Story) (j : journal.State) (tx n : �
   pub each : (want now : ℕ → List ℕ) (g : Geometry) (opened pending : List Record) (rest : List Active) → IsStoreOn want now told j g opened pending (active_with tx n ∷ rest) → (undone ≡ false → count_of tx (standing (opened ++ pending)) ≤ n)
       → LeavesOnly told new (IsOldOrNew g want (with_changes (own_of (opened ++ pending) (active_with tx n)) want))
 
-pub LeavesCommit-finish : (told new : Option Story) (size len : ℕ) (j k : journal.State) (p : pool.State) (book after : Book) (o : Out) (rest : List Out) → book.out ≡ o ∷ rest → LeavesFinish told new j o.tx (length o.undos) o.undone
-    → LeavesCommit (at told size j p book) (at new len k p after) o
-LeavesCommit-finish told new size len j k p book after o rest is leaves want now opened pending ties =
-    leaves.each want now p.geometry opened pending (actives rest) (first_store want now told size j p book o rest is opened pending ties)
-    (first_out want now told size j p book o rest is opened pending ties).logged
+pub LeavesCommit-finish : (told new : Option Story) (size len : ℕ) (j k : journal.State) (p : pool.State) (book after : Book) (o : ActiveTransaction) (rest : List ActiveTransaction) → book.actives ≡ o ∷ rest → LeavesFinish told new j o.tx (length o.undos) o.undone
+    → LeavesCommit (stored told size j p book) (stored new len k p after) o
+LeavesCommit-finish told new size len j k p book after o rest is leaves want now opened pending holds =
+    leaves.each want now p.geometry opened pending (views rest) (first_store want now told size j p book o rest is opened pending holds)
+    (first_transaction want now told size j p book o rest is opened pending holds).logged
 
 -- ---- the transaction of the call is the first
-pub first_is : (tx : ℕ) (out : List Out) → IsFirst tx out → (o : Out) × (rest : List Out) × (out ≡ o ∷ rest)
+pub first_is : (tx : ℕ) (actives : List ActiveTransaction) → IsFirst tx actives → (o : ActiveTransaction) × (rest : List ActiveTransaction) × (actives ≡ o ∷ rest)
 first_is tx [] first = absurd first
 first_is tx (o ∷ rest) first = (o, rest, refl)
 
-module _ (P : ℕ → ℕ → Bool → Type 0) (out : List Out) (o : Out) (rest : List Out) (is : out ≡ o ∷ rest) (tx n : ℕ) (undone : Bool) where
+module _ (P : ℕ → ℕ → Bool → Type 0) (actives : List ActiveTransaction) (o : ActiveTransaction) (rest : List ActiveTransaction) (is : actives ≡ o ∷ rest) (tx n : ℕ) (undone : Bool) where
   -- what is so of its number, the count of its changes and its flag
-  pub of_first : IsFirst tx out → n ≡ standing_in out → undone ≡ o.undone → P tx n undone → P o.tx (length o.undos) o.undone
+  pub of_first : IsFirst tx actives → n ≡ standing_in actives → undone ≡ o.undone → P tx n undone → P o.tx (length o.undos) o.undone
   of_first first count flag has =
-      let number : o.tx ≡ tx = subst (λ (l : List Out). IsFirst tx l) is first in
+      let number : o.tx ≡ tx = subst (λ (l : List ActiveTransaction). IsFirst tx l) is first in
       let size : n ≡ length o.undos = count ∙ ap standing_in is in
       subst (λ (t : ℕ). P t (length o.undos) o.undone) (sym number) (subst (λ (m : ℕ). P tx m o.undone) size (subst (λ (u : Bool). P tx n u) flag has))

@@ -10,8 +10,9 @@ use Rattle.sb_log.specs.declared.geometry.Geometry.{Geometry}
 use Rattle.sb_images.specs.Images.{Restores}
 use Rattle.sb_images.proofs.CallLemmas.{LeavesOnly-idle}
 use Rattle.sb_images.proofs.StoreLemmas.{IsStoreOn-ready}
-use Rattle.sb_txn.specs.Book.{actives}
-use Rattle.sb_txn.specs.Clauses.{Parts, parts, IsReady, Leads, LeavesWanted, StaysReady}
+use Rattle.sb_txn.specs.Book.{views}
+use Rattle.sb_txn.specs.Clauses.{IsReady, Leads, LeavesWanted, StaysReady}
+use Rattle.sb_txn.specs.Parts.{Parts, parts}
 use Rattle.sb_txn.specs.State.{State}
 use Rattle.sb_txn.specs.declared.fault.StoreFault.{StoreFault}
 use Rattle.sb_txn.specs.declared.fault.StoreFault.TheVariants.{Fault, Down}
@@ -120,7 +121,7 @@ module _ {D : Type 0} (told : D → Option Story) (len faults : D → ℕ) where
 pub LeavesWanted-none : (p : Parts) → LeavesWanted p p
 LeavesWanted-none p = record {
   each = λ want now store.
-      LeavesOnly-idle want p.store.journal p.store.pool.geometry store.0 store.1 p.told (IsStoreOn-ready want now p.told p.store.journal p.store.pool.geometry store.0 store.1 (actives p.store.book.out) store.2.store);
+      LeavesOnly-idle want p.store.journal p.store.pool.geometry store.0 store.1 p.told (IsStoreOn-ready want now p.told p.store.journal p.store.pool.geometry store.0 store.1 (views p.store.book.actives) store.2.store);
 }
 
 pub LeavesWanted-then : (a b c : Parts) (change : (ℕ → List ℕ) → ℕ → List ℕ) → b.store.pool.geometry ≡ a.store.pool.geometry → Leads a b change → LeavesWanted a b → LeavesWanted b c → LeavesWanted a c

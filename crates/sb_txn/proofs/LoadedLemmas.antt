@@ -10,9 +10,10 @@ use Rattle.sb_pool.specs.Calls.{IsSameOrForced}
 use Rattle.sb_txn.specs.declared.changing.Wants.{Wants}
 use Rattle.sb_txn.specs.declared.fault.StoreFault.{StoreFault}
 use Rattle.sb_txn.specs.declared.fault.StoreFault.TheVariants.{Fault, LogFull, GatesFull, Down, NoMemory}
-use Rattle.sb_txn.specs.Book.{Out, Book, wants_of, change_len, with_change}
+use Rattle.sb_txn.specs.Book.{ActiveTransaction, Book, wants_of, change_len, with_change}
 use Rattle.sb_txn.specs.Changes.{NoRoom, AddErr}
-use Rattle.sb_txn.specs.Clauses.{Parts, LeavesWanted, Loads, Refused, IsLogged, records_of, change_in, undo_in, Changes, ChangeErr, HasRoom, need_of}
+use Rattle.sb_txn.specs.Clauses.{LeavesWanted, Loads, Refused, IsLogged, records_of, change_in, undo_in, Changes, ChangeErr, HasRoom, need_of}
+use Rattle.sb_txn.specs.Parts.{Parts}
 use Rattle.sb_txn.proofs.LoggedLemmas.{change_len-some, change_len-most}
 use Rattle.sb_txn.proofs.RoomLemmas.{SameRoom, SameRoom-forced, lens-gates, IsLogged-behind, Grows-logged, least-logged}
 use Rattle.sb_txn.proofs.TiedLemmas.{Refused-loads}
@@ -33,10 +34,10 @@ module _ (old mid : Parts) (loads : Loads old mid) where
   room_same : SameRoom old.store.journal mid.store.journal
   room_same = SameRoom-forced old.store.journal mid.store.journal loads.journal
 
-  need_same : (o : Out) (page count : ℕ) → need_of mid.store.book o page count ≡ need_of old.store.book o page count
+  need_same : (o : ActiveTransaction) (page count : ℕ) → need_of mid.store.book o page count ≡ need_of old.store.book o page count
   need_same o page count = ap (λ (b : Book). need_of b o page count) loads.book
 
-  pub HasRoom-loaded : (o : Out) (page count : ℕ) → HasRoom mid.store o page count → HasRoom old.store o page count
+  pub HasRoom-loaded : (o : ActiveTransaction) (page count : ℕ) → HasRoom mid.store o page count → HasRoom old.store o page count
   HasRoom-loaded o page count room = record {
     bytes =
         let a = room.bytes in
@@ -47,18 +48,18 @@ module _ (old mid : Parts) (loads : Loads old mid) where
     gates =
         let a = room.gates in
         let b = lens-loaded old.store.journal mid.store.journal loads.journal in
-        let c = ap (λ (x : Book). length x.out) loads.book in
+        let c = ap (λ (x : Book). length x.actives) loads.book in
         omega arith;
   }
 
-  pub ChangeErr-room : (o : Out) (rest : List Out) (page count : ℕ) (e : StoreFault) → old.store.book.out ≡ o ∷ rest → NoRoom mid.store.journal mid.store.book o page count e → ChangeErr old mid o page count e
+  pub ChangeErr-room : (o : ActiveTransaction) (rest : List ActiveTransaction) (page count : ℕ) (e : StoreFault) → old.store.book.actives ≡ o ∷ rest → NoRoom mid.store.journal mid.store.book o page count e → ChangeErr old mid o page count e
   ChangeErr-room o rest page count (LogFull used need total) is none =
       let l = ap (λ (r : Range). r.len) room_same.log_is in
       (none.0 ∙ room_same.used, none.1 ∙ need_same o page count, none.2 ∙ l, none.3, Refused-loads old mid o rest is loads)
   ChangeErr-room o rest page count (GatesFull used total) is none =
       let l = ap (λ (r : Range). r.len) room_same.log_is in
       let g = ap (λ (r : Range). r.len) room_same.gates_is in
-      let b = ap (λ (x : Book). length x.out) loads.book in
+      let b = ap (λ (x : Book). length x.actives) loads.book in
       let bytes = none.0 in
       let u = room_same.used in
       let n = need_same o page count in
@@ -68,7 +69,7 @@ module _ (old mid : Parts) (loads : Loads old mid) where
   ChangeErr-room o rest page count Down is none = absurd none
   ChangeErr-room o rest page count NoMemory is none = absurd none
 
-  pub ChangeErr-add : (new : Parts) (o : Out) (rest : List Out) (page count : ℕ) (e : StoreFault) → old.store.book.out ≡ o ∷ rest → AddErr mid new e → ChangeErr old new o page count e
+  pub ChangeErr-add : (new : Parts) (o : ActiveTransaction) (rest : List ActiveTransaction) (page count : ℕ) (e : StoreFault) → old.store.book.actives ≡ o ∷ rest → AddErr mid new e → ChangeErr old new o page count e
   ChangeErr-add new o rest page count NoMemory is err = subst (λ (p : Parts). Refused o.tx old p) (sym err) (Refused-loads old mid o rest is loads)
   ChangeErr-add new o rest page count Fault is err = tt
   ChangeErr-add new o rest page count (LogFull used need total) is err = absurd err
@@ -76,10 +77,10 @@ module _ (old mid : Parts) (loads : Loads old mid) where
   ChangeErr-add new o rest page count Down is err = absurd err
 
   -- what the change wants is the same
-  wants_same : (o : Out) (page : ℕ) → wants_of mid.store.book o page ≡ wants_of old.store.book o page
+  wants_same : (o : ActiveTransaction) (page : ℕ) → wants_of mid.store.book o page ≡ wants_of old.store.book o page
   wants_same o page = ap (λ (b : Book). wants_of b o page) loads.book
 
-  pub Changes-loaded : (new : Parts) (o : Out) (rest : List Out) (owner page offset : ℕ) (bytes : List ℕ) → offset + length bytes ≤ 4096 → LeavesWanted old mid → Changes mid new o rest owner page offset bytes → Changes old new o rest owner page offset bytes
+  pub Changes-loaded : (new : Parts) (o : ActiveTransaction) (rest : List ActiveTransaction) (owner page offset : ℕ) (bytes : List ℕ) → offset + length bytes ≤ 4096 → LeavesWanted old mid → Changes mid new o rest owner page offset bytes → Changes old new o rest owner page offset bytes
   Changes-loaded new o rest owner page offset bytes range leaves changes =
       let w = wants_same o page in
       let logged = subst (λ (v : Wants). IsLogged old.store.journal new.store.journal (change_len v (length bytes))) w (IsLogged-behind old.store.journal mid.store.journal new.store.journal (change_len (wants_of mid.store.book o page) (length bytes)) loads.journal changes.journal) in
@@ -88,8 +89,8 @@ module _ (old mid : Parts) (loads : Loads old mid) where
         was = λ want now store. as_told old.told mid.told (changes.image ≡ now page) (leaves.each want now store).tells (changes.was want now (loads.pages want now store));
         book = changes.book ∙ ap (λ (b : Book). with_change b o rest (undo_in page offset changes.image bytes)) loads.book;
         pages = λ want now store. changes.pages want now (loads.pages want now store);
-        logged = λ want now opened pending ties.
-            let at = loads.logged want now opened pending ties in
+        logged = λ want now opened pending holds.
+            let at = loads.logged want now opened pending holds in
             let done = changes.logged want now at.0 at.1 at.2 in
             let c = change_in o owner page offset changes.image bytes in (
               done.0,

@@ -27,15 +27,16 @@ use Rattle.sb_pool.specs.State as pool
 use Rattle.sb_pool.proofs.StoreLemmas.{SamePages, AgreesOn-same, ArePagesOn-same}
 use Rattle.sb_txn.specs.declared.changing.Wants.{Wants}
 use Rattle.sb_txn.specs.Ahead.{Leans}
-use Rattle.sb_txn.specs.Book.{Undo, Out, Book, AreClear, actives, begun_in, changed_out, with_change, wants_of, change_len}
-use Rattle.sb_txn.specs.Changing.{IsNext}
+use Rattle.sb_txn.specs.Book.{Undo, ActiveTransaction, Book, AreClear, views, begun_in, changed_transaction, with_change, wants_of, change_len}
+use Rattle.sb_txn.specs.Changing.{before, IsNext}
 use Rattle.sb_txn.specs.Clauses.{HasRoom}
+use Rattle.sb_txn.specs.Parts.{stored}
 use Rattle.sb_txn.specs.Logging.{HasSpace, records_len}
 use Rattle.sb_txn.specs.State.{together}
-use Rattle.sb_txn.specs.Tied.{UndoFits, AreOut, AreOnce, IsBookOf, HasReserve, Ties}
-use Rattle.sb_txn.proofs.ChangesLemmas.{changed, imaged-changed, imaged-other, imaged-page, AreBelow-changed, IsOut-changed}
+use Rattle.sb_txn.specs.Tied.{UndoFits, AreTransactionsOf, AreOnce, IsBookOf, HasReserve, Holds}
+use Rattle.sb_txn.proofs.ChangesLemmas.{changed, imaged-changed, imaged-other, imaged-page, AreBelow-changed, IsTransactionOf-changed}
 use Rattle.sb_txn.proofs.EndLemmas.{few_more}
-use Rattle.sb_txn.proofs.OthersLemmas.{own-changed, AreOut-still, IsFree-others}
+use Rattle.sb_txn.proofs.OthersLemmas.{own-changed, AreTransactionsOf-still, IsFree-others}
 use Rattle.sb_txn.proofs.RoomLemmas.{gates-lens}
 
 -- ---- room
@@ -43,7 +44,7 @@ cond-most : (b : Bool) (n : ℕ) → cond b n 0 ≤ n
 cond-most true n = omega arith
 cond-most false n = omega arith
 
-begun_most : (os : List Out) → begun_in os ≤ length os
+begun_most : (os : List ActiveTransaction) → begun_in os ≤ length os
 begun_most [] = omega arith
 begun_most (o ∷ os) = let h = begun_most os in let c = cond-most o.begun 1 in omega arith
 
@@ -90,8 +91,8 @@ module _ (g : Geometry) (j : journal.State) (gates : j.gates ≡ gates_of g) (lo
 
 -- ---- the change may come next
 -- the first transaction changes a range of a page
-module _ (now : ℕ → List ℕ) (p : pool.State) (book : Book) (opened pending : List Record) (o : Out) (rest : List Out) (owner page offset : ℕ) (image bytes : List ℕ)
-    (knows : IsBookOf p.geometry.pages (opened ++ pending) book) (is : book.out ≡ o ∷ rest) (lt : page < p.geometry.pages) (range : offset + length bytes ≤ 4096) (long : length image ≡ 4096) where
+module _ (now : ℕ → List ℕ) (p : pool.State) (book : Book) (opened pending : List Record) (o : ActiveTransaction) (rest : List ActiveTransaction) (owner page offset : ℕ) (image bytes : List ℕ)
+    (knows : IsBookOf p.geometry.pages (opened ++ pending) book) (is : book.actives ≡ o ∷ rest) (lt : page < p.geometry.pages) (range : offset + length bytes ≤ 4096) (long : length image ≡ 4096) where
   abbrev recs : List Record
   recs = opened ++ pending
 
@@ -107,11 +108,11 @@ module _ (now : ℕ → List ℕ) (p : pool.State) (book : Book) (opened pending
   abbrev pub edit_book : Book
   edit_book = with_change book o rest edit_undo
 
-  outs : AreOut p.geometry.pages recs book.next (o ∷ rest)
-  outs = subst (λ (l : List Out). AreOut p.geometry.pages recs book.next l) is knows.out
+  transactions : AreTransactionsOf p.geometry.pages recs book.next (o ∷ rest)
+  transactions = subst (λ (l : List ActiveTransaction). AreTransactionsOf p.geometry.pages recs book.next l) is knows.actives
 
-  once : IsInactive o.tx (actives rest) × AreOnce rest
-  once = subst (λ (l : List Out). AreOnce l) is knows.once
+  once : IsInactive o.tx (views rest) × AreOnce rest
+  once = subst (λ (l : List ActiveTransaction). AreOnce l) is knows.once
 
   size_before : length (take (length bytes) (drop offset image)) ≡ length bytes
   size_before = let a = length-take (length bytes) (drop offset image) in let b = length-drop offset image in omega arith
@@ -123,16 +124,16 @@ module _ (now : ℕ → List ℕ) (p : pool.State) (book : Book) (opened pending
   covered : imaged recs page ≡ not (not (slice_index_or book.imaged page false))
   covered = sym (knows.images page lt) ∙ sym (not_not (slice_index_or book.imaged page false))
 
-  pub edit_next : AreClear page offset (length bytes) rest → image ≡ now page → IsNext (wants_of book o page) o.tx (length o.undos) page image now opened pending (actives rest) edit_change
+  pub edit_next : AreClear page offset (length bytes) rest → image ≡ now page → IsNext (before (wants_of book o page) o.tx (length o.undos) page image) now opened pending (views rest) edit_change
   edit_next clear here = record {
     of_tx = refl;
     of_page = refl;
     is = here;
     fits = range;
     beneath = record { size = size_before; is = ap (λ (l : List ℕ). take (length bytes) (drop offset l)) here };
-    logged = outs.0.logged;
+    logged = transactions.0.logged;
     covered = covered;
-    free = IsFree-others p.geometry.pages book.next opened pending edit_change (length o.undos) rest (wants_of book o page) page image outs.1 once.0 once.1 clear;
+    free = IsFree-others p.geometry.pages book.next opened pending edit_change (length o.undos) rest (wants_of book o page) page image transactions.1 once.0 once.1 clear;
   }
 
   is_imaged : imaged (opened ++ edit_records) page ≡ true
@@ -154,20 +155,20 @@ module _ (now : ℕ → List ℕ) (p : pool.State) (book : Book) (opened pending
   edit_knows = record {
     images = images_now;
     count = length-set book.imaged page true ∙ knows.count;
-    out = (
-      IsOut-changed p.geometry.pages opened pending book.next page image o (wants_of book o page) edit_undo edit_change refl refl (record { page = refl; offset = refl; before = refl; size = size_before }) outs.0 edit_fits,
-      AreOut-still p.geometry.pages recs (opened ++ edit_records) book.next o.tx rest once.0
+    actives = (
+      IsTransactionOf-changed p.geometry.pages opened pending book.next page image o (wants_of book o page) edit_undo edit_change refl refl (record { page = refl; offset = refl; before = refl; size = size_before }) transactions.0 edit_fits,
+      AreTransactionsOf-still p.geometry.pages recs (opened ++ edit_records) book.next o.tx rest once.0
           (λ t other. own-changed opened pending t o.tx other (wants_of book o page) (length o.undos) page image edit_change refl)
-          (λ q has. imaged-changed opened pending (wants_of book o page) o.tx (length o.undos) page image edit_change q has) outs.1,
+          (λ q has. imaged-changed opened pending (wants_of book o page) o.tx (length o.undos) page image edit_change q has) transactions.1,
     );
-    fresh = AreBelow-changed opened pending (wants_of book o page) o.tx (length o.undos) page image edit_change book.next outs.0.number refl knows.fresh;
+    fresh = AreBelow-changed opened pending (wants_of book o page) o.tx (length o.undos) page image edit_change book.next transactions.0.number refl knows.fresh;
     once = once;
-    most = let e = ap (λ (l : List Out). length l) is in let a = knows.most in omega arith;
+    most = let e = ap (λ (l : List ActiveTransaction). length l) is in let a = knows.most in omega arith;
   }
 
 -- ---- with room
-module _ (want now : ℕ → List ℕ) (told : Option Story) (size : ℕ) (j : journal.State) (p : pool.State) (book : Book) (opened pending : List Record) (o : Out) (rest : List Out) (owner page offset : ℕ) (image bytes : List ℕ)
-    (ties : Ties want now told size j p book opened pending) (is : book.out ≡ o ∷ rest) (lt : page < p.geometry.pages) (range : offset + length bytes ≤ 4096) (long : length image ≡ 4096)
+module _ (want now : ℕ → List ℕ) (told : Option Story) (size : ℕ) (j : journal.State) (p : pool.State) (book : Book) (opened pending : List Record) (o : ActiveTransaction) (rest : List ActiveTransaction) (owner page offset : ℕ) (image bytes : List ℕ)
+    (holds : Holds want now opened pending (stored told size j p book)) (is : book.actives ≡ o ∷ rest) (lt : page < p.geometry.pages) (range : offset + length bytes ≤ 4096) (long : length image ≡ 4096)
     (has : IsHeld p page) (bytes_held : bytes_or [] (held p page) ≡ image) (room : HasRoom (together j p book) o page (length bytes)) (clear : AreClear page offset (length bytes) rest) where
   abbrev w : Wants
   w = wants_of book o page
@@ -179,7 +180,7 @@ module _ (want now : ℕ → List ℕ) (told : Option Story) (size : ℕ) (j : j
   u = record { page = page; offset = offset; before = take (length bytes) (drop offset image) }
 
   abbrev act : List Active
-  act = active_with o.tx (length o.undos) ∷ actives rest
+  act = active_with o.tx (length o.undos) ∷ views rest
 
   abbrev more : List Record
   more = changed opened pending w o.tx (length o.undos) page image c
@@ -198,27 +199,27 @@ module _ (want now : ℕ → List ℕ) (told : Option Story) (size : ℕ) (j : j
   len_some : 15 ≤ change_len w (length bytes)
   len_some = omega arith
 
-  one_out : length book.out ≡ suc (length rest)
-  one_out = ap (λ (l : List Out). length l) is
+  one_active : length book.actives ≡ suc (length rest)
+  one_active = ap (λ (l : List ActiveTransaction). length l) is
 
   pub edit_space : HasSpace m j
-  edit_space = record { up = ties.up; bytes = let a = room.bytes in let b = room_of-least j.pending in let e = size_of in omega arith }
+  edit_space = record { up = holds.up; bytes = let a = room.bytes in let b = room_of-least j.pending in let e = size_of in omega arith }
 
   store_at : IsStoreOn want now told j p.geometry opened pending act
-  store_at = subst (λ (l : List Out). IsStoreOn want now told j p.geometry opened pending (actives l)) is ties.store
+  store_at = subst (λ (l : List ActiveTransaction). IsStoreOn want now told j p.geometry opened pending (views l)) is holds.store
 
-  next : (s : Story) → ArePagesOn now (Some s) j p → IsNext w o.tx (length o.undos) page image now opened pending (actives rest) c
-  next s pages = edit_next now p book opened pending o rest owner page offset image bytes ties.knows is lt range long clear (is_now now s j p page image ties.up has bytes_held lt pages)
+  next : (s : Story) → ArePagesOn now (Some s) j p → IsNext (before w o.tx (length o.undos) page image) now opened pending (views rest) c
+  next s pages = edit_next now p book opened pending o rest owner page offset image bytes holds.knows is lt range long clear (is_now now s j p page image holds.up has bytes_held lt pages)
 
   -- a disk that tells nothing has any store
-  by_told : (a b : Option Story) (P : Type 0) → is_some a ≡ is_some b → ArePagesOn now a j p → (a ≡ None → b ≡ None → P) → (IsNext w o.tx (length o.undos) page image now opened pending (actives rest) c → P) → P
+  by_told : (a b : Option Story) (P : Type 0) → is_some a ≡ is_some b → ArePagesOn now a j p → (a ≡ None → b ≡ None → P) → (IsNext (before w o.tx (length o.undos) page image) now opened pending (views rest) c → P) → P
   by_told None None P tells pages none some = none refl refl
   by_told None (Some t) P tells pages none some = absurd (false≢true tells)
   by_told (Some s) b P tells pages none some = some (next s pages)
 
   module _ (new : Option Story) (tells : is_some told ≡ is_some new) where
-    pub edit_leaves : (IsNext w o.tx (length o.undos) page image now opened pending (actives rest) c → IsStoreOn want now told j p.geometry opened pending act → LeavesOnly told new (Restores p.geometry want)) → LeavesOnly told new (Restores p.geometry want)
-    edit_leaves leaves = by_told told new (LeavesOnly told new (Restores p.geometry want)) tells ties.pages
+    pub edit_leaves : (IsNext (before w o.tx (length o.undos) page image) now opened pending (views rest) c → IsStoreOn want now told j p.geometry opened pending act → LeavesOnly told new (Restores p.geometry want)) → LeavesOnly told new (Restores p.geometry want)
+    edit_leaves leaves = by_told told new (LeavesOnly told new (Restores p.geometry want)) tells holds.pages
         (λ a b. subst (λ (x : Option Story). LeavesOnly x new (Restores p.geometry want)) (sym a) (subst (λ (x : Option Story). LeavesOnly None x (Restores p.geometry want)) (sym b) none_leaves))
         (λ is_next. leaves is_next store_at)
       where
@@ -226,79 +227,79 @@ module _ (want now : ℕ → List ℕ) (told : Option Story) (size : ℕ) (j : j
         none_leaves = record { tells = refl; later = omega arith; before = λ t image lt left. absurd left; since = λ t image le left. absurd left }
 
     module _ (len : ℕ) (k : journal.State) (done : k ≡ after_append m j) (same : WhereTold told new (λ s t. AgreesBut (j.log ∷ []) s.now.reads t.now.reads)) (stands : StandsOn new k) (sized : len ≡ size) where
-      edit_store : (IsNext w o.tx (length o.undos) page image now opened pending (actives rest) c → IsStoreOn want now told j p.geometry opened pending act
-          → IsStoreOn want (with_range c bytes now) new k p.geometry opened more (active_with o.tx (suc (length o.undos)) ∷ actives rest))
-          → IsStoreOn want (with_bytes page offset bytes now) new k p.geometry opened more (actives (changed_out o u ∷ rest))
+      edit_store : (IsNext (before w o.tx (length o.undos) page image) now opened pending (views rest) c → IsStoreOn want now told j p.geometry opened pending act
+          → IsStoreOn want (with_range c bytes now) new k p.geometry opened more (active_with o.tx (suc (length o.undos)) ∷ views rest))
+          → IsStoreOn want (with_bytes page offset bytes now) new k p.geometry opened more (views (changed_transaction o u ∷ rest))
       edit_store stored =
-          subst (λ (n : ℕ). IsStoreOn want (with_bytes page offset bytes now) new k p.geometry opened more (active_with o.tx n ∷ actives rest)) (let e = length_push o.undos u in omega arith)
-          (by_told told new (IsStoreOn want (with_range c bytes now) new k p.geometry opened more (active_with o.tx (suc (length o.undos)) ∷ actives rest)) tells ties.pages
-          (λ a b. subst (λ (x : Option Story). IsStoreOn want (with_range c bytes now) x k p.geometry opened more (active_with o.tx (suc (length o.undos)) ∷ actives rest)) (sym b) tt)
+          subst (λ (n : ℕ). IsStoreOn want (with_bytes page offset bytes now) new k p.geometry opened more (active_with o.tx n ∷ views rest)) (let e = length_push o.undos u in omega arith)
+          (by_told told new (IsStoreOn want (with_range c bytes now) new k p.geometry opened more (active_with o.tx (suc (length o.undos)) ∷ views rest)) tells holds.pages
+          (λ a b. subst (λ (x : Option Story). IsStoreOn want (with_range c bytes now) x k p.geometry opened more (active_with o.tx (suc (length o.undos)) ∷ views rest)) (sym b) tt)
           (λ is_next. stored is_next store_at))
 
       up_now : k.failed ≡ false
-      up_now = ap (λ (x : journal.State). x.failed) done ∙ ties.up
+      up_now = ap (λ (x : journal.State). x.failed) done ∙ holds.up
 
       same_pages : WhereTold told new (SamePages p.geometry)
-      same_pages = SamePages-log p.geometry j ties.serves.gates ties.serves.log told new same
+      same_pages = SamePages-log p.geometry j holds.serves.gates holds.serves.log told new same
 
       used_now : used_of k ≡ bytes_of j.lens + 4 + j.pending + m
       used_now = used-append j k m (let e = size_of in let s = len_some in omega arith) done
 
       edit_serves : Serves new len k p.geometry
       edit_serves = record {
-        sizes = ties.serves.sizes;
-        room = let h = ties.serves.room in omega arith;
-        gates = ap (λ (x : journal.State). x.gates) done ∙ ties.serves.gates;
-        log = ap (λ (x : journal.State). x.log) done ∙ ties.serves.log;
+        sizes = holds.serves.sizes;
+        room = let h = holds.serves.room in omega arith;
+        gates = ap (λ (x : journal.State). x.gates) done ∙ holds.serves.gates;
+        log = ap (λ (x : journal.State). x.log) done ∙ holds.serves.log;
         stands = stands;
-        clean = ap (λ (x : journal.State). x.clean) done ∙ ties.serves.clean;
+        clean = ap (λ (x : journal.State). x.clean) done ∙ holds.serves.clean;
         free = λ pending_some.
             let l = ap (λ (x : journal.State). length x.lens) done in
             let g = ap (λ (x : journal.State). x.gates.len) done in
-            let e = ap (λ (x : Range). x.len) ties.serves.gates in
+            let e = ap (λ (x : Range). x.len) holds.serves.gates in
             let h = room.gates in
-            let q = one_out in
+            let q = one_active in
             omega arith;
       }
 
       edit_spare : HasReserve k (with_change book o rest u)
       edit_spare =
-          let q = one_out in
+          let q = one_active in
           let us = used_now in
           let e = size_of in
           let s = len_some in
           let r = room_of-most j.pending in
           let rl = room_of-least j.pending in
           record {
-            few = All-cons (λ (x : Out). length x.undos ≤ used_of k) (changed_out o u) rest
-                (let a = All-head (λ (x : Out). length x.undos ≤ used_of j) o rest (subst (λ (l : List Out). All (λ (x : Out). length x.undos ≤ used_of j) l) is ties.spare.few) in let b = length_push o.undos u in omega arith)
+            few = All-cons (λ (x : ActiveTransaction). length x.undos ≤ used_of k) (changed_transaction o u) rest
+                (let a = All-head (λ (x : ActiveTransaction). length x.undos ≤ used_of j) o rest (subst (λ (l : List ActiveTransaction). All (λ (x : ActiveTransaction). length x.undos ≤ used_of j) l) is holds.spare.few) in let b = length_push o.undos u in omega arith)
                 (few_more (used_of j) (used_of k) rest (let a = room.bytes in let b = room_of-most j.pending in omega arith)
-                (All-tail (λ (x : Out). length x.undos ≤ used_of j) o rest (subst (λ (l : List Out). All (λ (x : Out). length x.undos ≤ used_of j) l) is ties.spare.few)));
+                (All-tail (λ (x : ActiveTransaction). length x.undos ≤ used_of j) o rest (subst (λ (l : List ActiveTransaction). All (λ (x : ActiveTransaction). length x.undos ≤ used_of j) l) is holds.spare.few)));
             room = let a = room.bytes in let b = begun_most rest in let l = ap (λ (x : journal.State). x.log.len) done in omega arith;
             gates =
                 let m = begun_most rest in
                 let a = room.gates in
                 let l = ap (λ (x : journal.State). length x.lens) done in
                 let g = ap (λ (x : journal.State). x.gates.len) done in
-                let b = ap (λ (x : Range). x.len) ties.serves.gates in
+                let b = ap (λ (x : Range). x.len) holds.serves.gates in
                 let d = gates-lens k in
                 omega arith;
           }
 
-      pub Leans-logged : (IsNext w o.tx (length o.undos) page image now opened pending (actives rest) c → IsStoreOn want now told j p.geometry opened pending act
-          → IsStoreOn want (with_range c bytes now) new k p.geometry opened more (active_with o.tx (suc (length o.undos)) ∷ actives rest))
-          → Leans want now (with_bytes page offset bytes now) new len k p (with_change book o rest u) opened more
+      pub Leans-logged : (IsNext (before w o.tx (length o.undos) page image) now opened pending (views rest) c → IsStoreOn want now told j p.geometry opened pending act
+          → IsStoreOn want (with_range c bytes now) new k p.geometry opened more (active_with o.tx (suc (length o.undos)) ∷ views rest))
+          → Leans want now (with_bytes page offset bytes now) opened more (stored new len k p (with_change book o rest u))
       Leans-logged stored = record {
         up = up_now;
         store = edit_store stored;
         serves = edit_serves;
-        agrees = AgreesOn-same j k (λ up. ties.up) p told new same_pages ties.agrees;
-        pages = ArePagesOn-same j k (λ up. ties.up) now p told new same_pages ties.pages;
-        dirty = λ q dirty. imaged-changed opened pending w o.tx (length o.undos) page image c q (ties.dirty q dirty);
-        position = let a = ties.position in let b = used_now in let d = room_of-most j.pending in omega arith;
-        knows = edit_knows now p book opened pending o rest owner page offset image bytes ties.knows is lt range long;
+        agrees = AgreesOn-same j k (λ up. holds.up) p told new same_pages holds.agrees;
+        pages = ArePagesOn-same j k (λ up. holds.up) now p told new same_pages holds.pages;
+        dirty = λ q dirty. imaged-changed opened pending w o.tx (length o.undos) page image c q (holds.dirty q dirty);
+        position = let a = holds.position in let b = used_now in let d = room_of-most j.pending in omega arith;
+        knows = edit_knows now p book opened pending o rest owner page offset image bytes holds.knows is lt range long;
         spare = edit_spare;
       }
 
       pub covered-logged : imaged (opened ++ more) page ≡ true
-      covered-logged = is_imaged now p book opened pending o rest owner page offset image bytes ties.knows is lt range long
+      covered-logged = is_imaged now p book opened pending o rest owner page offset image bytes holds.knows is lt range long

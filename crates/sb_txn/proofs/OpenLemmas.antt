@@ -18,10 +18,11 @@ use Rattle.sb_pool.specs.State.{Held, held, IsWritten, IsDirty, empty_pool}
 use Rattle.sb_pool.specs.State as pool
 use Rattle.sb_recover.specs.Restarted.{IsRestarted}
 use Rattle.sb_recover.proofs.MountLemmas.{IsMounted-pages, IsMounted-restarted, IsReadyOn-restarted}
-use Rattle.sb_txn.specs.Book.{Out, Book, empty_book}
+use Rattle.sb_txn.specs.Book.{ActiveTransaction, Book, empty_book}
 use Rattle.sb_txn.specs.Opened.{IsOpened}
 use Rattle.sb_txn.specs.State.{together}
-use Rattle.sb_txn.specs.Tied.{IsBookOf, HasReserve, Ties}
+use Rattle.sb_txn.specs.Tied.{IsBookOf, HasReserve, Holds}
+use Rattle.sb_txn.specs.Parts.{stored}
 
 -- ---- the journal
 module _ (g : Geometry) (j : journal.State) where
@@ -73,21 +74,21 @@ IsBookOf-empty : (count : ℕ) → IsBookOf count [] (empty_book count)
 IsBookOf-empty count = record {
   images = λ q lt. get_or-replicate count q false false lt;
   count = length-replicate count false;
-  out = tt;
+  actives = tt;
   fresh = tt;
   once = tt;
   most = omega arith;
 }
 
 HasReserve-empty : (g : Geometry) → HasReserve (opened (gates_of g) (log_of g) [] true) (empty_book g.pages)
-HasReserve-empty g = record { few = All-nil (λ (o : Out). length o.undos ≤ 0); room = omega arith; gates = omega arith }
+HasReserve-empty g = record { few = All-nil (λ (o : ActiveTransaction). length o.undos ≤ 0); room = omega arith; gates = omega arith }
 
 -- ---- the store
 module _ (g : Geometry) (sizes : IsGeometry g) (size : ℕ) (room : need g.pages g.log ≤ size) (told : Option Story) (stands : StandsOn told (opened (gates_of g) (log_of g) [] true)) (agrees : AgreesOn told (opened (gates_of g) (log_of g) [] true) (empty_pool g)) where
   abbrev journal_of : journal.State
   journal_of = opened (gates_of g) (log_of g) [] true
 
-  ties_open : (want : ℕ → List ℕ) → IsReadyOn want told journal_of g [] [] → Ties want want told size journal_of (empty_pool g) (empty_book g.pages) [] []
+  ties_open : (want : ℕ → List ℕ) → IsReadyOn want told journal_of g [] [] → Holds want want [] [] (stored told size journal_of (empty_pool g) (empty_book g.pages))
   ties_open want ready = record {
     up = refl;
     store = IsStoreOn-empty want told journal_of g ready;
@@ -114,14 +115,14 @@ pub record Makes (old new : Option Story) (size : ℕ) (g : Geometry) (j : journ
   pub no_record : book ≡ empty_book g.pages
 
 module _ (old new : Option Story) (before size : ℕ) (g : Geometry) (j : journal.State) (p : pool.State) (book : Book) (makes : Makes old new size g j p book) where
-  ties_made : (want : ℕ → List ℕ) → IsMounted want new g → Ties want want new size j p book [] []
+  ties_made : (want : ℕ → List ℕ) → IsMounted want new g → Holds want want [] [] (stored new size j p book)
   ties_made want mounted =
       let ready = IsReadyOn-restarted g want old new j makes.restart mounted makes.read makes.sound makes.stands in
       let stands = subst (λ (k : journal.State). StandsOn new k) makes.empty makes.stands in
       let agrees = subst (λ (x : pool.State). AgreesOn new (opened (gates_of g) (log_of g) [] true) x) makes.no_page (subst (λ (k : journal.State). AgreesOn new k p) makes.empty makes.agrees) in
-      subst (λ (k : journal.State). Ties want want new size k p book [] []) (sym makes.empty)
-      (subst (λ (x : pool.State). Ties want want new size (opened (gates_of g) (log_of g) [] true) x book [] []) (sym makes.no_page)
-      (subst (λ (b : Book). Ties want want new size (opened (gates_of g) (log_of g) [] true) (empty_pool g) b [] []) (sym makes.no_record)
+      subst (λ (k : journal.State). Holds want want [] [] (stored new size k p book)) (sym makes.empty)
+      (subst (λ (x : pool.State). Holds want want [] [] (stored new size (opened (gates_of g) (log_of g) [] true) x book)) (sym makes.no_page)
+      (subst (λ (b : Book). Holds want want [] [] (stored new size (opened (gates_of g) (log_of g) [] true) (empty_pool g) b)) (sym makes.no_record)
       (ties_open g makes.sizes size makes.room new stands agrees want (subst (λ (k : journal.State). IsReadyOn want new k g [] []) makes.empty ready))))
 
   geometry_is : p.geometry ≡ g

@@ -5,16 +5,16 @@ use Rattle.std.proofs.Math.ListN.{get_or-map}
 use Rattle.std.proofs.lemmas.Bool.{false≢true, lt-ltb}
 use Rattle.std.proofs.lemmas.List.{length-map, take-map, drop-map, map-append}
 use Rattle.std.proofs.lemmas.List.Quantifiers.{position-Some}
-use Rattle.sb_txn.specs.Book.{Out, Book, out_with, IsAmong, others, IsOnly, standing_of, with_out, leading, called}
+use Rattle.sb_txn.specs.Book.{ActiveTransaction, Book, transaction_with, IsAmong, others, IsOnly, standing_of, with_actives, leading, called}
 
 -- it has this number
-abbrev pub has : ℕ → Out → Bool
+abbrev pub has : ℕ → ActiveTransaction → Bool
 has tx o = o.tx == tx
 
 -- ---- the first one
-module _ (tx : ℕ) (o : Out) (rest : List Out) (is : o.tx ≡ tx) where
-  pub out_with-first : out_with tx (o ∷ rest) ≡ Some o
-  out_with-first = ap (λ (b : Bool). cond b (Some o) (out_with tx rest)) (eq-eqb o.tx tx is)
+module _ (tx : ℕ) (o : ActiveTransaction) (rest : List ActiveTransaction) (is : o.tx ≡ tx) where
+  pub transaction_with-first : transaction_with tx (o ∷ rest) ≡ Some o
+  transaction_with-first = ap (λ (b : Bool). cond b (Some o) (transaction_with tx rest)) (eq-eqb o.tx tx is)
 
   pub others-first : others tx (o ∷ rest) ≡ rest
   others-first = ap (λ (b : Bool). cond b rest (o ∷ others tx rest)) (eq-eqb o.tx tx is)
@@ -23,58 +23,58 @@ module _ (tx : ℕ) (o : Out) (rest : List Out) (is : o.tx ≡ tx) where
   standing_of-first = ap (λ (b : Bool). cond b (length o.undos) (standing_of tx rest)) (eq-eqb o.tx tx is)
 
 -- one that is alone is the only one
-pub IsOnly-one : (tx : ℕ) (o : Out) → o.tx ≡ tx → IsOnly tx (o ∷ [])
-IsOnly-one tx o is = (subst IsSome (sym (out_with-first tx o [] is)) refl, others-first tx o [] is)
+pub IsOnly-one : (tx : ℕ) (o : ActiveTransaction) → o.tx ≡ tx → IsOnly tx (o ∷ [])
+IsOnly-one tx o is = (subst IsSome (sym (transaction_with-first tx o [] is)) refl, others-first tx o [] is)
 
 -- ---- by its place
 -- it stands at the place, and none before it has its number
-abbrev StandsAt : ℕ → Out → List Out → ℕ → Type 0
-StandsAt tx d out n = (n < length out) × (has tx (get_or out n d) ≡ true) × ((k : ℕ) → k < n → has tx (get_or out k d) ≡ false)
+abbrev StandsAt : ℕ → ActiveTransaction → List ActiveTransaction → ℕ → Type 0
+StandsAt tx d actives n = (n < length actives) × (has tx (get_or actives n d) ≡ true) × ((k : ℕ) → k < n → has tx (get_or actives k d) ≡ false)
 
-module _ (tx : ℕ) (d : Out) where
-  behind : (o : Out) (os : List Out) (n : ℕ) → StandsAt tx d (o ∷ os) (suc n) → StandsAt tx d os n
+module _ (tx : ℕ) (d : ActiveTransaction) where
+  behind : (o : ActiveTransaction) (os : List ActiveTransaction) (n : ℕ) → StandsAt tx d (o ∷ os) (suc n) → StandsAt tx d os n
   behind o os n at = (omega (arith, at.0), at.1, λ k lt. at.2 (suc k) (omega arith))
 
-  out_with-at : (out : List Out) (n : ℕ) → StandsAt tx d out n → out_with tx out ≡ Some (get_or out n d)
-  out_with-at [] n at = absurd (omega (arith, at.0))
-  out_with-at (o ∷ os) zero at = ap (λ (b : Bool). cond b (Some o) (out_with tx os)) at.1
-  out_with-at (o ∷ os) (suc n) at = ap (λ (b : Bool). cond b (Some o) (out_with tx os)) (at.2 zero (omega arith)) ∙ out_with-at os n (behind o os n at)
+  transaction_with-at : (actives : List ActiveTransaction) (n : ℕ) → StandsAt tx d actives n → transaction_with tx actives ≡ Some (get_or actives n d)
+  transaction_with-at [] n at = absurd (omega (arith, at.0))
+  transaction_with-at (o ∷ os) zero at = ap (λ (b : Bool). cond b (Some o) (transaction_with tx os)) at.1
+  transaction_with-at (o ∷ os) (suc n) at = ap (λ (b : Bool). cond b (Some o) (transaction_with tx os)) (at.2 zero (omega arith)) ∙ transaction_with-at os n (behind o os n at)
 
-  others-at : (out : List Out) (n : ℕ) → StandsAt tx d out n → others tx out ≡ remove out n
+  others-at : (actives : List ActiveTransaction) (n : ℕ) → StandsAt tx d actives n → others tx actives ≡ remove actives n
   others-at [] n at = absurd (omega (arith, at.0))
   others-at (o ∷ os) zero at = ap (λ (b : Bool). cond b os (o ∷ others tx os)) at.1
-  others-at (o ∷ os) (suc n) at = ap (λ (b : Bool). cond b os (o ∷ others tx os)) (at.2 zero (omega arith)) ∙ ap (λ (l : List Out). o ∷ l) (others-at os n (behind o os n at))
+  others-at (o ∷ os) (suc n) at = ap (λ (b : Bool). cond b os (o ∷ others tx os)) (at.2 zero (omega arith)) ∙ ap (λ (l : List ActiveTransaction). o ∷ l) (others-at os n (behind o os n at))
 
 -- where an active one stands
-place-below : (tx : ℕ) (out : List Out) → IsAmong tx out → position_or_len (has tx) out < length out
+place-below : (tx : ℕ) (actives : List ActiveTransaction) → IsAmong tx actives → position_or_len (has tx) actives < length actives
 place-below tx [] among = absurd (cc)
 place-below tx (o ∷ os) among = by_case (has tx o) (place-below tx os) among
   where
-    by_case : (b : Bool) → (IsAmong tx os → position_or_len (has tx) os < length os) → IsSome (cond b (Some o) (out_with tx os)) → cond (not b) (1 + position_or_len (has tx) os) 0 < length (o ∷ os)
+    by_case : (b : Bool) → (IsAmong tx os → position_or_len (has tx) os < length os) → IsSome (cond b (Some o) (transaction_with tx os)) → cond (not b) (1 + position_or_len (has tx) os) 0 < length (o ∷ os)
     by_case true behind is = omega arith
     by_case false behind is = let lt = behind is in omega arith
 
 -- an active one has a place
-pub IsSome-place : (tx : ℕ) (out : List Out) → IsAmong tx out → IsSome (position (has tx) out)
-IsSome-place tx out among =
-    let place = position_or_len (has tx) out in
-    ap (λ (b : Bool). is_some (cond b (Some place) None)) (lt-ltb place (length out) (place-below tx out among))
+pub IsSome-place : (tx : ℕ) (actives : List ActiveTransaction) → IsAmong tx actives → IsSome (position (has tx) actives)
+IsSome-place tx actives among =
+    let place = position_or_len (has tx) actives in
+    ap (λ (b : Bool). is_some (cond b (Some place) None)) (lt-ltb place (length actives) (place-below tx actives among))
 
 -- one that has no place has no change
-standing_of-unfound : (tx : ℕ) (os : List Out) → out_with tx os ≡ None → standing_of tx os ≡ 0
+standing_of-unfound : (tx : ℕ) (os : List ActiveTransaction) → transaction_with tx os ≡ None → standing_of tx os ≡ 0
 standing_of-unfound tx [] none = refl
 standing_of-unfound tx (o ∷ os) none = by_test (has tx o) (standing_of-unfound tx os) none
   where
-    by_test : (t : Bool) → (out_with tx os ≡ None → standing_of tx os ≡ 0) → cond t (Some o) (out_with tx os) ≡ None → cond t (length o.undos) (standing_of tx os) ≡ 0
+    by_test : (t : Bool) → (transaction_with tx os ≡ None → standing_of tx os ≡ 0) → cond t (Some o) (transaction_with tx os) ≡ None → cond t (length o.undos) (standing_of tx os) ≡ 0
     by_test true behind is = absurd (cc)
     by_test false behind is = behind is
 
-pub standing_of-unplaced : (tx : ℕ) (out : List Out) → position (has tx) out ≡ None → standing_of tx out ≡ 0
-standing_of-unplaced tx out none = by_option (out_with tx out) refl
+pub standing_of-unplaced : (tx : ℕ) (actives : List ActiveTransaction) → position (has tx) actives ≡ None → standing_of tx actives ≡ 0
+standing_of-unplaced tx actives none = by_option (transaction_with tx actives) refl
   where
-    by_option : (found : Option Out) → out_with tx out ≡ found → standing_of tx out ≡ 0
-    by_option None is = standing_of-unfound tx out is
-    by_option (Some o) is = absurd (false≢true (ap is_some (sym none) ∙ IsSome-place tx out (ap is_some is)))
+    by_option : (found : Option ActiveTransaction) → transaction_with tx actives ≡ found → standing_of tx actives ≡ 0
+    by_option None is = standing_of-unfound tx actives is
+    by_option (Some o) is = absurd (false≢true (ap is_some (sym none) ∙ IsSome-place tx actives (ap is_some is)))
 
 -- ---- where a list stands for the active ones
 -- the place in it
@@ -87,13 +87,13 @@ position-map p f xs =
     ap (λ n. cond (nat_lt n (length (map f xs))) (Some n) None) (position_or_len-map p f xs) ∙ ap (λ n. cond (nat_lt (position_or_len (λ x. p (f x)) xs) n) (Some (position_or_len (λ x. p (f x)) xs)) None) (length-map xs f)
 
 -- what is there
-module _ {X : Type 0} (f : X → Out) (xs : List X) (x : X) (tx n : ℕ) (is : position (has tx) (map f xs) ≡ Some n) (at : x ≡ get_or xs n x) where
-  pub out_with-place : out_with tx (map f xs) ≡ Some (f x)
-  out_with-place = out_with-at tx (f x) (map f xs) n (position-Some (has tx) (map f xs) n (f x) is) ∙ ap Some (get_or-map f xs n x ∙ ap f (sym at))
+module _ {X : Type 0} (f : X → ActiveTransaction) (xs : List X) (x : X) (tx n : ℕ) (is : position (has tx) (map f xs) ≡ Some n) (at : x ≡ get_or xs n x) where
+  pub transaction_with-place : transaction_with tx (map f xs) ≡ Some (f x)
+  transaction_with-place = transaction_with-at tx (f x) (map f xs) n (position-Some (has tx) (map f xs) n (f x) is) ∙ ap Some (get_or-map f xs n x ∙ ap f (sym at))
 
   others-place : others tx (map f xs) ≡ map f (remove xs n)
   others-place = others-at tx (f x) (map f xs) n (position-Some (has tx) (map f xs) n (f x) is) ∙ rw (take-map f n xs, drop-map f (suc n) xs, map-append f (take n xs) (drop (suc n) xs))
 
-  pub called-place : (book : Book) → book.out ≡ map f xs → called tx book ≡ with_out book (map f (x ∷ remove xs n))
-  called-place book out =
-      ap (λ (l : List Out). with_out book (leading (out_with tx l) (others tx l))) out ∙ ap (with_out book) (ap (λ (o : Option Out). leading o (others tx (map f xs))) out_with-place ∙ ap (λ (l : List Out). f x ∷ l) others-place)
+  pub called-place : (book : Book) → book.actives ≡ map f xs → called tx book ≡ with_actives book (map f (x ∷ remove xs n))
+  called-place book same =
+      ap (λ (l : List ActiveTransaction). with_actives book (leading (transaction_with tx l) (others tx l))) same ∙ ap (with_actives book) (ap (λ (o : Option ActiveTransaction). leading o (others tx (map f xs))) transaction_with-place ∙ ap (λ (l : List ActiveTransaction). f x ∷ l) others-place)

@@ -14,17 +14,18 @@ use Rattle.sb_pool.specs.Pages.{bytes_or, AgreesOn, ArePagesOn, KeepsPages}
 use Rattle.sb_pool.specs.State.{Held, held, NoneMoreDirty}
 use Rattle.sb_pool.specs.State as pool
 use Rattle.sb_pool.proofs.StoreLemmas.{ArePagesOn-kept, IsStoreOn-with}
-use Rattle.sb_txn.specs.Book.{Out, Book, actives, called, with_out}
-use Rattle.sb_txn.specs.Clauses.{Parts, HoldsAll, Loads, Refused}
+use Rattle.sb_txn.specs.Book.{ActiveTransaction, Book, views, called, with_actives}
+use Rattle.sb_txn.specs.Clauses.{HoldsAll, Loads, Refused}
+use Rattle.sb_txn.specs.Parts.{Parts, stored}
 use Rattle.sb_txn.specs.State.{together}
-use Rattle.sb_txn.specs.Tied.{IsBookOf, HasReserve, Ties}
+use Rattle.sb_txn.specs.Tied.{IsBookOf, HasReserve, Holds}
 use Rattle.sb_txn.proofs.RoomLemmas.{SameRoom, SameRoom-forced}
 
 -- ---- room
 -- a journal whose chunks take as many bytes and gates has as much of both in reserve
 pub HasReserve-same : (j k : journal.State) (book : Book) → SameRoom j k → HasReserve j book → HasReserve k book
 HasReserve-same j k book same spare = record {
-  few = subst (λ (n : ℕ). All (λ (o : Out). length o.undos ≤ n) book.out) (sym same.used) spare.few;
+  few = subst (λ (n : ℕ). All (λ (o : ActiveTransaction). length o.undos ≤ n) book.actives) (sym same.used) spare.few;
   room = let e = same.used in let l = ap (λ (r : Range). r.len) same.log_is in let h = spare.room in omega arith;
   gates = let e = same.gates in let l = ap (λ (r : Range). r.len) same.gates_is in let h = spare.gates in omega arith;
 }
@@ -32,33 +33,33 @@ HasReserve-same j k book same spare = record {
 -- ---- a page is brought into memory
 module _ (want now : ℕ → List ℕ) (told new : Option Story) (size len : ℕ) (j k : journal.State) (p after : pool.State) (book : Book) (opened pending : List Record) where
   -- the store after a call of the pool that keeps the pages
-  pub HoldsAll-kept : Ties want now told size j p book opened pending → after.geometry ≡ p.geometry → after.position ≡ p.position → KeepsPages k p after told new → NoneMoreDirty p after → IsReadyWith want p.geometry (opened ++ pending) k told new
+  pub HoldsAll-kept : Holds want now opened pending (stored told size j p book) → after.geometry ≡ p.geometry → after.position ≡ p.position → KeepsPages k p after told new → NoneMoreDirty p after → IsReadyWith want p.geometry (opened ++ pending) k told new
       → IsSameOrForced j k → Serves new len k after.geometry → AgreesOn new k after → HoldsAll want now (opened ++ pending) (record { told = new; size = len; store = together k after book })
-  HoldsAll-kept ties sizes position kept fewer still forced serves agrees =
+  HoldsAll-kept holds sizes position kept fewer still forced serves agrees =
       let room = SameRoom-forced j k forced in
-      let goes = IsStoreOn-with want now j k p.geometry opened pending (actives book.out) told new ties.store still in (
+      let goes = IsStoreOn-with want now j k p.geometry opened pending (views book.actives) told new holds.store still in (
         goes.opened_now,
         goes.pending_now,
         record {
-          up = room.up ∙ ties.up;
-          store = subst (λ (g : Geometry). IsStoreOn want now new k g goes.opened_now goes.pending_now (actives book.out)) (sym sizes) goes.store;
+          up = room.up ∙ holds.up;
+          store = subst (λ (g : Geometry). IsStoreOn want now new k g goes.opened_now goes.pending_now (views book.actives)) (sym sizes) goes.store;
           serves = serves;
           agrees = agrees;
-          pages = ArePagesOn-kept j k (λ up. sym room.up ∙ up) now p after sizes told new kept ties.pages;
-          dirty = subst (λ (l : List Record). AreImaged after l) (sym goes.same) (λ q is. ties.dirty q (fewer q is));
-          position = let e = room.used in let h = ties.position in omega arith;
-          knows = subst (λ (l : List Record). IsBookOf after.geometry.pages l book) (sym goes.same) (subst (λ (g : Geometry). IsBookOf g.pages (opened ++ pending) book) (sym sizes) ties.knows);
-          spare = HasReserve-same j k book room ties.spare;
+          pages = ArePagesOn-kept j k (λ up. sym room.up ∙ up) now p after sizes told new kept holds.pages;
+          dirty = subst (λ (l : List Record). AreImaged after l) (sym goes.same) (λ q is. holds.dirty q (fewer q is));
+          position = let e = room.used in let h = holds.position in omega arith;
+          knows = subst (λ (l : List Record). IsBookOf after.geometry.pages l book) (sym goes.same) (subst (λ (g : Geometry). IsBookOf g.pages (opened ++ pending) book) (sym sizes) holds.knows);
+          spare = HasReserve-same j k book room holds.spare;
         },
         goes.same,
       )
 
 -- ---- what the calls say of it
 -- a transaction that is the first already
-called-first : (book : Book) (o : Out) (rest : List Out) → book.out ≡ o ∷ rest → called o.tx book ≡ book
-called-first book o rest is = subst (λ (l : List Out). called o.tx (with_out book l) ≡ with_out book l) (sym is) (rw (eq-eqb o.tx o.tx refl) refl)
+called-first : (book : Book) (o : ActiveTransaction) (rest : List ActiveTransaction) → book.actives ≡ o ∷ rest → called o.tx book ≡ book
+called-first book o rest is = subst (λ (l : List ActiveTransaction). called o.tx (with_actives book l) ≡ with_actives book l) (sym is) (rw (eq-eqb o.tx o.tx refl) refl)
 
-pub Refused-loads : (old new : Parts) (o : Out) (rest : List Out) → old.store.book.out ≡ o ∷ rest → Loads old new → Refused o.tx old new
+pub Refused-loads : (old new : Parts) (o : ActiveTransaction) (rest : List ActiveTransaction) → old.store.book.actives ≡ o ∷ rest → Loads old new → Refused o.tx old new
 Refused-loads old new o rest is loads = record {
   book = loads.book ∙ sym (called-first old.store.book o rest is);
   pages = loads.pages;

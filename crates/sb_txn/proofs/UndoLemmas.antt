@@ -18,11 +18,12 @@ use Rattle.sb_images.proofs.StoreLemmas.{IsStoreOn-step}
 use Rattle.sb_pool.specs.Pages.{with_bytes}
 use Rattle.sb_pool.specs.State as pool
 use Rattle.sb_txn.specs.Ahead.{Leans, IsAhead, CatchesUp, LeavesAhead}
-use Rattle.sb_txn.specs.Book.{Undo, Out, Book, actives, undone_out, standing_in, Pops}
-use Rattle.sb_txn.specs.Clauses.{Parts, HoldsPages, LeavesWanted, UndoesLast}
+use Rattle.sb_txn.specs.Book.{Undo, ActiveTransaction, Book, views, undone_transaction, standing_in, Pops}
+use Rattle.sb_txn.specs.Clauses.{HoldsPages, LeavesWanted, UndoesLast}
+use Rattle.sb_txn.specs.Parts.{Parts, stored}
 use Rattle.sb_txn.specs.State.{together}
-use Rattle.sb_txn.specs.Tied.{IsUndo, AreUndos, UndoFits, UndosFit, IsOut, Ties}
-use Rattle.sb_txn.proofs.EndLemmas.{first_out, first_store, first_once, rest_most, first_room, first_gates, first_few, rest_out, rest_few}
+use Rattle.sb_txn.specs.Tied.{IsUndo, AreUndos, UndoFits, UndosFit, IsTransactionOf, Holds}
+use Rattle.sb_txn.proofs.EndLemmas.{first_transaction, first_store, first_once, rest_most, first_room, first_gates, first_few, rest_transactions, rest_few}
 
 -- ---- undo lists and changes
 pub length-AreUndos : (us : List Undo) (cs : List Change) → AreUndos us cs → length cs ≡ length us
@@ -47,7 +48,7 @@ same_bytes : (u : Undo) (c : Change) (now : ℕ → List ℕ) → IsUndo u c →
 same_bytes u c now is =
     ap (λ (x : ℕ). with_bytes x c.offset c.before now) (sym is.page) ∙ ap (λ (x : ℕ). with_bytes u.page x c.before now) (sym is.offset) ∙ ap (λ (x : List ℕ). with_bytes u.page u.offset x now) (sym is.before)
 
-module _ (count : ℕ) (recs : List Record) (next : ℕ) (o : Out) (others : List Undo) (u : Undo) (was : o.undos ≡ others ++ u ∷ []) (out : IsOut count recs next o) where
+module _ (count : ℕ) (recs : List Record) (next : ℕ) (o : ActiveTransaction) (others : List Undo) (u : Undo) (was : o.undos ≡ others ++ u ∷ []) (is_one : IsTransactionOf count recs next o) where
   abbrev n : ℕ
   n = length others
 
@@ -56,7 +57,7 @@ module _ (count : ℕ) (recs : List Record) (next : ℕ) (o : Out) (others : Lis
 
   are : AreUndos (others ++ u ∷ []) (own_changes o.tx (keep o.tx (suc n) (standing recs)))
   are = subst (λ (k : ℕ). AreUndos (others ++ u ∷ []) (own_changes o.tx (keep o.tx k (standing recs)))) one_more
-      (subst (λ (us : List Undo). AreUndos us (own_changes o.tx (keep o.tx (length o.undos) (standing recs)))) was out.undos)
+      (subst (λ (us : List Undo). AreUndos us (own_changes o.tx (keep o.tx (length o.undos) (standing recs)))) was is_one.undos)
 
   enough : n < count_of o.tx (standing recs)
   enough =
@@ -75,67 +76,67 @@ module _ (count : ℕ) (recs : List Record) (next : ℕ) (o : Out) (others : Lis
       (subst (λ (cs : List Change). AreUndos (others ++ u ∷ []) cs) (HasLast-own o.tx n (standing recs) last_change) are)
 
   pub fits_last : UndoFits count recs u
-  fits_last = (UndosFit-last count recs others u (subst (λ (us : List Undo). UndosFit count recs us) was out.fit)).1
+  fits_last = (UndosFit-last count recs others u (subst (λ (us : List Undo). UndosFit count recs us) was is_one.fit)).1
 
   some_undo : others ++ u ∷ [] ≡ [] → ⊥
   some_undo e = absurd (let l = ap (λ (us : List Undo). length us) e in let m = length_push others u in omega arith)
 
-  pub IsOut-undone : IsOut count recs next (undone_out o others)
-  IsOut-undone = record {
+  pub IsTransactionOf-undone : IsTransactionOf count recs next (undone_transaction o others)
+  IsTransactionOf-undone = record {
     undos = parted.0;
     logged = λ e. absurd (false≢true (sym e));
-    none = λ e. absurd (some_undo (sym was ∙ out.none e));
-    number = out.number;
-    fit = (UndosFit-last count recs others u (subst (λ (us : List Undo). UndosFit count recs us) was out.fit)).0;
+    none = λ e. absurd (some_undo (sym was ∙ is_one.none e));
+    number = is_one.number;
+    fit = (UndosFit-last count recs others u (subst (λ (us : List Undo). UndosFit count recs us) was is_one.fit)).0;
   }
 
-module _ (want now : ℕ → List ℕ) (told : Option Story) (size : ℕ) (j : journal.State) (p : pool.State) (book after : Book) (o : Out) (rest : List Out) (is : book.out ≡ o ∷ rest) (u : Undo) (pops : Pops o rest book after u) (opened pending : List Record)
-    (ties : Ties want now told size j p book opened pending) where
+module _ (want now : ℕ → List ℕ) (told : Option Story) (size : ℕ) (j : journal.State) (p : pool.State) (book after : Book) (o : ActiveTransaction) (rest : List ActiveTransaction) (is : book.actives ≡ o ∷ rest) (u : Undo) (pops : Pops o rest book after u) (opened pending : List Record)
+    (holds : Holds want now opened pending (stored told size j p book)) where
   abbrev then : ℕ → List ℕ
   then = with_bytes u.page u.offset u.before now
 
   abbrev popped : Book
-  popped = record book { out = undone_out o pops.others ∷ rest }
+  popped = record book { actives = undone_transaction o pops.others ∷ rest }
 
-  out_first : IsOut p.geometry.pages (opened ++ pending) book.next o
-  out_first = first_out want now told size j p book o rest is opened pending ties
+  first_is_one : IsTransactionOf p.geometry.pages (opened ++ pending) book.next o
+  first_is_one = first_transaction want now told size j p book o rest is opened pending holds
 
   fits_popped : UndoFits p.geometry.pages (opened ++ pending) u
-  fits_popped = fits_last p.geometry.pages (opened ++ pending) book.next o pops.others u pops.was out_first
+  fits_popped = fits_last p.geometry.pages (opened ++ pending) book.next o pops.others u pops.was first_is_one
 
-  store_popped : IsStoreOn want then told j p.geometry opened pending (actives popped.out)
+  store_popped : IsStoreOn want then told j p.geometry opened pending (views popped.actives)
   store_popped =
-      let last = last_change p.geometry.pages (opened ++ pending) book.next o pops.others u pops.was out_first in
-      let was = subst (λ (n : ℕ). IsStoreOn want now told j p.geometry opened pending (active_with o.tx n ∷ actives rest)) (one_more p.geometry.pages (opened ++ pending) book.next o pops.others u pops.was out_first)
-      (first_store want now told size j p book o rest is opened pending ties) in
-      subst (λ (pages : ℕ → List ℕ). IsStoreOn want pages told j p.geometry opened pending (actives popped.out))
-      (same_bytes u last.c now (parted p.geometry.pages (opened ++ pending) book.next o pops.others u pops.was out_first).1)
-      (IsStoreOn-step want now j p.geometry opened pending (active_with o.tx (suc (length pops.others)) ∷ actives rest) (with_range last.c last.c.before now) (active_with o.tx (length pops.others) ∷ actives rest) told
-      (λ disk whole. IsWhole-undo p.geometry.pages disk now opened pending o.tx (length pops.others) (actives rest) last whole) was)
+      let last = last_change p.geometry.pages (opened ++ pending) book.next o pops.others u pops.was first_is_one in
+      let was = subst (λ (n : ℕ). IsStoreOn want now told j p.geometry opened pending (active_with o.tx n ∷ views rest)) (one_more p.geometry.pages (opened ++ pending) book.next o pops.others u pops.was first_is_one)
+      (first_store want now told size j p book o rest is opened pending holds) in
+      subst (λ (pages : ℕ → List ℕ). IsStoreOn want pages told j p.geometry opened pending (views popped.actives))
+      (same_bytes u last.c now (parted p.geometry.pages (opened ++ pending) book.next o pops.others u pops.was first_is_one).1)
+      (IsStoreOn-step want now j p.geometry opened pending (active_with o.tx (suc (length pops.others)) ∷ views rest) (with_range last.c last.c.before now) (active_with o.tx (length pops.others) ∷ views rest) told
+      (λ disk whole. IsWhole-undo p.geometry.pages disk now opened pending o.tx (length pops.others) (views rest) last whole) was)
 
-  leans_popped : Leans want now then told size j p popped opened pending
+  leans_popped : Leans want now then opened pending (stored told size j p popped)
   leans_popped = record {
-    up = ties.up;
+    up = holds.up;
     store = store_popped;
-    serves = ties.serves;
-    agrees = ties.agrees;
-    pages = ties.pages;
-    dirty = ties.dirty;
-    position = ties.position;
+    serves = holds.serves;
+    agrees = holds.agrees;
+    pages = holds.pages;
+    dirty = holds.dirty;
+    position = holds.position;
     knows = record {
-      images = ties.knows.images;
-      count = ties.knows.count;
-      out = (IsOut-undone p.geometry.pages (opened ++ pending) book.next o pops.others u pops.was out_first, rest_out want now told size j p book o rest is opened pending ties);
-      fresh = ties.knows.fresh;
-      once = first_once want now told size j p book o rest is opened pending ties;
-      most = rest_most want now told size j p book o rest is opened pending ties;
+      images = holds.knows.images;
+      count = holds.knows.count;
+      actives = (IsTransactionOf-undone p.geometry.pages (opened ++ pending) book.next o pops.others u pops.was first_is_one, rest_transactions want now told size j p book o rest is opened pending holds);
+      fresh = holds.knows.fresh;
+      once = first_once want now told size j p book o rest is opened pending holds;
+      most = rest_most want now told size j p book o rest is opened pending holds;
     };
     spare = record {
-      few = All-cons (λ (x : Out). length x.undos ≤ used_of j) (undone_out o pops.others) rest
-          (let e = one_more p.geometry.pages (opened ++ pending) book.next o pops.others u pops.was out_first in let h = first_few want now told size j p book o rest is opened pending ties in omega arith)
-          (rest_few want now told size j p book o rest is opened pending ties (used_of j) (omega arith));
-      room = let h = first_room want now told size j p book o rest is opened pending ties in omega arith;
-      gates = let h = first_gates want now told size j p book o rest is opened pending ties in omega arith;
+      few = All-cons (λ (x : ActiveTransaction). length x.undos ≤ used_of j) (undone_transaction o pops.others) rest
+          (let e = one_more p.geometry.pages (opened ++ pending) book.next o pops.others u pops.was first_is_one in let h = first_few want now told size j p book o rest is opened pending holds in omega arith)
+          (rest_few want now told size j p book o rest is opened pending holds (used_of j) (omega arith));
+      room = let h = first_room want now told size j p book o rest is opened pending holds in omega arith;
+      gates = let h = first_gates want now told size j p book o rest is opened pending holds in omega arith;
     };
   }
 
@@ -144,12 +145,12 @@ module _ (want now : ℕ → List ℕ) (told : Option Story) (size : ℕ) (j : j
   IsAhead-popped = record {
     opened = opened;
     pending = pending;
-    leans = subst (λ (b : Book). Leans want now then told size j p b opened pending) (sym pops.is) leans_popped;
+    leans = subst (λ (b : Book). Leans want now then opened pending (stored told size j p b)) (sym pops.is) leans_popped;
     covered = fits_popped.covered;
   }
 
 -- ---- the write of the bytes before it, as the call has them
-module _ (told : Option Story) (size : ℕ) (j : journal.State) (p : pool.State) (book after : Book) (o : Out) (rest : List Out) (is : book.out ≡ o ∷ rest) (u : Undo) (pops : Pops o rest book after u) (bytes : List ℕ) (same : bytes ≡ u.before) where
+module _ (told : Option Story) (size : ℕ) (j : journal.State) (p : pool.State) (book after : Book) (o : ActiveTransaction) (rest : List ActiveTransaction) (is : book.actives ≡ o ∷ rest) (u : Undo) (pops : Pops o rest book after u) (bytes : List ℕ) (same : bytes ≡ u.before) where
   abbrev old : Parts
   old = record { told = told; size = size; store = together j p book }
 
@@ -184,6 +185,6 @@ module _ (told : Option Story) (size : ℕ) (j : journal.State) (p : pool.State)
   }
 
 -- a transaction of which a change stands is active
-pub some_first : (out : List Out) → 0 < standing_in out → (o : Out) × (rest : List Out) × (out ≡ o ∷ rest)
+pub some_first : (actives : List ActiveTransaction) → 0 < standing_in actives → (o : ActiveTransaction) × (rest : List ActiveTransaction) × (actives ≡ o ∷ rest)
 some_first [] some = absurd (omega arith)
 some_first (o ∷ rest) some = (o, rest, refl)

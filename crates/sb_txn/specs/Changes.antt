@@ -5,8 +5,9 @@ use Rattle.sb_journal.specs.State as journal
 use Rattle.sb_pool.specs.Pages.{bytes_or}
 use Rattle.sb_pool.specs.State.{Held}
 use Rattle.sb_pool.specs.State as pool
-use Rattle.sb_txn.specs.Book.{Undo, Out, Book, with_change}
-use Rattle.sb_txn.specs.Clauses.{Parts, need_of}
+use Rattle.sb_txn.specs.Book.{Undo, ActiveTransaction, Book, with_change}
+use Rattle.sb_txn.specs.Clauses.{need_of}
+use Rattle.sb_txn.specs.Parts.{Parts}
 use Rattle.sb_txn.specs.declared.fault.StoreFault.{StoreFault}
 use Rattle.sb_txn.specs.declared.fault.StoreFault.TheVariants.{Fault, LogFull, GatesFull, NoMemory}
 
@@ -17,7 +18,7 @@ undo_at h page offset count = record { page = page; offset = offset; before = ta
 -- the book with that change more
 abbrev pub AddsUndo : Option Held → Book → Book → ℕ → ℕ → ℕ → Type 0
 AddsUndo h old new page offset count =
-    (o : Out) (rest : List Out) → old.out ≡ o ∷ rest → new ≡ with_change old o rest (undo_at h page offset count)
+    (o : ActiveTransaction) (rest : List ActiveTransaction) → old.actives ≡ o ∷ rest → new ≡ with_change old o rest (undo_at h page offset count)
 
 -- Journal and book are sized as a store's, and a transaction is active.
 pub record IsInStore (j : journal.State) (p : pool.State) (book : Book) : Type 0 where
@@ -25,15 +26,15 @@ pub record IsInStore (j : journal.State) (p : pool.State) (book : Book) : Type 0
   pub short : j.log.len < 2 ^ 32
   pub used : used_of j ≤ j.log.len
   pub gates : j.gates.len ≡ 65536
-  pub some : 0 < length book.out
-  pub most : length book.out ≤ 8
+  pub some : 0 < length book.actives
+  pub most : length book.actives ≤ 8
 
 -- Why there is no room for a change of so many bytes: the log hasn't the bytes, or it has them and no gate is left.
-abbrev pub NoRoom : journal.State → Book → Out → ℕ → ℕ → StoreFault → Type 0
+abbrev pub NoRoom : journal.State → Book → ActiveTransaction → ℕ → ℕ → StoreFault → Type 0
 NoRoom j book o page count (LogFull used need total) =
     (used ≡ used_of j) × (need ≡ need_of book o page count) × (total ≡ j.log.len) × (total < used + need)
 NoRoom j book o page count (GatesFull used total) =
-    (used_of j + need_of book o page count ≤ j.log.len) × (used ≡ length j.lens) × (total ≡ j.gates.len) × (65535 < used + length book.out)
+    (used_of j + need_of book o page count ≤ j.log.len) × (used ≡ length j.lens) × (total ≡ j.gates.len) × (65535 < used + length book.actives)
 NoRoom j book o page count e = ⊥
 
 -- why a change with room for it is refused; where memory is wanting all is as it was

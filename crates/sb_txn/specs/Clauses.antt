@@ -11,26 +11,14 @@ use Rattle.sb_images.specs.Images.{Restores, IsOldOrNew}
 use Rattle.sb_images.specs.Store.{IfTold, own_of, with_changes}
 use Rattle.sb_pool.specs.Calls.{IsSameOrForced}
 use Rattle.sb_pool.specs.Pages.{with_bytes}
-use Rattle.sb_txn.specs.Book.{Undo, Out, Book, called, new_out, begun_book, emptied_book, with_out, with_change, undone_out, wants_of, change_len}
+use Rattle.sb_txn.specs.Book.{Undo, ActiveTransaction, Book, called, new_transaction, begun_book, emptied_book, with_actives, with_change, undone_transaction, wants_of, change_len}
 use Rattle.sb_txn.specs.State.{State, together}
 use Rattle.sb_txn.specs.Steps.{TakesCheckpoint, some}
-use Rattle.sb_txn.specs.Tied.{Ties, reserve, gates_used}
+use Rattle.sb_txn.specs.Tied.{Holds, reserve, gates_used}
+use Rattle.sb_txn.specs.Parts.{Parts, parts}
 use Rattle.sb_txn.specs.declared.changing.Wants.{Wants}
 use Rattle.sb_txn.specs.declared.fault.StoreFault.{StoreFault}
 use Rattle.sb_txn.specs.declared.fault.StoreFault.TheVariants.{Fault, LogFull, GatesFull, Down, NoMemory}
-
--- a store, what its disk tells, and how long the disk is
-pub record Parts : Type 0 where
-  pub told : Option Story
-  pub size : ℕ
-  pub store : State
-
-abbrev pub parts : {D : Type 0} → (D → Option Story) → (D → ℕ) → D → State → Parts
-parts told len disk s = record { told = told disk; size = len disk; store = s }
-
--- with these records open and pending, these are the pages wanted and the pages now
-abbrev pub Holds : (ℕ → List ℕ) → (ℕ → List ℕ) → List Record → List Record → Parts → Type 0
-Holds want now opened pending p = Ties want now p.told p.size p.store.journal p.store.pool p.store.book opened pending
 
 -- so it is with some records
 abbrev pub HoldsPages : (ℕ → List ℕ) → (ℕ → List ℕ) → Parts → Type 0
@@ -124,7 +112,7 @@ pub record IsAnew (s t : State) (tx : ℕ) : Type 0 where
 
 -- A begin: the number of the one behind it will be one more. Without a checkpoint only the book has changed, and the number is the next one.
 pub record Begins (old new : Parts) (tx : ℕ) : Type 0 where
-  pub out : new.store.book.out ≡ old.store.book.out ++ new_out tx ∷ []
+  pub actives : new.store.book.actives ≡ old.store.book.actives ++ new_transaction tx ∷ []
   pub next : new.store.book.next ≡ tx + 1
   pub pages : Leads old new (λ now. now)
   pub at_once : (TakesCheckpoint old.store.journal old.store.book → ⊥)
@@ -137,11 +125,11 @@ AsksNothing old new s = (TakesCheckpoint s.journal s.book → ⊥) → new ≡ o
 
 -- ---- change
 -- how many bytes of the log a change of so many bytes wants: its records, a length field, and the reserve of each active transaction
-abbrev pub need_of : Book → Out → ℕ → ℕ → ℕ
-need_of book o page count = change_len (wants_of book o page) count + 4 + reserve * length book.out
+abbrev pub need_of : Book → ActiveTransaction → ℕ → ℕ → ℕ
+need_of book o page count = change_len (wants_of book o page) count + 4 + reserve * length book.actives
 
 -- the records of a change, with those that are wanted before it
-abbrev pub records_of : Wants → Out → List ℕ → Change → List Record
+abbrev pub records_of : Wants → ActiveTransaction → List ℕ → Change → List Record
 records_of w o image c =
     some w.begin (Begin o.tx) ++ (some w.back (Back o.tx (length o.undos)) ++ (some w.image (Image c.page image) ++ Changed c ∷ []))
 
@@ -150,7 +138,7 @@ abbrev pub range_of : ℕ → ℕ → List ℕ → List ℕ
 range_of offset count image = take count (drop offset image)
 
 -- a change of so many bytes of a page that was so, by this transaction
-abbrev pub change_in : Out → ℕ → ℕ → ℕ → List ℕ → List ℕ → Change
+abbrev pub change_in : ActiveTransaction → ℕ → ℕ → ℕ → List ℕ → List ℕ → Change
 change_in o owner page offset image bytes =
     record { tx = o.tx; owner = owner; page = page; offset = offset; before = range_of offset (length bytes) image; after = bytes }
 
@@ -159,7 +147,7 @@ abbrev pub undo_in : ℕ → ℕ → List ℕ → List ℕ → Undo
 undo_in page offset image bytes = record { page = page; offset = offset; before = range_of offset (length bytes) image }
 
 -- A change of the transaction: its range has these bytes now, and can be given back what it had. The log has its records behind all others, and no more.
-pub record Changes (old new : Parts) (o : Out) (rest : List Out) (owner page offset : ℕ) (bytes : List ℕ) : Type 0 where
+pub record Changes (old new : Parts) (o : ActiveTransaction) (rest : List ActiveTransaction) (owner page offset : ℕ) (bytes : List ℕ) : Type 0 where
   pub image : List ℕ
   pub was : (want now : ℕ → List ℕ) → HoldsPages want now old → IfTold old.told (image ≡ now page)
   pub book : new.store.book ≡ with_change old.store.book o rest (undo_in page offset image bytes)
@@ -172,21 +160,21 @@ pub record Changes (old new : Parts) (o : Out) (rest : List Out) (owner page off
   pub least : used_of old.store.journal + change_len (wants_of old.store.book o page) (length bytes) ≤ used_of new.store.journal
 
 -- Why a change is refused: the log hasn't the bytes that it wants; or it has them, and no gate is left beside those that end the active transactions. Both numbers are those before any record of it.
-abbrev pub ChangeErr : Parts → Parts → Out → ℕ → ℕ → StoreFault → Type 0
+abbrev pub ChangeErr : Parts → Parts → ActiveTransaction → ℕ → ℕ → StoreFault → Type 0
 ChangeErr old new o page count (LogFull used need total) =
     (used ≡ used_of old.store.journal) × (need ≡ need_of old.store.book o page count) × (total ≡ old.store.journal.log.len)
     × (total < used + need) × Refused o.tx old new
 ChangeErr old new o page count (GatesFull used total) =
     (used_of old.store.journal + need_of old.store.book o page count ≤ old.store.journal.log.len)
-    × (used ≡ length new.store.journal.lens) × (total ≡ old.store.journal.gates.len) × (65535 < used + length old.store.book.out)
+    × (used ≡ length new.store.journal.lens) × (total ≡ old.store.journal.gates.len) × (65535 < used + length old.store.book.actives)
     × Refused o.tx old new
 ChangeErr old new o page count NoMemory = Refused o.tx old new
 ChangeErr old new o page count e = IsFaultOrDown e
 
 -- there is room for a change: each that isn't refused had it
-pub record HasRoom (s : State) (o : Out) (page count : ℕ) : Type 0 where
+pub record HasRoom (s : State) (o : ActiveTransaction) (page count : ℕ) : Type 0 where
   pub bytes : used_of s.journal + need_of s.book o page count ≤ s.journal.log.len
-  pub gates : length s.journal.lens + length s.book.out ≤ 65535
+  pub gates : length s.journal.lens + length s.book.actives ≤ 65535
 
 -- ---- back
 -- the pages with the bytes before each of these changes, the last of them first
@@ -195,39 +183,39 @@ unwound [] pages = pages
 unwound (u ∷ us) pages = with_bytes u.page u.offset u.before (unwound us pages)
 
 -- the transaction with the first n of its changes alone; what was undone is said by its next record
-abbrev pub cut_back : Out → ℕ → Out
+abbrev pub cut_back : ActiveTransaction → ℕ → ActiveTransaction
 cut_back o n = record o { undos = take n o.undos; undone = o.undone || nat_lt n (length o.undos) }
 
 -- the last change of the transaction is undone, and what was pending may be forced
-pub record UndoesLast (old new : Parts) (o : Out) (rest : List Out) : Type 0 where
+pub record UndoesLast (old new : Parts) (o : ActiveTransaction) (rest : List ActiveTransaction) : Type 0 where
   pub others : List Undo
   pub last : Undo
   pub was : o.undos ≡ others ++ last ∷ []
-  pub book : new.store.book ≡ with_out old.store.book (undone_out o others ∷ rest)
+  pub book : new.store.book ≡ with_actives old.store.book (undone_transaction o others ∷ rest)
   pub pages : Leads old new (with_bytes last.page last.offset last.before)
   pub journal : IsSameOrForced old.store.journal new.store.journal
 
 -- Back to the first n changes of the transaction. No byte more of the log is used; what was pending may be forced.
-pub record GoesBack (old new : Parts) (o : Out) (rest : List Out) (n : ℕ) : Type 0 where
-  pub book : new.store.book ≡ with_out old.store.book (cut_back o n ∷ rest)
+pub record GoesBack (old new : Parts) (o : ActiveTransaction) (rest : List ActiveTransaction) (n : ℕ) : Type 0 where
+  pub book : new.store.book ≡ with_actives old.store.book (cut_back o n ∷ rest)
   pub pages : Leads old new (unwound (drop n o.undos))
   pub journal : IsSameOrForced old.store.journal new.store.journal
 
 -- The end of a transaction without a commit, and without a byte more of the log. Where it was the only one, the pages now are those wanted, which are those at its begin.
-pub record Aborts (old new : Parts) (o : Out) (rest : List Out) : Type 0 where
-  pub book : new.store.book ≡ with_out old.store.book rest
+pub record Aborts (old new : Parts) (o : ActiveTransaction) (rest : List ActiveTransaction) : Type 0 where
+  pub book : new.store.book ≡ with_actives old.store.book rest
   pub pages : Leads old new (unwound o.undos)
   pub alone : rest ≡ [] → (want now : ℕ → List ℕ) → HoldsPages want now old → HoldsPages want want new
   pub journal : IsSameOrForced old.store.journal new.store.journal
 
 -- ---- commit
 -- the pages wanted, with the changes of the transaction that stand
-abbrev pub committed_pages : List Record → Out → (ℕ → List ℕ) → ℕ → List ℕ
+abbrev pub committed_pages : List Record → ActiveTransaction → (ℕ → List ℕ) → ℕ → List ℕ
 committed_pages recs o want = with_changes (own_of recs (active_with o.tx (length o.undos))) want
 
 -- After a commit these are the pages wanted. The pages now stay, and the others are active still.
-pub record Commits (old new : Parts) (o : Out) (rest : List Out) : Type 0 where
-  pub book : new.store.book ≡ with_out old.store.book rest
+pub record Commits (old new : Parts) (o : ActiveTransaction) (rest : List ActiveTransaction) : Type 0 where
+  pub book : new.store.book ≡ with_actives old.store.book rest
   pub pages : (want now : ℕ → List ℕ) (opened pending : List Record) → Holds want now opened pending old
       → HoldsPages (committed_pages (opened ++ pending) o want) now new
   pub alone : rest ≡ [] → (want now : ℕ → List ℕ) → HoldsPages want now old → HoldsPages now now new
@@ -235,7 +223,7 @@ pub record Commits (old new : Parts) (o : Out) (rest : List Out) : Type 0 where
   pub chunks : length new.store.journal.lens ≤ length old.store.journal.lens + 1
 
 -- at each moment of it, at a fault too, a crash leaves the old pages wanted or the new ones
-abbrev pub LeavesCommit : Parts → Parts → Out → Type 0
+abbrev pub LeavesCommit : Parts → Parts → ActiveTransaction → Type 0
 LeavesCommit old new o = (want now : ℕ → List ℕ) (opened pending : List Record) → Holds want now opened pending old
     → LeavesOnly old.told new.told (IsOldOrNew old.store.pool.geometry want (committed_pages (opened ++ pending) o want))
 
@@ -245,13 +233,13 @@ LeavesOne old new = (want now : ℕ → List ℕ) → HoldsPages want now old
     → LeavesOnly old.told new.told (IsOldOrNew old.store.pool.geometry want now)
 
 -- a commit of a transaction that made no change makes no call on the disk
-abbrev pub CommitAsksNothing : {D : Type 0} → Out → D → D → State → State → Type 0
+abbrev pub CommitAsksNothing : {D : Type 0} → ActiveTransaction → D → D → State → State → Type 0
 CommitAsksNothing o old new s t = o.begun ≡ false → (new ≡ old) × (t.journal ≡ s.journal)
 
 -- ---- checkpoint
 -- The log is empty after it, the numbers begin anew, and the pages now are those wanted.
 pub record Checkpoints (old new : Parts) : Type 0 where
-  pub out : new.store.book.out ≡ []
+  pub actives : new.store.book.actives ≡ []
   pub book : new.store.book ≡ emptied_book old.store.book
   pub log : used_of new.store.journal ≡ 0
   pub chunks : new.store.journal.lens ≡ []
@@ -259,7 +247,7 @@ pub record Checkpoints (old new : Parts) : Type 0 where
 
 -- What a begin does first: it takes a checkpoint, or leaves the store as it is.
 pub record MakesRoom (old new : Parts) : Type 0 where
-  pub out : new.store.book.out ≡ old.store.book.out
+  pub actives : new.store.book.actives ≡ old.store.book.actives
   pub pages : Leads old new (λ now. now)
   pub stays : (TakesCheckpoint old.store.journal old.store.book → ⊥) → new.store ≡ old.store
   pub empties : TakesCheckpoint old.store.journal old.store.book → Checkpoints old new

@@ -3,6 +3,7 @@ pub mod Steps
 pub mod Book
 pub mod View
 pub mod State
+pub mod Parts
 pub mod Tied
 pub mod Clauses
 pub mod Opened

@@ -7,7 +7,9 @@ use Rattle.sb_recover.specs.Restarted.{IsRestarted, HasSameBytes, RestartErr}
 use Rattle.sb_recover.specs.declared.fault.OpenFault.{OpenFault}
 use Rattle.sb_recover.specs.declared.fault.OpenFault.TheVariants.{Fault, BadLog, NoMemory}
 use Rattle.sb_txn.specs.Book.{empty_book}
-use Rattle.sb_txn.specs.Clauses.{Parts, Holds, IsReady}
+use Rattle.sb_txn.specs.Clauses.{IsReady}
+use Rattle.sb_txn.specs.Parts.{Parts}
+use Rattle.sb_txn.specs.Tied.{Holds}
 
 -- There was a store of these sizes, and its log restored its pages, whatever they are: they are wanted, and they are the pages now. Its log is empty, and no transaction is active.
 pub record IsOpened (old new : Parts) : Type 0 where

@@ -10,7 +10,7 @@ use Rattle.sb_log.specs.Records.{Record}
 use Rattle.sb_log.specs.Views.{Active}
 use Rattle.sb_log.specs.Whole.{IsWhole}
 use Rattle.sb_images.specs.Layout.{gates_of, log_of, page_at}
-use Rattle.sb_pool.specs.State as pool
+use Rattle.sb_pool.specs.Calls.{Moment}
 use Rattle.sb_txn.specs.Book.{Book}
 use Rattle.sb_txn.specs.declared.fault.StoreFault.{StoreFault}
 use Rattle.sb_txn.specs.declared.fault.StoreFault.TheVariants.{Fault}
@@ -48,13 +48,12 @@ pub record Stays {D : Type 0} (told : D → Option Story) (len faults : D → �
 
 -- What a checkpoint keeps: the sizes of disk and store. Its one refusal is Fault, which means that the disk failed a call, now or in an earlier call
 -- of the journal.
-pub record KeepsSizes {D T : Type 0} (len faults : D → ℕ) (old new : D) (j : journal.State) (p after : pool.State) (result : Result T StoreFault)
-    : Type 0 where
-  pub size : len new ≡ len old
-  pub geometry : after.geometry ≡ p.geometry
-  pub later : faults old ≤ faults new
+pub record KeepsSizes {T : Type 0} (old new : Moment) (result : Result T StoreFault) : Type 0 where
+  pub size : new.size ≡ old.size
+  pub geometry : new.pool.geometry ≡ old.pool.geometry
+  pub later : old.faults ≤ new.faults
   pub err : IfErr result (λ e. e ≡ Fault)
-  pub cause : OnErr result ((j.failed ≡ true) ⊎ Rose (faults old) (faults new))
+  pub cause : OnErr result ((old.journal.failed ≡ true) ⊎ Rose old.faults new.faults)
 
 -- No more than half of the log is used, nor of its gates, nor of the numbers of transactions, which nobody reaches.
 pub record HasHalf (j : journal.State) (book : Book) : Type 0 where
@@ -64,5 +63,5 @@ pub record HasHalf (j : journal.State) (book : Book) : Type 0 where
 
 -- A begin takes a checkpoint exactly here: no transaction is active, and more than half of something is used.
 pub record TakesCheckpoint (j : journal.State) (book : Book) : Type 0 where
-  pub none : book.out ≡ []
+  pub none : book.actives ≡ []
   pub over : HasHalf j book → ⊥

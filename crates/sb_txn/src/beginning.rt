@@ -3,7 +3,8 @@
 ghost use Rattle.std.specs.Prelude.{◌≡◌, ◌^◌, ◌-◌, ◌<◌, true, false, length, IfErr, OnOk};
 ghost use Rattle.sb_journal.specs.State.{used_of};
 ghost use Rattle.sb_txn.specs.Book.{MayBegin};
-ghost use Rattle.sb_txn.specs.Clauses.{parts, IsReady, IsFaultOrDown, StaysReady, LeavesWanted, AsksNothing, MakesRoom};
+ghost use Rattle.sb_txn.specs.Clauses.{IsReady, IsFaultOrDown, StaysReady, LeavesWanted, AsksNothing, MakesRoom};
+ghost use Rattle.sb_txn.specs.Parts.{parts};
 ghost use Rattle.sb_txn.specs.Steps.{HasHalf, TakesCheckpoint};
 
 use crate::StoreFault;
@@ -22,7 +23,7 @@ impl Store {
         requires ready { IsReady (parts D.told D.len disk.old self.old) }
         requires room { self.old.book.down ≡ false → MayBegin self.old.book }
 
-        ensures few { OnOk result (length self.new.book.out < 8) }
+        ensures few { OnOk result (length self.new.book.actives < 8) }
         ensures number { OnOk result (self.new.book.next < 2 ^ 32 - 1) }
         ensures up { OnOk result (self.new.book.down ≡ false) }
         ensures made { OnOk result (MakesRoom (parts D.told D.len disk.old self.old) (parts D.told D.len disk.new self.new)) }
@@ -49,7 +50,7 @@ impl Store {
         ensures other { result ≡ false → TakesCheckpoint self.now.journal self.now.book → ⊥ }
         ensures number { result ≡ false → MayBegin self.now.book → self.now.book.next < 2 ^ 32 - 1 }
     {
-        self.book.out() == 0 && self.is_over_half()
+        self.book.active_count() == 0 && self.is_over_half()
     }
 
     /// Whether more than half of the log is used, of its gates, or of the numbers of transactions.

@@ -1,8 +1,8 @@
 //! What a store has in memory of its log.
 
 ghost use Rattle.std.specs.Prelude.{◌≡◌, ◌==◌, ◌+◌, ◌-◌, ◌^◌, ◌<◌, ◌≤◌, ◌∷◌, ◌++◌, [], ℕ, List, suc, true, false, Some, length, map, take, drop, position, IfOk, IfErr, OnOk, OnErr};
-ghost use Rattle.sb_txn.specs.Book.{Out as Outs, MayBegin, IsAmong, standing_of as count_of, called, empty_book, new_out, begun_book, emptied_book, changed_out, with_change, wants_of, standing_in, with_out, Pops};
-ghost use Rattle.sb_txn.specs.View.{undo_of, out_of};
+ghost use Rattle.sb_txn.specs.Book.{ActiveTransaction as Actives, MayBegin, IsAmong, standing_of as count_of, called, empty_book, new_transaction, begun_book, emptied_book, changed_transaction, with_change, wants_of, standing_in, with_actives, Pops};
+ghost use Rattle.sb_txn.specs.View.{undo_of, transaction_of};
 
 use crate::StoreFault;
 use crate::changing::Wants;
@@ -10,7 +10,7 @@ use std::alloc::{AllocError, Global};
 use std::marker::Model;
 
 /// The most transactions that may be active at once.
-const MOST_OUT: usize = 8;
+const MOST_ACTIVE: usize = 8;
 
 /// The number of the first transaction behind a checkpoint.
 const FIRST_NUMBER: u32 = 1;
@@ -23,9 +23,9 @@ pub(crate) struct Undo {
     pub before: Vec<u8>,
 }
 
-/// An active transaction.
+/// An active transaction: it has begun and not ended.
 #[derive(Drop)]
-pub(crate) struct Out {
+pub(crate) struct ActiveTransaction {
     tx: u32,
     /// Its changes that stand, the first of them first.
     undos: Vec<Undo>,
@@ -35,12 +35,12 @@ pub(crate) struct Out {
     undone: bool,
 }
 
-impl Out {
+impl ActiveTransaction {
     /// A transaction that has changed nothing.
-    fn new(alloc: Global, tx: u32) -> Out
-        ensures { out_of result ≡ new_out tx }
+    fn new(alloc: Global, tx: u32) -> ActiveTransaction
+        ensures { transaction_of result ≡ new_transaction tx }
     {
-        Out {
+        ActiveTransaction {
             tx,
             undos: Vec::new(alloc),
             begun: false,
@@ -50,8 +50,8 @@ impl Out {
 
     /// A change more, which is in the log.
     fn add(&mut self, undo: Undo) -> Result<(), AllocError>
-        ensures ok { OnOk result (out_of self.new ≡ changed_out (out_of self.old) (undo_of undo)) }
-        ensures err { OnErr result (out_of self.new ≡ out_of self.old) }
+        ensures ok { OnOk result (transaction_of self.new ≡ changed_transaction (transaction_of self.old) (undo_of undo)) }
+        ensures err { OnErr result (transaction_of self.new ≡ transaction_of self.old) }
     {
         self.undos.push(undo)?;
         self.begun = true;
@@ -77,7 +77,7 @@ impl Out {
 pub(crate) struct Book {
     next: u32,
     imaged: Vec<bool>,
-    out: Vec<Out>,
+    actives: Vec<ActiveTransaction>,
     down: bool,
 }
 
@@ -91,7 +91,7 @@ impl Model for Book {
 
     ghost view = { book_of };
 
-    ghost invariant = { λ b. 8 ≤ vec_capacity b.out };
+    ghost invariant = { λ b. 8 ≤ vec_capacity b.actives };
 }
 
 impl Book {
@@ -100,11 +100,11 @@ impl Book {
         ensures { IfOk result (λ book. book ≡ empty_book pages) }
     {
         let imaged = vec![in alloc; false; pages as usize]?;
-        let out = Vec::with_capacity(alloc, MOST_OUT)?;
+        let actives = Vec::with_capacity(alloc, MOST_ACTIVE)?;
         Ok(Book {
             next: FIRST_NUMBER,
             imaged,
-            out,
+            actives,
             down: false,
         })
     }
@@ -131,10 +131,10 @@ impl Book {
     }
 
     /// How many transactions are active.
-    pub fn out(&self) -> usize
-        ensures { result ≡ length self.now.out }
+    pub fn active_count(&self) -> usize
+        ensures { result ≡ length self.now.actives }
     {
-        self.out.len()
+        self.actives.len()
     }
 
     /// Whether a transaction more may begin.
@@ -142,7 +142,7 @@ impl Book {
         ensures yes { result ≡ true → MayBegin self.now }
         ensures no { result ≡ false → MayBegin self.now → ⊥ }
     {
-        self.out.len() < MOST_OUT && (self.out.is_empty() || self.next < u32::MAX)
+        self.actives.len() < MOST_ACTIVE && (self.actives.is_empty() || self.next < u32::MAX)
     }
 
     /// The log is empty now: no page has an Image, and the numbers begin anew.
@@ -155,22 +155,24 @@ impl Book {
 
     /// A transaction more, which has changed nothing, and its number.
     pub fn begin(&mut self) -> u32
-        requires room { length self.old.out < 8 }
+        requires room { length self.old.actives < 8 }
         requires number { self.old.next < 2 ^ 32 - 1 }
         ensures number { result ≡ self.old.next }
-        ensures out { self.new ≡ begun_book self.old }
+        ensures actives { self.new ≡ begun_book self.old }
     {
         let tx = self.next;
         let alloc = *self.imaged.allocator();
         self.next += 1;
-        self.out.push(Out::new(alloc, tx)).unwrap();
+        self.actives
+            .push(ActiveTransaction::new(alloc, tx))
+            .unwrap();
         tx
     }
 
     /// Brings the transaction of a call to the front. A store that is down is left as it is.
     pub fn call(&mut self, tx: u32) -> Result<(), StoreFault>
-        requires among { self.old.down ≡ false → IsAmong tx self.old.out }
-        requires most { self.old.down ≡ false → length self.old.out ≤ 8 }
+        requires among { self.old.down ≡ false → IsAmong tx self.old.actives }
+        requires most { self.old.down ≡ false → length self.old.actives ≤ 8 }
 
         ensures first { OnOk result (self.new ≡ called tx self.old) }
         ensures up { OnOk result (self.old.down ≡ false) }
@@ -181,51 +183,51 @@ impl Book {
             return Err(StoreFault::Down);
         }
         let at = self.place(tx);
-        let out = self.out.remove(at);
-        self.out.insert(0, out).unwrap();
+        let transaction = self.actives.remove(at);
+        self.actives.insert(0, transaction).unwrap();
         Ok(())
     }
 
     /// How many changes of a transaction stand: none of one that isn't active.
     pub fn standing_of(&self, tx: u32) -> usize
-        ensures { result ≡ count_of tx self.now.out }
+        ensures { result ≡ count_of tx self.now.actives }
     {
-        match place_of(&self.out, tx) {
-            Some(at) => self.out[at].undos.len(),
+        match place_of(&self.actives, tx) {
+            Some(at) => self.actives[at].undos.len(),
             None => 0,
         }
     }
 
     /// The place of a transaction among the active ones.
     fn place(&self, tx: u32) -> usize
-        requires { IsAmong tx self.now.out }
-        ensures { position (λ o. o.tx == tx) self.now.out ≡ Some result }
+        requires { IsAmong tx self.now.actives }
+        ensures { position (λ o. o.tx == tx) self.now.actives ≡ Some result }
     {
-        place_of(&self.out, tx).unwrap()
+        place_of(&self.actives, tx).unwrap()
     }
 
     /// Whether the log has a record of the first transaction.
     pub fn is_begun(&self) -> bool
-        requires { 0 < length self.now.out }
-        ensures { (o : Outs) (rest : List Outs) → self.now.out ≡ o ∷ rest → result ≡ o.begun }
+        requires { 0 < length self.now.actives }
+        ensures { (o : Actives) (rest : List Actives) → self.now.actives ≡ o ∷ rest → result ≡ o.begun }
     {
-        self.out[0].begun
+        self.actives[0].begun
     }
 
     /// Whether changes of the first transaction were undone since its last record.
     pub fn is_undone(&self) -> bool
-        requires { 0 < length self.now.out }
-        ensures { (o : Outs) (rest : List Outs) → self.now.out ≡ o ∷ rest → result ≡ o.undone }
+        requires { 0 < length self.now.actives }
+        ensures { (o : Actives) (rest : List Actives) → self.now.actives ≡ o ∷ rest → result ≡ o.undone }
     {
-        self.out[0].undone
+        self.actives[0].undone
     }
 
     /// How many changes of the first transaction stand.
     pub fn standing(&self) -> usize
-        ensures { result ≡ standing_in self.now.out }
+        ensures { result ≡ standing_in self.now.actives }
     {
-        match self.out.first() {
-            Some(out) => out.undos.len(),
+        match self.actives.first() {
+            Some(transaction) => transaction.undos.len(),
             None => 0,
         }
     }
@@ -233,13 +235,13 @@ impl Book {
     /// The records that are wanted before a change of the page by the first transaction.
     pub fn wants(&self, page: u32) -> Wants
         requires page { page < length self.now.imaged }
-        requires some { 0 < length self.now.out }
-        ensures { (o : Outs) (rest : List Outs) → self.now.out ≡ o ∷ rest → result ≡ wants_of self.now o page }
+        requires some { 0 < length self.now.actives }
+        ensures { (o : Actives) (rest : List Actives) → self.now.actives ≡ o ∷ rest → result ≡ wants_of self.now o page }
     {
-        let out = &self.out[0];
+        let transaction = &self.actives[0];
         Wants {
-            begin: !out.begun,
-            back: out.undone,
+            begin: !transaction.begun,
+            back: transaction.undone,
             image: !self.imaged[page as usize],
         }
     }
@@ -267,37 +269,37 @@ impl Book {
     /// A change more of the first transaction, of a page that has an Image now.
     pub fn add(&mut self, undo: Undo) -> Result<(), AllocError>
         requires page { undo.page < length self.old.imaged }
-        requires some { 0 < length self.old.out }
-        ensures ok { OnOk result ((o : Outs) (rest : List Outs) → self.old.out ≡ o ∷ rest
+        requires some { 0 < length self.old.actives }
+        ensures ok { OnOk result ((o : Actives) (rest : List Actives) → self.old.actives ≡ o ∷ rest
             → self.new ≡ with_change self.old o rest (undo_of undo)) }
         ensures err { OnErr result (self.new ≡ self.old) }
     {
         let page = undo.page as usize;
-        self.out[0].add(undo)?;
+        self.actives[0].add(undo)?;
         self.imaged[page] = true;
         Ok(())
     }
 
     /// The last change of the first transaction, which is undone.
     pub fn pop(&mut self) -> Undo
-        requires { 0 < standing_in self.old.out }
-        ensures { (o : Outs) (rest : List Outs) → self.old.out ≡ o ∷ rest → Pops o rest self.old self.new (undo_of result) }
+        requires { 0 < standing_in self.old.actives }
+        ensures { (o : Actives) (rest : List Actives) → self.old.actives ≡ o ∷ rest → Pops o rest self.old self.new (undo_of result) }
     {
-        self.out[0].pop()
+        self.actives[0].pop()
     }
 
     /// The first transaction ends.
     pub fn end(&mut self)
-        requires { 0 < length self.old.out }
-        ensures { (o : Outs) (rest : List Outs) → self.old.out ≡ o ∷ rest → self.new ≡ with_out self.old rest }
+        requires { 0 < length self.old.actives }
+        ensures { (o : Actives) (rest : List Actives) → self.old.actives ≡ o ∷ rest → self.new ≡ with_actives self.old rest }
     {
-        self.out.remove(0);
+        self.actives.remove(0);
     }
 }
 
 /// Where the first transaction of this number stands.
-fn place_of(out: &[Out], tx: u32) -> Option<usize>
-    ensures { result ≡ position (λ o. o.tx == tx) out.now }
+fn place_of(actives: &[ActiveTransaction], tx: u32) -> Option<usize>
+    ensures { result ≡ position (λ o. o.tx == tx) actives.now }
 {
-    out.iter().position(|out| out.tx == tx)
+    actives.iter().position(|active| active.tx == tx)
 }

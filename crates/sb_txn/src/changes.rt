@@ -2,9 +2,10 @@
 
 ghost use Rattle.std.specs.Prelude.{◌≡◌, ◌∷◌, ◌+◌, ◌<◌, ◌≤◌, ℕ, List, Some, cond, false, length, IfErr, OnErr, OnOk};
 ghost use Rattle.sb_pool.specs.State.{IsHeld, held};
-ghost use Rattle.sb_txn.specs.Book.{Out as Outs, IsAmong, out_with, others, AreClear, IsFirst, change_len as len_of_change};
+ghost use Rattle.sb_txn.specs.Book.{ActiveTransaction, IsAmong, transaction_with, others, AreClear, IsFirst, change_len as len_of_change};
 ghost use Rattle.sb_txn.specs.Changes.{AddsUndo, IsInStore, NoRoom, AddErr};
-ghost use Rattle.sb_txn.specs.Clauses.{parts, IsReady, IsFaultOrDown, StaysReady, LeavesWanted, Changes, ChangeErr, HasRoom};
+ghost use Rattle.sb_txn.specs.Clauses.{IsReady, IsFaultOrDown, StaysReady, LeavesWanted, Changes, ChangeErr, HasRoom};
+ghost use Rattle.sb_txn.specs.Parts.{parts};
 
 use crate::StoreFault;
 use crate::book::Book;
@@ -43,18 +44,18 @@ impl Store {
         bytes: &[u8],
     ) -> Result<(), StoreFault>
         requires ready { IsReady (parts D.told D.len disk.old self.old) }
-        requires among { self.old.book.down ≡ false → IsAmong tx.now.number self.old.book.out }
+        requires among { self.old.book.down ≡ false → IsAmong tx.now.number self.old.book.actives }
         requires page { page < self.old.pool.geometry.pages }
         requires some { 0 < length bytes.now }
         requires range { offset + length bytes.now ≤ 4096 }
-        requires apart { self.old.book.down ≡ false → AreClear page offset (length bytes.now) (others tx.now.number self.old.book.out) }
+        requires apart { self.old.book.down ≡ false → AreClear page offset (length bytes.now) (others tx.now.number self.old.book.actives) }
 
-        ensures changes { OnOk result ((o : Outs) → out_with tx.now.number self.old.book.out ≡ Some o
+        ensures changes { OnOk result ((o : ActiveTransaction) → transaction_with tx.now.number self.old.book.actives ≡ Some o
             → Changes (parts D.told D.len disk.old self.old) (parts D.told D.len disk.new self.new)
-            o (others tx.now.number self.old.book.out) owner page offset bytes.now) }
-        ensures room { OnOk result ((o : Outs) → out_with tx.now.number self.old.book.out ≡ Some o
+            o (others tx.now.number self.old.book.actives) owner page offset bytes.now) }
+        ensures room { OnOk result ((o : ActiveTransaction) → transaction_with tx.now.number self.old.book.actives ≡ Some o
             → HasRoom self.old o page (length bytes.now)) }
-        ensures refused { IfErr result (λ e. (o : Outs) → out_with tx.now.number self.old.book.out ≡ Some o
+        ensures refused { IfErr result (λ e. (o : ActiveTransaction) → transaction_with tx.now.number self.old.book.actives ≡ Some o
             → ChangeErr (parts D.told D.len disk.old self.old) (parts D.told D.len disk.new self.new) o page (length bytes.now) e) }
         ensures any_moment { LeavesWanted (parts D.told D.len disk.old self.old) (parts D.told D.len disk.new self.new) }
         ensures keeps { StaysReady D.told D.len D.faults disk.old disk.new self.old self.new result }
@@ -73,19 +74,19 @@ impl Store {
     /// Changes the range, where there is room for it.
     fn change_first<D: Disk>(&mut self, disk: &mut D, edit: &Edit<'_>) -> Result<(), StoreFault>
         requires ready { IsReady (parts D.told D.len disk.old self.old) }
-        requires first { self.old.book.down ≡ false → IsFirst edit.now.tx self.old.book.out }
+        requires first { self.old.book.down ≡ false → IsFirst edit.now.tx self.old.book.actives }
         requires page { edit.now.page < self.old.pool.geometry.pages }
         requires some { 0 < length edit.now.bytes.now }
         requires range { edit.now.offset + length edit.now.bytes.now ≤ 4096 }
-        requires apart { self.old.book.down ≡ false → (o : Outs) (rest : List Outs) → self.old.book.out ≡ o ∷ rest
+        requires apart { self.old.book.down ≡ false → (o : ActiveTransaction) (rest : List ActiveTransaction) → self.old.book.actives ≡ o ∷ rest
             → AreClear edit.now.page edit.now.offset (length edit.now.bytes.now) rest }
 
-        ensures changes { OnOk result ((o : Outs) (rest : List Outs) → self.old.book.out ≡ o ∷ rest
+        ensures changes { OnOk result ((o : ActiveTransaction) (rest : List ActiveTransaction) → self.old.book.actives ≡ o ∷ rest
             → Changes (parts D.told D.len disk.old self.old) (parts D.told D.len disk.new self.new)
             o rest edit.now.owner edit.now.page edit.now.offset edit.now.bytes.now) }
-        ensures room { OnOk result ((o : Outs) (rest : List Outs) → self.old.book.out ≡ o ∷ rest
+        ensures room { OnOk result ((o : ActiveTransaction) (rest : List ActiveTransaction) → self.old.book.actives ≡ o ∷ rest
             → HasRoom self.old o edit.now.page (length edit.now.bytes.now)) }
-        ensures refused { IfErr result (λ e. (o : Outs) (rest : List Outs) → self.old.book.out ≡ o ∷ rest
+        ensures refused { IfErr result (λ e. (o : ActiveTransaction) (rest : List ActiveTransaction) → self.old.book.actives ≡ o ∷ rest
             → ChangeErr (parts D.told D.len disk.old self.old) (parts D.told D.len disk.new self.new) o edit.now.page (length edit.now.bytes.now) e) }
         ensures any_moment { LeavesWanted (parts D.told D.len disk.old self.old) (parts D.told D.len disk.new self.new) }
         ensures keeps { StaysReady D.told D.len D.faults disk.old disk.new self.old self.new result }
@@ -101,18 +102,21 @@ impl Store {
         requires page { page < length self.now.book.imaged }
         requires count { count ≤ 4096 }
 
-        ensures ok { OnOk result ((o : Outs) (rest : List Outs) → self.now.book.out ≡ o ∷ rest
+        ensures ok { OnOk result ((o : ActiveTransaction) (rest : List ActiveTransaction) → self.now.book.actives ≡ o ∷ rest
             → HasRoom self.now o page count) }
-        ensures err { IfErr result (λ e. (o : Outs) (rest : List Outs) → self.now.book.out ≡ o ∷ rest → NoRoom self.now.journal self.now.book o page count e) }
+        ensures err { IfErr result (λ e. (o : ActiveTransaction) (rest : List ActiveTransaction) → self.now.book.actives ≡ o ∷ rest
+            → NoRoom self.now.journal self.now.book o page count e) }
     {
         let used = self.journal.used();
-        let need = change_len(self.book.wants(page), count) + 4 + RESERVE * self.book.out() as u64;
+        let need = change_len(self.book.wants(page), count)
+            + 4
+            + RESERVE * self.book.active_count() as u64;
         let total = self.pool.geometry().log;
         if used + need > total {
             return Err(StoreFault::LogFull { used, need, total });
         }
         let chunks = self.journal.chunks();
-        if chunks as usize + self.book.out() >= GATES as usize {
+        if chunks as usize + self.book.active_count() >= GATES as usize {
             return Err(StoreFault::GatesFull {
                 used: chunks,
                 total: GATES,
@@ -125,17 +129,17 @@ impl Store {
     fn add_change<D: Disk>(&mut self, disk: &mut D, edit: &Edit<'_>) -> Result<(), StoreFault>
         requires ready { IsReady (parts D.told D.len disk.old self.old) }
         requires up { self.old.book.down ≡ false }
-        requires first { IsFirst edit.now.tx self.old.book.out }
-        requires room { (o : Outs) (rest : List Outs) → self.old.book.out ≡ o ∷ rest
+        requires first { IsFirst edit.now.tx self.old.book.actives }
+        requires room { (o : ActiveTransaction) (rest : List ActiveTransaction) → self.old.book.actives ≡ o ∷ rest
             → HasRoom self.old o edit.now.page (length edit.now.bytes.now) }
         requires held { IsHeld self.old.pool edit.now.page }
         requires page { edit.now.page < self.old.pool.geometry.pages }
         requires some { 0 < length edit.now.bytes.now }
         requires range { edit.now.offset + length edit.now.bytes.now ≤ 4096 }
-        requires apart { (o : Outs) (rest : List Outs) → self.old.book.out ≡ o ∷ rest
+        requires apart { (o : ActiveTransaction) (rest : List ActiveTransaction) → self.old.book.actives ≡ o ∷ rest
             → AreClear edit.now.page edit.now.offset (length edit.now.bytes.now) rest }
 
-        ensures changes { OnOk result ((o : Outs) (rest : List Outs) → self.old.book.out ≡ o ∷ rest
+        ensures changes { OnOk result ((o : ActiveTransaction) (rest : List ActiveTransaction) → self.old.book.actives ≡ o ∷ rest
             → Changes (parts D.told D.len disk.old self.old) (parts D.told D.len disk.new self.new)
             o rest edit.now.owner edit.now.page edit.now.offset edit.now.bytes.now) }
         ensures refused { IfErr result (AddErr (parts D.told D.len disk.old self.old) (parts D.told D.len disk.new self.new)) }
@@ -210,7 +214,7 @@ fn add_undo(
     requires held { IsHeld pool.now page }
     requires range { offset + count ≤ 4096 }
     requires page { page < length book.old.imaged }
-    requires some { 0 < length book.old.out }
+    requires some { 0 < length book.old.actives }
 
     ensures ok { OnOk result (AddsUndo (held pool.now page) book.old book.new page offset count) }
     ensures err { OnErr result (book.new ≡ book.old) }

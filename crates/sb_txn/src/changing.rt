@@ -13,7 +13,7 @@ ghost use Rattle.sb_log.specs.Rec.{record_of};
 ghost use Rattle.sb_log.specs.Views.{Active, active_with};
 ghost use Rattle.sb_log.specs.Whole.{with_range};
 ghost use Rattle.sb_txn.specs.Book.{wants_len};
-ghost use Rattle.sb_txn.specs.Changing.{IsNext, behind};
+ghost use Rattle.sb_txn.specs.Changing.{before, IsNext, behind};
 ghost use Rattle.sb_txn.specs.Faults.{of_journal};
 ghost use Rattle.sb_txn.specs.declared.fault.StoreFault.TheVariants as StoreFault;
 ghost use Rattle.sb_txn.specs.Logging.{LogsMore, records_len};
@@ -101,14 +101,14 @@ pub(crate) fn log_change<D: Disk>(
 
     // After it the store has the change.
     ensures store { OnOk result ((want now : ℕ → List ℕ) (g : Geometry) (opened pending : List Record) (rest : List Active) (c : Change)
-        → record_of change.now ≡ Changed c → IsNext wants tx n page image.now now opened pending rest c
+        → record_of change.now ≡ Changed c → IsNext (before wants tx n page image.now) now opened pending rest c
         → IsStoreOn want now (D.told disk.old) journal.old g opened pending (active_with tx n ∷ rest)
         → IsStoreOn want (with_range c c.after now) (D.told disk.new) journal.new g opened
-        (behind pending wants tx n page image.now ++ Changed c ∷ []) (active_with tx (suc n) ∷ rest)) }
+        (behind pending (before wants tx n page image.now) ++ Changed c ∷ []) (active_with tx (suc n) ∷ rest)) }
 
     // A crash anywhere in the call leaves what the store restores.
     ensures any_moment { (want now : ℕ → List ℕ) (g : Geometry) (opened pending : List Record) (rest : List Active) (c : Change)
-        → record_of change.now ≡ Changed c → IsNext wants tx n page image.now now opened pending rest c
+        → record_of change.now ≡ Changed c → IsNext (before wants tx n page image.now) now opened pending rest c
         → IsStoreOn want now (D.told disk.old) journal.old g opened pending (active_with tx n ∷ rest)
         → LeavesOnly (D.told disk.old) (D.told disk.new) (Restores g want) }
 {

@@ -10,8 +10,9 @@ ghost use Rattle.sb_log.specs.declared.geometry.Geometry.{Geometry};
 ghost use Rattle.sb_log.specs.Records.{Record, Back, Commit};
 ghost use Rattle.sb_log.specs.Standing.{standing, count_of};
 ghost use Rattle.sb_log.specs.Views.{Active, active_with};
-ghost use Rattle.sb_txn.specs.Book.{Out as Outs, IsFirst};
-ghost use Rattle.sb_txn.specs.Clauses.{parts, IsReady, IsFaultOrDown, StaysReady, LeavesWanted, Commits, LeavesCommit, CommitAsksNothing, Aborts};
+ghost use Rattle.sb_txn.specs.Book.{ActiveTransaction, IsFirst};
+ghost use Rattle.sb_txn.specs.Clauses.{IsReady, IsFaultOrDown, StaysReady, LeavesWanted, Commits, LeavesCommit, CommitAsksNothing, Aborts};
+ghost use Rattle.sb_txn.specs.Parts.{parts};
 ghost use Rattle.sb_txn.specs.Steps.{KeepsDisk, Stays, some, filled};
 
 use crate::changing::append_if;
@@ -64,13 +65,13 @@ impl Store {
     pub(crate) fn commit_first<D: Disk>(&mut self, disk: &mut D, tx: u32) -> Result<(), StoreFault>
         requires ready { IsReady (parts D.told D.len disk.old self.old) }
         requires up { self.old.book.down ≡ false }
-        requires first { IsFirst tx self.old.book.out }
+        requires first { IsFirst tx self.old.book.actives }
 
-        ensures commits { OnOk result ((o : Outs) (rest : List Outs) → self.old.book.out ≡ o ∷ rest
+        ensures commits { OnOk result ((o : ActiveTransaction) (rest : List ActiveTransaction) → self.old.book.actives ≡ o ∷ rest
             → Commits (parts D.told D.len disk.old self.old) (parts D.told D.len disk.new self.new) o rest) }
-        ensures any_moment { (o : Outs) (rest : List Outs) → self.old.book.out ≡ o ∷ rest
+        ensures any_moment { (o : ActiveTransaction) (rest : List ActiveTransaction) → self.old.book.actives ≡ o ∷ rest
             → LeavesCommit (parts D.told D.len disk.old self.old) (parts D.told D.len disk.new self.new) o }
-        ensures idle { (o : Outs) (rest : List Outs) → self.old.book.out ≡ o ∷ rest
+        ensures idle { (o : ActiveTransaction) (rest : List ActiveTransaction) → self.old.book.actives ≡ o ∷ rest
             → CommitAsksNothing o disk.old disk.new self.old self.new }
         ensures err { IfErr result IsFaultOrDown }
         ensures keeps { StaysReady D.told D.len D.faults disk.old disk.new self.old self.new result }
@@ -101,9 +102,9 @@ impl Store {
     pub(crate) fn abort_first<D: Disk>(&mut self, disk: &mut D) -> Result<(), StoreFault>
         requires ready { IsReady (parts D.told D.len disk.old self.old) }
         requires up { self.old.book.down ≡ false }
-        requires some { 0 < length self.old.book.out }
+        requires some { 0 < length self.old.book.actives }
 
-        ensures aborts { OnOk result ((o : Outs) (rest : List Outs) → self.old.book.out ≡ o ∷ rest
+        ensures aborts { OnOk result ((o : ActiveTransaction) (rest : List ActiveTransaction) → self.old.book.actives ≡ o ∷ rest
             → Aborts (parts D.told D.len disk.old self.old) (parts D.told D.len disk.new self.new) o rest) }
         ensures any_moment { LeavesWanted (parts D.told D.len disk.old self.old) (parts D.told D.len disk.new self.new) }
         ensures err { IfErr result IsFaultOrDown }

@@ -2,7 +2,8 @@
 
 ghost use Rattle.std.specs.Prelude.{◌≡◌, ◌+◌, ◌<◌, ◌≤◌, ℕ, List, false, length, IfErr, OnOk};
 ghost use Rattle.sb_txn.specs.Ahead.{IsAhead, CatchesUp, LeavesAhead};
-ghost use Rattle.sb_txn.specs.Clauses.{parts, IsFaultOrDown, StaysReady};
+ghost use Rattle.sb_txn.specs.Clauses.{IsFaultOrDown, StaysReady};
+ghost use Rattle.sb_txn.specs.Parts.{parts};
 
 use crate::StoreFault;
 use crate::store::Store;

@@ -10,7 +10,7 @@ ghost use Rattle.sb_log.specs.declared.geometry.Geometry.{Geometry};
 ghost use Rattle.sb_log.specs.Records.{Record, Commit};
 ghost use Rattle.sb_log.specs.Standing.{standing, count_of};
 ghost use Rattle.sb_log.specs.Views.{Active, active_with};
-ghost use Rattle.sb_pool.specs.Calls.{Serves, KeepsPool, AreImaged};
+ghost use Rattle.sb_pool.specs.Calls.{moment, Serves, AreImaged};
 ghost use Rattle.sb_pool.specs.Pages.{AgreesOn, ArePagesOn, KeepsPages};
 ghost use Rattle.sb_pool.specs.State.{flushed};
 ghost use Rattle.sb_txn.specs.Steps.{KeepsSizes, KeepsDisk, Stays, filled};
@@ -37,7 +37,8 @@ pub(crate) fn checkpoint<D: Disk>(
     ensures agrees { OnOk result (AgreesOn (D.told disk.new) journal.new pool.new) }
     ensures pages { OnOk result ((now : ℕ → List ℕ) → ArePagesOn now (D.told disk.old) journal.old pool.old
         → ArePagesOn now (D.told disk.new) journal.new pool.new) }
-    ensures keeps { KeepsSizes D.len D.faults disk.old disk.new journal.old pool.old pool.new result }
+    ensures keeps { KeepsSizes (moment D.told D.len D.faults disk.old journal.old pool.old)
+        (moment D.told D.len D.faults disk.new journal.new pool.new) result }
 
     // After it the log is empty.
     ensures store { OnOk result ((want now : ℕ → List ℕ) (opened pending : List Record)

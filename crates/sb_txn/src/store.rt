@@ -8,8 +8,9 @@ ghost use Rattle.sb_images.specs.Images.{Restores};
 ghost use Rattle.sb_images.specs.Store.{IfTold, IsMounted};
 ghost use Rattle.sb_pool.specs.Calls.{ReadsClean};
 ghost use Rattle.sb_pool.specs.State.{held, IsHeld, is_dirty};
-ghost use Rattle.sb_txn.specs.Book.{Out, MayBegin, IsAmong, out_with, others, standing_of};
-ghost use Rattle.sb_txn.specs.Clauses.{parts, IsReady, HoldsPages, StaysReady, IsFaultOrDown, LeavesWanted, Loads, IsPaged, Begins, AsksNothing, GoesBack, Aborts, Commits, LeavesCommit, LeavesOne, CommitAsksNothing, Checkpoints};
+ghost use Rattle.sb_txn.specs.Book.{ActiveTransaction, MayBegin, IsAmong, transaction_with, others, standing_of};
+ghost use Rattle.sb_txn.specs.Clauses.{IsReady, HoldsPages, StaysReady, IsFaultOrDown, LeavesWanted, Loads, IsPaged, Begins, AsksNothing, GoesBack, Aborts, Commits, LeavesCommit, LeavesOne, CommitAsksNothing, Checkpoints};
+ghost use Rattle.sb_txn.specs.Parts.{parts};
 ghost use Rattle.sb_txn.specs.Opened.{IsOpened, OpenErr};
 
 use crate::book::Book;
@@ -36,7 +37,7 @@ impl Tx {
     }
 }
 
-/// A savepoint: how many changes of a transaction stood.
+/// A savepoint: its place in the undo list of its transaction, which is how many changes of the transaction stood there.
 #[derive(Clone, Copy, Debug, PartialEq, Eq)]
 pub struct Mark {
     changes: usize,
@@ -128,7 +129,7 @@ impl Store {
 
     /// How many changes of the transaction stand now. A store that is down may be asked too.
     pub fn mark(&self, tx: &Tx) -> Mark
-        ensures { result.changes ≡ standing_of tx.now.number self.now.book.out }
+        ensures { result.changes ≡ standing_of tx.now.number self.now.book.actives }
     {
         Mark {
             changes: self.book.standing_of(tx.number),
@@ -155,12 +156,12 @@ impl Store {
     /// Takes back the changes of the transaction that were made behind the savepoint. The savepoint must not have been rolled past. The log gets no record of it: the next change or the commit of the transaction writes a Back first.
     pub fn back_to<D: Disk>(&mut self, disk: &mut D, tx: &Tx, mark: Mark) -> Result<(), StoreFault>
         requires ready { IsReady (parts D.told D.len disk.old self.old) }
-        requires among { self.old.book.down ≡ false → IsAmong tx.now.number self.old.book.out }
-        requires mark { self.old.book.down ≡ false → mark.changes ≤ standing_of tx.now.number self.old.book.out }
+        requires among { self.old.book.down ≡ false → IsAmong tx.now.number self.old.book.actives }
+        requires mark { self.old.book.down ≡ false → mark.changes ≤ standing_of tx.now.number self.old.book.actives }
 
-        ensures back { OnOk result ((o : Out) → out_with tx.now.number self.old.book.out ≡ Some o
+        ensures back { OnOk result ((o : ActiveTransaction) → transaction_with tx.now.number self.old.book.actives ≡ Some o
             → GoesBack (parts D.told D.len disk.old self.old) (parts D.told D.len disk.new self.new)
-            o (others tx.now.number self.old.book.out) mark.changes) }
+            o (others tx.now.number self.old.book.actives) mark.changes) }
         ensures any_moment { LeavesWanted (parts D.told D.len disk.old self.old) (parts D.told D.len disk.new self.new) }
         ensures err { IfErr result IsFaultOrDown }
         ensures keeps { StaysReady D.told D.len D.faults disk.old disk.new self.old self.new result }
@@ -172,15 +173,16 @@ impl Store {
     /// Commits the transaction: when it answers Ok, the changes that stand are there after any crash. One that made no change makes no call on the disk.
     pub fn commit<D: Disk>(&mut self, disk: &mut D, tx: Tx) -> Result<(), StoreFault>
         requires ready { IsReady (parts D.told D.len disk.old self.old) }
-        requires among { self.old.book.down ≡ false → IsAmong tx.number self.old.book.out }
+        requires among { self.old.book.down ≡ false → IsAmong tx.number self.old.book.actives }
 
-        ensures commits { OnOk result ((o : Out) → out_with tx.number self.old.book.out ≡ Some o
-            → Commits (parts D.told D.len disk.old self.old) (parts D.told D.len disk.new self.new) o (others tx.number self.old.book.out)) }
-        ensures any_moment { (o : Out) → out_with tx.number self.old.book.out ≡ Some o
+        ensures commits { OnOk result ((o : ActiveTransaction) → transaction_with tx.number self.old.book.actives ≡ Some o
+            → Commits (parts D.told D.len disk.old self.old) (parts D.told D.len disk.new self.new) o (others tx.number self.old.book.actives)) }
+        ensures any_moment { (o : ActiveTransaction) → transaction_with tx.number self.old.book.actives ≡ Some o
             → LeavesCommit (parts D.told D.len disk.old self.old) (parts D.told D.len disk.new self.new) o }
-        ensures alone { (o : Out) → self.old.book.out ≡ o ∷ []
+        ensures alone { (o : ActiveTransaction) → self.old.book.actives ≡ o ∷ []
             → LeavesOne (parts D.told D.len disk.old self.old) (parts D.told D.len disk.new self.new) }
-        ensures idle { (o : Out) → out_with tx.number self.old.book.out ≡ Some o → CommitAsksNothing o disk.old disk.new self.old self.new }
+        ensures idle { (o : ActiveTransaction) → transaction_with tx.number self.old.book.actives ≡ Some o
+            → CommitAsksNothing o disk.old disk.new self.old self.new }
         ensures err { IfErr result IsFaultOrDown }
         ensures keeps { StaysReady D.told D.len D.faults disk.old disk.new self.old self.new result }
     {
@@ -192,10 +194,10 @@ impl Store {
     /// Undoes the changes of the transaction.
     pub fn abort<D: Disk>(&mut self, disk: &mut D, tx: Tx) -> Result<(), StoreFault>
         requires ready { IsReady (parts D.told D.len disk.old self.old) }
-        requires among { self.old.book.down ≡ false → IsAmong tx.number self.old.book.out }
+        requires among { self.old.book.down ≡ false → IsAmong tx.number self.old.book.actives }
 
-        ensures aborts { OnOk result ((o : Out) → out_with tx.number self.old.book.out ≡ Some o
-            → Aborts (parts D.told D.len disk.old self.old) (parts D.told D.len disk.new self.new) o (others tx.number self.old.book.out)) }
+        ensures aborts { OnOk result ((o : ActiveTransaction) → transaction_with tx.number self.old.book.actives ≡ Some o
+            → Aborts (parts D.told D.len disk.old self.old) (parts D.told D.len disk.new self.new) o (others tx.number self.old.book.actives)) }
         ensures any_moment { LeavesWanted (parts D.told D.len disk.old self.old) (parts D.told D.len disk.new self.new) }
         ensures err { IfErr result IsFaultOrDown }
         ensures keeps { StaysReady D.told D.len D.faults disk.old disk.new self.old self.new result }
@@ -208,7 +210,7 @@ impl Store {
     /// Writes the changed pages to the disk and empties the log.
     pub fn checkpoint<D: Disk>(&mut self, disk: &mut D) -> Result<(), StoreFault>
         requires ready { IsReady (parts D.told D.len disk.old self.old) }
-        requires none { self.old.book.down ≡ false → self.old.book.out ≡ [] }
+        requires none { self.old.book.down ≡ false → self.old.book.actives ≡ [] }
 
         ensures checkpoints { OnOk result (Checkpoints (parts D.told D.len disk.old self.old) (parts D.told D.len disk.new self.new)) }
         ensures any_moment { LeavesWanted (parts D.told D.len disk.old self.old) (parts D.told D.len disk.new self.new) }

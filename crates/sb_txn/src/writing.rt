@@ -1,8 +1,9 @@
 //! How changes are undone.
 
 ghost use Rattle.std.specs.Prelude.{◌≡◌, ◌<◌, ◌≤◌, ◌∷◌, List, false, IfErr, OnOk};
-ghost use Rattle.sb_txn.specs.Book.{Out as Outs, standing_in};
-ghost use Rattle.sb_txn.specs.Clauses.{parts, IsReady, IsFaultOrDown, StaysReady, LeavesWanted, UndoesLast, GoesBack};
+ghost use Rattle.sb_txn.specs.Book.{ActiveTransaction, standing_in};
+ghost use Rattle.sb_txn.specs.Clauses.{IsReady, IsFaultOrDown, StaysReady, LeavesWanted, UndoesLast, GoesBack};
+ghost use Rattle.sb_txn.specs.Parts.{parts};
 
 use crate::StoreFault;
 use crate::store::Store;
@@ -13,9 +14,9 @@ impl Store {
     fn undo_last<D: Disk>(&mut self, disk: &mut D) -> Result<(), StoreFault>
         requires up { self.old.book.down ≡ false }
         requires ready { IsReady (parts D.told D.len disk.old self.old) }
-        requires some { 0 < standing_in self.old.book.out }
+        requires some { 0 < standing_in self.old.book.actives }
 
-        ensures undoes { OnOk result ((o : Outs) (rest : List Outs) → self.old.book.out ≡ o ∷ rest
+        ensures undoes { OnOk result ((o : ActiveTransaction) (rest : List ActiveTransaction) → self.old.book.actives ≡ o ∷ rest
             → UndoesLast (parts D.told D.len disk.old self.old) (parts D.told D.len disk.new self.new) o rest) }
         ensures any_moment { LeavesWanted (parts D.told D.len disk.old self.old) (parts D.told D.len disk.new self.new) }
         ensures err { IfErr result IsFaultOrDown }
@@ -29,9 +30,9 @@ impl Store {
     pub(crate) fn undo_behind<D: Disk>(&mut self, disk: &mut D, n: usize) -> Result<(), StoreFault>
         requires ready { IsReady (parts D.told D.len disk.old self.old) }
         requires up { self.old.book.down ≡ false }
-        requires mark { n ≤ standing_in self.old.book.out }
+        requires mark { n ≤ standing_in self.old.book.actives }
 
-        ensures back { OnOk result ((o : Outs) (rest : List Outs) → self.old.book.out ≡ o ∷ rest
+        ensures back { OnOk result ((o : ActiveTransaction) (rest : List ActiveTransaction) → self.old.book.actives ≡ o ∷ rest
             → GoesBack (parts D.told D.len disk.old self.old) (parts D.told D.len disk.new self.new) o rest n) }
         ensures any_moment { LeavesWanted (parts D.told D.len disk.old self.old) (parts D.told D.len disk.new self.new) }
         ensures err { IfErr result IsFaultOrDown }

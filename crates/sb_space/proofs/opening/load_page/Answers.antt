@@ -1,4 +1,4 @@
-use Rattle.sb_txn.specs.Clauses.{parts}
+use Rattle.sb_txn.specs.Parts.{parts}
 use Rattle.sb_space.proofs.OpeningLemmas.{fresh-clean, OnlyLoads-loaded}
 use Rattle.sb_space.proofs.opening.load_page.Goals as goal
 

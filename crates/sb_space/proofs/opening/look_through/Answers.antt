@@ -1,6 +1,6 @@
 use Rattle.std.proofs.Common.{ℕ, ◌<◌, ap, subst, ◌∙◌, arith}
 use Rattle.sb_log.specs.declared.geometry.Geometry.{Geometry}
-use Rattle.sb_txn.specs.Clauses.{parts}
+use Rattle.sb_txn.specs.Parts.{parts}
 use Rattle.sb_txn.proofs.ResultLemmas.{IfErr-from}
 use Rattle.sb_space.specs.Opening.{AreEntries, IsTablePage}
 use Rattle.sb_space.specs.Table.{table_len}

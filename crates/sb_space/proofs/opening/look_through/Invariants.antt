@@ -1,5 +1,5 @@
 use Rattle.sb_journal.specs.Opening.{OnlyReads}
-use Rattle.sb_txn.specs.Clauses.{parts}
+use Rattle.sb_txn.specs.Parts.{parts}
 use Rattle.sb_space.specs.Opening.{AreTablePages, OnlyLoads, WhereNow}
 use Rattle.sb_space.proofs.opening.look_through.Given as goal
 

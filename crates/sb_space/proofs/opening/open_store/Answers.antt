@@ -2,7 +2,7 @@ use Rattle.std.proofs.Common.{Option, refl, sym, subst}
 use Rattle.sb_disk.specs.Disk.{Story}
 use Rattle.sb_disk.specs.Moments.{LeavesOnly}
 use Rattle.sb_images.specs.Images.{Restores}
-use Rattle.sb_txn.specs.Clauses.{parts}
+use Rattle.sb_txn.specs.Parts.{parts}
 use Rattle.sb_txn.proofs.ResultLemmas.{IfErr-from}
 use Rattle.sb_space.proofs.OpeningLemmas.{handed-fault, IsFresh-opened, IsOpened-loads, IsSpace-looked, NamesDamage-looked, NamesDamage-opened, SpaceErr-looked, SpaceErr-opened, TableErr-fault}
 use Rattle.sb_space.proofs.opening.open_store.Goals as goal

@@ -1,6 +1,6 @@
 use Rattle.std.proofs.Common.{◌*◌, ◌/◌, ◌%◌, ℕ, List, Err, sym, ap, subst, ◌∙◌, arith}
 use Rattle.sb_bytes.specs.Field.{number_at}
-use Rattle.sb_txn.specs.Clauses.{parts}
+use Rattle.sb_txn.specs.Parts.{parts}
 use Rattle.sb_space.specs.Opening.{Looks}
 use Rattle.sb_space.proofs.Lookups.{Looks-err, Looks-ok, table-now}
 use Rattle.sb_space.proofs.opening.owner_of.Goals as goal

@@ -1,4 +1,4 @@
-use Rattle.std.proofs.Common.{rules, ◌≡◌, ◌<◌, ℕ, Option, length, map, get_or, set, sym, ◌∙◌, ap, subst, arith}
+use Rattle.std.proofs.Common.{rules, ◌≡◌, inl, ◌<◌, ℕ, Option, length, map, get_or, set, refl, sym, ◌∙◌, ap, subst, arith}
 use Rattle.sb_disk.specs.Disk.{Story}
 use Rattle.sb_images.specs.Layout.{place_of}
 use Rattle.sb_pool.specs.declared.frame.Frame.{Frame}
@@ -35,80 +35,54 @@ held_ok : (told : Option Story) (a : Inside) (pool after : State) (page place : 
 held_ok told a pool after page place f new at loaded =
     IsHeld-puts told pool after page place (held_of new) new.bytes.items at.puts (subst (λ (h : Option Held). IsLoaded told place h (held_of new) new.bytes.items) (sym at.was) loaded)
 
--- ---- at a fault
-pub returns-in_err-load-clause-pages : goal.returns-in_err-load-clause-pages
-returns-in_err-load-clause-pages g c =
-    let at = frame_at c.self.inside c.args.self.now c.args.page c.index_mut-frame.result.now c.load.new.self c.self.view_is c.self.invariant.count c.requires.page c.index_mut-frame.ensures.value in
-    let told = g.D.Disk.told c.args.disk.now in
-    let kept = loads_err told c.self.inside c.args.self.now _ c.args.page _ _ at c.in_err-load.ensures.err in
-    Loads-pages c.args.self.now _ told _ c.args.journal.now c.load.ensures.told kept
-
-pub returns-in_err-load-clause-dirty : goal.returns-in_err-load-clause-dirty
-returns-in_err-load-clause-dirty g c =
-    let at = frame_at c.self.inside c.args.self.now c.args.page c.index_mut-frame.result.now c.load.new.self c.self.view_is c.self.invariant.count c.requires.page c.index_mut-frame.ensures.value in
-    let told = g.D.Disk.told c.args.disk.now in
-    let kept = loads_err told c.self.inside c.args.self.now _ c.args.page _ _ at c.in_err-load.ensures.err in
-    Loads-dirty c.args.self.now _ told kept
-
-pub returns-in_err-load-clause-images : goal.returns-in_err-load-clause-images
-returns-in_err-load-clause-images g c want opened pending ready imaged =
-    KeepsImages-none want c.args.self.now.geometry opened pending c.args.journal.now (g.D.Disk.told c.args.disk.now) _ _ c.load.ensures.told ready
-
-pub returns-in_err-load-clause-keeps : goal.returns-in_err-load-clause-keeps
-returns-in_err-load-clause-keeps g c =
+-- at a fault
+pub returns-in_err-load : goal.returns-in_err-load
+returns-in_err-load g c =
     let at = frame_at c.self.inside c.args.self.now c.args.page c.index_mut-frame.result.now c.load.new.self c.self.view_is c.self.invariant.count c.requires.page c.index_mut-frame.ensures.value in
     let told = g.D.Disk.told c.args.disk.now in
     let kept = loads_err told c.self.inside c.args.self.now _ c.args.page _ _ at c.in_err-load.ensures.err in
     record {
-      size = search rules;
-      geometry = kept.geometry;
-      position = on_err c.from_residual.result _ (ap (λ (s : State). s.position) c.self.view_is);
-      later = search rules;
-      fault = search rules;
-      cause = λ is. search rules;
-      serves = Serves-as told _ _ _ c.args.journal.now c.args.self.now.geometry _ c.load.ensures.told c.load.ensures.len kept.geometry c.requires.serves;
-      agrees = Loads-agrees c.args.self.now _ told _ c.args.journal.now c.load.ensures.told kept c.requires.agrees;
-      sound = λ sound. sound;
+      held = search rules;
+      pages = Loads-pages c.args.self.now _ told _ c.args.journal.now c.load.ensures.told kept;
+      dirty = Loads-dirty c.args.self.now _ told kept;
+      images = λ want opened pending ready imaged. KeepsImages-none want c.args.self.now.geometry opened pending c.args.journal.now told _ _ c.load.ensures.told ready;
+      reads = record { only = λ clean. (c.load.ensures.told, refl) };
+      journal = search rules;
+      keeps = record {
+        size = search rules;
+        geometry = kept.geometry;
+        position = on_err c.from_residual.result _ (ap (λ (s : State). s.position) c.self.view_is);
+        later = search rules;
+        fault = search rules;
+        cause = λ is. search rules;
+        serves = Serves-as told _ _ _ c.args.journal.now c.args.self.now.geometry _ c.load.ensures.told c.load.ensures.len kept.geometry c.requires.serves;
+        agrees = Loads-agrees c.args.self.now _ told _ c.args.journal.now c.load.ensures.told kept c.requires.agrees;
+        sound = λ sound. sound;
+      };
     }
 
--- ---- at the end
-pub returns-clause-held : goal.returns-clause-held
-returns-clause-held g c =
-    let at = frame_at c.self.inside c.args.self.now c.args.page c.index_mut-frame.result.now c.load.new.self c.self.view_is c.self.invariant.count c.requires.page c.index_mut-frame.ensures.value in
-    let told = g.D.Disk.told c.args.disk.now in
-    (held_ok told c.self.inside c.args.self.now _ c.args.page c.place_of-at.result _ _ at c.in_ok-load.ensures.loaded, ap (λ (s : State). s.position) c.self.view_is)
-
-pub returns-clause-pages : goal.returns-clause-pages
-returns-clause-pages g c =
-    let at = frame_at c.self.inside c.args.self.now c.args.page c.index_mut-frame.result.now c.load.new.self c.self.view_is c.self.invariant.count c.requires.page c.index_mut-frame.ensures.value in
-    let told = g.D.Disk.told c.args.disk.now in
-    let kept = loads_ok told c.self.inside c.args.self.now _ c.args.page c.place_of-at.result _ _ at c.self.view_is c.place_of-at.ensures c.load.ensures.frame c.in_ok-load.ensures.loaded in
-    Loads-pages c.args.self.now _ told _ c.args.journal.now c.load.ensures.told kept
-
-pub returns-clause-dirty : goal.returns-clause-dirty
-returns-clause-dirty g c =
-    let at = frame_at c.self.inside c.args.self.now c.args.page c.index_mut-frame.result.now c.load.new.self c.self.view_is c.self.invariant.count c.requires.page c.index_mut-frame.ensures.value in
-    let told = g.D.Disk.told c.args.disk.now in
-    let kept = loads_ok told c.self.inside c.args.self.now _ c.args.page c.place_of-at.result _ _ at c.self.view_is c.place_of-at.ensures c.load.ensures.frame c.in_ok-load.ensures.loaded in
-    Loads-dirty c.args.self.now _ told kept
-
-pub returns-clause-images : goal.returns-clause-images
-returns-clause-images g c want opened pending ready imaged =
-    KeepsImages-none want c.args.self.now.geometry opened pending c.args.journal.now (g.D.Disk.told c.args.disk.now) _ _ c.load.ensures.told ready
-
-pub returns-clause-keeps : goal.returns-clause-keeps
-returns-clause-keeps g c =
+-- at the end
+pub returns : goal.returns
+returns g c =
     let at = frame_at c.self.inside c.args.self.now c.args.page c.index_mut-frame.result.now c.load.new.self c.self.view_is c.self.invariant.count c.requires.page c.index_mut-frame.ensures.value in
     let told = g.D.Disk.told c.args.disk.now in
     let kept = loads_ok told c.self.inside c.args.self.now _ c.args.page c.place_of-at.result _ _ at c.self.view_is c.place_of-at.ensures c.load.ensures.frame c.in_ok-load.ensures.loaded in
     record {
-      size = search rules;
-      geometry = kept.geometry;
-      position = tt;
-      later = search rules;
-      fault = search rules;
-      cause = λ is. search rules;
-      serves = Serves-as told _ _ _ c.args.journal.now c.args.self.now.geometry _ c.load.ensures.told c.load.ensures.len kept.geometry c.requires.serves;
-      agrees = Loads-agrees c.args.self.now _ told _ c.args.journal.now c.load.ensures.told kept c.requires.agrees;
-      sound = λ sound. sound;
+      held = (held_ok told c.self.inside c.args.self.now _ c.args.page c.place_of-at.result _ _ at c.in_ok-load.ensures.loaded, ap (λ (s : State). s.position) c.self.view_is);
+      pages = Loads-pages c.args.self.now _ told _ c.args.journal.now c.load.ensures.told kept;
+      dirty = Loads-dirty c.args.self.now _ told kept;
+      images = λ want opened pending ready imaged. KeepsImages-none want c.args.self.now.geometry opened pending c.args.journal.now told _ _ c.load.ensures.told ready;
+      reads = record { only = λ clean. (c.load.ensures.told, refl) };
+      journal = inl refl;
+      keeps = record {
+        size = search rules;
+        geometry = kept.geometry;
+        position = tt;
+        later = search rules;
+        fault = search rules;
+        cause = λ is. search rules;
+        serves = Serves-as told _ _ _ c.args.journal.now c.args.self.now.geometry _ c.load.ensures.told c.load.ensures.len kept.geometry c.requires.serves;
+        agrees = Loads-agrees c.args.self.now _ told _ c.args.journal.now c.load.ensures.told kept c.requires.agrees;
+        sound = λ sound. sound;
+      };
     }

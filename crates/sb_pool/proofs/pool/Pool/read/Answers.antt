@@ -5,7 +5,7 @@ use Rattle.sb_images.specs.Layout.{page_at}
 use Rattle.sb_images.specs.Store.{IfTold}
 use Rattle.sb_log.specs.declared.geometry.Geometry.{Geometry}
 use Rattle.sb_journal.specs.State.{State}
-use Rattle.sb_pool.specs.Calls.{IsLoad}
+use Rattle.sb_pool.specs.Calls.{Moment, moment, IsLoad}
 use Rattle.sb_pool.specs.declared.fault.PoolFault.{PoolFault}
 use Rattle.sb_pool.specs.declared.fault.PoolFault.TheVariants.{Fault}
 use Rattle.sb_pool.specs.Pages.{KeepsPages, bytes_or, pool_page}
@@ -19,11 +19,11 @@ no_value (Err f) e P is = tt
 same_fault : (T U : Type 0) (e f : PoolFault) → IsErrOf {T = T} (Err e) f → IsErrOf {T = U} (Err e) f
 same_fault T U e f is = let same : e ≡ f = cc in ap Err same
 
-module _ {D : Type 0} (told : D → Option Story) (len faults : D → ℕ) (old new : D) (j k : State) (before after : pool.State) (page : ℕ) where
+module _ (old new : Moment) (page : ℕ) where
   -- the same of a refusal with another value in place
-  load_err : {T U : Type 0} (r : Result U PoolFault) (e : PoolFault) → IsErrAnd r (λ f. f ≡ e) → IsLoad {T = T} told len faults old new j k before after page (Err e) → IsLoad told len faults old new j k before after page r
+  load_err : {T U : Type 0} (r : Result U PoolFault) (e : PoolFault) → IsErrAnd r (λ f. f ≡ e) → IsLoad {T = T} old new page (Err e) → IsLoad old new page r
   load_err (Ok x) e is load = absurd is
-  load_err {T = T} {U = U} (Err f) e is load = subst (λ (g : PoolFault). IsLoad {T = U} told len faults old new j k before after page (Err g)) (sym is) (record {
+  load_err {T = T} {U = U} (Err f) e is load = subst (λ (g : PoolFault). IsLoad {T = U} old new page (Err g)) (sym is) (record {
     held = tt;
     pages = load.pages;
     dirty = load.dirty;
@@ -42,7 +42,7 @@ module _ {D : Type 0} (told : D → Option Story) (len faults : D → ℕ) (old 
     };
   })
 
-  load_ok : {T U : Type 0} (x : T) (y : U) → IsLoad {T = T} told len faults old new j k before after page (Ok x) → IsLoad told len faults old new j k before after page (Ok y)
+  load_ok : {T U : Type 0} (x : T) (y : U) → IsLoad {T = T} old new page (Ok x) → IsLoad old new page (Ok y)
   load_ok {T = T} {U = U} x y load = record {
     held = load.held;
     pages = load.pages;
@@ -62,19 +62,21 @@ module _ {D : Type 0} (told : D → Option Story) (len faults : D → ℕ) (old 
     };
   }
 
-  -- a page that is held is as it was last written
-  page_told : (a b : Option Story) (h : pool.Held) → KeepsPages k before after a b → page < after.geometry.pages → pool.held after page ≡ Some h → IfTold a (k.failed ≡ false → h.bytes ≡ pool_page a before page)
-  page_told None b h pages less is = tt
-  page_told (Some s) None h pages less is = absurd pages
-  page_told (Some s) (Some t) h pages less is = λ up. sym (ap (bytes_or (page_at after.geometry page t.now.reads)) is) ∙ pages up page less
+-- a page that is held is as it was last written
+page_told : (k : State) (before after : pool.State) (page : ℕ) (a b : Option Story) (h : pool.Held) → KeepsPages k before after a b → page < after.geometry.pages → pool.held after page ≡ Some h → IfTold a (k.failed ≡ false → h.bytes ≡ pool_page a before page)
+page_told k before after page None b h pages less is = tt
+page_told k before after page (Some s) None h pages less is = absurd pages
+page_told k before after page (Some s) (Some t) h pages less is = λ up. sym (ap (bytes_or (page_at after.geometry page t.now.reads)) is) ∙ pages up page less
 
 pub returns-in_err-load : goal.returns-in_err-load
 returns-in_err-load g c =
+    let old = moment g.D.Disk.told g.D.Disk.len g.D.Disk.faults c.args.disk.now c.args.journal.now c.args.self.now in
+    let new = moment g.D.Disk.told g.D.Disk.len g.D.Disk.faults c.load.new.disk c.load.new.journal c.load.new.self in
     let call = c.in_err-load.ensures in (
       (
         refl,
         (λ _. tt),
-        load_err g.D.Disk.told g.D.Disk.len g.D.Disk.faults c.args.disk.now c.load.new.disk c.args.journal.now c.load.new.journal c.args.self.now c.load.new.self c.args.page {T = Unit {0}} c.from_residual.result c.in_err-load.field-0.0 c.from_residual.ensures.1
+        load_err old new c.args.page {T = Unit {0}} c.from_residual.result c.in_err-load.field-0.0 c.from_residual.ensures.1
             (record { held = tt; pages = call.pages; dirty = call.dirty; images = call.images; journal = tt; keeps = call.keeps }),
       ),
       record { page = no_value c.from_residual.result c.in_err-load.field-0.0 _ c.from_residual.ensures.1; long = no_value c.from_residual.result c.in_err-load.field-0.0 _ c.from_residual.ensures.1; after = tt },
@@ -82,16 +84,17 @@ returns-in_err-load g c =
 
 pub returns : goal.returns
 returns g c =
+    let old = moment g.D.Disk.told g.D.Disk.len g.D.Disk.faults c.args.disk.now c.args.journal.now c.args.self.now in
+    let new = moment g.D.Disk.told g.D.Disk.len g.D.Disk.faults c.load.new.disk c.load.new.journal c.load.new.self in
     let call = c.in_ok-load.ensures in
     let less = subst (λ (h : Geometry). c.args.page < h.pages) (sym call.keeps.geometry) c.requires.page in (
       (
         refl,
         (λ _. tt),
-        load_ok g.D.Disk.told g.D.Disk.len g.D.Disk.faults c.args.disk.now c.load.new.disk c.args.journal.now c.load.new.journal c.args.self.now c.load.new.self c.args.page {T = Unit {0}} tt c.page.result
-            (record { held = call.held; pages = call.pages; dirty = call.dirty; images = call.images; journal = call.journal; keeps = call.keeps }),
+        load_ok old new c.args.page {T = Unit {0}} tt c.page.result (record { held = call.held; pages = call.pages; dirty = call.dirty; images = call.images; journal = call.journal; keeps = call.keeps }),
       ),
       record {
-        page = page_told g.D.Disk.told g.D.Disk.len g.D.Disk.faults c.args.disk.now c.load.new.disk c.args.journal.now c.load.new.journal c.args.self.now c.load.new.self c.args.page (g.D.Disk.told c.args.disk.now) (g.D.Disk.told c.load.new.disk) _ call.pages less c.page.ensures.bytes;
+        page = page_told c.load.new.journal c.args.self.now c.load.new.self c.args.page old.told new.told _ call.pages less c.page.ensures.bytes;
         long = c.page.ensures.long;
         after = tt;
       },

@@ -41,44 +41,29 @@ returns-in_err-load-clause-images g c = λ want opened pending ready imaged here
   ready = no_value c.from_residual.result c.in_err-load.field-0.0 _ c.from_residual.ensures.1;
 }
 
-pub returns-clause-images : goal.returns-clause-images
-returns-clause-images g c = λ want opened pending ready imaged here.
-    let i = c.in_ok-load.ensures.images want opened pending ready imaged in
-    record { leaves = i.leaves; ready = i.ready }
-
-pub returns-clause-written : goal.returns-clause-written
-returns-clause-written g c =
-    let at = write_at c.self.inside c.args.self.now c.load.new.self c.args.page c.args.offset c.args.position c.args.bytes.now c.index_mut-frame.result.now c.write.new.self c.self.view_is c.self.invariant.count
-    c.in_ok-load.ensures.keeps.geometry c.requires.page c.index_mut-frame.ensures.value c.in_ok-load.ensures.held.0 c.write.ensures.dirty c.write.ensures.bytes in
-    Becomes-written c.load.new.self _ c.args.page _ at.puts c.args.self.now c.args.offset c.args.bytes.now c.index_mut-frame.result.now.bytes.items at.was refl
-    (g.D.Disk.told c.args.disk.now) (g.D.Disk.told c.load.new.disk) c.load.new.journal c.in_ok-load.ensures.pages
-
-pub returns-clause-dirty : goal.returns-clause-dirty
-returns-clause-dirty g c =
-    let at = write_at c.self.inside c.args.self.now c.load.new.self c.args.page c.args.offset c.args.position c.args.bytes.now c.index_mut-frame.result.now c.write.new.self c.self.view_is c.self.invariant.count
-    c.in_ok-load.ensures.keeps.geometry c.requires.page c.index_mut-frame.ensures.value c.in_ok-load.ensures.held.0 c.write.ensures.dirty c.write.ensures.bytes in
-    (IsDirty-written c.load.new.self _ c.args.page _ at.puts, refl)
-
-pub returns-clause-others : goal.returns-clause-others
-returns-clause-others g c =
-    let at = write_at c.self.inside c.args.self.now c.load.new.self c.args.page c.args.offset c.args.position c.args.bytes.now c.index_mut-frame.result.now c.write.new.self c.self.view_is c.self.invariant.count
-    c.in_ok-load.ensures.keeps.geometry c.requires.page c.index_mut-frame.ensures.value c.in_ok-load.ensures.held.0 c.write.ensures.dirty c.write.ensures.bytes in
-    dirty-written c.load.new.self _ c.args.page _ at.puts c.args.self.now c.in_ok-load.ensures.dirty
-
-pub returns-clause-keeps : goal.returns-clause-keeps
-returns-clause-keeps g c =
-    let at = write_at c.self.inside c.args.self.now c.load.new.self c.args.page c.args.offset c.args.position c.args.bytes.now c.index_mut-frame.result.now c.write.new.self c.self.view_is c.self.invariant.count
-    c.in_ok-load.ensures.keeps.geometry c.requires.page c.index_mut-frame.ensures.value c.in_ok-load.ensures.held.0 c.write.ensures.dirty c.write.ensures.bytes in
-    let kept = c.in_ok-load.ensures.keeps in
+pub returns : goal.returns
+returns g c =
+    let load = c.in_ok-load.ensures in
+    let kept = load.keeps in
     let told = g.D.Disk.told c.load.new.disk in
+    let at = write_at c.self.inside c.args.self.now c.load.new.self c.args.page c.args.offset c.args.position c.args.bytes.now c.index_mut-frame.result.now c.write.new.self c.self.view_is c.self.invariant.count
+    kept.geometry c.requires.page c.index_mut-frame.ensures.value load.held.0 c.write.ensures.dirty c.write.ensures.bytes in
     record {
-      size = kept.size;
-      geometry = at.puts.geometry ∙ kept.geometry;
-      position = tt;
-      later = kept.later;
-      fault = tt;
-      cause = λ is. search rules;
-      serves = Serves-as told told _ _ c.load.new.journal c.load.new.self.geometry _ refl refl at.puts.geometry kept.serves;
-      agrees = AgreesOn-written c.load.new.self _ c.args.page _ at.puts told c.load.new.journal kept.agrees;
-      sound = kept.sound;
+      written = Becomes-written c.load.new.self _ c.args.page _ at.puts c.args.self.now c.args.offset c.args.bytes.now c.index_mut-frame.result.now.bytes.items at.was refl (g.D.Disk.told c.args.disk.now) told c.load.new.journal load.pages;
+      dirty = (IsDirty-written c.load.new.self _ c.args.page _ at.puts, refl);
+      others = dirty-written c.load.new.self _ c.args.page _ at.puts c.args.self.now load.dirty;
+      err = tt;
+      images = λ want opened pending ready imaged here. let i = load.images want opened pending ready imaged in record { leaves = i.leaves; ready = i.ready };
+      journal = load.journal;
+      keeps = record {
+        size = kept.size;
+        geometry = at.puts.geometry ∙ kept.geometry;
+        position = tt;
+        later = kept.later;
+        fault = tt;
+        cause = λ is. search rules;
+        serves = Serves-as told told _ _ c.load.new.journal c.load.new.self.geometry _ refl refl at.puts.geometry kept.serves;
+        agrees = AgreesOn-written c.load.new.self _ c.args.page _ at.puts told c.load.new.journal kept.agrees;
+        sound = kept.sound;
+      };
     }

@@ -3,7 +3,7 @@ use Rattle.std.proofs.lemmas.Bool.{false≢true}
 use Rattle.std.proofs.lemmas.List.Elements.{All-from_get_or}
 use Rattle.sb_space.specs.Works.{Stands, Fails}
 use Rattle.sb_drive.specs.Spaces.{UnlessDown}
-use Rattle.sb_txn.specs.Clauses.{parts}
+use Rattle.sb_txn.specs.Parts.{parts}
 use Rattle.sb_space.proofs.Changed.{Works-changed, Stands-changed, Works-err, Stands-err, Fails-err, up-err, Serves-changed}
 use Rattle.sb_space.proofs.Loading.{up_after}
 use Rattle.sb_space.proofs.durable.Durable.change.Goals as goal

@@ -1,4 +1,4 @@
-use Rattle.sb_txn.specs.Clauses.{parts}
+use Rattle.sb_txn.specs.Parts.{parts}
 use Rattle.sb_txn.proofs.KeepsLemmas.{StaysReady-up}
 use Rattle.sb_txn.proofs.RoomLemmas.{Grows-rest}
 use Rattle.sb_space.proofs.GoingBack.{HasPages-back, standing-back, WasAt-back}

@@ -1,4 +1,4 @@
-use Rattle.sb_txn.specs.Clauses.{parts}
+use Rattle.sb_txn.specs.Parts.{parts}
 use Rattle.sb_space.proofs.Transacting.{Kept-ok, sizes-same, Serves-begun, standing-begun, HasPages-stays}
 use Rattle.sb_space.proofs.transactions.Space.begin.Goals as goal
 

@@ -1,5 +1,5 @@
 use Rattle.std.proofs.Common.{[]}
-use Rattle.sb_txn.specs.Clauses.{parts}
+use Rattle.sb_txn.specs.Parts.{parts}
 use Rattle.sb_space.proofs.Transacting.{Kept-ok, sizes-same, HasPages-stays}
 use Rattle.sb_space.proofs.transactions.Space.checkpoint.Goals as goal
 

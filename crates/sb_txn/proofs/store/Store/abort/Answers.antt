@@ -1,6 +1,6 @@
 use Rattle.sb_txn.specs.Book.{others}
-use Rattle.sb_txn.specs.Clauses.{parts}
-use Rattle.sb_txn.proofs.CallLemmas.{IsReady-called, LeavesWanted-called, out-called, Aborts-called}
+use Rattle.sb_txn.specs.Parts.{parts}
+use Rattle.sb_txn.proofs.CallLemmas.{IsReady-called, LeavesWanted-called, actives-called, Aborts-called}
 use Rattle.sb_txn.proofs.KeepsLemmas.{LeavesWanted-none}
 use Rattle.sb_txn.proofs.ResultLemmas.{OnOk-map}
 use Rattle.sb_txn.proofs.store.Store.abort.Goals as goal
@@ -21,7 +21,7 @@ returns-clause-aborts g c =
     let first = c.in_ok-call.ensures.first in
     let old = parts g.D.Disk.told g.D.Disk.len c.args.disk.now c.args.self.now in
     let new = parts g.D.Disk.told g.D.Disk.len c.abort_first.new.disk c.abort_first.new.self in
-    (OnOk-map c.abort_first.result _ _ (λ aborts o is. Aborts-called old c.call.new.self tx o is first new (aborts o (others tx c.args.self.now.book.out) (out-called old c.call.new.self tx o is first))) c.abort_first.ensures.aborts)
+    (OnOk-map c.abort_first.result _ _ (λ aborts o is. Aborts-called old c.call.new.self tx o is first new (aborts o (others tx c.args.self.now.book.actives) (actives-called old c.call.new.self tx o is first))) c.abort_first.ensures.aborts)
 
 pub returns-clause-any_moment : goal.returns-clause-any_moment
 returns-clause-any_moment g c =

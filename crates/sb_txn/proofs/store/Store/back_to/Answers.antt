@@ -1,7 +1,7 @@
 use Rattle.std.proofs.Common.{arith}
 use Rattle.sb_txn.specs.Book.{others}
-use Rattle.sb_txn.specs.Clauses.{parts}
-use Rattle.sb_txn.proofs.CallLemmas.{IsReady-called, standing-called, LeavesWanted-called, out-called, GoesBack-called}
+use Rattle.sb_txn.specs.Parts.{parts}
+use Rattle.sb_txn.proofs.CallLemmas.{IsReady-called, standing-called, LeavesWanted-called, actives-called, GoesBack-called}
 use Rattle.sb_txn.proofs.KeepsLemmas.{LeavesWanted-none}
 use Rattle.sb_txn.proofs.ResultLemmas.{OnOk-map}
 use Rattle.sb_txn.proofs.store.Store.back_to.Goals as goal
@@ -33,7 +33,7 @@ returns-clause-back g c =
     let first = c.in_ok-call.ensures.first in
     let old = parts g.D.Disk.told g.D.Disk.len c.args.disk.now c.args.self.now in
     let new = parts g.D.Disk.told g.D.Disk.len c.undo_behind.new.disk c.undo_behind.new.self in
-    (OnOk-map c.undo_behind.result _ _ (λ back o is. GoesBack-called old c.call.new.self tx o is first new n (back o (others tx c.args.self.now.book.out) (out-called old c.call.new.self tx o is first))) c.undo_behind.ensures.back)
+    (OnOk-map c.undo_behind.result _ _ (λ back o is. GoesBack-called old c.call.new.self tx o is first new n (back o (others tx c.args.self.now.book.actives) (actives-called old c.call.new.self tx o is first))) c.undo_behind.ensures.back)
 
 pub returns-clause-any_moment : goal.returns-clause-any_moment
 returns-clause-any_moment g c =

@@ -1,7 +1,7 @@
 use Rattle.std.proofs.Common.{length}
 use Rattle.sb_txn.specs.Book.{others}
-use Rattle.sb_txn.specs.Clauses.{parts}
-use Rattle.sb_txn.proofs.CallLemmas.{IsReady-called, IsFirst-called, LeavesWanted-called, out-called, HasRoom-called, Changes-called, ChangeErr-called}
+use Rattle.sb_txn.specs.Parts.{parts}
+use Rattle.sb_txn.proofs.CallLemmas.{IsReady-called, IsFirst-called, LeavesWanted-called, actives-called, HasRoom-called, Changes-called, ChangeErr-called}
 use Rattle.sb_txn.proofs.KeepsLemmas.{LeavesWanted-none}
 use Rattle.sb_txn.proofs.ResultLemmas.{OnOk-map, IfErr-map}
 use Rattle.sb_txn.proofs.store.Store.change.Goals as goal
@@ -34,7 +34,7 @@ returns-clause-changes g c =
     let first = c.in_ok-call.ensures.first in
     let old = parts g.D.Disk.told g.D.Disk.len c.args.disk.now c.args.self.now in
     let new = parts g.D.Disk.told g.D.Disk.len c.change_first.new.disk c.change_first.new.self in
-    (OnOk-map c.change_first.result _ _ (λ changes o is. Changes-called old c.call.new.self tx o is first new owner page offset bytes (changes o (others tx c.args.self.now.book.out) (out-called old c.call.new.self tx o is first))) c.change_first.ensures.changes)
+    (OnOk-map c.change_first.result _ _ (λ changes o is. Changes-called old c.call.new.self tx o is first new owner page offset bytes (changes o (others tx c.args.self.now.book.actives) (actives-called old c.call.new.self tx o is first))) c.change_first.ensures.changes)
 
 pub returns-clause-room : goal.returns-clause-room
 returns-clause-room g c =
@@ -42,7 +42,7 @@ returns-clause-room g c =
     let count = length c.args.bytes.now in
     let first = c.in_ok-call.ensures.first in
     let old = parts g.D.Disk.told g.D.Disk.len c.args.disk.now c.args.self.now in
-    (OnOk-map c.change_first.result _ _ (λ room o is. HasRoom-called old c.call.new.self tx o is first c.args.page count (room o (others tx c.args.self.now.book.out) (out-called old c.call.new.self tx o is first))) c.change_first.ensures.room)
+    (OnOk-map c.change_first.result _ _ (λ room o is. HasRoom-called old c.call.new.self tx o is first c.args.page count (room o (others tx c.args.self.now.book.actives) (actives-called old c.call.new.self tx o is first))) c.change_first.ensures.room)
 
 pub returns-clause-refused : goal.returns-clause-refused
 returns-clause-refused g c =
@@ -51,7 +51,7 @@ returns-clause-refused g c =
     let first = c.in_ok-call.ensures.first in
     let old = parts g.D.Disk.told g.D.Disk.len c.args.disk.now c.args.self.now in
     let new = parts g.D.Disk.told g.D.Disk.len c.change_first.new.disk c.change_first.new.self in
-    (IfErr-map c.change_first.result _ _ (λ e err o is. ChangeErr-called old c.call.new.self tx o is first new c.args.page count e (err o (others tx c.args.self.now.book.out) (out-called old c.call.new.self tx o is first))) c.change_first.ensures.refused)
+    (IfErr-map c.change_first.result _ _ (λ e err o is. ChangeErr-called old c.call.new.self tx o is first new c.args.page count e (err o (others tx c.args.self.now.book.actives) (actives-called old c.call.new.self tx o is first))) c.change_first.ensures.refused)
 
 pub returns-clause-any_moment : goal.returns-clause-any_moment
 returns-clause-any_moment g c =

@@ -1,10 +1,11 @@
 use Rattle.std.proofs.Common.{◌≡◌, false, List, [], sym, ◌∙◌, ap, subst}
 use Rattle.sb_journal.specs.State.{after_force}
 use Rattle.sb_images.specs.Store.{IsStoreOn}
-use Rattle.sb_txn.specs.Book.{Out, Book, actives}
+use Rattle.sb_txn.specs.Book.{ActiveTransaction, Book, views}
 use Rattle.sb_txn.specs.State.{together}
-use Rattle.sb_txn.specs.Tied.{Ties}
-use Rattle.sb_txn.proofs.BeginLemmas.{Ties-checkpoint, used-closed}
+use Rattle.sb_txn.specs.Tied.{Holds}
+use Rattle.sb_txn.specs.Parts.{stored}
+use Rattle.sb_txn.proofs.BeginLemmas.{Holds-checkpoint, used-closed}
 use Rattle.sb_txn.proofs.KeepsLemmas.{LeavesWanted-none, StaysReady-ok}
 use Rattle.sb_txn.proofs.store.Store.checkpoint.Goals as goal
 
@@ -18,14 +19,14 @@ returns-in-Ok-clause-checkpoints g c =
     let none = c.requires.none up in
     let closed = used-closed (after_force c.args.self.now.journal) c.checkpoint.new.journal call.journal in
     record {
-      out = ap (λ (b : Book). b.out) c.empty.ensures ∙ none;
+      actives = ap (λ (b : Book). b.actives) c.empty.ensures ∙ none;
       book = c.empty.ensures;
       log = closed.0;
       chunks = closed.1;
       pages = λ want now store.
-          let was = subst (λ (l : List Out). IsStoreOn want now (g.D.Disk.told c.args.disk.now) c.args.self.now.journal c.args.self.now.pool.geometry store.0 store.1 (actives l)) none store.2.store in
-          subst (λ (b : Book). Ties want now (g.D.Disk.told c.checkpoint.new.disk) (g.D.Disk.len c.checkpoint.new.disk) c.checkpoint.new.journal c.checkpoint.new.pool b [] []) (sym c.empty.ensures)
-          (Ties-checkpoint want now (g.D.Disk.told c.args.disk.now) (g.D.Disk.told c.checkpoint.new.disk) (g.D.Disk.len c.args.disk.now) (g.D.Disk.len c.checkpoint.new.disk) c.args.self.now.journal c.checkpoint.new.journal c.args.self.now.pool c.checkpoint.new.pool c.args.self.now.book store.0 store.1
+          let was = subst (λ (l : List ActiveTransaction). IsStoreOn want now (g.D.Disk.told c.args.disk.now) c.args.self.now.journal c.args.self.now.pool.geometry store.0 store.1 (views l)) none store.2.store in
+          subst (λ (b : Book). Holds want now [] [] (stored (g.D.Disk.told c.checkpoint.new.disk) (g.D.Disk.len c.checkpoint.new.disk) c.checkpoint.new.journal c.checkpoint.new.pool b)) (sym c.empty.ensures)
+          (Holds-checkpoint want now (g.D.Disk.told c.args.disk.now) (g.D.Disk.told c.checkpoint.new.disk) (g.D.Disk.len c.args.disk.now) (g.D.Disk.len c.checkpoint.new.disk) c.args.self.now.journal c.checkpoint.new.journal c.args.self.now.pool c.checkpoint.new.pool c.args.self.now.book store.0 store.1
           store.2 none call.journal call.pool (call.store want now store.0 store.1 was store.2.dirty store.2.pages) call.serves call.agrees (call.pages now store.2.pages));
     }
 

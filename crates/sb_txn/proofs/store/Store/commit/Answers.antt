@@ -1,7 +1,7 @@
 use Rattle.sb_txn.specs.Book.{others}
-use Rattle.sb_txn.specs.Clauses.{parts}
-use Rattle.sb_txn.proofs.CalledLemmas.{out_with-one}
-use Rattle.sb_txn.proofs.CallLemmas.{IsReady-called, IsFirst-called, out-called, Commits-called, LeavesCommit-called, StaysReady-called, LeavesCommit-wanted, LeavesOne-wanted}
+use Rattle.sb_txn.specs.Parts.{parts}
+use Rattle.sb_txn.proofs.CalledLemmas.{transaction_with-one}
+use Rattle.sb_txn.proofs.CallLemmas.{IsReady-called, IsFirst-called, actives-called, Commits-called, LeavesCommit-called, StaysReady-called, LeavesCommit-wanted, LeavesOne-wanted}
 use Rattle.sb_txn.proofs.EndLemmas.{LeavesOne-commit}
 use Rattle.sb_txn.proofs.KeepsLemmas.{LeavesWanted-none}
 use Rattle.sb_txn.proofs.ResultLemmas.{OnOk-map}
@@ -40,7 +40,7 @@ returns-clause-commits g c =
     let first = c.in_ok-call.ensures.first in
     let old = parts g.D.Disk.told g.D.Disk.len c.args.disk.now c.args.self.now in
     let new = parts g.D.Disk.told g.D.Disk.len c.commit_first.new.disk c.commit_first.new.self in
-    (OnOk-map c.commit_first.result _ _ (λ commits o is. Commits-called old c.call.new.self tx o is first new (commits o (others tx c.args.self.now.book.out) (out-called old c.call.new.self tx o is first))) c.commit_first.ensures.commits)
+    (OnOk-map c.commit_first.result _ _ (λ commits o is. Commits-called old c.call.new.self tx o is first new (commits o (others tx c.args.self.now.book.actives) (actives-called old c.call.new.self tx o is first))) c.commit_first.ensures.commits)
 
 pub returns-clause-any_moment : goal.returns-clause-any_moment
 returns-clause-any_moment g c =
@@ -48,20 +48,20 @@ returns-clause-any_moment g c =
     let first = c.in_ok-call.ensures.first in
     let old = parts g.D.Disk.told g.D.Disk.len c.args.disk.now c.args.self.now in
     let new = parts g.D.Disk.told g.D.Disk.len c.commit_first.new.disk c.commit_first.new.self in
-    (λ o is. LeavesCommit-called old c.call.new.self tx o is first new (c.commit_first.ensures.any_moment o (others tx c.args.self.now.book.out) (out-called old c.call.new.self tx o is first)))
+    (λ o is. LeavesCommit-called old c.call.new.self tx o is first new (c.commit_first.ensures.any_moment o (others tx c.args.self.now.book.actives) (actives-called old c.call.new.self tx o is first)))
 
 pub returns-clause-alone : goal.returns-clause-alone
 returns-clause-alone g c o is =
     let among = c.requires.among (c.in_ok-call.ensures.up) in
     LeavesOne-commit (parts g.D.Disk.told g.D.Disk.len c.args.disk.now c.args.self.now) (parts g.D.Disk.told g.D.Disk.len c.commit_first.new.disk c.commit_first.new.self) o is
-    (returns-clause-any_moment g c o (out_with-one c.args.tx.number c.args.self.now.book.out o is among))
+    (returns-clause-any_moment g c o (transaction_with-one c.args.tx.number c.args.self.now.book.actives o is among))
 
 pub returns-clause-idle : goal.returns-clause-idle
 returns-clause-idle g c =
     let tx = c.args.tx.number in
     let first = c.in_ok-call.ensures.first in
     let old = parts g.D.Disk.told g.D.Disk.len c.args.disk.now c.args.self.now in
-    (λ o is. c.commit_first.ensures.idle o (others tx c.args.self.now.book.out) (out-called old c.call.new.self tx o is first))
+    (λ o is. c.commit_first.ensures.idle o (others tx c.args.self.now.book.actives) (actives-called old c.call.new.self tx o is first))
 
 pub returns-clause-keeps : goal.returns-clause-keeps
 returns-clause-keeps g c =

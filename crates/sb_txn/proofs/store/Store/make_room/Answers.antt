@@ -1,4 +1,4 @@
-use Rattle.sb_txn.specs.Clauses.{parts}
+use Rattle.sb_txn.specs.Parts.{parts}
 use Rattle.sb_txn.specs.Steps.{TakesCheckpoint}
 use Rattle.sb_txn.proofs.BeginLemmas.{MakesRoom-checkpoint}
 use Rattle.sb_txn.proofs.KeepsLemmas.{LeavesWanted-none}

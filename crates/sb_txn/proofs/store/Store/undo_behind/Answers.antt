@@ -1,6 +1,7 @@
 use Rattle.std.proofs.Common.{◌≡◌, ◌<◌, ℕ, subst, arith}
 use Rattle.sb_txn.specs.Book.{standing_in}
-use Rattle.sb_txn.specs.Clauses.{parts, GoesBack}
+use Rattle.sb_txn.specs.Clauses.{GoesBack}
+use Rattle.sb_txn.specs.Parts.{parts}
 use Rattle.sb_txn.proofs.BackLemmas.{WentBack-none, leaves_now, WentBack-more, fewer_now}
 use Rattle.sb_txn.proofs.store.Store.undo_behind.Goals as goal
 
@@ -11,21 +12,21 @@ loop-self-init g c =
 pub loop-self-smaller : goal.loop-self-smaller
 loop-self-smaller g c =
     let so_far = c.loop-self.invariant in
-    let some : c.args.n < standing_in c.loop-self.self.book.out = omega arith in
+    let some : c.args.n < standing_in c.loop-self.self.book.actives = omega arith in
     fewer_now g.D.Disk.told g.D.Disk.len g.D.Disk.faults c.args.disk.now c.loop-self.disk c.undo_last.new.disk c.args.self.now c.loop-self.self
     c.undo_last.new.self c.args.n so_far some c.undo_last.ensures.any_moment c.in_ok-undo_last.ensures.undoes
 
 pub loop-self-preserved : goal.loop-self-preserved
 loop-self-preserved g c =
     let so_far = c.loop-self.invariant in
-    let some : c.args.n < standing_in c.loop-self.self.book.out = omega arith in
+    let some : c.args.n < standing_in c.loop-self.self.book.actives = omega arith in
     WentBack-more g.D.Disk.told g.D.Disk.len g.D.Disk.faults c.args.disk.now c.loop-self.disk c.undo_last.new.disk c.args.self.now c.loop-self.self
     c.undo_last.new.self c.args.n so_far some c.undo_last.ensures.any_moment c.in_ok-undo_last.ensures.undoes c.in_ok-undo_last.ensures.keeps
 
 pub returns-in_err-undo_last-clause-any_moment : goal.returns-in_err-undo_last-clause-any_moment
 returns-in_err-undo_last-clause-any_moment g c =
     let so_far = c.loop-self.invariant in
-    let some : c.args.n < standing_in c.loop-self.self.book.out = omega arith in
+    let some : c.args.n < standing_in c.loop-self.self.book.actives = omega arith in
     leaves_now g.D.Disk.told g.D.Disk.len g.D.Disk.faults c.args.disk.now c.loop-self.disk c.undo_last.new.disk c.args.self.now c.loop-self.self
     c.undo_last.new.self c.args.n so_far some c.undo_last.ensures.any_moment
 

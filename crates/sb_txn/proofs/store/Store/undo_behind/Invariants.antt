@@ -6,4 +6,4 @@ abbrev pub invariant-loop-self : goal.invariant-loop-self
 invariant-loop-self g l = WentBack g.D.Disk.told g.D.Disk.len g.D.Disk.faults l.fn.disk l.disk l.fn.self l.self l.n
 
 abbrev pub decreases-loop-self : goal.decreases-loop-self
-decreases-loop-self g l = standing_in l.self.book.out
+decreases-loop-self g l = standing_in l.self.book.actives

@@ -2,8 +2,9 @@ use Rattle.std.proofs.Common.{ℕ, List, ◌++◌, refl, ◌∙◌}
 use Rattle.sb_images.proofs.StoreLemmas.{IsStoreOn-ready}
 use Rattle.sb_pool.specs.Pages.{with_bytes}
 use Rattle.sb_txn.specs.Ahead.{IsAhead}
-use Rattle.sb_txn.specs.Book.{actives}
-use Rattle.sb_txn.specs.Clauses.{parts, HoldsAll}
+use Rattle.sb_txn.specs.Book.{views}
+use Rattle.sb_txn.specs.Clauses.{HoldsAll}
+use Rattle.sb_txn.specs.Parts.{parts}
 use Rattle.sb_txn.specs.State.{together}
 use Rattle.sb_txn.proofs.AheadLemmas.{HoldsAll-written}
 use Rattle.sb_txn.proofs.KeepsLemmas.{StaysReady-ok}
@@ -13,7 +14,7 @@ pub returns-in-Err-clause-any_moment : goal.returns-in-Err-clause-any_moment
 returns-in-Err-clause-any_moment g c = record {
   each = λ want now ahead.
       (c.write.ensures.images want ahead.opened ahead.pending
-      (IsStoreOn-ready want (with_bytes c.args.page c.args.offset c.args.bytes.now now) _ c.args.self.now.journal c.args.self.now.pool.geometry ahead.opened ahead.pending (actives c.args.self.now.book.out) ahead.leans.store)
+      (IsStoreOn-ready want (with_bytes c.args.page c.args.offset c.args.bytes.now now) _ c.args.self.now.journal c.args.self.now.pool.geometry ahead.opened ahead.pending (views c.args.self.now.book.actives) ahead.leans.store)
       ahead.leans.dirty ahead.covered).leaves;
 }
 
@@ -21,7 +22,7 @@ pub returns-in-Ok-clause-any_moment : goal.returns-in-Ok-clause-any_moment
 returns-in-Ok-clause-any_moment g c = record {
   each = λ want now ahead.
       (c.write.ensures.images want ahead.opened ahead.pending
-      (IsStoreOn-ready want (with_bytes c.args.page c.args.offset c.args.bytes.now now) _ c.args.self.now.journal c.args.self.now.pool.geometry ahead.opened ahead.pending (actives c.args.self.now.book.out) ahead.leans.store)
+      (IsStoreOn-ready want (with_bytes c.args.page c.args.offset c.args.bytes.now now) _ c.args.self.now.journal c.args.self.now.pool.geometry ahead.opened ahead.pending (views c.args.self.now.book.actives) ahead.leans.store)
       ahead.leans.dirty ahead.covered).leaves;
 }
 
@@ -31,7 +32,7 @@ returns-in-Ok-clause-written g c =
     let new = parts g.D.Disk.told g.D.Disk.len c.write.new.disk (together c.write.new.journal c.write.new.self c.args.self.now.book) in
     let logged : (want now : ℕ → List ℕ) (ahead : IsAhead want now c.args.page c.args.offset c.args.bytes.now old) → HoldsAll want (with_bytes c.args.page c.args.offset c.args.bytes.now now) (ahead.opened ++ ahead.pending) new = λ want now ahead.
     let call = c.in-Ok.ensures in
-    let ready = IsStoreOn-ready want (with_bytes c.args.page c.args.offset c.args.bytes.now now) (g.D.Disk.told c.args.disk.now) c.args.self.now.journal c.args.self.now.pool.geometry ahead.opened ahead.pending (actives c.args.self.now.book.out) ahead.leans.store in
+    let ready = IsStoreOn-ready want (with_bytes c.args.page c.args.offset c.args.bytes.now now) (g.D.Disk.told c.args.disk.now) c.args.self.now.journal c.args.self.now.pool.geometry ahead.opened ahead.pending (views c.args.self.now.book.actives) ahead.leans.store in
     HoldsAll-written want now (g.D.Disk.told c.args.disk.now) (g.D.Disk.told c.write.new.disk) (g.D.Disk.len c.args.disk.now) (g.D.Disk.len c.write.new.disk) c.args.self.now.journal c.write.new.journal c.args.self.now.pool c.write.new.self c.args.self.now.book
     ahead.opened ahead.pending c.args.page c.args.offset c.args.bytes.now ahead.leans ahead.covered
     call.keeps.geometry (call.dirty.1 ∙ c.used-position.ensures) call.written call.others (call.images want ahead.opened ahead.pending ready ahead.leans.dirty ahead.covered).ready call.journal call.keeps.serves call.keeps.agrees in
