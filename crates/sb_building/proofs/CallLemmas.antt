@@ -7,7 +7,7 @@ use Rattle.sb_drive.specs.Spaces.{IsRefused, LeadsOn}
 use Rattle.sb_drive.proofs.SpacesLemmas.{GoesOn}
 use Rattle.sb_owners.specs.Instances.{IsUnbroken}
 use Rattle.sb_registry.specs.Runs.{IsSound}
-use Rattle.sb_engine.specs.Refusals.{HasCause, refusal_of}
+use Rattle.sb_engine.specs.Refusals.{HasRefusalCause, refusal_of}
 use Rattle.sb_engine.proofs.RefusedLemmas.{refused_cause}
 
 -- a number of changes leads on behind another
@@ -27,7 +27,7 @@ IsRefused-sound Same Fails NoMemory sound fails = inr fails
 IsRefused-sound Same Fails e sound fails = fails
 
 -- a refusal of the space itself, which calls no page damaged, has its cause
-pub unbroken_cause : {S : Type 0} (Fails : SpaceFault → S → S → Type 0) (old new : S) (e : SpaceFault) → IsUnbroken e → Fails e old new → HasCause Fails (refusal_of e) new
+pub unbroken_cause : {S : Type 0} (Fails : SpaceFault → S → S → Type 0) (old new : S) (e : SpaceFault) → IsUnbroken e → Fails e old new → HasRefusalCause Fails (refusal_of e) new
 unbroken_cause Fails old new e unbroken fails =
     let sound = IsSound-unbroken e unbroken in refused_cause Fails (Unit {0}) old new e (IsRefused-sound (Unit {0}) (Fails e old new) e sound fails) sound
 

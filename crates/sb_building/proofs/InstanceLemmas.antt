@@ -29,7 +29,7 @@ use Rattle.sb_standing.specs.Tables.{Kept, KeepsTable, KeepsOthers, Tables, db_o
 use Rattle.sb_standing.proofs.KeptLemmas.{kept_at-all, relation_at-there}
 use Rattle.sb_standing.proofs.LawfulLemmas.{AreLawful-tables, roots-tables}
 use Rattle.sb_opened.specs.Opened.{IsDurable, OwnsPages, rule_of}
-use Rattle.sb_engine.specs.Refusals.{HasCause, refusal_of}
+use Rattle.sb_engine.specs.Refusals.{HasRefusalCause, refusal_of}
 use Rattle.sb_building.specs.Attaching.{HasBegun, IsEntered, IsEntryOf, IsStore, MayAdd}
 use Rattle.sb_building.specs.Building.{content_built}
 use Rattle.sb_building.specs.Instances.{HasNewPages, HoldsFirst, IsApart, IsPlaced, IsSite, Site}
@@ -277,7 +277,7 @@ module _ {S : Type 0} (Has : Wanted → Slots → S → Type 0) (m : Meanings) (
 
       -- or refused
       pub prepared_refused : (Fails : SpaceFault → S → S → Type 0) (e : SpaceFault)
-          → ((own : IsLiveRule m inst) (y : Site) (r : Rule) → IsSite Has m root y inst r own.box later → HasNewPages y own.box inst → HasCause Fails (refusal_of e) after) → HasCause Fails (refusal_of e) after
+          → ((own : IsLiveRule m inst) (y : Site) (r : Rule) → IsSite Has m root y inst r own.box later → HasNewPages y own.box inst → HasRefusalCause Fails (refusal_of e) after) → HasRefusalCause Fails (refusal_of e) after
       prepared_refused Fails e refused =
           refused live (record x { slots = placed_own.slots }) rule (site-begun Has m root x name label rule d old mid later store may new_entry placed_own looks inst inst_is live)
           (pages-begun Has m root x name label rule d old mid later store may new_entry placed_own looks inst inst_is live)

@@ -12,7 +12,7 @@ ghost use Rattle.sb_catalog.specs.Descriptors.{IsCountedRule, IsStorableAttached
 ghost use Rattle.sb_registry.specs.Live.{IsLiveRule};
 ghost use Rattle.sb_standing.specs.Tables.{db_of};
 ghost use Rattle.sb_opened.specs.Opened.{IsOpen, rule_of};
-ghost use Rattle.sb_engine.specs.Refusals.{HasCause, refusal_of};
+ghost use Rattle.sb_engine.specs.Refusals.{HasRefusalCause, refusal_of};
 ghost use Rattle.sb_engine.specs.Working.{Goes, IsServing, IsStoppedBy, StandsFor, extensions_in};
 ghost use Rattle.sb_tables.specs.Keeping.{Closes};
 ghost use Rattle.sb_building.specs.Attaching.{HasBegun, HasEnded, MayAdd, MayAttach, Stores};
@@ -104,7 +104,7 @@ fn attach_copy<S: Owners, B: Boxes>(
         → HasEnded S.has (B.meanings boxes.now) place.root x relation.now name.now rule.now may.box.rules space.new end) }
     ensures refused { IfErr result (λ e. (x : Site) → S.has x.want x.slots space.old → Stores (B.meanings boxes.now) place.root x relation.now
         → MayAdd (B.meanings boxes.now) (db_of x.kept) relation.now name.now rule.now
-        → HasCause S.fails (refusal_of e) space.new) }
+        → HasRefusalCause S.fails (refusal_of e) space.new) }
     ensures leads { LeadsOn S.leads space.old space.new }
     ensures ready { S.is_ready space.new }
 {
@@ -134,7 +134,7 @@ fn attach_rule<S: Owners, B: Boxes>(
         → HasEnded S.has (B.meanings boxes.now) place.root x relation.now name.now rule may.box.rules space.new end) }
     ensures refused { IfErr result (λ e. (x : Site) → S.has x.want x.slots space.old → Stores (B.meanings boxes.now) place.root x relation.now
         → MayAdd (B.meanings boxes.now) (db_of x.kept) relation.now name.now rule
-        → HasCause S.fails (refusal_of e) space.new) }
+        → HasRefusalCause S.fails (refusal_of e) space.new) }
     ensures leads { LeadsOn S.leads space.old space.new }
     ensures ready { S.is_ready space.new }
 {
@@ -171,7 +171,7 @@ fn attach_to<S: Owners, B: Boxes>(
     ensures refused { IfErr result (λ e. (x : Site) → S.has x.want x.slots space.old → Stores (B.meanings boxes.now) place.root x one.name
         → x.one.descriptor ≡ one.descriptor
         → MayAdd (B.meanings boxes.now) (db_of x.kept) one.name label.now rule
-        → HasCause S.fails (refusal_of e) space.new) }
+        → HasRefusalCause S.fails (refusal_of e) space.new) }
     ensures leads { LeadsOn S.leads space.old space.new }
     ensures ready { S.is_ready space.new }
 {
@@ -212,7 +212,7 @@ fn build_on<S: PageSpace, B: Boxes>(
         → MayAdd (B.meanings boxes.now) (db_of x.kept) one.name attached.name attached.rule
         → HasBegun S.has (B.meanings boxes.now) place.root x inst.now attached.rule live.box space.old
         → has_long_row (db_of x.kept) one.name attached.rule ≡ false
-        → HasCause S.fails (refusal_of e) space.new) }
+        → HasRefusalCause S.fails (refusal_of e) space.new) }
     ensures leads { LeadsOn S.leads space.old space.new }
     ensures ready { S.is_ready space.new }
 {

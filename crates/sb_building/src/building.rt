@@ -10,7 +10,7 @@ ghost use Rattle.sb_drive.specs.Spaces.{LeadsOn, Leaves};
 ghost use Rattle.sb_registry.specs.Live.{IsLive, IsLiveRule};
 ghost use Rattle.sb_standing.specs.Tables.{db_of, table_of};
 ghost use Rattle.sb_opened.specs.Opened.{IsDurable};
-ghost use Rattle.sb_engine.specs.Refusals.{HasCause, refusal_of};
+ghost use Rattle.sb_engine.specs.Refusals.{HasRefusalCause, refusal_of};
 ghost use Rattle.sb_building.specs.Building.{HasNoLong, HoldsBuilt, IsBuilt, IsBuiltOver, IsNext, is_done};
 ghost use Rattle.sb_building.specs.Instances.{HasNewPages, HoldsFirst, IsSite, Site};
 
@@ -45,7 +45,7 @@ pub(crate) fn prepare<S: PageSpace, B: Boxes>(
         → Leaves S.has inst.now.owner x.want x.slots space.new (HoldsFirst live.box inst.now rule (db_of x.kept))) }
     ensures refused { IfErr result (λ e. (live : IsLiveRule (B.meanings boxes.now) inst.now) (x : Site) (rule : Policy)
         → IsSite S.has (B.meanings boxes.now) place.root x inst.now rule live.box space.old → HasNewPages x live.box inst.now
-        → HasCause S.fails (refusal_of e) space.new) }
+        → HasRefusalCause S.fails (refusal_of e) space.new) }
     ensures leads { LeadsOn S.leads space.old space.new }
     ensures ready { S.is_ready space.new }
 {
@@ -79,7 +79,7 @@ pub(crate) fn build_rows<S: PageSpace, B: Boxes>(
     ensures refused { IfErr result (λ e. (live : IsLiveRule (B.meanings boxes.now) inst.now) (x : Site)
         → IsSite S.has (B.meanings boxes.now) place.root x inst.now rule.now live.box space.old → table.now ≡ table_of IsDurable x.one
         → HoldsBuilt x live.box inst.now rule.now [] → HasNoLong x rule.now
-        → HasCause S.fails (refusal_of e) space.new) }
+        → HasRefusalCause S.fails (refusal_of e) space.new) }
     ensures leads { LeadsOn S.leads space.old space.new }
     ensures ready { S.is_ready space.new }
 {
@@ -123,7 +123,7 @@ fn build_row<S: PageSpace, B: Boxes>(
         (IsBuilt live.box inst.now rule (db_of x.kept) built (key.now, row) admitted)) }
     ensures refused { IfErr result (λ e. (live : IsLiveRule (B.meanings boxes.now) inst.now) (x : Site) (rule : Policy) (built : Rows)
         → IsSite S.has (B.meanings boxes.now) place.root x inst.now rule live.box space.old → HoldsBuilt x live.box inst.now rule built
-        → HasCause S.fails (refusal_of e) space.new) }
+        → HasRefusalCause S.fails (refusal_of e) space.new) }
     ensures leads { LeadsOn S.leads space.old space.new }
     ensures ready { S.is_ready space.new }
 {

@@ -6,7 +6,7 @@ ghost use Rattle.sb_relation.specs.Db.{Attached as Standing, Db};
 ghost use Rattle.sb_fold.specs.Building as fold;
 ghost use Rattle.sb_fold.specs.Outcome.{Going};
 ghost use Rattle.sb_cascade.specs.Runs.{MadeFrom, StopsFrom, is_free};
-ghost use Rattle.sb_engine.specs.Refusals.{HasCause, refusal_of};
+ghost use Rattle.sb_engine.specs.Refusals.{HasRefusalCause, refusal_of};
 ghost use Rattle.sb_engine.specs.Working.{Goes, IsServing, IsStoppedBy, StandsFor, extensions_in};
 ghost use Rattle.sb_registry.specs.Runs.{Looks};
 ghost use Rattle.sb_tables.specs.Keeping.{Closes, KeepsDb, KeepsIn};
@@ -66,7 +66,7 @@ fn detach_both<B: Boxes, S: PageSpace>(
 
     ensures detached { OnOk result ((db : Db) → KeepsIn S.has B.meanings db running.old
         → KeepsIn S.has B.meanings (without_both db relation.now name.now mirror) running.new) }
-    ensures refused { IfErr result (λ r. (db : Db) → KeepsIn S.has B.meanings db running.old → HasCause S.fails r running.new.space.now) }
+    ensures refused { IfErr result (λ r. (db : Db) → KeepsIn S.has B.meanings db running.old → HasRefusalCause S.fails r running.new.space.now) }
     ensures free { IfErr result (λ r. is_free r ≡ true) }
     ensures closes { Closes running.old running.new }
     ensures goes { Goes S.leads running.old running.new }
@@ -97,7 +97,7 @@ fn mirror_at<S: PageSpace, B: Boxes>(
         → KeepsDb S.has (B.meanings boxes.now) place.root gone db space.old → fold.rule_at db relation.now name.now ≡ Some a
         → mirror ≡ mirror_named relation.now name.now a.rule) }
     ensures refused { IfErr result (λ e. (gone : List ℕ) (db : Db) → KeepsDb S.has (B.meanings boxes.now) place.root gone db space.old
-        → HasCause S.fails (refusal_of e) space.new) }
+        → HasRefusalCause S.fails (refusal_of e) space.new) }
     ensures looks { Looks S.has S.leads S.fails space.old space.new result }
     ensures ready { S.is_ready space.new }
 {

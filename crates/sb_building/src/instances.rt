@@ -12,7 +12,7 @@ ghost use Rattle.sb_registry.specs.Runs.{IsSound, Looks};
 ghost use Rattle.sb_standing.specs.Standing.{StandsRule};
 ghost use Rattle.sb_standing.specs.Tables.{db_of};
 ghost use Rattle.sb_opened.specs.Opened.{OverTables, OwnsPages, rule_of};
-ghost use Rattle.sb_engine.specs.Refusals.{HasCause, refusal_of};
+ghost use Rattle.sb_engine.specs.Refusals.{HasRefusalCause, refusal_of};
 ghost use Rattle.sb_building.specs.Attaching.{HasBegun, IsEntered, IsEntryOf, IsStore, MayAdd};
 ghost use Rattle.sb_building.specs.Instances.{IsPlaced, Site};
 
@@ -55,7 +55,7 @@ pub(crate) fn begin<S: Owners, B: Boxes>(
     ensures refused { IfErr result (λ e. (x : Site)
         → IsStore S.has (B.meanings boxes.now) place.root x opened.now.name space.old → x.one.descriptor ≡ opened.now.descriptor
         → MayAdd (B.meanings boxes.now) (db_of x.kept) opened.now.name label.now rule
-        → HasCause S.fails (refusal_of e) space.new) }
+        → HasRefusalCause S.fails (refusal_of e) space.new) }
     ensures leads { LeadsOn S.leads space.old space.new }
     ensures ready { S.is_ready space.new }
 {
@@ -79,7 +79,7 @@ fn new_entry<S: Owners>(
     requires short { length label.now ≤ 255 }
 
     ensures entered { IfOk result (λ d. IsEntered S.has label.now rule d space.old space.new) }
-    ensures refused { IfErr result (λ e. HasCause S.fails (refusal_of e) space.new) }
+    ensures refused { IfErr result (λ e. HasRefusalCause S.fails (refusal_of e) space.new) }
     ensures leads { LeadsOn S.leads space.old space.new }
     ensures ready { S.is_ready space.new }
 {
@@ -129,7 +129,7 @@ fn new_place<S: Owners>(space: &mut S, alloc: Global, code: u16) -> Result<(u16,
     ensures owns { IfOk result (λ made. OwnsPages (keeps_pages code) made.0) }
     ensures placed { IfOk result (λ made. (want : Wanted) (s : Slots) → S.has want s space.old
         → IsPlaced S.has (keeps_pages code) want s made.0 made.1 space.new) }
-    ensures refused { IfErr result (λ e. HasCause S.fails (refusal_of e) space.new) }
+    ensures refused { IfErr result (λ e. HasRefusalCause S.fails (refusal_of e) space.new) }
     ensures leads { LeadsOn S.leads space.old space.new }
     ensures ready { S.is_ready space.new }
 {

@@ -10,7 +10,7 @@ ghost use Rattle.sb_drive.specs.Spaces.{LeadsOn, Leaves};
 ghost use Rattle.sb_catalog.specs.Descriptors.{descriptor_spelling, IsStorableAttached, IsStorableDescriptor};
 ghost use Rattle.sb_standing.specs.Standing.{with_described};
 ghost use Rattle.sb_standing.specs.Tables.{entry_of};
-ghost use Rattle.sb_engine.specs.Refusals.{HasCause, refusal_of};
+ghost use Rattle.sb_engine.specs.Refusals.{HasRefusalCause, refusal_of};
 ghost use Rattle.sb_building.specs.Attaching.{IsRoomy};
 ghost use Rattle.sb_building.specs.Instances.{Site};
 
@@ -51,7 +51,7 @@ pub(crate) fn place_rule<S: PageSpace>(
     ensures storable { OnOk result (IsStorableDescriptor (record descriptor { attachments = with_described attached descriptor.attachments })) }
     ensures refused { IfErr result (λ e. (x : Site) → S.has x.want x.slots space.old
         → read_tree place.root (owned x.slots 2) ≡ Some (map entry_of x.kept)
-        → IsRoomy name.now descriptor attached → HasCause S.fails (refusal_of e) space.new) }
+        → IsRoomy name.now descriptor attached → HasRefusalCause S.fails (refusal_of e) space.new) }
     ensures leads { LeadsOn S.leads space.old space.new }
     ensures ready { S.is_ready space.new }
 {

@@ -63,7 +63,7 @@ use Rattle.sb_engine.proofs.LateLemmas.{left-late, queue_first-all, queue_first-
 use Rattle.sb_engine.proofs.OpenedLemmas.{HasOpen, has_open}
 use Rattle.sb_engine.proofs.PairedLemmas.{changed-paired}
 use Rattle.sb_engine.proofs.RowLemmas.{lasting-changed}
-use Rattle.sb_engine.proofs.StandLemmas.{StandRules-asks}
+use Rattle.sb_standing.proofs.StandLemmas.{StandRules-asks}
 
 -- ---- lists
 All-at : {A : Type 0} (P : A → Type 0) (xs : List A) (i : ℕ) (x : A) → All P xs → slice_get xs i ≡ Some x → P x

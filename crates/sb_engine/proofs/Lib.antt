@@ -1,4 +1,3 @@
-pub mod StandLemmas
 pub mod OpenedLemmas
 pub mod PicksLemmas
 pub mod RefusedLemmas

@@ -3,9 +3,7 @@ use Rattle.std.proofs.Common.{◌≡◌, ℕ, zero, suc, ◌<◌, ◌≤◌, Boo
 use Rattle.std.specs.List.{find, list_any, slice_get}
 use Rattle.std.proofs.lemmas.List.Elements.{All-nil, All-cons, All-head, All-tail}
 use Rattle.std.proofs.lemmas.Option.{same_Some}
-
-pub some_none : {A : Type 0} (x : A) → Some x ≡ None → ⊥
-some_none x is = cc
+use Rattle.sb_value.proofs.Truths.{some_none}
 
 pub all_placed : {A : Type 0} (P : A → Type 0) (xs : List A) (n : ℕ) → length xs ≤ n → ((i : ℕ) → i < n → (a : A) → slice_get xs i ≡ Some a → P a) → All P xs
 all_placed P [] n le is = All-nil P

@@ -11,7 +11,7 @@ use Rattle.sb_fold.specs.Outcome.{Going, Trail}
 use Rattle.sb_cascade.specs.Runs.{IsVetoed, IsVetoedIf, NotAsked, is_free}
 use Rattle.sb_fold.specs.declared.refusal.Refusal.{Refusal}
 use Rattle.sb_fold.specs.declared.refusal.Refusal.TheVariants as refusal
-use Rattle.sb_engine.specs.Refusals.{HasCause, refusal_of}
+use Rattle.sb_engine.specs.Refusals.{HasRefusalCause, refusal_of}
 
 -- it is none that a definition gives
 pub free_refusal : (e : SpaceFault) → is_free (refusal_of e) ≡ true
@@ -25,7 +25,7 @@ free_refusal fault.Down = refl
 free_refusal fault.NoMemory = refl
 
 -- where no page is called damaged, it has its cause
-pub refused_cause : {S : Type 0} (Fails : SpaceFault → S → S → Type 0) (Same : Type 0) (old new : S) (e : SpaceFault) → IsRefused Same (Fails e old new) e → IsSound e → HasCause Fails (refusal_of e) new
+pub refused_cause : {S : Type 0} (Fails : SpaceFault → S → S → Type 0) (Same : Type 0) (old new : S) (e : SpaceFault) → IsRefused Same (Fails e old new) e → IsSound e → HasRefusalCause Fails (refusal_of e) new
 refused_cause Fails Same old new fault.Fault is sound = record { fault = fault.Fault; is = refl; before = old; fails = is }
 refused_cause Fails Same old new (fault.DataFull used total) is sound = record { fault = fault.DataFull used total; is = refl; before = old; fails = is }
 refused_cause Fails Same old new (fault.TempFull used total) is sound = record { fault = fault.TempFull used total; is = refl; before = old; fails = is }
@@ -36,7 +36,7 @@ refused_cause Fails Same old new fault.Down is sound = record { fault = fault.Do
 refused_cause Fails Same old new fault.NoMemory is sound = tt
 
 -- one that a definition gives wants no cause
-pub definite_cause : {S : Type 0} (Fails : SpaceFault → S → S → Type 0) (r : Refusal) (now : S) → is_free r ≡ false → HasCause Fails r now
+pub definite_cause : {S : Type 0} (Fails : SpaceFault → S → S → Type 0) (r : Refusal) (now : S) → is_free r ≡ false → HasRefusalCause Fails r now
 definite_cause Fails (refusal.Syntax column) now is = tt
 definite_cause Fails refusal.Down now is = tt
 definite_cause Fails refusal.State now is = tt

@@ -21,7 +21,7 @@ use Rattle.sb_engine.specs.declared.running.Work.{Work}
 use Rattle.sb_engine.specs.Opening.{IsKeeping}
 use Rattle.sb_engine.specs.Working.{AreOpened, Stands, left_of}
 use Rattle.sb_engine.proofs.LateLemmas.{drop_first}
-use Rattle.sb_engine.proofs.StandLemmas.{StandRules-keeps}
+use Rattle.sb_standing.proofs.StandLemmas.{StandRules-keeps}
 
 module _ {S : Type 0} (Has : Wanted → Slots → S → Type 0) (m : Meanings) (root : ℕ) (g : Going) (old new : S) (w : Work) (stands : Stands Has m root g old w) where
   -- its pages keep what is open

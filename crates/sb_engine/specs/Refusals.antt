@@ -25,14 +25,14 @@ pub record IsRefusedBy {S : Type 0} (Fails : SpaceFault → S → S → Type 0) 
   pub fails : Fails fault before now
 
 -- The space has the cause of a refusal: no room, or a fault. No page that stands is damaged, and the other refusals want no cause.
-abbrev pub HasCause : {S : Type 0} → (SpaceFault → S → S → Type 0) → Refusal → S → Type 0
-HasCause Fails (refusal.Room room) now = IsRefusedBy Fails (refusal.Room room) now
-HasCause Fails refusal.Fault now = IsRefusedBy Fails refusal.Fault now
-HasCause Fails (refusal.Damaged page) now = ⊥
-HasCause Fails r now = Unit {0}
+abbrev pub HasRefusalCause : {S : Type 0} → (SpaceFault → S → S → Type 0) → Refusal → S → Type 0
+HasRefusalCause Fails (refusal.Room room) now = IsRefusedBy Fails (refusal.Room room) now
+HasRefusalCause Fails refusal.Fault now = IsRefusedBy Fails refusal.Fault now
+HasRefusalCause Fails (refusal.Damaged page) now = ⊥
+HasRefusalCause Fails r now = Unit {0}
 
 -- a refusal that says nothing of pages and of the disk wants no cause
-pub quiet_cause : {S : Type 0} (Fails : SpaceFault → S → S → Type 0) (r : Refusal) (now : S) → IsQuiet r → HasCause Fails r now
+pub quiet_cause : {S : Type 0} (Fails : SpaceFault → S → S → Type 0) (r : Refusal) (now : S) → IsQuiet r → HasRefusalCause Fails r now
 quiet_cause Fails (refusal.Syntax column) now quiet = tt
 quiet_cause Fails refusal.Down now quiet = tt
 quiet_cause Fails refusal.State now quiet = tt

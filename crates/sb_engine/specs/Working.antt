@@ -36,7 +36,7 @@ use Rattle.sb_wishes.specs.Wished.{MayBeWished}
 use Rattle.sb_wishes.specs.Outcomes.{MayBeMade}
 use Rattle.sb_engine.specs.declared.running.Running.{Running}
 use Rattle.sb_engine.specs.declared.running.Work.{Work}
-use Rattle.sb_engine.specs.Refusals.{HasCause}
+use Rattle.sb_engine.specs.Refusals.{HasRefusalCause}
 
 -- ---- boxes
 -- the extensions by their rules alone; the room that foreign ones take comes with the licences of room
@@ -175,7 +175,7 @@ StandsFor Has meanings g a = Stands Has (meanings a.boxes.now) a.place.root g a.
 
 -- it was stopped by a refusal, whose cause its space has
 abbrev pub IsStoppedBy : {B S : Type 0} → (SpaceFault → S → S → Type 0) → Refusal → Trail → Running B S → Type 0
-IsStoppedBy Fails r trail a = HasCause Fails r a.space.now
+IsStoppedBy Fails r trail a = HasRefusalCause Fails r a.space.now
 
 -- the extensions that it has
 abbrev pub extensions_in : {B S : Type 0} → (B → Meanings) → Running B S → Extensions

@@ -4,7 +4,6 @@ ghost use Rattle.std.specs.Prelude.{◌≡◌, ◌++◌, [], OnOk};
 ghost use Rattle.sb_deferred.specs.Waiting.{IsFront};
 ghost use Rattle.sb_engine.specs.Asking.{with_late};
 
-use crate::copies::copy_action;
 use sb_deferred::Queue;
 use sb_rule::Action;
 use sb_value::{Bytes, Str};
@@ -32,7 +31,7 @@ fn put_actions(queue: &mut Queue, alloc: Global, late: &[Action]) -> Result<(), 
     ensures front { IsFront queue.old queue.new }
 {
     for action in late {
-        let copy = copy_action(alloc, action)?;
+        let copy = action.copy(alloc)?;
         queue.push_action(copy)?;
     }
     Ok(())

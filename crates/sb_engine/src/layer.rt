@@ -7,7 +7,6 @@ ghost use Rattle.sb_engine.specs.Refusals.{quiet_cause};
 ghost use Rattle.sb_engine.specs.Working.{GoesOpen, MayAsk, MayDo, MayWish, IsServing, IsStoppedBy, StandsFor, StandsAsking, extensions_in};
 
 use crate::asking::put_off;
-use crate::copies::copy_action;
 use crate::failing::first_failing;
 use crate::fitting::{prepare, prepare_all};
 use crate::matching::keys_matching;
@@ -167,7 +166,7 @@ impl<B: Boxes, S: PageSpace> Layer for Running<'_, B, S> {
         let Some(waiting) = self.work.queue.action(done) else {
             return Ok(None);
         };
-        let Ok(action) = copy_action(alloc, waiting) else {
+        let Ok(action) = waiting.copy(alloc) else {
             return Err(Refusal::NoMemory);
         };
         match prepare(

@@ -2,8 +2,6 @@
 #![tactic(auto)]
 
 mod asking;
-mod columns;
-mod copies;
 mod failing;
 mod fitting;
 mod late;

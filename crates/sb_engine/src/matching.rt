@@ -12,13 +12,12 @@ ghost use Rattle.sb_opened.specs.Opened.{IsOpen};
 ghost use Rattle.sb_engine.specs.Opening.{IsKeeping};
 ghost use Rattle.sb_engine.specs.Working.{MayDo};
 
-use crate::columns::value_of;
 use crate::opening::open_at;
 use sb_drive::{PageSpace, SpaceFault};
 use sb_kinds::relation_of;
 use sb_map::Place;
 use sb_opened::OpenRelation;
-use sb_pred::Term;
+use sb_pred::{Term, column_value};
 use sb_registry::Boxes;
 use sb_rows::{RowTest, keys_where};
 use sb_rule::Action;
@@ -56,7 +55,7 @@ pub(crate) fn is_match(schema: &Schema, pairs: &[(Str, Term)], row: &Tuple) -> b
 fn has_value(schema: &Schema, name: &Str, term: &Term, row: &Tuple) -> bool
     ensures { result ≡ has_values schema.now (name.now ∷ []) (const_of term.now) row.now }
 {
-    match (value_of(schema, row, name), term) {
+    match (column_value(schema, row, name), term) {
         (Some(value), Term::Const(given)) => value == given,
         (None, Term::Const(_)) => false,
         (Some(_), _) => false,

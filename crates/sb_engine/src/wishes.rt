@@ -14,7 +14,6 @@ ghost use Rattle.sb_opened.specs.Opened.{IsOpen};
 ghost use Rattle.sb_engine.specs.Opening.{IsKeeping};
 ghost use Rattle.sb_engine.specs.Working.{MayDo, MayWish};
 
-use crate::columns::place_of;
 use crate::matching::{is_match, pairs_of};
 use crate::opening::open_at;
 use sb_cascade::Wish;
@@ -22,7 +21,7 @@ use sb_drive::{PageSpace, SpaceFault};
 use sb_kinds::relation_of;
 use sb_map::Place;
 use sb_opened::OpenRelation;
-use sb_pred::Term;
+use sb_pred::{Term, find_column};
 use sb_registry::Boxes;
 use sb_rows::get_row;
 use sb_rule::Action;
@@ -100,7 +99,7 @@ fn with_value(
 ) -> Result<Tuple, AllocError>
     ensures { IfOk result (λ new. new ≡ with_value schema.now column.now value.now row.now) }
 {
-    match place_of(schema, column) {
+    match find_column(schema, column) {
         Some(place) => set_value(row, place, value),
         None => row.copy(),
     }

@@ -15,7 +15,8 @@ use Rattle.sb_plain.specs.Step.{Answer}
 use Rattle.sb_registry.specs.Boxes.{Meanings}
 use Rattle.sb_drive.specs.Spaces.{Wanted}
 use Rattle.sb_map.specs.declared.place.Place.{Place}
-use Rattle.sb_txn.specs.Clauses.{Parts, parts, LeavesWanted}
+use Rattle.sb_txn.specs.Clauses.{LeavesWanted}
+use Rattle.sb_txn.specs.Parts.{Parts, parts}
 use Rattle.sb_txn.specs.State.{State as StoreState}
 use Rattle.sb_transactions.specs.Calls.{IsOnlyFault, Remains}
 use Rattle.sb_transactions.specs.Commits.{LeavesOldOrFinished, StaysOpen, StopsAt, is_wanting}
@@ -44,7 +45,7 @@ module _ {D : Type 0} (told : D → Option Story) (len faults : D → ℕ) (m : 
       (stops : (want : Wanted) (g : Going) → IsAt m place want tx g here w → StopsAt told len faults (extensions_of m) tx g r (record { disk = e; store = t })) where
     -- and the transaction is over
     pub EndsAlone-over : ((want : Wanted) (g : Going) → IsAt m place want tx g here w → LeavesOldOrFinished m place.root want g here between) → ((r ≡ refusal.Fault → ⊥) → LeavesWanted here between)
-        → (v.book.down ≡ false → v.book.out ≡ [])
+        → (v.book.down ≡ false → v.book.actives ≡ [])
         → (v.book.down ≡ false → (m : Meanings) (root : ℕ) (want : Wanted) (db : Db) → WasBegun m root want db tx here → Rests m root want db between)
         → (r ≡ refusal.Fault → (want : Wanted) (g : Going) → IsAt m place want tx g here w → v.book.down ≡ true) → EndsAlone told len faults m place c d b s v (Err r)
     EndsAlone-over moments still none aborted faulted =
@@ -58,7 +59,7 @@ module _ {D : Type 0} (told : D → Option Story) (len faults : D → ℕ) (m : 
 
     -- and the transaction goes on, and is aborted then
     module _ (now : EngineWork) (stays : StaysOpen tx here between w now) (f : D) (u : StoreState) (leaves : LeavesWanted between (parts told len f u)) where
-      pub EndsAlone-let_go : is_wanting r ≡ true → Remains {T = Unit {0}} told len faults b f v u (Ok tt) → u.book.out ≡ [] → (last : ℕ) → last ≡ tx
+      pub EndsAlone-let_go : is_wanting r ≡ true → Remains {T = Unit {0}} told len faults b f v u (Ok tt) → u.book.actives ≡ [] → (last : ℕ) → last ≡ tx
           → ((m : Meanings) (root : ℕ) (want : Wanted) (db : Db) → WasBegun m root want db last between → Rests m root want db (parts told len f u))
           → EndsAlone told len faults m place c d f s u (Err r)
       EndsAlone-let_go wanting remains none last number rests =

@@ -14,7 +14,7 @@ use Rattle.sb_fold.specs.Finish.{finish}
 use Rattle.sb_fold.specs.Outcome.{Going, Trail, Work, made, refuse, Leads, ◌>>=◌}
 use Rattle.sb_fold.proofs.LeadsLemmas.{leads_next, leads_on, leads_refused}
 use Rattle.sb_cascade.specs.Runs.{EndsBy, is_free}
-use Rattle.sb_engine.specs.Refusals.{HasCause}
+use Rattle.sb_engine.specs.Refusals.{HasRefusalCause}
 use Rattle.sb_engine.specs.Working.{extensions_of}
 use Rattle.sb_engine.specs.declared.running.Work.{Work as EngineWork}
 use Rattle.sb_plain.specs.declared.command.Command.{Command}
@@ -27,7 +27,8 @@ use Rattle.sb_plain.specs.Step.{Answer, answered, finished}
 use Rattle.sb_registry.specs.Boxes.{Meanings}
 use Rattle.sb_drive.specs.Spaces.{Wanted}
 use Rattle.sb_map.specs.declared.place.Place.{Place}
-use Rattle.sb_txn.specs.Clauses.{Parts, parts, LeavesWanted}
+use Rattle.sb_txn.specs.Clauses.{LeavesWanted}
+use Rattle.sb_txn.specs.Parts.{Parts, parts}
 use Rattle.sb_txn.specs.State.{State as StoreState}
 use Rattle.sb_transactions.specs.Calls.{IsOnlyFault, Remains}
 use Rattle.sb_transactions.specs.Commits.{FailsOn, Finishes, IsDone, LeavesEither, LeavesOldOrFinished, Mounted, StaysOpen, StopsAt}
@@ -39,7 +40,7 @@ use Rattle.sb_session.specs.Sessions.{HasFailed, IsNext, IsOpenFor, Lacks, Leave
 use Rattle.sb_session.proofs.Carried.{end_of_given}
 use Rattle.sb_session.proofs.CommitSteps.{committed-push, with_committed}
 use Rattle.sb_session.proofs.OpenLemmas.{Outside, outside_at}
-use Rattle.sb_execution.specs.Endings.{Answers, ComesAlone, EndsAlone, HasAnswered, IsLeftSo, IsOf, going_alone}
+use Rattle.sb_execution.specs.Endings.{AnswersCommand, ComesAlone, EndsAlone, HasAnswered, IsLeftSo, IsOf, going_alone}
 use Rattle.sb_execution.proofs.CallLemmas.{Remains-then, err_fault, has_failed, leaves_behind, not_both, ok_err, still_up}
 use Rattle.sb_execution.proofs.EndLemmas.{Ends-by, Ends-stepped, ends_given}
 use Rattle.sb_execution.proofs.ReplyLemmas.{answered_given, is_free_reply}
@@ -49,7 +50,7 @@ use Rattle.sb_execution.proofs.StepsOf.{Steps-stopped_alone, Steps-worked_alone,
 pub record Refuses {D : Type 0} (faults : D → ℕ) (m : Meanings) (c : Command) (x : State) (r : Refusal) (u : StoreState) : Type 0 where
   pub given : is_free r ≡ false → Steps (extensions_of m) x c (Refused r) (with_open x None)
   pub there : Mounted D
-  pub cause : is_free r ≡ true → HasCause (FailsOn faults) r there
+  pub cause : is_free r ≡ true → HasRefusalCause (FailsOn faults) r there
   pub failed : r ≡ refusal.Fault → u.book.down ≡ true
 
 module _ {D : Type 0} (told : D → Option Story) (len faults : D → ℕ) (m : Meanings) (place : Place) (c : Command)
@@ -111,7 +112,7 @@ module _ {D : Type 0} (told : D → Option Story) (len faults : D → ℕ) (m : 
 
   -- ---- it was refused, and the pages are as they were
   module _ (may : (x : State) → MayWant x c) (r : Refusal) (remains : Remains {T = Reply} told len faults d f s u (Err r)) (still : (r ≡ refusal.Fault → ⊥) → Still) (fallen : Fallen)
-      (none : u.book.down ≡ false → u.book.out ≡ [])
+      (none : u.book.down ≡ false → u.book.actives ≡ [])
       (rests : u.book.down ≡ false → (want : Wanted) (x : State) → Of want x → Rests m place.root want (committed x) q)
       (refuses : Each (λ want x. Refuses faults m c x r u)) where
     stays_up : (r ≡ refusal.Fault → ⊥) → u.book.down ≡ false
@@ -152,18 +153,18 @@ module _ {D : Type 0} (told : D → Option Story) (len faults : D → ℕ) (m : 
           (λ given. given_step want x of posed given)
           (λ room is. record {
             up = of.up;
-            cause = record { at = why.there; cause = subst (λ (r : Refusal). HasCause (FailsOn faults) r why.there) is (why.cause (ap is_free is)) };
+            cause = record { at = why.there; cause = subst (λ (r : Refusal). HasRefusalCause (FailsOn faults) r why.there) is (why.cause (ap is_free is)) };
             stands = as_it_was want x of posed (ap is_end is);
           })
           (λ is. record { up = of.up; cause = may x; stands = as_it_was want x of posed (ap is_end is) })
           (λ is. failed_so r remains is (why.failed is) want x of (fallen want x of posed))
-          (λ page is. subst (λ (r : Refusal). HasCause (FailsOn faults) r why.there) is (why.cause (ap is_free is)));
+          (λ page is. subst (λ (r : Refusal). HasRefusalCause (FailsOn faults) r why.there) is (why.cause (ap is_free is)));
       none = none;
       remains = remains;
     }
 
   -- ---- it went through
-  pub EndsAlone-done : (r : Reply) → Remains told len faults d f s u (Ok r) → (u.book.down ≡ false → u.book.out ≡ [])
+  pub EndsAlone-done : (r : Reply) → Remains told len faults d f s u (Ok r) → (u.book.down ≡ false → u.book.actives ≡ [])
       → Each (λ want x. (is_free_reply r ≡ false) × IsStep (LeftBy want x r) ext x c r) → EndsAlone told len faults m place c d f s u (Ok r)
   EndsAlone-done r remains none steps = record {
     ends = λ want x of posed. let to = steps want x of posed in Ends-stepped (LeftBy want x r) (Lacks faults) (HasFailed faults d f) ext x c r to.0 to.1;
@@ -277,7 +278,7 @@ module _ {D : Type 0} (told : D → Option Story) (len faults : D → ℕ) (m : 
     pub fallen_commit : ((want : Wanted) (g : Going) → IsAt m place want tx g here w → LeavesOldOrFinished m place.root want g here to)
         → (want : Wanted) (x : State) → Begun want x → IsPosedIn m x c → LeavesOldOrNext m place.root want (extensions_of m) x c (downed x) from to
     fallen_commit moments want x of posed =
-        let why : Answers m place want c x here tx w answer = has.answers want x of posed in
+        let why : AnswersCommand m place want c x here tx w answer = has.answers want x of posed in
         ⊎_elim
         (λ (old : LeavesOnly here.told to.told (Restores t.pool.geometry want)).
         inl (and_then (told d) (told e) (told f) (Restores s.pool.geometry want) (leaves_so_far told len faults m place d e s t tx has.comes want x of)
@@ -291,7 +292,7 @@ module _ {D : Type 0} (told : D → Option Story) (len faults : D → ℕ) (m : 
         (moments want why.run.after why.run.stands)
 
     -- ---- it was committed
-    pub EndsAlone-committed : {K : Type 0} (held : K) (picks : List Key) → Remains told len faults e f t u (Ok held) → (u.book.down ≡ false → u.book.out ≡ [])
+    pub EndsAlone-committed : {K : Type 0} (held : K) (picks : List Key) → Remains told len faults e f t u (Ok held) → (u.book.down ≡ false → u.book.actives ≡ [])
         → ((want : Wanted) (g : Going) → IsAt m place want tx g here w → Finishes m g (IsDone m place.root want picks here) to)
         → EndsAlone told len faults m place c d f s u (Ok (answered answer picks))
     EndsAlone-committed {K} held picks remains none done =
@@ -325,7 +326,7 @@ module _ {D : Type 0} (told : D → Option Story) (len faults : D → ℕ) (m : 
 
   -- ---- it wasn't
   abbrev Stopped : {D : Type 0} → (D → ℕ) → Refusal → Trail → Mounted D → Type 0
-  Stopped faults refusal trail x = HasCause (FailsOn faults) refusal x
+  Stopped faults refusal trail x = HasRefusalCause (FailsOn faults) refusal x
 
   module _ (r : Refusal) (stops : (want : Wanted) (g : Going) → IsAt m place want tx g here w → StopsAt told len faults (extensions_of m) tx g r (record { disk = e; store = t })) (u : StoreState)
       (failed : r ≡ refusal.Fault → (want : Wanted) (g : Going) → IsAt m place want tx g here w → u.book.down ≡ true) where

@@ -9,7 +9,7 @@ use Rattle.sb_fold.specs.declared.refusal.Refusal.{Refusal}
 use Rattle.sb_fold.specs.declared.refusal.Refusal.TheVariants as refusal
 use Rattle.sb_fold.specs.Outcome.{Going}
 use Rattle.sb_cascade.specs.Runs.{MadeFrom, is_free}
-use Rattle.sb_engine.specs.Refusals.{HasCause}
+use Rattle.sb_engine.specs.Refusals.{HasRefusalCause}
 use Rattle.sb_engine.specs.Working.{extensions_of}
 use Rattle.sb_plain.specs.declared.command.Command.{Command}
 use Rattle.sb_plain.specs.declared.reply.Reply.{Reply}
@@ -21,7 +21,8 @@ use Rattle.sb_plain.specs.Step.{work_of}
 use Rattle.sb_registry.specs.Boxes.{Meanings}
 use Rattle.sb_drive.specs.Spaces.{Wanted}
 use Rattle.sb_map.specs.declared.place.Place.{Place}
-use Rattle.sb_txn.specs.Clauses.{Parts, parts, LeavesWanted}
+use Rattle.sb_txn.specs.Clauses.{LeavesWanted}
+use Rattle.sb_txn.specs.Parts.{Parts, parts}
 use Rattle.sb_txn.specs.State.{State as StoreState}
 use Rattle.sb_space.specs.declared.transactions.Tx.{Tx}
 use Rattle.sb_transactions.specs.declared.transactions.Transaction.{Transaction}
@@ -116,7 +117,7 @@ module _ {D : Type 0} (told : D → Option Story) (len faults : D → ℕ) (m : 
         (remains_alone told len faults m place d e s t last comes y.work {T = Reply} {U = Reply} f u (Err r) (Err r) (λ is. is) (Remains-err told len faults {T = Unit {0}} {U = Reply} e f t u r remains)) only
         (λ want x of posed. leaves_alone told len faults m place d e s t last comes {T = Unit {0}} f u (Err r) remains leaves want x of)
 
-    module _ (remains : Remains {T = Unit {0}} told len faults e f t u (Ok tt)) (none : u.book.out ≡ [])
+    module _ (remains : Remains {T = Unit {0}} told len faults e f t u (Ok tt)) (none : u.book.actives ≡ [])
         (rests : (m : Meanings) (root : ℕ) (want : Wanted) (db : Db) → WasBegun m root want db last here → Rests m root want db there) where
       still : t.book.down ≡ false
       still = up-earlier told len faults e f t u (Ok tt) remains (up-later told len faults e f t u tt remains)
@@ -134,7 +135,7 @@ module _ {D : Type 0} (told : D → Option Story) (len faults : D → ℕ) (m : 
         -- behind a refusal, for a reason of the definitions or of the store
         EndsAlone-behind : ((x : State) → MayWant x c) → (r : Refusal)
             → ((want : Wanted) (x : State) → IsOf m place want x from None → IsPosedIn m x c
-            → (is_free r ≡ false → Steps (extensions_of m) x c (Refused r) (with_open x None)) × (is_free r ≡ true → HasCause (FailsOn faults) r (record { disk = e; store = t })))
+            → (is_free r ≡ false → Steps (extensions_of m) x c (Refused r) (with_open x None)) × (is_free r ≡ true → HasRefusalCause (FailsOn faults) r (record { disk = e; store = t })))
             → EndsAlone told len faults m place c d f s u (Err r)
         EndsAlone-behind may r why =
             EndsAlone-refused told len faults m place c d f s u up may r
@@ -149,8 +150,8 @@ module _ {D : Type 0} (told : D → Option Story) (len faults : D → ℕ) (m : 
               failed = λ is. not_both t.book.down still (Fault-down faults (record { disk = e; store = t }) (fault_cause r is both.1));
             })
           where
-            fault_cause : (r : Refusal) → r ≡ refusal.Fault → (is_free r ≡ true → HasCause (FailsOn faults) r (record { disk = e; store = t })) → HasCause (FailsOn faults) refusal.Fault (record { disk = e; store = t })
-            fault_cause r is cause = subst (λ (r : Refusal). HasCause (FailsOn faults) r (record { disk = e; store = t })) is (cause (ap is_free is))
+            fault_cause : (r : Refusal) → r ≡ refusal.Fault → (is_free r ≡ true → HasRefusalCause (FailsOn faults) r (record { disk = e; store = t })) → HasRefusalCause (FailsOn faults) refusal.Fault (record { disk = e; store = t })
+            fault_cause r is cause = subst (λ (r : Refusal). HasRefusalCause (FailsOn faults) r (record { disk = e; store = t })) is (cause (ap is_free is))
 
         -- the command wasn't served
         pub EndsAlone-back : is_managing c ≡ false → (r : Refusal)
@@ -178,7 +179,7 @@ module _ {D : Type 0} (told : D → Option Story) (len faults : D → ℕ) (m : 
 
         -- a look of the tests was refused
         pub EndsAlone-looked : ((x : State) → MayWant x c) → (r : Refusal) → is_free r ≡ true
-            → ((want : Wanted) (x : State) (g : Going) → IsAt m place want n g (parts told len b bs) a.work → IsSeenIn m false ones x g → HasCause (FailsOn faults) r (record { disk = e; store = t }))
+            → ((want : Wanted) (x : State) (g : Going) → IsAt m place want n g (parts told len b bs) a.work → IsSeenIn m false ones x g → HasRefusalCause (FailsOn faults) r (record { disk = e; store = t }))
             → EndsAlone told len faults m place c d f s u (Err r)
         EndsAlone-looked may r free cause =
             EndsAlone-behind may r

@@ -10,14 +10,13 @@ use Rattle.sb_images.specs.Images.{Restores}
 use Rattle.sb_log.specs.declared.geometry.Geometry.{Geometry}
 use Rattle.sb_fold.specs.declared.refusal.Refusal.{Refusal}
 use Rattle.sb_fold.specs.declared.refusal.Refusal.TheVariants as refusal
-use Rattle.sb_txn.specs.Clauses.{parts, IsReady, HoldsPages, LeavesWanted}
+use Rattle.sb_txn.specs.Clauses.{IsReady, HoldsPages, LeavesWanted}
+use Rattle.sb_txn.specs.Parts.{parts}
 use Rattle.sb_txn.specs.State.{State}
 use Rattle.sb_space.specs.Works.{Works}
 use Rattle.sb_transactions.specs.Calls.{Remains}
 use Rattle.sb_transactions.specs.Commits.{IsLed}
-
-pub ok_err : {T E A : Type 0} (x : T) (e : E) → Ok x ≡ Err e → A
-ok_err x e is = absurd (cc)
+pub use Rattle.sb_value.proofs.Truths.{ok_err}
 
 pub err_fault : {T : Type 0} (r : Refusal) → IsErrOf {T = T} (Err r) refusal.Fault → r ≡ refusal.Fault
 err_fault r is = cc

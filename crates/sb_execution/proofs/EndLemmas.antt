@@ -11,7 +11,7 @@ use Rattle.sb_fold.specs.Outcome.{Going, Queue, Trail, Work, made, ◌>>=◌}
 use Rattle.sb_fold.proofs.LeadsLemmas.{leads_refused}
 use Rattle.sb_cascade.specs.Runs.{EndsBy, StopsFrom, is_free}
 use Rattle.sb_drive.specs.declared.space.SpaceFault.{SpaceFault}
-use Rattle.sb_engine.specs.Refusals.{HasCause}
+use Rattle.sb_engine.specs.Refusals.{HasRefusalCause}
 use Rattle.sb_engine.specs.Working.{extensions_of}
 use Rattle.sb_plain.specs.declared.command.Command.{Command}
 use Rattle.sb_plain.specs.declared.command.Command.TheVariants as command
@@ -25,7 +25,7 @@ use Rattle.sb_plain.specs.Step.{Answer, work_of}
 use Rattle.sb_registry.specs.Boxes.{Meanings}
 use Rattle.sb_drive.specs.Spaces.{Wanted}
 use Rattle.sb_map.specs.declared.place.Place.{Place}
-use Rattle.sb_txn.specs.Clauses.{Parts}
+use Rattle.sb_txn.specs.Parts.{Parts}
 use Rattle.sb_engine.specs.declared.running.Work.{Work as EngineWork}
 use Rattle.sb_session.specs.declared.session.Open.{Open}
 use Rattle.sb_session.specs.declared.session.Savepoint.{Savepoint}
@@ -110,10 +110,10 @@ module _ {N : Type 0} (Fails : SpaceFault → N → N → Type 0) (m : Meanings)
   ext = extensions_of m
 
   abbrev Stopped : Refusal → Trail → N → Type 0
-  Stopped refusal trail x = HasCause Fails refusal x
+  Stopped refusal trail x = HasRefusalCause Fails refusal x
 
   -- for want of room or memory, or by a fault: what has the cause
-  pub unserved_cause : (g : Going) → IsUnserved Fails m s c g r new → is_free r ≡ true → HasCause Fails r new
+  pub unserved_cause : (g : Going) → IsUnserved Fails m s c g r new → is_free r ≡ true → HasRefusalCause Fails r new
   unserved_cause g (Tested is) free = absurd (false≢true (sym (refused_given ext s c r is) ∙ free))
   unserved_cause g (Worked passed none stops) free =
       let there = work_there ext (view s) c works none in

@@ -10,7 +10,8 @@ use Rattle.sb_plain.specs.declared.reply.Reply.TheVariants.{Refused}
 use Rattle.sb_plain.specs.State.{State}
 use Rattle.sb_registry.specs.Boxes.{Meanings}
 use Rattle.sb_drive.specs.Spaces.{Wanted}
-use Rattle.sb_txn.specs.Clauses.{parts, LeavesWanted}
+use Rattle.sb_txn.specs.Clauses.{LeavesWanted}
+use Rattle.sb_txn.specs.Parts.{parts}
 use Rattle.sb_txn.proofs.KeepsLemmas.{LeavesWanted-none}
 use Rattle.sb_space.specs.declared.transactions.Space.{Space}
 use Rattle.sb_vectors.specs.Vectors.{AreSameBoxes}

@@ -7,7 +7,7 @@ use Rattle.sb_fold.specs.declared.refusal.Refusal.{Refusal}
 use Rattle.sb_fold.specs.Extensions.{Extensions}
 use Rattle.sb_fold.specs.Outcome.{Going}
 use Rattle.sb_cascade.specs.Runs.{MadeFrom, is_free}
-use Rattle.sb_engine.specs.Refusals.{HasCause}
+use Rattle.sb_engine.specs.Refusals.{HasRefusalCause}
 use Rattle.sb_engine.specs.Working.{extensions_of}
 use Rattle.sb_engine.specs.declared.running.Work.{Work as EngineWork}
 use Rattle.sb_plain.specs.declared.command.Command.{Command}
@@ -19,7 +19,8 @@ use Rattle.sb_plain.specs.Step.{answered, work_of}
 use Rattle.sb_registry.specs.Boxes.{Meanings}
 use Rattle.sb_drive.specs.Spaces.{Wanted}
 use Rattle.sb_map.specs.declared.place.Place.{Place}
-use Rattle.sb_txn.specs.Clauses.{Parts, parts, LeavesWanted}
+use Rattle.sb_txn.specs.Clauses.{LeavesWanted}
+use Rattle.sb_txn.specs.Parts.{Parts, parts}
 use Rattle.sb_txn.specs.State.{State as StoreState}
 use Rattle.sb_transactions.specs.Calls.{IsOnlyFault, Remains}
 use Rattle.sb_transactions.specs.Commits.{FailsOn, Mounted}
@@ -163,7 +164,7 @@ module _ {D : Type 0} (told : D → Option Story) (len faults : D → ℕ) (m : 
             subst (λ (a : Option PlainTransaction). IsOpenFor m place want (committed x) q (Some now) a) (sym here.is) (stays_inside want x of here.of.spent);
       }
 
-      cause : (want : Wanted) (x : State) (of : IsOf m place want x p (Some o)) → IsPosedIn m x c → is_free r ≡ true → HasCause (FailsOn faults) r there
+      cause : (want : Wanted) (x : State) (of : IsOf m place want x p (Some o)) → IsPosedIn m x c → is_free r ≡ true → HasRefusalCause (FailsOn faults) r there
       cause want x of posed free = unserved_cause (FailsOn faults) m x c works r there (going_on (within want x of).of) (stops want x of posed) free
 
       given_step : (want : Wanted) (x : State) (of : IsOf m place want x p (Some o)) → IsPosedIn m x c → is_free r ≡ false → IsStep (LeftBy want x (Refused r)) (extensions_of m) x c (Refused r)
@@ -182,12 +183,12 @@ module _ {D : Type 0} (told : D → Option Story) (len faults : D → ℕ) (m : 
             (λ given. given_step want x of posed given)
             (λ room is. record {
               up = of.up;
-              cause = record { at = there; cause = subst (λ (r : Refusal). HasCause (FailsOn faults) r there) is (cause want x of posed (ap is_free is)) };
+              cause = record { at = there; cause = subst (λ (r : Refusal). HasRefusalCause (FailsOn faults) r there) is (cause want x of posed (ap is_free is)) };
               stands = as_it_was want x of (ap is_end is);
             })
             (λ is. record { up = of.up; cause = MayWant-works x c works; stands = as_it_was want x of (ap is_end is) })
-            (λ is. not_both there.store.book.down still (Fault-down faults there (subst (λ (r : Refusal). HasCause (FailsOn faults) r there) is (cause want x of posed (ap is_free is)))))
-            (λ page is. subst (λ (r : Refusal). HasCause (FailsOn faults) r there) is (cause want x of posed (ap is_free is)));
+            (λ is. not_both there.store.book.down still (Fault-down faults there (subst (λ (r : Refusal). HasRefusalCause (FailsOn faults) r there) is (cause want x of posed (ap is_free is)))))
+            (λ page is. subst (λ (r : Refusal). HasRefusalCause (FailsOn faults) r there) is (cause want x of posed (ap is_free is)));
         leaves = leaves;
         goes = λ not. CanGoOn-stays m place p q o now number listed stays goes;
         remains = remains;

@@ -10,7 +10,8 @@ use Rattle.sb_plain.specs.State.{State}
 use Rattle.sb_registry.specs.Boxes.{Meanings}
 use Rattle.sb_drive.specs.Spaces.{Wanted}
 use Rattle.sb_map.specs.declared.place.Place.{Place}
-use Rattle.sb_txn.specs.Clauses.{LeavesWanted, Parts, parts}
+use Rattle.sb_txn.specs.Clauses.{LeavesWanted}
+use Rattle.sb_txn.specs.Parts.{Parts, parts}
 use Rattle.sb_txn.specs.State.{State as Stored}
 use Rattle.sb_space.specs.declared.durable.Durable.{Durable}
 use Rattle.sb_space.specs.Durable.{parts_in}
@@ -18,7 +19,7 @@ use Rattle.sb_space.specs.View.{lent}
 use Rattle.sb_space.specs.Works.{Works}
 use Rattle.sb_space.specs.Works as space
 use Rattle.sb_engine.specs.declared.running.Work.{Work}
-use Rattle.sb_engine.specs.Refusals.{HasCause}
+use Rattle.sb_engine.specs.Refusals.{HasRefusalCause}
 use Rattle.sb_engine.specs.Working.{extensions_of}
 use Rattle.sb_engine.specs.Working as engine
 use Rattle.sb_transactions.specs.declared.transactions.Point.{Point}
@@ -89,9 +90,9 @@ module _ {D : Type 0} (told : D → Option Story) (len faults : D → ℕ) (m : 
     abbrev mount : Durable D → Mounted D
     mount d = record { disk = d.disk.now; store = d.store.now }
 
-    caused : (r : Refusal) → HasCause (FailsLent faults) r b → HasCause (FailsOn faults) r (record { disk = e; store = b.store.now })
+    caused : (r : Refusal) → HasRefusalCause (FailsLent faults) r b → HasRefusalCause (FailsOn faults) r (record { disk = e; store = b.store.now })
     caused r cause =
-        subst (λ (d : D). HasCause (FailsOn faults) r (record { disk = d; store = b.store.now })) (sym same)
+        subst (λ (d : D). HasRefusalCause (FailsOn faults) r (record { disk = d; store = b.store.now })) (sym same)
         (HasCause-map (FailsLent faults) (FailsOn faults) mount (λ fault x y fails. fails) r b cause)
 
     pub unserved-lent : (r : Result Served Refusal)
@@ -117,9 +118,9 @@ module _ {D : Type 0} (told : D → Option Story) (len faults : D → ℕ) (m : 
     stays-lent (Err r) stays = tt
 
     pub untested-lent : (r : Result (Option Refusal) Refusal)
-        → IfErr r (λ r'. (s : State) (g : Going) → StandsLent g a v → IsSeenIn m inside points s g → HasCause (FailsLent faults) r' b)
+        → IfErr r (λ r'. (s : State) (g : Going) → StandsLent g a v → IsSeenIn m inside points s g → HasRefusalCause (FailsLent faults) r' b)
         → IfErr r (λ r'. (want : Wanted) (s : State) (g : Going) → IsAt m place want tx g start v → IsSeenIn m inside points s g
-        → HasCause (FailsOn faults) r' (record { disk = e; store = b.store.now }))
+        → HasRefusalCause (FailsOn faults) r' (record { disk = e; store = b.store.now }))
     untested-lent (Ok o) untested = tt
     untested-lent (Err r) untested = λ want s g at seen. caused r (untested s g (stands_lent want g at) seen)
 

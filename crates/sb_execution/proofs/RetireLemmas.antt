@@ -15,7 +15,7 @@ use Rattle.sb_plain.specs.State.{State, Transaction as PlainTransaction, committ
 use Rattle.sb_plain.specs.Step.{ok}
 use Rattle.sb_registry.specs.Boxes.{Meanings}
 use Rattle.sb_drive.specs.Spaces.{Wanted}
-use Rattle.sb_txn.specs.Clauses.{Parts}
+use Rattle.sb_txn.specs.Parts.{Parts}
 use Rattle.sb_vectors.specs.Vectors.{AreSameBoxes}
 use Rattle.sb_session.specs.declared.session.Open.{Open}
 use Rattle.sb_session.specs.declared.session.Session.{Session}

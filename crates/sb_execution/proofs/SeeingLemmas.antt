@@ -12,7 +12,7 @@ use Rattle.sb_drive.specs.declared.space.SpaceFault.{SpaceFault}
 use Rattle.sb_drive.specs.Slots.{Slots}
 use Rattle.sb_drive.specs.Spaces.{Wanted}
 use Rattle.sb_map.specs.declared.place.Place.{Place}
-use Rattle.sb_engine.specs.Refusals.{HasCause}
+use Rattle.sb_engine.specs.Refusals.{HasRefusalCause}
 use Rattle.sb_engine.specs.Working.{Stands, extensions_of}
 use Rattle.sb_execution.specs.declared.seen.Seen.{Seen}
 use Rattle.sb_execution.specs.Seen.{HasFailed, LooksOn, Sees}
@@ -57,6 +57,6 @@ module _ {B S : Type 0} (Has : Wanted → Slots → S → Type 0) (Leads : ℕ �
   seen_free (Err r) failed = look_free Leads Fails r a b failed
 
   pub seen_cause : (r : Result (Option Refusal) Refusal) → IfErr r (λ e. HasFailed Leads Fails e a b) → IfErr r (λ e. (s : State) → Sees Has meanings s a → is_damage e ≡ false)
-      → IfErr r (λ e. (s : State) (g : Going) → StandsAt g x → IsOf s g → HasCause Fails e y)
+      → IfErr r (λ e. (s : State) (g : Going) → StandsAt g x → IsOf s g → HasRefusalCause Fails e y)
   seen_cause (Ok o) failed undamaged = tt
-  seen_cause (Err r) failed undamaged = λ s g stands seen. subst (λ (z : S). HasCause Fails r z) last (look_cause Leads Fails r a b failed (undamaged s (sees_at s g stands seen)))
+  seen_cause (Err r) failed undamaged = λ s g stands seen. subst (λ (z : S). HasRefusalCause Fails r z) last (look_cause Leads Fails r a b failed (undamaged s (sees_at s g stands seen)))

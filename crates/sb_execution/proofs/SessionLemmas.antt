@@ -9,7 +9,8 @@ use Rattle.sb_plain.specs.declared.reply.Reply.{Reply}
 use Rattle.sb_plain.specs.State.{State, committed}
 use Rattle.sb_registry.specs.Boxes.{Meanings}
 use Rattle.sb_drive.specs.Spaces.{Wanted}
-use Rattle.sb_txn.specs.Clauses.{Parts, parts, LeavesWanted}
+use Rattle.sb_txn.specs.Clauses.{LeavesWanted}
+use Rattle.sb_txn.specs.Parts.{Parts, parts}
 use Rattle.sb_space.specs.declared.transactions.Space.{Space}
 use Rattle.sb_transactions.specs.Calls.{Remains}
 use Rattle.sb_execution.specs.Serving.{IsPosedIn}

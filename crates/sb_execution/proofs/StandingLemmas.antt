@@ -9,7 +9,7 @@ use Rattle.sb_map.specs.declared.place.Place.{Place}
 use Rattle.sb_standing.specs.Standing.{Keeps}
 use Rattle.sb_opened.specs.declared.relation.OpenRelation.{OpenRelation}
 use Rattle.sb_opened.specs.Opened.{IsDurable, IsOpen}
-use Rattle.sb_txn.specs.Clauses.{Parts}
+use Rattle.sb_txn.specs.Parts.{Parts}
 use Rattle.sb_engine.specs.declared.running.Work.{Work}
 use Rattle.sb_engine.specs.Working.{AreOpened}
 use Rattle.sb_transactions.specs.declared.transactions.Point.{Point}

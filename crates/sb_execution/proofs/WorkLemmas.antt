@@ -15,7 +15,7 @@ use Rattle.sb_map.specs.declared.place.Place.{Place}
 use Rattle.sb_engine.specs.declared.running.Running.{Running}
 use Rattle.sb_engine.specs.declared.running.Work.{Work}
 use Rattle.sb_engine.specs.Goings.{front_none}
-use Rattle.sb_engine.specs.Refusals.{HasCause}
+use Rattle.sb_engine.specs.Refusals.{HasRefusalCause}
 use Rattle.sb_engine.specs.Working.{IsStoppedBy, Stands, StandsFor, extensions_of}
 use Rattle.sb_transactions.specs.Driven.{WorksOn}
 use Rattle.sb_transactions.proofs.FinishLemmas.{StopsFrom-map}
@@ -38,10 +38,10 @@ Makes-map P Q m c g answer a b gives makes =
     (λ work from. record { picks = from.picks; after = from.after; leads = from.leads; stands = gives from.after from.stands }) makes
 
 pub IsRefusedIn-map : {S T : Type 0} (P : SpaceFault → S → S → Type 0) (Q : SpaceFault → T → T → Type 0) (m : Meanings) (c : Command) (g : Going) (r : Refusal) (a : S) (b : T)
-    → (HasCause P r a → HasCause Q r b) → IsRefusedIn P m c g r a → IsRefusedIn Q m c g r b
+    → (HasRefusalCause P r a → HasRefusalCause Q r b) → IsRefusedIn P m c g r a → IsRefusedIn Q m c g r b
 IsRefusedIn-map P Q m c g r a b gives refused =
-    if_some (work_of (extensions_of m) c) (λ work. StopsFrom (λ refusal trail x. HasCause P refusal x) work g r a) (λ work. StopsFrom (λ refusal trail x. HasCause Q refusal x) work g r b)
-    (λ work stops. StopsFrom-map (λ refusal trail x. HasCause P refusal x) (λ refusal trail x. HasCause Q refusal x) work g r a b (λ trail. gives) stops) refused
+    if_some (work_of (extensions_of m) c) (λ work. StopsFrom (λ refusal trail x. HasRefusalCause P refusal x) work g r a) (λ work. StopsFrom (λ refusal trail x. HasRefusalCause Q refusal x) work g r b)
+    (λ work stops. StopsFrom-map (λ refusal trail x. HasRefusalCause P refusal x) (λ refusal trail x. HasRefusalCause Q refusal x) work g r a b (λ trail. gives) stops) refused
 
 module _ {B S : Type 0} (Has : Wanted → Slots → S → Type 0) (Fails : SpaceFault → S → S → Type 0) (meanings : B → Meanings) (boxes : B) (place : Place) (x y : S) (w v : Work) (a b : Running B S)
     (lent : IsLent boxes place x w a) (end : IsLent boxes place y v b) (c : Command) where
@@ -64,8 +64,8 @@ module _ {B S : Type 0} (Has : Wanted → Slots → S → Type 0) (Fails : Space
   work-stopped : (r : Refusal) → IsStopped Has Fails meanings c a r b → (g : Going) → Stands Has (meanings boxes) place.root g x w → MayWork (meanings boxes) g c
       → IsRefusedIn Fails (meanings boxes) c g r y
   work-stopped r stopped g stands may =
-      if_some (work_of (extensions_of (meanings boxes)) c) (λ work. StopsFrom (IsStoppedBy Fails) work g r b) (λ work. StopsFrom (λ refusal trail z. HasCause Fails refusal z) work g r y)
-      (λ work stops. StopsFrom-map (IsStoppedBy Fails) (λ refusal trail z. HasCause Fails refusal z) work g r b y (λ trail is. subst (λ (z : S). HasCause Fails r z) end.space_is is) stops)
+      if_some (work_of (extensions_of (meanings boxes)) c) (λ work. StopsFrom (IsStoppedBy Fails) work g r b) (λ work. StopsFrom (λ refusal trail z. HasRefusalCause Fails refusal z) work g r y)
+      (λ work stops. StopsFrom-map (IsStoppedBy Fails) (λ refusal trail z. HasRefusalCause Fails refusal z) work g r b y (λ trail is. subst (λ (z : S). HasRefusalCause Fails r z) end.space_is is) stops)
       (subst (λ (d : B). IfSome (work_of (extensions_of (meanings d)) c) (λ work. StopsFrom (IsStoppedBy Fails) work g r b)) lent.boxes_are (stopped g (stands_in g stands) (may_in g may)))
 
   pub works-made : (r : Result Answered Refusal) → IfOk r (λ answer. IsDone Has meanings c a (answer_of answer) b)
@@ -98,7 +98,7 @@ IsServed-map P Q m s c g (served.Read reply) a b gives is = (is.0, is.1, gives g
 IsServed-map P Q m s c g (served.Worked answer) a b gives is = (is.0, is.1, Makes-map P Q m c g (answer_of answer) a b gives is.2)
 
 pub IsUnserved-map : {S T : Type 0} (P : SpaceFault → S → S → Type 0) (Q : SpaceFault → T → T → Type 0) (m : Meanings) (s : State) (c : Command) (g : Going) (r : Refusal) (a : S) (b : T)
-    → (HasCause P r a → HasCause Q r b) → IsUnserved P m s c g r a → IsUnserved Q m s c g r b
+    → (HasRefusalCause P r a → HasRefusalCause Q r b) → IsUnserved P m s c g r a → IsUnserved Q m s c g r b
 IsUnserved-map P Q m s c g r a b gives (Tested is) = Tested is
 IsUnserved-map P Q m s c g r a b gives (Worked none unread refused) = Worked none unread (IsRefusedIn-map P Q m c g r a b gives refused)
 IsUnserved-map P Q m s c g r a b gives (Looked free cause) = Looked free (gives cause)

@@ -15,7 +15,8 @@ use Rattle.sb_plain.specs.Step.{Answer, answered, work_of}
 use Rattle.sb_registry.specs.Boxes.{Meanings}
 use Rattle.sb_drive.specs.Spaces.{Wanted}
 use Rattle.sb_map.specs.declared.place.Place.{Place}
-use Rattle.sb_txn.specs.Clauses.{Parts, parts, HoldsPages, LeavesWanted}
+use Rattle.sb_txn.specs.Clauses.{HoldsPages, LeavesWanted}
+use Rattle.sb_txn.specs.Parts.{Parts, parts}
 use Rattle.sb_txn.specs.State.{State as StoreState}
 use Rattle.sb_engine.specs.declared.running.Work.{Work as EngineWork}
 use Rattle.sb_engine.specs.Working.{extensions_of}
@@ -91,7 +92,7 @@ pub record EndsAlone {D : Type 0} (told : D → Option Story) (len faults : D �
   pub ends : (want : Wanted) (x : State) → IsOf m place want x (parts told len d s) None → IsPosedIn m x c
       → Ends (IsLeftSo m place want x c (parts told len d s) (parts told len e t) None (reply_by result)) (Lacks faults) (HasFailed faults d e)
       (extensions_of m) x c (reply_by result)
-  pub none : t.book.down ≡ false → t.book.out ≡ []
+  pub none : t.book.down ≡ false → t.book.actives ≡ []
   pub remains : Remains told len faults d e s t result
 
 -- its work begins at the committed database, once the transaction itself was paid for
@@ -111,7 +112,7 @@ pub record ComesAlone {D : Type 0} (told : D → Option Story) (len faults : D �
       → WasBegun m place.root want (committed x) tx (parts told len e t)
 
 -- No test refuses the command, whose work gives this answer.
-pub record Answers (m : Meanings) (place : Place) (want : Wanted) (c : Command) (x : State) (p : Parts) (tx : ℕ)
+pub record AnswersCommand (m : Meanings) (place : Place) (want : Wanted) (c : Command) (x : State) (p : Parts) (tx : ℕ)
     (w : EngineWork) (answer : Answer) : Type 0 where
   pub passed : refused (extensions_of m) x c ≡ None
   pub work : Work Answer
@@ -125,7 +126,7 @@ pub record HasAnswered {D : Type 0} (told : D → Option Story) (len faults : D 
   pub up : t.book.down ≡ false
   pub comes : ComesAlone told len faults m place d e s t tx
   pub answers : (want : Wanted) (x : State) → IsOf m place want x (parts told len d s) None → IsPosedIn m x c
-      → Answers m place want c x (parts told len e t) tx w answer
+      → AnswersCommand m place want c x (parts told len e t) tx w answer
 
 -- ---- tests in a transaction of their own
 -- No test refuses the command, the transaction is over, and the pages rest as they were.
@@ -136,7 +137,7 @@ pub record Passes {D : Type 0} (told : D → Option Story) (len faults : D → �
       → Rests m place.root want (committed x) (parts told len e t)
   pub any_moment : (want : Wanted) (x : State) → IsOf m place want x (parts told len d s) None
       → LeavesOnly (told d) (told e) (Restores s.pool.geometry want)
-  pub none : t.book.out ≡ []
+  pub none : t.book.actives ≡ []
   pub remains : Remains {T = Unit {0}} told len faults d e s t (Ok tt)
 
 -- ---- any command

@@ -18,7 +18,7 @@ use Rattle.sb_drive.specs.Slots.{Slots}
 use Rattle.sb_drive.specs.Spaces.{IsRefused, Wanted}
 use Rattle.sb_standing.specs.Tables.{Kept, db_of}
 use Rattle.sb_opened.specs.Opened.{IsDurable}
-use Rattle.sb_engine.specs.Refusals.{HasCause, refusal_of}
+use Rattle.sb_engine.specs.Refusals.{HasRefusalCause, refusal_of}
 use Rattle.sb_engine.specs.Working.{extensions_of}
 use Rattle.sb_engine.proofs.RefusedLemmas.{free_refusal, refused_cause}
 use Rattle.sb_execution.specs.declared.seen.Seen.{Seen}
@@ -99,10 +99,10 @@ module _ {B S : Type 0} (Leads : ℕ → S → S → Type 0) (Fails : SpaceFault
   pub look_free : is_free r ≡ true
   look_free = subst (λ (x : Refusal). is_free x ≡ true) failed.is (free_refusal failed.fault)
 
-  pub look_cause : is_damage r ≡ false → HasCause Fails r new.space.now
+  pub look_cause : is_damage r ≡ false → HasRefusalCause Fails r new.space.now
   look_cause sound =
       let same : is_damage (refusal_of failed.fault) ≡ is_damage r = ap (λ (x : Refusal). is_damage x) failed.is in
-      subst (λ (x : Refusal). HasCause Fails x new.space.now) failed.is
+      subst (λ (x : Refusal). HasRefusalCause Fails x new.space.now) failed.is
       (refused_cause Fails (Leads 0 old.space.now new.space.now) old.space.now new.space.now failed.fault failed.refused
       (sound_fault failed.fault (same ∙ sound)))
 

@@ -11,7 +11,7 @@ use Rattle.sb_plain.specs.Step.{Answer, work_of}
 use Rattle.sb_cascade.specs.Runs.{MadeFrom, StopsFrom, is_free}
 use Rattle.sb_registry.specs.Boxes.{Meanings}
 use Rattle.sb_drive.specs.declared.space.SpaceFault.{SpaceFault}
-use Rattle.sb_engine.specs.Refusals.{HasCause}
+use Rattle.sb_engine.specs.Refusals.{HasRefusalCause}
 use Rattle.sb_engine.specs.Working.{extensions_of}
 use Rattle.sb_vectors.specs.Vectors.{live_codes, spare_codes}
 use Rattle.sb_session.specs.declared.session.Savepoint.{Savepoint}
@@ -62,7 +62,7 @@ Makes IsSo m c g answer new = IfSome (work_of (extensions_of m) c) (λ work. Mad
 
 -- or which is refused so, for a cause that the space has
 abbrev pub IsRefusedIn : {S : Type 0} → (SpaceFault → S → S → Type 0) → Meanings → Command → Going → Refusal → S → Type 0
-IsRefusedIn Fails m c g r new = IfSome (work_of (extensions_of m) c) (λ work. StopsFrom (λ refusal trail x. HasCause Fails refusal x) work g r new)
+IsRefusedIn Fails m c g r new = IfSome (work_of (extensions_of m) c) (λ work. StopsFrom (λ refusal trail x. HasRefusalCause Fails refusal x) work g r new)
 
 -- A command that no test refuses reads its reply, and the work stands as it was; or its work gives the answer.
 abbrev pub IsServed : {S : Type 0} → (Going → S → Type 0) → Meanings → State → Command → Going → Served → S → Type 0
@@ -77,4 +77,4 @@ pub data IsUnserved {S : Type 0} (Fails : SpaceFault → S → S → Type 0) (m 
   Tested : refused (extensions_of m) s c ≡ Some r → IsUnserved Fails m s c g r new
   Worked : refused (extensions_of m) s c ≡ None → read (extensions_of m) (view s) c ≡ None → IsRefusedIn Fails m c g r new
       → IsUnserved Fails m s c g r new
-  Looked : is_free r ≡ true → HasCause Fails r new → IsUnserved Fails m s c g r new
+  Looked : is_free r ≡ true → HasRefusalCause Fails r new → IsUnserved Fails m s c g r new

@@ -6,7 +6,8 @@ ghost use Rattle.sb_engine.specs.Working.{extensions_of};
 ghost use Rattle.sb_plain.specs.State.{State};
 ghost use Rattle.sb_execution.specs.Serving.{IsPosedIn, is_managing};
 ghost use Rattle.sb_execution.specs.Endings.{EndsInside};
-ghost use Rattle.sb_txn.specs.Clauses.{parts, LeavesWanted};
+ghost use Rattle.sb_txn.specs.Clauses.{LeavesWanted};
+ghost use Rattle.sb_txn.specs.Parts.{parts};
 ghost use Rattle.sb_session.specs.Ends.{Ends};
 ghost use Rattle.sb_session.specs.Sessions.{CanGoOn, CanRun, HasFailed, IsFor, KeepsSession, Lacks, parts_of};
 

@@ -11,7 +11,8 @@ ghost use Rattle.sb_execution.specs.Endings.{EndsAlone, HasAnswered, Passes};
 ghost use Rattle.sb_session.specs.Ends.{Ends, MayWant};
 ghost use Rattle.sb_session.specs.Sessions.{CanRun, HasFailed, IsFor, KeepsSession, Lacks, StandsBehind};
 ghost use Rattle.sb_transactions.specs.Transactions.{IsUsable};
-ghost use Rattle.sb_txn.specs.Clauses.{parts, IsReady};
+ghost use Rattle.sb_txn.specs.Clauses.{IsReady};
+ghost use Rattle.sb_txn.specs.Parts.{parts};
 ghost use Rattle.sb_txn.specs.State.{State as StoreState};
 
 use crate::replies::{replied, told};
@@ -68,7 +69,7 @@ fn work_outside<B: Vectors, D: Disk>(
 ) -> Result<Reply, Refusal>
     requires ready { IsReady (parts D.told D.len disk.old space.old.store) }
     requires few { space.old.store.pool.geometry.pages ≤ 65536 }
-    requires none { space.old.store.book.out ≡ [] }
+    requires none { space.old.store.book.actives ≡ [] }
     requires owner { place.owner ≡ 2 }
     requires up { space.old.store.book.down ≡ false }
     requires works { is_managing command.now ≡ false }
@@ -122,7 +123,7 @@ pub(crate) fn test_outside<B: Vectors, D: Disk>(
 ) -> Result<(), Refusal>
     requires ready { IsReady (parts D.told D.len disk.old space.old.store) }
     requires few { space.old.store.pool.geometry.pages ≤ 65536 }
-    requires none { space.old.store.book.out ≡ [] }
+    requires none { space.old.store.book.actives ≡ [] }
     requires owner { place.owner ≡ 2 }
     requires up { space.old.store.book.down ≡ false }
     requires may { (s : State) → MayWant s command.now }

@@ -2,7 +2,7 @@
 
 ghost use Rattle.std.specs.Prelude.{◌≡◌, true, IfErr, IfOk};
 ghost use Rattle.sb_fold.specs.Outcome.{Going};
-ghost use Rattle.sb_engine.specs.Refusals.{HasCause};
+ghost use Rattle.sb_engine.specs.Refusals.{HasRefusalCause};
 ghost use Rattle.sb_engine.specs.Working.{extensions_of};
 ghost use Rattle.sb_engine.specs.Working as engine;
 ghost use Rattle.sb_cascade.specs.Runs.{is_free};
@@ -43,7 +43,7 @@ pub(crate) fn refusal_over<B: Vectors, S: Owners>(
         → engine.Stands S.has (B.meanings boxes.now) place.root g space.new work.now) }
     ensures free { IfErr result (λ r. is_free r ≡ true) }
     ensures cause { IfErr result (λ r. (s : State) (g : Going) → engine.Stands S.has (B.meanings boxes.now) place.root g space.old work.now
-        → IsSeenIn (B.meanings boxes.now) inside points.now s g → HasCause S.fails r space.new) }
+        → IsSeenIn (B.meanings boxes.now) inside points.now s g → HasRefusalCause S.fails r space.new) }
     ensures leads { S.leads 0 space.old space.new }
     ensures ready { S.is_ready space.new }
 {

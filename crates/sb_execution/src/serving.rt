@@ -7,7 +7,7 @@ ghost use Rattle.sb_transactions.specs.declared.transactions.Point.{Point};
 ghost use Rattle.sb_fold.specs.Outcome.{Going};
 ghost use Rattle.sb_drive.specs.Spaces.{Wanted};
 ghost use Rattle.sb_cascade.specs.Runs.{is_free};
-ghost use Rattle.sb_engine.specs.Refusals.{HasCause};
+ghost use Rattle.sb_engine.specs.Refusals.{HasRefusalCause};
 ghost use Rattle.sb_engine.specs.Working.{extensions_of};
 ghost use Rattle.sb_engine.specs.Working as engine;
 ghost use Rattle.sb_plain.specs.Refusing.{refused};
@@ -15,7 +15,8 @@ ghost use Rattle.sb_plain.specs.State.{State};
 ghost use Rattle.sb_execution.specs.Serving.{IsPosedIn, IsRefusedIn, IsSeenIn, IsServed, IsUnserved, Makes, MayServe};
 ghost use Rattle.sb_statements.specs.Statements.{MayWork, answer_of};
 ghost use Rattle.sb_transactions.specs.Driven.{WorksOn};
-ghost use Rattle.sb_txn.specs.Clauses.{parts, LeavesWanted};
+ghost use Rattle.sb_txn.specs.Clauses.{LeavesWanted};
+ghost use Rattle.sb_txn.specs.Parts.{parts};
 ghost use Rattle.sb_transactions.specs.Commits.{FailsOn, IsLed};
 ghost use Rattle.sb_transactions.specs.Transactions.{IsAt, IsPointOf, IsUsable, WasBegun, WasSo};
 
@@ -203,7 +204,7 @@ pub(crate) fn test_in<B: Vectors, D: Disk>(
     ensures cause { IfErr result (λ r. (want : Wanted) (s : State) (g : Going)
         → IsAt (B.meanings boxes.now) place want transaction.now.tx.store.number g (parts D.told D.len disk.old space.old.store) transaction.now.work
         → IsSeenIn (B.meanings boxes.now) inside points.now s g
-        → HasCause (FailsOn D.faults) r (record { disk = disk.new; store = space.new.store })) }
+        → HasRefusalCause (FailsOn D.faults) r (record { disk = disk.new; store = space.new.store })) }
     ensures points { space.new.store.book.down ≡ false → (m : Meanings) (want : Wanted) (g : Going) (point : Point)
         → WasSo m place want transaction.now.tx.store.number g point (parts D.told D.len disk.old space.old.store) transaction.now.work
         → WasSo m place want transaction.now.tx.store.number g point (parts D.told D.len disk.new space.new.store) transaction.now.work }

@@ -12,7 +12,8 @@ use Rattle.sb_plain.specs.State.{State, Transaction as PlainTransaction, committ
 use Rattle.sb_registry.specs.Boxes.{Meanings}
 use Rattle.sb_drive.specs.Spaces.{Wanted}
 use Rattle.sb_map.specs.declared.place.Place.{Place}
-use Rattle.sb_txn.specs.Clauses.{Parts, HoldsPages, LeavesWanted}
+use Rattle.sb_txn.specs.Clauses.{HoldsPages, LeavesWanted}
+use Rattle.sb_txn.specs.Parts.{Parts, stored}
 use Rattle.sb_txn.proofs.KeepsLemmas.{LeavesWanted-none}
 use Rattle.sb_space.specs.Table.{table_len}
 use Rattle.sb_transactions.specs.Transactions.{IsCommitted}
@@ -23,7 +24,7 @@ use Rattle.sb_session.specs.declared.session.Open.{Open}
 use Rattle.sb_session.specs.declared.session.Session.{Session}
 use Rattle.sb_session.specs.Sessions.{IsFor, IsOpenFor, KeepsSession, parts_of}
 use Rattle.sb_kernel.specs.World.{World, IsNow}
-use Rattle.sb_kernel.specs.Crashes.{Holds}
+use Rattle.sb_kernel.specs.Crashes.{HoldsDatabase}
 use Rattle.sb_kernel.specs.Answering.{Closes}
 use Rattle.sb_kernel.specs.Laws.{HeldIsStored, RestsHeld}
 
@@ -33,7 +34,7 @@ same_back m n same = record { methods = λ code. sym (same.methods code); attach
 -- ---- what keeps a database
 -- what was committed with the boxes now is so with those at first, all live
 pub Holds-restored : (m n : Meanings) (g : Geometry) (root : ℕ) (want : Wanted) (db : Db) → AreSameBoxes m n → root ≡ table_len g.pages → IsCommitted n root g.pages want db
-    → (image : List ℕ) → Restores g want image → Holds m image db
+    → (image : List ℕ) → Restores g want image → HoldsDatabase m image db
 Holds-restored m n g root want db same at of image restores = record {
   geometry = g;
   want = want;
@@ -61,24 +62,24 @@ store_for m place want db p (Some o) None none = absurd none
 -- ---- a session that isn't down
 module _ {B D : Type 0} (w : World B D) (m : Meanings) (d : D) (x : Session B) (s : State) (now : IsNow w m d x s) (up : s.down ≡ false) where
   -- what restores the pages wanted holds the last commit
-  pub Holds-last : (want : Wanted) → IsFor w.meanings w.told w.len want s d x → (image : List ℕ) → Restores x.space.store.pool.geometry want image → Holds m image (committed s)
+  pub Holds-last : (want : Wanted) → IsFor w.meanings w.told w.len want s d x → (image : List ℕ) → Restores x.space.store.pool.geometry want image → HoldsDatabase m image (committed s)
   Holds-last want for =
       Holds-restored m (w.meanings x.boxes) x.space.store.pool.geometry x.place.root want (committed s) now.same now.root
       (committed_for (w.meanings x.boxes) x.place want (committed s) (parts_of w.told w.len d x) x.open s.transaction (for.stands up))
 
   -- while the pages wanted are left, it is
-  pub leaves-last : (q : Parts) → LeavesWanted (parts_of w.told w.len d x) q → LeavesOnly (w.told d) q.told (λ image. Holds m image (committed s))
+  pub leaves-last : (q : Parts) → LeavesWanted (parts_of w.told w.len d x) q → LeavesOnly (w.told d) q.told (λ image. HoldsDatabase m image (committed s))
   leaves-last q leaves =
       let want = now.stands.want in
       let for = now.stands.is in
       let store = store_for (w.meanings x.boxes) x.place want (committed s) (parts_of w.told w.len d x) x.open s.transaction (for.stands up) in
-      weaker (w.told d) q.told (Restores x.space.store.pool.geometry want) (λ image. Holds m image (committed s)) (Holds-last want for) (leaves.each want store.0 store.1)
+      weaker (w.told d) q.told (Restores x.space.store.pool.geometry want) (λ image. HoldsDatabase m image (committed s)) (Holds-last want for) (leaves.each want store.0 store.1)
 
-  pub leaves-still : LeavesOnly (w.told d) (w.told d) (λ image. Holds m image (committed s))
+  pub leaves-still : LeavesOnly (w.told d) (w.told d) (λ image. HoldsDatabase m image (committed s))
   leaves-still = leaves-last (parts_of w.told w.len d x) (LeavesWanted-none (parts_of w.told w.len d x))
 
 pub rests-held : {B D : Type 0} (w : World B D) → RestsHeld w
-rests-held w m disk x s image now up left = at_end (w.told disk) (w.told disk) (λ image. Holds m image (committed s)) (leaves-still w m disk x s now up) image left
+rests-held w m disk x s image now up left = at_end (w.told disk) (w.told disk) (λ image. HoldsDatabase m image (committed s)) (leaves-still w m disk x s now up) image left
 
 -- an abort leaves what was wanted
 pub Closes-wanted : {B D : Type 0} (w : World B D) (old new : D) (x y : Session B) (reply : Reply) → KeepsSession w.len w.faults old new x y reply

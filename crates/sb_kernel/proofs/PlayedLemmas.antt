@@ -13,7 +13,7 @@ use Rattle.sb_session.specs.declared.session.Session.{Session}
 use Rattle.sb_session.specs.Sessions.{Lacks}
 use Rattle.sb_kernel.specs.World.{World, At, IsNow, at}
 use Rattle.sb_kernel.specs.Plays.{last_state}
-use Rattle.sb_kernel.specs.Crashes.{Holds, IsLeft}
+use Rattle.sb_kernel.specs.Crashes.{HoldsDatabase, IsLeft}
 use Rattle.sb_kernel.specs.Answering.{Closes, HasReplied}
 use Rattle.sb_kernel.specs.Runs.{AreInOrder, HasPlayed, HasPlayedOut, PlaysOn, PlaysOut}
 use Rattle.sb_kernel.proofs.PlayLemmas.{MovesBy-since, Plays-more, Plays-since, last-more}
@@ -78,7 +78,7 @@ module _ {B D : Type 0} (w : World B D) (m : Meanings) (items : List Item) (repl
             (λ rose. Rose-before (w.faults first) (w.faults disk) (w.faults new) rose closes.later) s items replies played.states played.plays;
         until = moment (w.told disk);
         within = run.later;
-        on = GoesOn-then (w.told first) (w.told disk) (w.told new) (λ image. Holds m image (committed last)) played.on run;
+        on = GoesOn-then (w.told first) (w.told disk) (w.told new) (λ image. HoldsDatabase m image (committed last)) played.on run;
         begins = played.begins;
         leaves = LeavesAlong-closed m (Lacks w.faults) (Rose (w.faults first) (w.faults disk)) (w.told disk) (w.told new) s items replies played.states starts order
             played.plays run played.leaves;

@@ -14,7 +14,7 @@ use Rattle.sb_kernel.specs.declared.ending.Ending.TheVariants.{InputEnded, Sourc
 use Rattle.sb_kernel.specs.World.{World, At, at}
 use Rattle.sb_kernel.specs.Answering.{Closes}
 use Rattle.sb_kernel.specs.Runs.{PlaysOut, HasAnswered, HasStopped, Stands}
-use Rattle.sb_kernel.specs.Serving.{Counts, counted, NeverFall, HasCause, LeavesInput, Serves, ServesMore, HasEnded, HasServed}
+use Rattle.sb_kernel.specs.Serving.{Counts, counted, NeverFall, HasEndingCause, LeavesInput, Serves, ServesMore, HasEnded, HasServed}
 use Rattle.sb_kernel.proofs.PlayedLemmas.{HasPlayed-none, PlaysOut-closed}
 
 more_room : (n room : ℕ) → n ≤ n + room
@@ -225,7 +225,7 @@ NeverFall-then a b c before later = record {
 pub NeverFall-closed : (a b : Counts) (disk : ℕ) → b.disk ≤ disk → NeverFall a b → NeverFall a (counted b.source b.sink disk)
 NeverFall-closed a b disk more before = record { source = before.source; sink = before.sink; disk = omega (arith, before.disk, more) }
 
-pub HasCause-closed : (ending : Ending) (a b : Counts) (disk : ℕ) → HasCause ending a b → HasCause ending a (counted b.source b.sink disk)
+pub HasCause-closed : (ending : Ending) (a b : Counts) (disk : ℕ) → HasEndingCause ending a b → HasEndingCause ending a (counted b.source b.sink disk)
 HasCause-closed InputEnded a b disk cause = tt
 HasCause-closed SourceFailed a b disk cause = cause
 HasCause-closed MostTaken a b disk cause = tt

@@ -12,7 +12,7 @@ use Rattle.sb_session.specs.declared.session.Session.{Session}
 use Rattle.sb_session.specs.Sessions.{Lacks}
 use Rattle.sb_kernel.specs.World.{World, IsNow}
 use Rattle.sb_kernel.specs.Plays.{MovesBy}
-use Rattle.sb_kernel.specs.Crashes.{Holds, IsLeft}
+use Rattle.sb_kernel.specs.Crashes.{HoldsDatabase, IsLeft}
 
 -- The item has this reply in this state, and leads to one that the session stands for. Meanwhile a crash leaves the last commit, or the next one.
 pub record HasMoved {B D : Type 0} (w : World B D) (m : Meanings) (s : State) (item : Item) (reply : Reply) (old new : D) (y : Session B) : Type 0 where
@@ -31,5 +31,5 @@ pub record HasReplied {B D : Type 0} (w : World B D) (line : List ℕ) (old new 
 pub record Closes {B D : Type 0} (w : World B D) (old new : D) (x : Session B) : Type 0 where
   pub later : w.faults old ≤ w.faults new
   pub leaves : (m : Meanings) (s : State) → IsNow w m old x s → s.down ≡ false
-      → LeavesOnly (w.told old) (w.told new) (λ image. Holds m image (committed s))
+      → LeavesOnly (w.told old) (w.told new) (λ image. HoldsDatabase m image (committed s))
   pub ended : x.down ≡ true → new ≡ old

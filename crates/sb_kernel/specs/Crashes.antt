@@ -19,7 +19,7 @@ use Rattle.sb_opening.specs.Naming.{all_live}
 use Rattle.sb_kernel.specs.Plays.{AreBoxesOf}
 
 -- The image is a store's, and what it restores keeps the database, whichever of the boxes are live.
-pub record Holds (m : Meanings) (image : List ℕ) (db : Db) : Type 0 where
+pub record HoldsDatabase (m : Meanings) (image : List ℕ) (db : Db) : Type 0 where
   pub geometry : Geometry
   pub want : Wanted
   pub restores : Restores geometry want image
@@ -42,12 +42,12 @@ IsMade m s c t db = (db ≡ committed t) ⊎ ((t.down ≡ true) × MayCommit m s
 pub record HoldsNext (m : Meanings) (s : State) (c : Command) (t : State) (image : List ℕ) : Type 0 where
   pub db : Db
   pub made : IsMade m s c t db
-  pub holds : Holds m image db
+  pub holds : HoldsDatabase m image db
 
 -- what a crash may leave while an item is answered that leads to a state: the last commit, or the next one
 abbrev pub IsLeft : Meanings → State → Item → State → List ℕ → Type 0
-IsLeft m s (Bad column) t image = Holds m image (committed s)
-IsLeft m s (Says c) t image = Holds m image (committed s) ⊎ HoldsNext m s c t image
+IsLeft m s (Bad column) t image = HoldsDatabase m image (committed s)
+IsLeft m s (Says c) t image = HoldsDatabase m image (committed s) ⊎ HoldsNext m s c t image
 
 -- when the next item begins; behind the last one, this end
 abbrev pub next_start : List ℕ → ℕ → ℕ

@@ -11,7 +11,7 @@ use Rattle.sb_vectors.specs.Vectors.{AreSameBoxes}
 use Rattle.sb_opening.specs.Opening.{IsStored}
 use Rattle.sb_session.specs.declared.session.Session.{Session}
 use Rattle.sb_kernel.specs.World.{World, IsNow}
-use Rattle.sb_kernel.specs.Crashes.{Holds}
+use Rattle.sb_kernel.specs.Crashes.{HoldsDatabase}
 
 -- some pages that the disk's contents restore keep the database
 pub record StoresSome (m : Meanings) (told : Option Story) (db : Db) : Type 0 where
@@ -22,11 +22,11 @@ pub record StoresSome (m : Meanings) (told : Option Story) (db : Db) : Type 0 wh
 -- a disk on which no write is pending, with the contents of an image that holds a database, stores it for the same boxes
 abbrev pub HeldIsStored : Type 0
 HeldIsStored =
-    (m n : Meanings) (image : List ℕ) (db : Db) (told : Option Story) → AreSameBoxes m n → Holds m image db → is_some told ≡ true → IsSettled told
+    (m n : Meanings) (image : List ℕ) (db : Db) (told : Option Story) → AreSameBoxes m n → HoldsDatabase m image db → is_some told ≡ true → IsSettled told
     → contents told ≡ image → StoresSome n told db
 
 -- while nothing is asked of a session that isn't down, a crash leaves the last commit
 abbrev pub RestsHeld : {B D : Type 0} → World B D → Type 0
 RestsHeld {B} {D} w =
     (m : Meanings) (disk : D) (x : Session B) (s : State) (image : List ℕ) → IsNow w m disk x s → s.down ≡ false → LeavesNow (w.told disk) image
-    → Holds m image (committed s)
+    → HoldsDatabase m image (committed s)

@@ -16,7 +16,7 @@ use Rattle.sb_session.specs.Sessions.{Lacks}
 use Rattle.sb_kernel.specs.declared.ending.Stop.{Stop}
 use Rattle.sb_kernel.specs.World.{World, At, IsNow}
 use Rattle.sb_kernel.specs.Plays.{Plays, last_state}
-use Rattle.sb_kernel.specs.Crashes.{Holds, LeavesAlong, next_start}
+use Rattle.sb_kernel.specs.Crashes.{HoldsDatabase, LeavesAlong, next_start}
 use Rattle.sb_kernel.specs.Ending.{AreReplied, WritesAtStop}
 
 -- what is told goes on: earlier moments are as they were
@@ -52,7 +52,7 @@ PlaysOn w m items replies first now =
 
 -- from this moment on a crash leaves the last commit of a state that isn't down
 abbrev pub HoldsLast : Meanings → Option Story → ℕ → State → Type 0
-HoldsLast m told from t = t.down ≡ false → (moment : ℕ) (image : List ℕ) → from ≤ moment → MayLeave told moment image → Holds m image (committed t)
+HoldsLast m told from t = t.down ≡ false → (moment : ℕ) (image : List ℕ) → from ≤ moment → MayLeave told moment image → HoldsDatabase m image (committed t)
 
 -- The same once the session is closed. From when the last item was answered a crash leaves the last commit; where that item met a fault, nothing followed.
 pub record HasPlayedOut {D : Type 0} (told : D → Option Story) (faults : D → ℕ) (m : Meanings) (first : D) (s : State) (items : List Item)

@@ -17,11 +17,11 @@ use Rattle.sb_kernel.specs.Runs.{PlaysOn, PlaysOut, Stands}
 
 -- ---- how a run ends
 -- The items answered are those of the whole input, or of all whole lines taken, or, where the run stopped between two lines, of the first lines taken.
-abbrev pub Answers : Ending → List ℕ → List Item → Type 0
-Answers InputEnded taken items = Commands taken items
-Answers SourceFailed taken items = AreItems (asking (whole_lines taken)) items
-Answers MostTaken taken items = AreItems (asking (whole_lines taken)) items
-Answers (Stopped stop) taken items = AreFirstItems (asking (lines_of taken)) items
+abbrev pub AnswersItems : Ending → List ℕ → List Item → Type 0
+AnswersItems InputEnded taken items = Commands taken items
+AnswersItems SourceFailed taken items = AreItems (asking (whole_lines taken)) items
+AnswersItems MostTaken taken items = AreItems (asking (whole_lines taken)) items
+AnswersItems (Stopped stop) taken items = AreFirstItems (asking (lines_of taken)) items
 
 -- Where the input has ended nothing is left.
 abbrev pub LeavesInput : Ending → Option (List ℕ) → Type 0
@@ -58,7 +58,7 @@ pub record HasEndedSo (most : ℕ) (left left_now held held_now : Option (List �
   pub is_taken : Taken left left_now taken
   pub is_written : Given held held_now written
   pub begun : length items ≡ length starts
-  pub answers : Answers ending taken items
+  pub answers : AnswersItems ending taken items
   pub leaves : LeavesInput ending left_now
   pub within : TakesUpTo most ending (length taken)
   pub writes : WritesAtEnd ending replies written
@@ -113,14 +113,14 @@ pub record NeverFall (before now : Counts) : Type 0 where
   pub disk : before.disk ≤ now.disk
 
 -- a failure of the source or the sink shows in its count
-abbrev pub HasCause : Ending → Counts → Counts → Type 0
-HasCause SourceFailed before now = Rose before.source now.source
-HasCause (Stopped SinkFailed) before now = Rose before.sink now.sink
-HasCause _ before now = Unit {0}
+abbrev pub HasEndingCause : Ending → Counts → Counts → Type 0
+HasEndingCause SourceFailed before now = Rose before.source now.source
+HasEndingCause (Stopped SinkFailed) before now = Rose before.sink now.sink
+HasEndingCause _ before now = Unit {0}
 
 abbrev pub BreaksWithCause : ControlFlow Ending ℕ → Counts → Counts → Type 0
 BreaksWithCause (Continue count) before now = Unit {0}
-BreaksWithCause (Break ending) before now = HasCause ending before now
+BreaksWithCause (Break ending) before now = HasEndingCause ending before now
 
 -- a piece that was taken has at least one byte, and at most so many
 abbrev pub ContinuesWithin : ControlFlow Ending ℕ → ℕ → Type 0

@@ -4,7 +4,7 @@ ghost use Rattle.std.specs.Prelude.{◌≡◌, ◌<◌, ◌≤◌, [], List, ℕ
 ghost use Rattle.sb_registry.specs.Boxes.{Meanings};
 ghost use Rattle.sb_session.specs.Sessions.{CanRun};
 ghost use Rattle.sb_kernel.specs.World.{At, at, world};
-ghost use Rattle.sb_kernel.specs.Serving.{counted, Serves, PieceLeads, ContinuesWithin, NeverFall, HasCause, BreaksWithCause, GoesOnUp, HasEnded, HasServed};
+ghost use Rattle.sb_kernel.specs.Serving.{counted, Serves, PieceLeads, ContinuesWithin, NeverFall, HasEndingCause, BreaksWithCause, GoesOnUp, HasEnded, HasServed};
 
 use crate::dialogue::Dialogue;
 use crate::ending::Ending;
@@ -76,7 +76,7 @@ fn serve_input<B: Vectors + Drop, S: Source, K: Sink, D: Disk>(
         (at disk.new dialogue.new.session (K.held sink.new) dialogue.new.starts) }
     ensures counts { NeverFall (counted (S.faults source.old) (K.faults sink.old) (D.faults disk.old))
         (counted (S.faults source.new) (K.faults sink.new) (D.faults disk.new)) }
-    ensures cause { HasCause result (counted (S.faults source.old) (K.faults sink.old) (D.faults disk.old))
+    ensures cause { HasEndingCause result (counted (S.faults source.old) (K.faults sink.old) (D.faults disk.old))
         (counted (S.faults source.new) (K.faults sink.new) (D.faults disk.new)) }
     ensures runs { CanRun B.meanings D.told D.len disk.new dialogue.new.session }
 {
@@ -109,7 +109,7 @@ pub fn serve<B: Vectors + Drop, S: Source, K: Sink, D: Disk>(
         (at disk.old session (K.held sink.old) []) (at disk.new session (K.held sink.new) result.1) }
     ensures counts { NeverFall (counted (S.faults source.old) (K.faults sink.old) (D.faults disk.old))
         (counted (S.faults source.new) (K.faults sink.new) (D.faults disk.new)) }
-    ensures cause { HasCause result.0 (counted (S.faults source.old) (K.faults sink.old) (D.faults disk.old))
+    ensures cause { HasEndingCause result.0 (counted (S.faults source.old) (K.faults sink.old) (D.faults disk.old))
         (counted (S.faults source.new) (K.faults sink.new) (D.faults disk.new)) }
 {
     let mut dialogue = Dialogue::new(alloc, session);

@@ -15,16 +15,16 @@ use Rattle.sb_session.specs.Sessions.{Lacks}
 use Rattle.sb_kernel.specs.declared.ending.Ending.{Ending}
 use Rattle.sb_kernel.specs.World.{World, At}
 use Rattle.sb_kernel.specs.Plays.{Plays}
-use Rattle.sb_kernel.specs.Crashes.{Holds, IsLeft, next_start}
+use Rattle.sb_kernel.specs.Crashes.{HoldsDatabase, IsLeft, next_start}
 use Rattle.sb_kernel.specs.Runs.{HasPlayed, HasPlayedOut}
-use Rattle.sb_kernel.specs.Serving.{Answers}
+use Rattle.sb_kernel.specs.Serving.{AnswersItems}
 use Rattle.sb_said.specs.Laws.{IsLawfulWithin}
 use Rattle.sb_said.specs.Written.{IsWrittenItem}
 
 -- ---- items
 -- what a run answers is what lines say
 abbrev pub AnswersAreWritten : Type 0
-AnswersAreWritten = (ending : Ending) (taken : List ℕ) (items : List Item) → Answers ending taken items → All IsWrittenItem items
+AnswersAreWritten = (ending : Ending) (taken : List ℕ) (items : List Item) → AnswersItems ending taken items → All IsWrittenItem items
 
 -- ---- states and databases
 -- a lawful state, with these boxes' extensions
@@ -53,7 +53,7 @@ SameBoxesAreLawful = (m n : Meanings) (db : Db) → AreSameBoxes m n → IsLawfu
 -- the image holds such a database
 pub record HoldsLawful (m : Meanings) (image : List ℕ) : Type 0 where
   pub db : Db
-  pub holds : Holds m image db
+  pub holds : HoldsDatabase m image db
   pub lawful : IsLawfulOver m db
 
 -- what a crash may leave while an item is answered that leads from a lawful state to a lawful one
@@ -91,12 +91,12 @@ PlayedOutAreLawful {D} told faults =
 abbrev pub RunsAreLawful : {D : Type 0} → (D → Option Story) → (D → ℕ) → Type 0
 RunsAreLawful {D} told faults =
     (m boxes : Meanings) (db : Db) (ending : Ending) (taken : List ℕ) (first : D) (items : List Item) (replies : List Reply) (starts : List ℕ) (now : D)
-    → IsLawfulOver m db → Answers ending taken items → (played : HasPlayedOut told faults m first (opened boxes db) items replies starts now)
+    → IsLawfulOver m db → AnswersItems ending taken items → (played : HasPlayedOut told faults m first (opened boxes db) items replies starts now)
     → IsLawfulPlay m (told now) starts played.until played.states
 
 -- a run over a store that it made, whose database is empty
 abbrev pub MadeRunsAreLawful : {D : Type 0} → (D → Option Story) → (D → ℕ) → Type 0
 MadeRunsAreLawful {D} told faults =
     (m boxes : Meanings) (ending : Ending) (taken : List ℕ) (first : D) (items : List Item) (replies : List Reply) (starts : List ℕ) (now : D)
-    → Answers ending taken items → (played : HasPlayedOut told faults m first (opened boxes []) items replies starts now)
+    → AnswersItems ending taken items → (played : HasPlayedOut told faults m first (opened boxes []) items replies starts now)
     → IsLawfulPlay m (told now) starts played.until played.states

@@ -23,8 +23,8 @@ use Rattle.sb_relation.specs.Db.{Db}
 use Rattle.sb_registry.specs.Boxes.{Meanings}
 use Rattle.sb_drive.specs.Spaces.{Wanted}
 use Rattle.sb_standing.specs.Tables.{Kept}
-use Rattle.sb_txn.specs.Book.{actives}
-use Rattle.sb_txn.specs.Clauses.{Parts}
+use Rattle.sb_txn.specs.Book.{views}
+use Rattle.sb_txn.specs.Parts.{Parts, stored}
 use Rattle.sb_space.specs.Works.{Stands}
 use Rattle.sb_session.specs.declared.session.Open.{Open}
 use Rattle.sb_session.specs.declared.session.Session.{Session}
@@ -128,7 +128,7 @@ size_told p want now g stands mid leaves = by p.told refl
     by None at = absurd (false≢true (ap is_some (sym at) ∙ stands.tells))
     by (Some s) at =
         let of = stands.store.2.store in
-        let store = subst (λ (told : Option Story). IsStoreOn want now told p.store.journal p.store.pool.geometry stands.store.0 stands.store.1 (actives p.store.book.out)) at of in
+        let store = subst (λ (told : Option Story). IsStoreOn want now told p.store.journal p.store.pool.geometry stands.store.0 stands.store.1 (views p.store.book.actives)) at of in
         let restores = at_end mid (Some s) (Restores g want) (subst (λ (told : Option Story). LeavesOnly mid told (Restores g want)) at leaves) s.now.reads (Leaves-reads s.now) in
         one_geometry p.store.pool.geometry g s.now.reads store.ready.holds.placed.store restores.store
 

@@ -8,7 +8,7 @@ use Rattle.sb_drive.specs.declared.space.SpaceFault.TheVariants.{Fault, DataFull
 use Rattle.sb_registry.specs.Boxes.{Meanings}
 use Rattle.sb_standing.specs.Tables.{Kept}
 use Rattle.sb_opened.specs.Opened.{OverTables}
-use Rattle.sb_txn.specs.Clauses.{Parts, parts}
+use Rattle.sb_txn.specs.Parts.{Parts, parts}
 use Rattle.sb_txn.specs.State.{State}
 use Rattle.sb_space.specs.declared.durable.Durable.{Durable}
 use Rattle.sb_space.specs.Durable.{Leads, parts_in}

@@ -20,7 +20,8 @@ use Rattle.sb_map.specs.declared.place.Place.{Place}
 use Rattle.sb_standing.specs.Tables.{Kept, Tables}
 use Rattle.sb_opened.specs.Opened.{IsDurable}
 use Rattle.sb_txn.specs.Book.{Book}
-use Rattle.sb_txn.specs.Clauses.{Parts, parts, HoldsPages}
+use Rattle.sb_txn.specs.Clauses.{HoldsPages}
+use Rattle.sb_txn.specs.Parts.{Parts, parts, stored}
 use Rattle.sb_txn.specs.Opened.{IsOpened}
 use Rattle.sb_txn.specs.State.{State}
 use Rattle.sb_space.specs.Opening.{IsFirstDamaged, IsSpace, NamesDamage, SpaceErr}

@@ -14,13 +14,15 @@ use Rattle.sb_drive.specs.declared.space.SpaceFault.{SpaceFault}
 use Rattle.sb_drive.specs.declared.space.SpaceFault.TheVariants.{Fault, DataFull, TempFull, LogFull, GatesFull, Damaged, Down, NoMemory}
 use Rattle.sb_registry.specs.Runs.{IsSound}
 use Rattle.sb_standing.specs.Tables
-use Rattle.sb_txn.specs.Clauses.{Begins, Parts, parts, LeavesWanted}
+use Rattle.sb_txn.specs.Clauses.{Begins, LeavesWanted}
+use Rattle.sb_txn.specs.Parts.{Parts, parts}
 use Rattle.sb_txn.specs.State.{State}
 use Rattle.sb_txn.proofs.KeepsLemmas.{LeavesWanted-then}
 use Rattle.sb_space.specs.Table.{slots_in}
-use Rattle.sb_space.specs.Transactions.{AreFormed, Kept}
+use Rattle.sb_space.specs.Transactions.{AreFormed, KeepsSpace}
 use Rattle.sb_space.specs.Works.{Fails, HasPages, MeansDown, Works}
 use Rattle.sb_opening.specs.Looking.{IsLook, IsLookErr, IsUndamaged, OverCatalogue, RestsStill, fault_of, found_at_end}
+use Rattle.sb_value.proofs.Truths.{ok_err}
 
 -- ---- refusals
 pub IsUndamaged-sound : (e : SpaceFault) → IsSound e → IsUndamaged (fault_of e)
@@ -64,9 +66,6 @@ means_reads (GatesFull used total) means = absurd means
 means_reads (Damaged page) means = absurd means
 means_reads NoMemory means = absurd means
 
-ok_err : {T E A : Type 0} (x : T) (e : E) → Ok x ≡ Err e → A
-ok_err x e is = absurd (cc)
-
 not_both : {A : Type 0} (b : Bool) → b ≡ false → b ≡ true → A
 not_both b off on = absurd (false≢true (sym off ∙ on))
 
@@ -83,7 +82,7 @@ fell faults d e s t NoMemory means up fails = absurd means
 
 module _ {D : Type 0} (told : D → Option Story) (len faults : D → ℕ) where
   -- a call that was answered leaves a store up that was up
-  up_still : {T : Type 0} (d e : D) (s t : State) (x : T) → Kept told len faults d e s t (Ok x) → s.book.down ≡ false → t.book.down ≡ false
+  up_still : {T : Type 0} (d e : D) (s t : State) (x : T) → KeepsSpace told len faults d e s t (Ok x) → s.book.down ≡ false → t.book.down ≡ false
   up_still d e s t x kept up = by t.book.down refl
     where
       by : (b : Bool) → t.book.down ≡ b → t.book.down ≡ false
@@ -91,7 +90,7 @@ module _ {D : Type 0} (told : D → Option Story) (len faults : D → ℕ) where
       by true on = ⊎_elim (λ (was : s.book.down ≡ true). not_both s.book.down up was) (λ (is : IsErrOf (Ok x) Fault). ok_err x Fault is) (kept.up on)
 
   -- ---- the begin is refused
-  module _ (d e : D) (s t : State) (x : SpaceFault) (means : MeansDown x) {T : Type 0} (kept : Kept {T = T} told len faults d e s t (Err x)) where
+  module _ (d e : D) (s t : State) (x : SpaceFault) (means : MeansDown x) {T : Type 0} (kept : KeepsSpace {T = T} told len faults d e s t (Err x)) where
     pub IsLook-begin : LeavesWanted (parts told len d s) (parts told len e t) → IsLook told len faults d e s t
     IsLook-begin leaves = record { size = kept.size; later = kept.later; geometry = kept.geometry; leaves = leaves }
 
@@ -100,7 +99,7 @@ module _ {D : Type 0} (told : D → Option Story) (len faults : D → ℕ) where
 
   -- ---- it is begun, and ended
   module _ (d e f h : D) (s t u v : State) (tx : ℕ) (begins : Begins (parts told len d s) (parts told len e t) tx) (begun : LeavesWanted (parts told len d s) (parts told len e t))
-      {X : Type 0} (x : X) (first : Kept told len faults d e s t (Ok x)) (works : Works told len faults tx 0 e f t u) (r : Result (Unit {0}) SpaceFault) (last : Kept told len faults f h u v r)
+      {X : Type 0} (x : X) (first : KeepsSpace told len faults d e s t (Ok x)) (works : Works told len faults tx 0 e f t u) (r : Result (Unit {0}) SpaceFault) (last : KeepsSpace told len faults f h u v r)
       (ended : LeavesWanted (parts told len f u) (parts told len h v)) where
     -- behind the begin
     behind : LeavesWanted (parts told len e t) (parts told len h v)
@@ -160,9 +159,9 @@ module _ {D : Type 0} (told : D → Option Story) (len faults : D → ℕ) where
     -- ---- it was answered
     up_ended : (z : Result (Unit {0}) SpaceFault) → r ≡ z → OnOk z (v.book.down ≡ false)
     up_ended (Err y) is = tt
-    up_ended (Ok done) is = by (subst (λ (z : Result (Unit {0}) SpaceFault). Kept told len faults f h u v z) is last) v.book.down refl
+    up_ended (Ok done) is = by (subst (λ (z : Result (Unit {0}) SpaceFault). KeepsSpace told len faults f h u v z) is last) v.book.down refl
       where
-        by : Kept told len faults f h u v (Ok done) → (b : Bool) → v.book.down ≡ b → v.book.down ≡ false
+        by : KeepsSpace told len faults f h u v (Ok done) → (b : Bool) → v.book.down ≡ b → v.book.down ≡ false
         by kept false off = off
         by kept true on = ⊎_elim (λ (was : u.book.down ≡ true). ok_err done Down (kept.down was).answer) (λ (err : IsErrOf (Ok done) Fault). ok_err done Fault err) (kept.up on)
 
@@ -175,7 +174,7 @@ module _ {D : Type 0} (told : D → Option Story) (len faults : D → ℕ) where
     abbrev StaysInAbort : Type 0
     StaysInAbort = (want : Wanted) (slots : Slots) → HasPages want slots (parts told len f u) → AreFormed u.pool.geometry.pages want → HasPages want (slots_in u.pool.geometry.pages want) (parts told len h v)
 
-    rests : v.book.down ≡ false → v.book.out ≡ [] → StaysInBegin → StaysInLook → StaysInAbort → RestsStill (parts told len d s) (parts told len h v)
+    rests : v.book.down ≡ false → v.book.actives ≡ [] → StaysInBegin → StaysInLook → StaysInAbort → RestsStill (parts told len d s) (parts told len h v)
     rests up none one two three = record {
       ready = last.ready;
       up = up;
@@ -186,7 +185,7 @@ module _ {D : Type 0} (told : D → Option Story) (len faults : D → ℕ) where
           (three want slots (two want slots (one want slots has)) (subst (λ (g : Geometry). AreFormed g.pages want) (sym same) formed));
     }
 
-    pub RestsStill-ended : {T : Type 0} (q : Result T SpaceFault) (z : Result (Unit {0}) SpaceFault) → r ≡ z → OnOk z (v.book.out ≡ []) → StaysInBegin → OnOk q StaysInLook → OnOk z StaysInAbort
+    pub RestsStill-ended : {T : Type 0} (q : Result T SpaceFault) (z : Result (Unit {0}) SpaceFault) → r ≡ z → OnOk z (v.book.actives ≡ []) → StaysInBegin → OnOk q StaysInLook → OnOk z StaysInAbort
         → OnOk (found_at_end q z) (RestsStill (parts told len d s) (parts told len h v))
     RestsStill-ended (Ok y) (Ok done) is none one two three = rests (up_ended (Ok done) is) none one two three
     RestsStill-ended (Err y) (Ok done) is none one two three = tt

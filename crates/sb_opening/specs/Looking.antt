@@ -11,7 +11,8 @@ use Rattle.sb_drive.specs.Slots.{Slots}
 use Rattle.sb_drive.specs.Spaces.{Wanted}
 use Rattle.sb_standing.specs.Tables.{Kept, Tables}
 use Rattle.sb_opened.specs.Opened.{IsDurable}
-use Rattle.sb_txn.specs.Clauses.{Parts, parts, IsReady, LeavesWanted}
+use Rattle.sb_txn.specs.Clauses.{IsReady, LeavesWanted}
+use Rattle.sb_txn.specs.Parts.{Parts, parts}
 use Rattle.sb_txn.specs.State.{State}
 use Rattle.sb_space.specs.Table.{slots_in}
 use Rattle.sb_space.specs.Transactions.{AreFormed}
@@ -57,6 +58,6 @@ pub record IsLook {D : Type 0} (told : D → Option Story) (len faults : D → �
 pub record RestsStill (p q : Parts) : Type 0 where
   pub ready : IsReady q
   pub up : q.store.book.down ≡ false
-  pub none : q.store.book.out ≡ []
+  pub none : q.store.book.actives ≡ []
   pub has : (want : Wanted) (s : Slots) → AreFormed p.store.pool.geometry.pages want → HasPages want s p
       → HasPages want (slots_in q.store.pool.geometry.pages want) q

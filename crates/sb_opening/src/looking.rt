@@ -5,7 +5,8 @@ ghost use Rattle.sb_drive.specs.Slots.{Slots};
 ghost use Rattle.sb_drive.specs.Spaces.{IsReadFault, Wanted};
 ghost use Rattle.sb_registry.specs.Runs.{IsSound};
 ghost use Rattle.sb_space.specs.Works.{Fails, HasPages, MeansDown, Serves, Works};
-ghost use Rattle.sb_txn.specs.Clauses.{parts, IsReady};
+ghost use Rattle.sb_txn.specs.Clauses.{IsReady};
+ghost use Rattle.sb_txn.specs.Parts.{parts};
 ghost use Rattle.sb_opening.specs.Looking.{IsLook, IsLookErr, IsUndamaged, OverCatalogue, RestsStill, fault_of, found_at_end};
 ghost use Rattle.sb_opening.specs.Naming.{named_in};
 
@@ -26,7 +27,7 @@ pub(crate) fn named_codes<D: Disk>(
 ) -> Result<Vec<Named>, OpenFault>
     requires ready { IsReady (parts D.told D.len disk.old space.old.store) }
     requires up { space.old.store.book.down ≡ false }
-    requires none { space.old.store.book.out ≡ [] }
+    requires none { space.old.store.book.actives ≡ [] }
     requires few { space.old.store.pool.geometry.pages ≤ 65536 }
     requires owner { place.owner ≡ 2 }
 

@@ -21,7 +21,8 @@ use Rattle.sb_plain.specs.Step.{if_up, ok}
 use Rattle.sb_registry.specs.Boxes.{Meanings, repeated_in}
 use Rattle.sb_drive.specs.Spaces.{Wanted}
 use Rattle.sb_map.specs.declared.place.Place.{Place}
-use Rattle.sb_txn.specs.Clauses.{Parts, parts, IsReady, LeavesWanted}
+use Rattle.sb_txn.specs.Clauses.{IsReady, LeavesWanted}
+use Rattle.sb_txn.specs.Parts.{Parts, parts}
 use Rattle.sb_txn.proofs.KeepsLemmas.{LeavesWanted-none}
 use Rattle.sb_space.specs.declared.transactions.Space.{Space}
 use Rattle.sb_transactions.specs.declared.transactions.Transaction.{Transaction}

@@ -19,7 +19,7 @@ use Rattle.sb_plain.specs.Step.{first_spent, if_up, ok, with_savepoint}
 use Rattle.sb_registry.specs.Boxes.{Meanings}
 use Rattle.sb_drive.specs.Spaces.{Wanted}
 use Rattle.sb_map.specs.declared.place.Place.{Place}
-use Rattle.sb_txn.specs.Clauses.{Parts, parts}
+use Rattle.sb_txn.specs.Parts.{Parts, parts}
 use Rattle.sb_engine.specs.Working.{extensions_of}
 use Rattle.sb_space.specs.declared.transactions.Space.{Space}
 use Rattle.sb_space.specs.declared.transactions.Tx.{Tx}
@@ -111,7 +111,7 @@ module _ {B D : Type 0} (meanings : B → Meanings) (told : D → Option Story) 
             points = subst (λ (ones : List Savepoint). AreSavepoints m x.place want o.transaction.tx.store.number q o.transaction.work ones []) (sym points) tt;
           }))
 
-      pub Carried-abort : (o : Open) → Remains {T = Unit {0}} told len faults d e x.space.store space.store (Ok tt) → x.open ≡ Some o → y.open ≡ None → space.store.book.out ≡ []
+      pub Carried-abort : (o : Open) → Remains {T = Unit {0}} told len faults d e x.space.store space.store (Ok tt) → x.open ≡ Some o → y.open ≡ None → space.store.book.actives ≡ []
           → ((m : Meanings) (root : ℕ) (want : Wanted) (db : Db) → WasBegun m root want db o.transaction.tx.store.number (parts_of told len d x) → Rests m root want db (parts told len e space.store))
           → Carried meanings told len faults command.Abort d e x y ok
       Carried-abort o remains some none out rests =
@@ -122,7 +122,7 @@ module _ {B D : Type 0} (meanings : B → Meanings) (told : D → Option Story) 
           let within = inside_for o some want s for in
           Stepped-abort (extensions_of m) m x.place want q s (up_state want s for) within.of within.is (rests m x.place.root want (committed s) within.inside.begun))
 
-      pub Carried-checkpoint : Remains {T = Unit {0}} told len faults d e x.space.store space.store (Ok tt) → x.open ≡ None → y.open ≡ None → space.store.book.out ≡ []
+      pub Carried-checkpoint : Remains {T = Unit {0}} told len faults d e x.space.store space.store (Ok tt) → x.open ≡ None → y.open ≡ None → space.store.book.actives ≡ []
           → ((m : Meanings) (root : ℕ) (want : Wanted) (db : Db) → Rests m root want db (parts_of told len d x) → Rests m root want db (parts told len e space.store))
           → Carried meanings told len faults command.Checkpoint d e x y ok
       Carried-checkpoint remains none is out rests =

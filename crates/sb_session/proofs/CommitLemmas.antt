@@ -23,8 +23,9 @@ use Rattle.sb_plain.specs.Step.{Steps}
 use Rattle.sb_plain.specs.State.{State, Transaction as PlainTransaction, committed}
 use Rattle.sb_registry.specs.Boxes.{Meanings}
 use Rattle.sb_drive.specs.Spaces.{Wanted}
-use Rattle.sb_txn.specs.Clauses.{Parts, parts, LeavesWanted}
-use Rattle.sb_engine.specs.Refusals.{HasCause}
+use Rattle.sb_txn.specs.Clauses.{LeavesWanted}
+use Rattle.sb_txn.specs.Parts.{Parts, parts}
+use Rattle.sb_engine.specs.Refusals.{HasRefusalCause}
 use Rattle.sb_engine.specs.Working.{extensions_of}
 use Rattle.sb_engine.specs.declared.running.Work.{Work as EngineWork}
 use Rattle.sb_space.specs.declared.transactions.Space.{Space}
@@ -127,13 +128,13 @@ refused_run Stopped work g r there given stops = subst (λ (b : Bool). EndsBy St
 
 module _ {D : Type 0} (faults : D → ℕ) (work : Work (Unit {0})) (g : Going) where
   abbrev Stops : Refusal → Mounted D → Type 0
-  Stops r there = StopsFrom (λ refusal trail x. HasCause (FailsOn faults) refusal x) work g r there
+  Stops r there = StopsFrom (λ refusal trail x. HasRefusalCause (FailsOn faults) refusal x) work g r there
 
   -- no page is damaged
   damage_stops : (page : ℕ) (r : Refusal) → r ≡ refusal.Damaged page → (there : Mounted D) → Stops r there → ⊥
   damage_stops page r is there stops = let at : Stops (refusal.Damaged page) there = subst (λ (r : Refusal). Stops r there) is stops in at.stopped
 
-  room_stops : (room : Room) (r : Refusal) → r ≡ refusal.Room room → (there : Mounted D) → Stops r there → HasCause (FailsOn faults) (refusal.Room room) there
+  room_stops : (room : Room) (r : Refusal) → r ≡ refusal.Room room → (there : Mounted D) → Stops r there → HasRefusalCause (FailsOn faults) (refusal.Room room) there
   room_stops room r is there stops = let at : Stops (refusal.Room room) there = subst (λ (r : Refusal). Stops r there) is stops in at.stopped
 
 -- ---- a commit
@@ -249,7 +250,7 @@ module _ {B D : Type 0} (meanings : B → Meanings) (told : D → Option Story) 
     -- ---- a commit that goes through
     pub Committed-ok : {T : Type 0} (value : T) (picks : List Key) → Remains told len faults d e x.space.store space.store (Ok value) → y.down ≡ x.down → y.open ≡ None
         → ((want : Wanted) (g : Going) → IsAt m x.place want tx g p w → Finishes m g (IsDone m x.place.root want picks p) q)
-        → (space.store.book.down ≡ false → space.store.book.out ≡ [])
+        → (space.store.book.down ≡ false → space.store.book.actives ≡ [])
         → Committed meanings told len faults d e x y (reply.Done None picks)
     Committed-ok value picks remains down none done out = record {
       ends = λ want s for. step want s for (done want (going_on (within want s for).of) (at_commit want s for));
@@ -306,12 +307,12 @@ module _ {B D : Type 0} (meanings : B → Meanings) (told : D → Option Story) 
       module _ (over : is_wanting r ≡ false) (none : y.open ≡ None)
           (faulted : r ≡ refusal.Fault → (want : Wanted) (g : Going) → IsAt m x.place want tx g p w → space.store.book.down ≡ true)
           (aborted : space.store.book.down ≡ false → (m : Meanings) (root : ℕ) (want : Wanted) (db : Db) → WasBegun m root want db tx p → Rests m root want db q)
-          (out : space.store.book.down ≡ false → space.store.book.out ≡ []) where
+          (out : space.store.book.down ≡ false → space.store.book.actives ≡ []) where
         given_step : is_free r ≡ false → (want : Wanted) (s : State) (for : IsFor meanings told len want s d x) → IsStep (Behind want s) ext s command.Commit (reply.Refused r)
         given_step given want s for =
-            let stops : StopsFrom (λ refusal trail x. HasCause (FailsOn faults) refusal x) (finish ext) (going_on (within want s for).of) r (stopped want (going_on (within want s for).of) (at_commit want s for)).there =
+            let stops : StopsFrom (λ refusal trail x. HasRefusalCause (FailsOn faults) refusal x) (finish ext) (going_on (within want s for).of) r (stopped want (going_on (within want s for).of) (at_commit want s for)).there =
             (stopped want (going_on (within want s for).of) (at_commit want s for)).stops in
-            let run = refused_run (λ refusal trail x. HasCause (FailsOn faults) refusal x) (finish ext) (going_on (within want s for).of) r (stopped want (going_on (within want s for).of) (at_commit want s for)).there given stops in
+            let run = refused_run (λ refusal trail x. HasRefusalCause (FailsOn faults) refusal x) (finish ext) (going_on (within want s for).of) r (stopped want (going_on (within want s for).of) (at_commit want s for)).there given stops in
             record {
               after = without_transaction s;
               steps = Steps-refused_commit ext s (within want s for).of (within want s for).is (up_for want s for) run.picks run.after r run.leads;

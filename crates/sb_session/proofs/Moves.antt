@@ -27,7 +27,8 @@ use Rattle.sb_map.specs.declared.place.Place.{Place}
 use Rattle.sb_standing.specs.Standing.{Keeps as KeepsPages}
 use Rattle.sb_standing.specs.Tables.{Kept, db_of}
 use Rattle.sb_opened.specs.Opened.{IsDurable}
-use Rattle.sb_txn.specs.Clauses.{Parts, parts, IsReady}
+use Rattle.sb_txn.specs.Clauses.{IsReady}
+use Rattle.sb_txn.specs.Parts.{Parts, parts}
 use Rattle.sb_space.specs.declared.transactions.Space.{Space}
 use Rattle.sb_space.specs.Table.{slots_in}
 use Rattle.sb_engine.specs.Working.{extensions_of}

@@ -17,9 +17,10 @@ use Rattle.sb_relation.specs.Db.{Db}
 use Rattle.sb_registry.specs.Boxes.{Meanings, repeated_in}
 use Rattle.sb_drive.specs.Spaces.{Wanted}
 use Rattle.sb_map.specs.declared.place.Place.{Place}
-use Rattle.sb_txn.specs.Clauses.{Parts, parts, IsReady}
+use Rattle.sb_txn.specs.Clauses.{IsReady}
+use Rattle.sb_txn.specs.Parts.{Parts, parts}
 use Rattle.sb_engine.specs.declared.running.Work.{Work}
-use Rattle.sb_engine.specs.Refusals.{HasCause}
+use Rattle.sb_engine.specs.Refusals.{HasRefusalCause}
 use Rattle.sb_transactions.specs.Commits.{FailsOn, Mounted}
 use Rattle.sb_transactions.specs.Transactions.{HasNothingLeft, IsAt, IsCommitted, IsNotBehind, IsPointOf, IsUsable, Rests, WasBegun, WasSo}
 use Rattle.sb_vectors.specs.Vectors.{live_codes, spare_codes}
@@ -88,7 +89,7 @@ pub record StandsFor {B D : Type 0} (meanings : B → Meanings) (told : D → Op
 
 -- work can go on in an open transaction, or none is out
 abbrev pub CanGoOn : Meanings → Place → Parts → Option Open → Type 0
-CanGoOn m place p None = p.store.book.out ≡ []
+CanGoOn m place p None = p.store.book.actives ≡ []
 CanGoOn m place p (Some o) =
     IsUsable m place o.transaction.tx.store.number p o.transaction.work
     × All (λ one. IsPointOf o.transaction.tx.store.number one.point p o.transaction.work) o.points.items
@@ -126,7 +127,7 @@ HasFailed faults old new = Rose (faults old) (faults new)
 -- room was wanting, by the numbers of a store on its disk
 pub record Lacks {D : Type 0} (faults : D → ℕ) (room : Room) : Type 0 where
   pub at : Mounted D
-  pub cause : HasCause (FailsOn faults) (refusal.Room room) at
+  pub cause : HasRefusalCause (FailsOn faults) (refusal.Room room) at
 
 -- ---- what a crash leaves
 -- some step of the command leads to the state

@@ -41,7 +41,7 @@ use Rattle.sb_standing.proofs.RelationLemmas.{Keeps-created}
 use Rattle.sb_deferred.specs.Complete.{AreMirrored, HasMirror}
 use Rattle.sb_deferred.proofs.RelationLemmas.{all_found, attachments_of, relation_other, relation_same}
 use Rattle.sb_opened.specs.Opened.{IsDurable}
-use Rattle.sb_engine.specs.Refusals.{HasCause, refusal_of}
+use Rattle.sb_engine.specs.Refusals.{HasRefusalCause, refusal_of}
 use Rattle.sb_engine.specs.Working.{ArePaired, HasMainOf, IsLasting}
 use Rattle.sb_tables.specs.Creation.{AreShort, MayCreate, new_descriptor, new_kept, new_relation}
 use Rattle.sb_tables.specs.Keeping.{KeepsDb}
@@ -202,10 +202,10 @@ module _ {S : Type 0} (Has : Wanted → Slots → S → Type 0) (Fails : SpaceFa
   in_new = new-in Has m root gone db name method owner top schema key old mid late new keeps may high come
 
   pub prepare_refused : (e : SpaceFault)
-      → ((want : Wanted) (s : Slots) → Has want s mid → IsNewIn s (table_instance true name d) → IsLive m (table_instance true name d) → HasCause Fails (refusal_of e) late)
-      → ((box : Method) → method_of method m.methods ≡ Some box → IsMethod box) → HasCause Fails (refusal_of e) late
+      → ((want : Wanted) (s : Slots) → Has want s mid → IsNewIn s (table_instance true name d) → IsLive m (table_instance true name d) → HasRefusalCause Fails (refusal_of e) late)
+      → ((box : Method) → method_of method m.methods ≡ Some box → IsMethod box) → HasRefusalCause Fails (refusal_of e) late
   prepare_refused e refused law =
-      subst (λ (x : Descriptor). (want : Wanted) (s : Slots) → Has want s mid → IsNewIn s (table_instance true name x) → IsLive m (table_instance true name x) → HasCause Fails (refusal_of e) late) is refused
+      subst (λ (x : Descriptor). (want : Wanted) (s : Slots) → Has want s mid → IsNewIn s (table_instance true name x) → IsLive m (table_instance true name x) → HasRefusalCause Fails (refusal_of e) late) is refused
       keeps.want come.slots come.has in_new (is_live-new m db name method owner top schema key may high law)
 
   module _ (prepared : (want : Wanted) (s : Slots) → Has want s mid → IsNewIn s (table_instance true name d) → LeavesRows Has m (table_instance true name d) want s late []) where
@@ -219,11 +219,11 @@ module _ {S : Type 0} (Has : Wanted → Slots → S → Type 0) (Fails : SpaceFa
     in_entries rows = entries-late Has m root gone db name method owner top schema key old mid late new keeps may high come rows
 
     pub create_refused : (e : SpaceFault)
-        → ((want : Wanted) (s : Slots) (es : List Entry) → Has want s late → read_tree root (owned s 2) ≡ Some es → IsSmall name (descriptor_spelling d) → HasCause Fails (refusal_of e) new)
-        → HasCause Fails (refusal_of e) new
+        → ((want : Wanted) (s : Slots) (es : List Entry) → Has want s late → read_tree root (owned s 2) ≡ Some es → IsSmall name (descriptor_spelling d) → HasRefusalCause Fails (refusal_of e) new)
+        → HasRefusalCause Fails (refusal_of e) new
     create_refused e refused = of_rows in_rows
       where
-        of_rows : LeavesRows Has m (table_instance true name (new_descriptor method owner top schema key)) keeps.want come.slots late [] → HasCause Fails (refusal_of e) new
+        of_rows : LeavesRows Has m (table_instance true name (new_descriptor method owner top schema key)) keeps.want come.slots late [] → HasRefusalCause Fails (refusal_of e) new
         of_rows rows =
             refused keeps.want rows.slots (map entry_of keeps.kept) rows.has (in_entries rows)
             (subst (λ (x : Descriptor). IsSmall name (descriptor_spelling x)) (sym is) (small-new m db name method owner top schema key may))

@@ -31,10 +31,10 @@ use Rattle.sb_standing.proofs.PutLemmas.{All-own, All-put, All-without, db_of-pu
 use Rattle.sb_standing.proofs.RelationLemmas.{Keeps-dropped}
 use Rattle.sb_deferred.proofs.RelationLemmas.{attachments_of}
 use Rattle.sb_opened.specs.Opened.{IsDurable}
-use Rattle.sb_engine.specs.Refusals.{HasCause, refusal_of}
+use Rattle.sb_engine.specs.Refusals.{HasRefusalCause, refusal_of}
 use Rattle.sb_engine.specs.Working.{IsLasting}
 use Rattle.sb_engine.proofs.RefusedLemmas.{refused_cause}
-use Rattle.sb_engine.proofs.StandLemmas.{StandRules-keeps}
+use Rattle.sb_standing.proofs.StandLemmas.{StandRules-keeps}
 use Rattle.sb_tables.specs.Keeping.{KeepsDb}
 use Rattle.sb_tables.specs.Removal.{IsUnnamedIn, without_mirrors_of, without_name}
 use Rattle.sb_tables.proofs.WithoutLemmas.{without_in}
@@ -173,7 +173,7 @@ module _ {S : Type 0} (Has : Wanted → Slots → S → Type 0) (m : Meanings) (
 pub open_refused : {S : Type 0} (Has : Wanted → Slots → S → Type 0) (Fails : SpaceFault → S → S → Type 0) (Same : Type 0) (m : Meanings) (root : ℕ) (gone : List ℕ) (db : Db) (old new : S) (e : SpaceFault)
     → IsRefused Same (Fails e old new) e
     → ((want : Wanted) (s : Slots) (kept : List Kept) → Has want s old → Tables m IsDurable root s kept → StandRules m IsDurable (db_of kept) kept → IsSound e)
-    → KeepsDb Has m root gone db old → HasCause Fails (refusal_of e) new
+    → KeepsDb Has m root gone db old → HasRefusalCause Fails (refusal_of e) new
 open_refused Has Fails Same m root gone db old new e refused sound keeps =
     refused_cause Fails Same old new e refused
     (sound keeps.want keeps.slots keeps.kept keeps.has keeps.keeps.tables (StandRules-keeps m IsDurable root keeps.slots gone keeps.kept keeps.keeps))

@@ -14,7 +14,7 @@ use Rattle.sb_standing.specs.Tables.{Kept}
 use Rattle.sb_standing.proofs.FrameLemmas.{All-right}
 use Rattle.sb_standing.proofs.RelationLemmas.{Keeps-freed}
 use Rattle.sb_opened.specs.Opened.{IsDurable}
-use Rattle.sb_engine.specs.Refusals.{HasCause, IsRefusedBy, refusal_of}
+use Rattle.sb_engine.specs.Refusals.{HasRefusalCause, IsRefusedBy, refusal_of}
 use Rattle.sb_tables.specs.Freeing.{LeavesGone}
 
 module _ {S : Type 0} (Has : Wanted → Slots → S → Type 0) (m : Meanings) (root : ℕ) (kept : List Kept) (want : Wanted) (s : Slots) (owner : ℕ) (gone : List ℕ) (old new : S)
@@ -54,7 +54,7 @@ sound_store e is = tt
 pub refused_by : {S : Type 0} (Fails : SpaceFault → S → S → Type 0) (e : SpaceFault) (old new : S) → Fails e old new → IsRefusedBy Fails (refusal_of e) new
 refused_by Fails e old new fails = record { fault = e; is = refl; before = old; fails = fails }
 
-pub refused_soundly : {S : Type 0} (Fails : SpaceFault → S → S → Type 0) (e : SpaceFault) (now : S) → IsRefusedBy Fails (refusal_of e) now → IsSound e → HasCause Fails (refusal_of e) now
+pub refused_soundly : {S : Type 0} (Fails : SpaceFault → S → S → Type 0) (e : SpaceFault) (now : S) → IsRefusedBy Fails (refusal_of e) now → IsSound e → HasRefusalCause Fails (refusal_of e) now
 refused_soundly Fails fault.Fault now refused sound = refused
 refused_soundly Fails (fault.DataFull used total) now refused sound = refused
 refused_soundly Fails (fault.TempFull used total) now refused sound = refused

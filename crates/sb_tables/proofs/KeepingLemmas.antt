@@ -25,7 +25,7 @@ use Rattle.sb_standing.specs.Standing.{without_described}
 use Rattle.sb_standing.proofs.FrameLemmas.{All-unmap}
 use Rattle.sb_standing.proofs.KeptLemmas.{kept_at-all, kept_at-name}
 use Rattle.sb_opened.specs.Opened.{IsDurable, IsOwnFault}
-use Rattle.sb_engine.specs.Refusals.{HasCause, refusal_of}
+use Rattle.sb_engine.specs.Refusals.{HasRefusalCause, refusal_of}
 use Rattle.sb_tables.specs.Keeping.{HasMore}
 
 -- ---- entries of a tree are small
@@ -84,7 +84,7 @@ storable-without label d storable =
     record { instance = storable.instance; columns = storable.columns; key = storable.key; attachments = (less, All-filter test IsStorableAttached d.attachments storable.attachments.1) }
 
 -- ---- refusals
-pub own_cause : {S : Type 0} (Fails : SpaceFault → S → S → Type 0) (e : SpaceFault) (now : S) → IsOwnFault e → IsSound e → HasCause Fails (refusal_of e) now
+pub own_cause : {S : Type 0} (Fails : SpaceFault → S → S → Type 0) (e : SpaceFault) (now : S) → IsOwnFault e → IsSound e → HasRefusalCause Fails (refusal_of e) now
 own_cause Fails (Damaged page) now own sound = absurd sound
 own_cause Fails NoMemory now own sound = tt
 own_cause Fails e now own sound = absurd own

@@ -14,7 +14,7 @@ ghost use Rattle.sb_registry.specs.Runs.{IsSound};
 ghost use Rattle.sb_standing.specs.Instances.{owners_of};
 ghost use Rattle.sb_standing.specs.Standing.{owners_named, without_described};
 ghost use Rattle.sb_opened.specs.Opened.{IsOwnFault};
-ghost use Rattle.sb_engine.specs.Refusals.{HasCause, refusal_of};
+ghost use Rattle.sb_engine.specs.Refusals.{HasRefusalCause, refusal_of};
 ghost use Rattle.sb_tables.specs.Creation.{AreShort};
 
 use sb_catalog::{Attached, AttachedList, Descriptor, write_descriptor};
@@ -75,7 +75,7 @@ pub fn enter<S: PageSpace>(
         → Leaves S.has 2 want s space.new (λ after. read_tree place.root after ≡ Some (put key_cmp name.now (descriptor_spelling descriptor.now) es))) }
     ensures storable { OnOk result (IsConsistent descriptor.now → IsStorableDescriptor descriptor.now) }
     ensures refused { IfErr result (λ e. (want : Wanted) (s : Slots) (es : List Entry) → S.has want s space.old → read_tree place.root (owned s 2) ≡ Some es
-        → IsSmall name.now (descriptor_spelling descriptor.now) → HasCause S.fails (refusal_of e) space.new) }
+        → IsSmall name.now (descriptor_spelling descriptor.now) → HasRefusalCause S.fails (refusal_of e) space.new) }
     ensures leads { LeadsOn S.leads space.old space.new }
     ensures ready { S.is_ready space.new }
 {

@@ -9,7 +9,7 @@ ghost use Rattle.sb_registry.specs.Runs.{IsSound};
 ghost use Rattle.sb_standing.specs.Standing.{Keeps};
 ghost use Rattle.sb_standing.specs.Tables.{Kept};
 ghost use Rattle.sb_opened.specs.Opened.{IsDurable};
-ghost use Rattle.sb_engine.specs.Refusals.{HasCause, IsRefusedBy, refusal_of};
+ghost use Rattle.sb_engine.specs.Refusals.{HasRefusalCause, IsRefusedBy, refusal_of};
 ghost use Rattle.sb_engine.specs.Working.{IsServing, StandsFor};
 ghost use Rattle.sb_tables.specs.Freeing.{Frees, LeavesGone};
 
@@ -33,7 +33,7 @@ pub fn free_gone<B: Boxes, S: Owners>(
     ensures freed { OnOk result ((g : Going) → StandsFor S.has B.meanings g running.old → StandsFor S.has B.meanings g running.new) }
     ensures none { OnOk result (running.new.work.now.gone.items ≡ []) }
     ensures refused { IfErr result (λ r. IsRefusedBy S.fails r running.new.space.now) }
-    ensures cause { IfErr result (λ r. HasCause S.fails r running.new.space.now) }
+    ensures cause { IfErr result (λ r. HasRefusalCause S.fails r running.new.space.now) }
     ensures frees { Frees S.leads running.old running.new }
     ensures kept { IfErr result (λ r. running.new.work.now.gone ≡ running.old.work.now.gone) }
     ensures ready { IsServing S.is_ready B.meanings running.new }

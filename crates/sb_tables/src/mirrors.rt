@@ -8,7 +8,7 @@ ghost use Rattle.sb_fold.specs.Fold.{attachments_at};
 ghost use Rattle.sb_cascade.specs.Runs.{is_free};
 ghost use Rattle.sb_drive.specs.Spaces.{LeadsOn};
 ghost use Rattle.sb_catalog.specs.Descriptors.{IsStorableDescriptor};
-ghost use Rattle.sb_engine.specs.Refusals.{HasCause, refusal_of};
+ghost use Rattle.sb_engine.specs.Refusals.{HasRefusalCause, refusal_of};
 ghost use Rattle.sb_engine.specs.Working.{Goes, IsServing};
 ghost use Rattle.sb_tables.specs.Keeping.{Closes, HasMore, KeepsDb, KeepsIn};
 ghost use Rattle.sb_tables.specs.Removal.{without_mirrors_of};
@@ -37,7 +37,7 @@ pub fn detach_named<B: Boxes, S: PageSpace>(
 
     ensures detached { OnOk result ((db : Db) → KeepsIn S.has B.meanings db running.old
         → KeepsIn S.has B.meanings (without_attached db relation.now label.now) running.new) }
-    ensures refused { IfErr result (λ r. (db : Db) → KeepsIn S.has B.meanings db running.old → HasCause S.fails r running.new.space.now) }
+    ensures refused { IfErr result (λ r. (db : Db) → KeepsIn S.has B.meanings db running.old → HasRefusalCause S.fails r running.new.space.now) }
     ensures free { IfErr result (λ r. is_free r ≡ true) }
     ensures closes { Closes running.old running.new }
     ensures goes { Goes S.leads running.old running.new }
@@ -74,7 +74,7 @@ fn detach_kept<S: PageSpace, B: Boxes>(
     ensures detached { OnOk result ((db : Db) → KeepsDb S.has (B.meanings boxes.now) place.root gone.old.items db space.old
         → KeepsDb S.has (B.meanings boxes.now) place.root gone.new.items (without_attached db relation.now label.now) space.new) }
     ensures refused { IfErr result (λ e. (db : Db) → KeepsDb S.has (B.meanings boxes.now) place.root gone.old.items db space.old
-        → HasCause S.fails (refusal_of e) space.new) }
+        → HasRefusalCause S.fails (refusal_of e) space.new) }
     ensures more { HasMore gone.old.items gone.new.items }
     ensures leads { LeadsOn S.leads space.old space.new }
     ensures ready { S.is_ready space.new }
@@ -103,7 +103,7 @@ pub(crate) fn detach_mirrors<S: PageSpace, B: Boxes>(
     ensures detached { OnOk result ((db : Db) → KeepsDb S.has (B.meanings boxes.now) place.root gone.old.items db space.old
         → KeepsDb S.has (B.meanings boxes.now) place.root gone.new.items (without_mirrors name.now (attachments_at db name.now) db) space.new) }
     ensures refused { IfErr result (λ e. (db : Db) → KeepsDb S.has (B.meanings boxes.now) place.root gone.old.items db space.old
-        → HasCause S.fails (refusal_of e) space.new) }
+        → HasRefusalCause S.fails (refusal_of e) space.new) }
     ensures more { HasMore gone.old.items gone.new.items }
     ensures leads { LeadsOn S.leads space.old space.new }
     ensures ready { S.is_ready space.new }
@@ -138,7 +138,7 @@ fn detach_mirrors_of<S: PageSpace, B: Boxes>(
     ensures detached { OnOk result ((db : Db) → KeepsDb S.has (B.meanings boxes.now) place.root gone.old.items db space.old
         → KeepsDb S.has (B.meanings boxes.now) place.root gone.new.items (without_mirrors_of name.now attachments.now db) space.new) }
     ensures refused { IfErr result (λ e. (db : Db) → KeepsDb S.has (B.meanings boxes.now) place.root gone.old.items db space.old
-        → HasCause S.fails (refusal_of e) space.new) }
+        → HasRefusalCause S.fails (refusal_of e) space.new) }
     ensures more { HasMore gone.old.items gone.new.items }
     ensures leads { LeadsOn S.leads space.old space.new }
     ensures ready { S.is_ready space.new }
@@ -166,7 +166,7 @@ fn detach_mirror<S: PageSpace, B: Boxes>(
         → KeepsDb S.has (B.meanings boxes.now) place.root gone.new.items
         (without_mirror name.now attached.now.name (mirror_of name.now attached.now.rule) db) space.new) }
     ensures refused { IfErr result (λ e. (db : Db) → KeepsDb S.has (B.meanings boxes.now) place.root gone.old.items db space.old
-        → HasCause S.fails (refusal_of e) space.new) }
+        → HasRefusalCause S.fails (refusal_of e) space.new) }
     ensures more { HasMore gone.old.items gone.new.items }
     ensures leads { LeadsOn S.leads space.old space.new }
     ensures ready { S.is_ready space.new }

@@ -7,7 +7,7 @@ ghost use Rattle.sb_fold.specs.Outcome.{Going, Queue};
 ghost use Rattle.sb_cascade.specs.Runs.{MadeFrom, StopsFrom};
 ghost use Rattle.sb_drive.specs.Spaces.{LeadsOn};
 ghost use Rattle.sb_deferred.specs.Complete.{AreMirrored};
-ghost use Rattle.sb_engine.specs.Refusals.{HasCause, refusal_of};
+ghost use Rattle.sb_engine.specs.Refusals.{HasRefusalCause, refusal_of};
 ghost use Rattle.sb_engine.specs.Working.{ArePaired, Goes, IsServing, IsStoppedBy, StandsFor, extensions_in};
 ghost use Rattle.sb_tables.specs.Keeping.{Closes, HasMore, KeepsDb};
 ghost use Rattle.sb_tables.specs.Removal.{IsUnnamedIn, MayDrop, without_name};
@@ -69,7 +69,7 @@ fn drop_kept<S: PageSpace, B: Boxes>(
         → MayDrop db q name.now → AreMirrored db → ArePaired db
         → KeepsDb S.has (B.meanings boxes.now) place.root gone.new.items (fold.without_relation db name.now) space.new) }
     ensures refused { IfErr result (λ e. (db : Db) → KeepsDb S.has (B.meanings boxes.now) place.root gone.old.items db space.old
-        → HasCause S.fails (refusal_of e) space.new) }
+        → HasRefusalCause S.fails (refusal_of e) space.new) }
     ensures more { HasMore gone.old.items gone.new.items }
     ensures leads { LeadsOn S.leads space.old space.new }
     ensures ready { S.is_ready space.new }
@@ -94,7 +94,7 @@ fn drop_alone<S: PageSpace, B: Boxes>(
         → IsUnnamedIn db name.now
         → KeepsDb S.has (B.meanings boxes.now) place.root gone.new.items (without_name db name.now) space.new) }
     ensures refused { IfErr result (λ e. (db : Db) → KeepsDb S.has (B.meanings boxes.now) place.root gone.old.items db space.old
-        → HasCause S.fails (refusal_of e) space.new) }
+        → HasRefusalCause S.fails (refusal_of e) space.new) }
     ensures more { HasMore gone.old.items gone.new.items }
     ensures leads { LeadsOn S.leads space.old space.new }
     ensures ready { S.is_ready space.new }

@@ -7,14 +7,12 @@ use Rattle.sb_fold.specs.declared.refusal.Refusal.TheVariants as refusal
 use Rattle.sb_drive.specs.declared.space.SpaceFault.{SpaceFault}
 use Rattle.sb_drive.specs.declared.space.SpaceFault.TheVariants.{Fault, DataFull, TempFull, LogFull, GatesFull, Damaged, Down, NoMemory}
 use Rattle.sb_txn.specs.State.{State}
-use Rattle.sb_space.specs.Transactions.{Kept}
+use Rattle.sb_space.specs.Transactions.{KeepsSpace}
 use Rattle.sb_space.specs.Works.{Fails, MeansDown}
-use Rattle.sb_engine.specs.Refusals.{HasCause, refusal_of}
+use Rattle.sb_engine.specs.Refusals.{HasRefusalCause, refusal_of}
 use Rattle.sb_transactions.specs.Calls.{IsOnlyFault, Remains}
 use Rattle.sb_transactions.specs.Commits.{FailsOn, Mounted}
-
-ok_err : {T E A : Type 0} (x : T) (e : E) → Ok x ≡ Err e → A
-ok_err x e is = absurd (cc)
+use Rattle.sb_value.proofs.Truths.{ok_err}
 
 is_fault : (fault : SpaceFault) → MeansDown fault → refusal_of fault ≡ refusal.Fault
 is_fault Fault means = refl
@@ -28,21 +26,21 @@ is_fault NoMemory means = absurd means
 
 module _ {D : Type 0} (told : D → Option Story) (len faults : D → ℕ) (d e : D) (s t : State) where
   -- a call that was answered found the store up, and left it so
-  pub up_before : {T : Type 0} (x : T) → Kept told len faults d e s t (Ok x) → s.book.down ≡ false
+  pub up_before : {T : Type 0} (x : T) → KeepsSpace told len faults d e s t (Ok x) → s.book.down ≡ false
   up_before x kept = by s.book.down refl
     where
       by : (b : Bool) → s.book.down ≡ b → s.book.down ≡ false
       by false off = off
       by true on = ok_err x Down (kept.down on).answer
 
-  pub up_behind : {T : Type 0} (x : T) → Kept told len faults d e s t (Ok x) → t.book.down ≡ true → ⊥
+  pub up_behind : {T : Type 0} (x : T) → KeepsSpace told len faults d e s t (Ok x) → t.book.down ≡ true → ⊥
   up_behind x kept on =
       ⊎_elim
       (λ (was : s.book.down ≡ true). absurd (false≢true (sym (up_before x kept) ∙ was)))
       (λ (is : IsErrOf (Ok x) Fault). ok_err x Fault is)
       (kept.up on)
 
-  pub Remains-ok : {T U : Type 0} (x : T) (y : U) → Kept told len faults d e s t (Ok x) → Remains told len faults d e s t (Ok y)
+  pub Remains-ok : {T U : Type 0} (x : T) (y : U) → KeepsSpace told len faults d e s t (Ok x) → Remains told len faults d e s t (Ok y)
   Remains-ok x y kept = record {
     size = kept.size;
     later = kept.later;
@@ -54,10 +52,10 @@ module _ {D : Type 0} (told : D → Option Story) (len faults : D → ℕ) (d e 
   }
 
   -- a fault means that the store is down
-  pub IsOnlyFault-of : {T : Type 0} (fault : SpaceFault) → MeansDown fault → Kept {T = T} told len faults d e s t (Err fault) → IsOnlyFault (refusal_of fault) t
+  pub IsOnlyFault-of : {T : Type 0} (fault : SpaceFault) → MeansDown fault → KeepsSpace {T = T} told len faults d e s t (Err fault) → IsOnlyFault (refusal_of fault) t
   IsOnlyFault-of {T} fault means kept = record { is = is_fault fault means; down = falls fault means kept }
     where
-      falls : (f : SpaceFault) → MeansDown f → Kept {T = T} told len faults d e s t (Err f) → t.book.down ≡ true
+      falls : (f : SpaceFault) → MeansDown f → KeepsSpace {T = T} told len faults d e s t (Err f) → t.book.down ≡ true
       falls Fault means kept = kept.fails.1
       falls Down means kept = let was = kept.only refl in ap (λ (x : State). x.book.down) (kept.down was).store ∙ was
       falls (DataFull used total) means kept = absurd means
@@ -67,7 +65,7 @@ module _ {D : Type 0} (told : D → Option Story) (len faults : D → ℕ) (d e 
       falls (Damaged page) means kept = absurd means
       falls NoMemory means kept = absurd means
 
-  pub Remains-err : {T U : Type 0} (fault : SpaceFault) → MeansDown fault → Kept {T = T} told len faults d e s t (Err fault) → Remains {T = U} told len faults d e s t (Err (refusal_of fault))
+  pub Remains-err : {T U : Type 0} (fault : SpaceFault) → MeansDown fault → KeepsSpace {T = T} told len faults d e s t (Err fault) → Remains {T = U} told len faults d e s t (Err (refusal_of fault))
   Remains-err {T} {U} fault means kept = record {
     size = kept.size;
     later = kept.later;
@@ -82,7 +80,7 @@ module _ {D : Type 0} (told : D → Option Story) (len faults : D → ℕ) (d e 
       answer = ap (λ (r : Refusal). Err r) (is_fault fault means)
 
   -- and that the disk failed a call
-  pub HasCause-of : (fault : SpaceFault) → MeansDown fault → Fails faults fault d e s t → HasCause (FailsOn faults) (refusal_of fault) (record { disk = e; store = t })
+  pub HasCause-of : (fault : SpaceFault) → MeansDown fault → Fails faults fault d e s t → HasRefusalCause (FailsOn faults) (refusal_of fault) (record { disk = e; store = t })
   HasCause-of Fault means fails = record { fault = Fault; is = refl; before = record { disk = d; store = s }; fails = fails }
   HasCause-of Down means fails = record { fault = Down; is = refl; before = record { disk = d; store = s }; fails = fails }
   HasCause-of (DataFull used total) means fails = absurd means
@@ -131,5 +129,5 @@ down_by faults (GatesFull used total) old new is fails = absurd (cc)
 down_by faults (Damaged page) old new is fails = absurd (cc)
 down_by faults NoMemory old new is fails = absurd (cc)
 
-pub Fault-down : {D : Type 0} (faults : D → ℕ) (x : Mounted D) → HasCause (FailsOn faults) refusal.Fault x → x.store.book.down ≡ true
+pub Fault-down : {D : Type 0} (faults : D → ℕ) (x : Mounted D) → HasRefusalCause (FailsOn faults) refusal.Fault x → x.store.book.down ≡ true
 Fault-down faults x cause = down_by faults cause.fault cause.before x cause.is cause.fails

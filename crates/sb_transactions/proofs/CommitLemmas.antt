@@ -17,7 +17,7 @@ use Rattle.sb_map.specs.declared.place.Place.{Place}
 use Rattle.sb_standing.specs.Tables.{db_of}
 use Rattle.sb_standing.specs.Standing.{Keeps}
 use Rattle.sb_opened.specs.Opened.{IsDurable}
-use Rattle.sb_txn.specs.Clauses.{Parts}
+use Rattle.sb_txn.specs.Parts.{Parts}
 use Rattle.sb_space.specs.Table.{slots_in}
 use Rattle.sb_space.specs.Works.{HasPages}
 use Rattle.sb_engine.specs.declared.running.Work.{Work}

@@ -24,11 +24,12 @@ use Rattle.sb_cascade.specs.Runs.{is_free, MadeFrom, StopsFrom}
 use Rattle.sb_registry.specs.Boxes.{Meanings}
 use Rattle.sb_drive.specs.Spaces.{Wanted}
 use Rattle.sb_map.specs.declared.place.Place.{Place}
-use Rattle.sb_txn.specs.Clauses.{Parts, parts, HoldsPages, LeavesWanted}
+use Rattle.sb_txn.specs.Clauses.{HoldsPages, LeavesWanted}
+use Rattle.sb_txn.specs.Parts.{Parts, parts}
 use Rattle.sb_txn.specs.State.{State}
 use Rattle.sb_space.specs.Works.{Works}
 use Rattle.sb_engine.specs.declared.running.Work.{Work}
-use Rattle.sb_engine.specs.Refusals.{HasCause}
+use Rattle.sb_engine.specs.Refusals.{HasRefusalCause}
 use Rattle.sb_engine.specs.Working.{extensions_of}
 use Rattle.sb_standing.specs.Tables.{db_of}
 use Rattle.sb_transactions.specs.Calls.{IsOnlyFault, Remains}
@@ -37,9 +38,7 @@ use Rattle.sb_transactions.specs.Commits.{by_refusal, ComesTo, FailsOn, Finishes
 use Rattle.sb_transactions.specs.Transactions.{HasNothingLeft, IsAt, IsCommitted, IsFinished}
 use Rattle.sb_transactions.proofs.CallLemmas.{Fault-down}
 use Rattle.sb_transactions.proofs.FinishLemmas.{StopsFrom-behind, StopsFrom-else, StopsFrom-fault, finish-at_once, finish-map}
-
-ok_err : {T E A : Type 0} (x : T) (e : E) → Ok x ≡ Err e → A
-ok_err x e is = absurd (cc)
+use Rattle.sb_value.proofs.Truths.{ok_err}
 
 fault_free : (r : Refusal) → r ≡ Fault → is_free r ≡ true
 fault_free r is = ap is_free is
@@ -50,7 +49,7 @@ pub only-ended : {T : Type 0} (r : Result T Refusal) (t : State) (P : Uncommitte
 only-ended (Ok x) t P gives only = tt
 only-ended (Err q) t P gives only = gives q only
 
-pub none-ended : {T : Type 0} (r : Result T Refusal) (t : State) → OnOk r (t.book.out ≡ []) → IfErr r (λ q. IsOnlyFault q t) → IsEnded (ended r) → t.book.down ≡ false → t.book.out ≡ []
+pub none-ended : {T : Type 0} (r : Result T Refusal) (t : State) → OnOk r (t.book.actives ≡ []) → IfErr r (λ q. IsOnlyFault q t) → IsEnded (ended r) → t.book.down ≡ false → t.book.actives ≡ []
 none-ended (Ok x) t none only ended up = none
 none-ended (Err q) t none only ended up = absurd (false≢true (sym up ∙ only.down))
 
@@ -97,16 +96,16 @@ module _ (m : Meanings) (place : Place) (tx : ℕ) (p q : Parts) (w : Work) (lef
 
 -- a fault of its commit
 pub StopsAt-left : {D : Type 0} (told : D → Option Story) (len faults : D → ℕ) (m : Meanings) (place : Place) (want : Wanted) (tx : ℕ) (g : Going) (p : Parts) (w : Work) (old new : Mounted D) (r : Refusal)
-    → IsAt m place want tx g p w → HasNothingLeft w → IsOnlyFault r new.store → HasCause (FailsOn faults) r new → StopsAt told len faults (extensions_of m) tx g r old
+    → IsAt m place want tx g p w → HasNothingLeft w → IsOnlyFault r new.store → HasRefusalCause (FailsOn faults) r new → StopsAt told len faults (extensions_of m) tx g r old
 StopsAt-left told len faults m place want tx g p w old new r at left only cause = record {
   there = new;
   led = λ not. absurd (not only.is);
-  stops = StopsFrom-behind (λ h x. Unit {0}) (λ refusal trail x. HasCause (FailsOn faults) refusal x) (finish (extensions_of m)) g tt new r new (fault_free r only.is) (λ trail. cause)
+  stops = StopsFrom-behind (λ h x. Unit {0}) (λ refusal trail x. HasRefusalCause (FailsOn faults) refusal x) (finish (extensions_of m)) g tt new r new (fault_free r only.is) (λ trail. cause)
       (finished-left m place want tx g p w at left (λ h x. Unit {0}) new tt);
 }
 
 pub stops-left : {D T : Type 0} (told : D → Option Story) (len faults : D → ℕ) (m : Meanings) (place : Place) (tx : ℕ) (p : Parts) (w : Work) (old new : Mounted D) (r : Result T Refusal) → HasNothingLeft w
-    → IfErr r (λ e. IsOnlyFault e new.store) → IfErr r (λ e. HasCause (FailsOn faults) e new)
+    → IfErr r (λ e. IsOnlyFault e new.store) → IfErr r (λ e. HasRefusalCause (FailsOn faults) e new)
     → IfErr (ended r) (λ e. (want : Wanted) (g : Going) → IsAt m place want tx g p w → StopsAt told len faults (extensions_of m) tx g e.refusal old)
 stops-left told len faults m place tx p w old new (Ok x) left only cause = tt
 stops-left told len faults m place tx p w old new (Err e) left only cause = λ want g at. StopsAt-left told len faults m place want tx g p w old new e at left only cause
@@ -214,11 +213,11 @@ module _ {D : Type 0} (told : D → Option Story) (len faults : D → ℕ) (m : 
             (λ h holds comes. wider h (either m place want h (subst (λ (n : ℕ). IsAt m place want n h mid w) (sym same) (comes off)) (record { gone = none; holds = holds }))) finished)
 
     -- the disk failed in it
-    pub StopsAt-commit : (r : Refusal) → IsOnlyFault r u → HasCause (FailsOn faults) r (record { disk = f; store = u }) → StopsAt told len faults ext tx g r (record { disk = d; store = s })
+    pub StopsAt-commit : (r : Refusal) → IsOnlyFault r u → HasRefusalCause (FailsOn faults) r (record { disk = f; store = u }) → StopsAt told len faults ext tx g r (record { disk = d; store = s })
     StopsAt-commit r only cause = record {
       there = record { disk = f; store = u };
       led = λ not. absurd (not only.is);
-      stops = StopsFrom-behind (ComesTo m place want tx w) (λ refusal trail x. HasCause (FailsOn faults) refusal x) (finish ext) g tt mid r (record { disk = f; store = u }) (fault_free r only.is) (λ trail. cause) finished;
+      stops = StopsFrom-behind (ComesTo m place want tx w) (λ refusal trail x. HasRefusalCause (FailsOn faults) refusal x) (finish ext) g tt mid r (record { disk = f; store = u }) (fault_free r only.is) (λ trail. cause) finished;
     }
 
   -- ---- by what the commit of the pages answers
@@ -229,7 +228,7 @@ module _ {D : Type 0} (told : D → Option Story) (len faults : D → ℕ) (m : 
     done-commit (Ok picks) items tx' same up done = λ want g at. IsDone-behind want g (v, at) (finished want g at) none (items picks) tx' same up done
     done-commit (Err e) items tx' same up done = tt
 
-    pub stops-commit : {T : Type 0} (r : Result T Refusal) → IfErr r (λ e. IsOnlyFault e u) → IfErr r (λ e. HasCause (FailsOn faults) e (record { disk = f; store = u }))
+    pub stops-commit : {T : Type 0} (r : Result T Refusal) → IfErr r (λ e. IsOnlyFault e u) → IfErr r (λ e. HasRefusalCause (FailsOn faults) e (record { disk = f; store = u }))
         → IfErr (ended r) (λ e. (want : Wanted) (g : Going) → IsAt m place want tx g old v → StopsAt told len faults (extensions_of m) tx g e.refusal (record { disk = d; store = s }))
     stops-commit (Ok x) only cause = tt
     stops-commit (Err e) only cause = λ want g at. StopsAt-commit want g (v, at) (finished want g at) none e only cause
@@ -239,16 +238,16 @@ module _ {D : Type 0} (told : D → Option Story) (len faults : D → ℕ) (m : 
     pub LeavesOldOrFinished-abort : {T : Type 0} (r : Result T Refusal) → Remains told len faults e f t u r → LeavesWanted mid new → LeavesOldOrFinished m place.root want g old new
     LeavesOldOrFinished-abort r remains leaves = inl ((LeavesWanted-stopped r remains leaves).each want at.1.has.now at.1.has.stands.store)
 
-  module _ (g : Going) (r : Refusal) (stops : StopsFrom (λ refusal trail x. HasCause (FailsOn faults) refusal x) (finish (extensions_of m)) g r (record { disk = e; store = t })) where
+  module _ (g : Going) (r : Refusal) (stops : StopsFrom (λ refusal trail x. HasRefusalCause (FailsOn faults) refusal x) (finish (extensions_of m)) g r (record { disk = e; store = t })) where
     pub StopsAt-abort : StopsAt told len faults (extensions_of m) tx g r (record { disk = d; store = s })
     StopsAt-abort = record { there = record { disk = e; store = t }; led = λ not. led; stops = stops }
 
     -- the disk failed in it
-    pub StopsAt-fault : (q : Refusal) → IsOnlyFault q u → HasCause (FailsOn faults) q (record { disk = f; store = u }) → StopsAt told len faults (extensions_of m) tx g q (record { disk = d; store = s })
+    pub StopsAt-fault : (q : Refusal) → IsOnlyFault q u → HasRefusalCause (FailsOn faults) q (record { disk = f; store = u }) → StopsAt told len faults (extensions_of m) tx g q (record { disk = d; store = s })
     StopsAt-fault q only cause = record {
       there = record { disk = f; store = u };
       led = λ not. absurd (not only.is);
-      stops = StopsFrom-else (λ refusal trail x. HasCause (FailsOn faults) refusal x) (λ refusal trail x. HasCause (FailsOn faults) refusal x) (finish (extensions_of m)) g r q (record { disk = e; store = t })
+      stops = StopsFrom-else (λ refusal trail x. HasRefusalCause (FailsOn faults) refusal x) (λ refusal trail x. HasRefusalCause (FailsOn faults) refusal x) (finish (extensions_of m)) g r q (record { disk = e; store = t })
           (record { disk = f; store = u }) (fault_free q only.is) (λ trail. cause) stops;
     }
 
@@ -268,7 +267,7 @@ module _ {D : Type 0} (told : D → Option Story) (len faults : D → ℕ) (m : 
     down-stopped q is remains fault =
         ⊎_elim
         (λ (same : q ≡ r).
-        let cause = StopsFrom-fault (λ refusal trail x. HasCause (FailsOn faults) refusal x) (finish (extensions_of m)) g r (record { disk = e; store = t }) (sym same ∙ fault) stops in
+        let cause = StopsFrom-fault (λ refusal trail x. HasRefusalCause (FailsOn faults) refusal x) (finish (extensions_of m)) g r (record { disk = e; store = t }) (sym same ∙ fault) stops in
         let on : t.book.down ≡ true = Fault-down faults (record { disk = e; store = t }) cause.1 in
         ap (λ (x : State). x.book.down) (remains.down on).store ∙ on)
         (λ (failed : IsFaulted faults q (record { disk = f; store = u })). failed.only.down)

@@ -12,7 +12,7 @@ use Rattle.sb_drive.specs.declared.space.SpaceFault.{SpaceFault}
 use Rattle.sb_drive.specs.declared.space.SpaceFault.TheVariants as fault
 use Rattle.sb_cascade.specs.Runs.{is_free, EndsBy, GoesOn, MadeFrom, StopsFrom}
 use Rattle.sb_cascade.proofs.Forward.{goes_here}
-use Rattle.sb_engine.specs.Refusals.{HasCause, IsRefusedBy, refusal_of}
+use Rattle.sb_engine.specs.Refusals.{HasRefusalCause, IsRefusedBy, refusal_of}
 
 -- ---- nothing waits
 drain-none : (ext : Extensions) (most : ℕ) (g : Going) → g.queue.actions ≡ [] → drain ext most g ≡ made tt g
@@ -97,7 +97,7 @@ StopsFrom-fault P work g r a is stops =
 refused-map : {S T : Type 0} (P : SpaceFault → S → S → Type 0) (Q : SpaceFault → T → T → Type 0) (f : S → T) → ((e : SpaceFault) (a b : S) → P e a b → Q e (f a) (f b)) → (r : Refusal) (a : S) → IsRefusedBy P r a → IsRefusedBy Q r (f a)
 refused-map P Q f gives r a by = record { fault = by.fault; is = by.is; before = f by.before; fails = gives by.fault by.before a by.fails }
 
-pub HasCause-map : {S T : Type 0} (P : SpaceFault → S → S → Type 0) (Q : SpaceFault → T → T → Type 0) (f : S → T) → ((e : SpaceFault) (a b : S) → P e a b → Q e (f a) (f b)) → (r : Refusal) (a : S) → HasCause P r a → HasCause Q r (f a)
+pub HasCause-map : {S T : Type 0} (P : SpaceFault → S → S → Type 0) (Q : SpaceFault → T → T → Type 0) (f : S → T) → ((e : SpaceFault) (a b : S) → P e a b → Q e (f a) (f b)) → (r : Refusal) (a : S) → HasRefusalCause P r a → HasRefusalCause Q r (f a)
 HasCause-map P Q f gives (Room room) a cause = refused-map P Q f gives (Room room) a cause
 HasCause-map P Q f gives Fault a cause = refused-map P Q f gives Fault a cause
 HasCause-map P Q f gives (Damaged page) a cause = absurd cause

@@ -10,14 +10,14 @@ use Rattle.sb_registry.specs.Boxes.{Meanings}
 use Rattle.sb_drive.specs.Spaces.{LeadsOn, Wanted}
 use Rattle.sb_drive.specs.declared.space.SpaceFault.{SpaceFault}
 use Rattle.sb_map.specs.declared.place.Place.{Place}
-use Rattle.sb_txn.specs.Clauses.{Parts, parts}
+use Rattle.sb_txn.specs.Parts.{Parts, parts}
 use Rattle.sb_txn.specs.State.{State}
 use Rattle.sb_space.specs.declared.durable.Durable.{Durable}
 use Rattle.sb_space.specs.Durable.{parts_in}
 use Rattle.sb_space.specs.View.{lent}
 use Rattle.sb_space.specs.Works.{Fails}
 use Rattle.sb_engine.specs.declared.running.Work.{Work}
-use Rattle.sb_engine.specs.Refusals.{HasCause}
+use Rattle.sb_engine.specs.Refusals.{HasRefusalCause}
 use Rattle.sb_engine.specs.Working.{extensions_of}
 use Rattle.sb_engine.specs.Working as engine
 use Rattle.sb_transactions.specs.Commits.{ComesTo, FailsOn, Finishes, Mounted}
@@ -71,13 +71,13 @@ module _ {D : Type 0} (told : D → Option Story) (len faults : D → ℕ) (m : 
   mount d = record { disk = d.disk.now; store = d.store.now }
 
   pub refused-lent : {T : Type 0} (r : Result T Refusal)
-      → IfErr r (λ r'. (g : Going) → engine.Stands (HasLent told len) m place.root g a v → StopsFrom (λ refusal trail x. HasCause (FailsLent faults) refusal x) (finish (extensions_of m)) g r' b)
+      → IfErr r (λ r'. (g : Going) → engine.Stands (HasLent told len) m place.root g a v → StopsFrom (λ refusal trail x. HasRefusalCause (FailsLent faults) refusal x) (finish (extensions_of m)) g r' b)
       → IfErr r (λ r'. (want : Wanted) (g : Going) → IsAt m place want tx g (parts told len disk store) v
-      → StopsFrom (λ refusal trail x. HasCause (FailsOn faults) refusal x) (finish (extensions_of m)) g r' (record { disk = e; store = b.store.now }))
+      → StopsFrom (λ refusal trail x. HasRefusalCause (FailsOn faults) refusal x) (finish (extensions_of m)) g r' (record { disk = e; store = b.store.now }))
   refused-lent (Ok x) stops = tt
   refused-lent (Err r) stops = λ want g at.
-      StopsFrom-map (λ refusal trail x. HasCause (FailsLent faults) refusal x) (λ refusal trail x. HasCause (FailsOn faults) refusal x) (finish (extensions_of m)) g r b (record { disk = e; store = b.store.now })
-      (λ trail cause. subst (λ (d : D). HasCause (FailsOn faults) r (record { disk = d; store = b.store.now })) (sym same) (HasCause-map (FailsLent faults) (FailsOn faults) mount (λ fault x y fails. fails) r b cause))
+      StopsFrom-map (λ refusal trail x. HasRefusalCause (FailsLent faults) refusal x) (λ refusal trail x. HasRefusalCause (FailsOn faults) refusal x) (finish (extensions_of m)) g r b (record { disk = e; store = b.store.now })
+      (λ trail cause. subst (λ (d : D). HasRefusalCause (FailsOn faults) r (record { disk = d; store = b.store.now })) (sym same) (HasCause-map (FailsLent faults) (FailsOn faults) mount (λ fault x y fails. fails) r b cause))
       (stops g (stands_lent want g at))
 
   pub begun-lent : b.store.now.book.down ≡ false → (m : Meanings) (root : ℕ) (want : Wanted) (db : Db) → WasBegun m root want db tx (parts told len disk store) → WasBegun m root want db tx end

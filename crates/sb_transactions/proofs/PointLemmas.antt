@@ -12,7 +12,7 @@ use Rattle.sb_map.specs.declared.place.Place.{Place}
 use Rattle.sb_standing.specs.Standing.{Keeps}
 use Rattle.sb_opened.specs.Opened.{IsDurable}
 use Rattle.sb_txn.specs.Book.{standing_of}
-use Rattle.sb_txn.specs.Clauses.{Parts}
+use Rattle.sb_txn.specs.Parts.{Parts}
 use Rattle.sb_space.specs.Table.{slots_in}
 use Rattle.sb_space.specs.Transactions.{WasAt}
 use Rattle.sb_space.specs.Works.{HasPages}
@@ -51,7 +51,7 @@ module _ (m : Meanings) (root : ℕ) (want : Wanted) (db : Db) (tx : ℕ) (p q :
     committed = subst (λ (n : ℕ). IsCommitted m root n want db) same rests.committed;
   }
 
-  pub WasBegun-first : standing_of tx q.store.book.out ≡ 0 → WasBegun m root want db tx q
+  pub WasBegun-first : standing_of tx q.store.book.actives ≡ 0 → WasBegun m root want db tx q
   WasBegun-first none = record {
     was = subst (λ (n : ℕ). WasAt tx want (slots_in q.store.pool.geometry.pages want) n q) none (WasAt-mark tx want (slots_in q.store.pool.geometry.pages want) q Rests-stays.has);
     committed = Rests-stays.committed;
@@ -76,7 +76,7 @@ IsAt-first m place want tx g q w serves owner first rests queue done gone opened
     left = subst (λ (n : ℕ). (v : Queue) → v ≡ nothing → record { actions = drop n v.actions; entries = v.entries } ≡ nothing) (sym done) (λ v is. is) w.queue queue
 
 -- ---- at a mark
-module _ (tx : ℕ) (point : Point) (p : Parts) (w : Work) (changes : point.space.store.changes ≡ standing_of tx p.store.book.out) (queue : point.queue ≡ mark_of w.queue) (done : point.done ≡ w.done)
+module _ (tx : ℕ) (point : Point) (p : Parts) (w : Work) (changes : point.space.store.changes ≡ standing_of tx p.store.book.actives) (queue : point.queue ≡ mark_of w.queue) (done : point.done ≡ w.done)
     (gone : point.gone ≡ length w.gone.items) where
   pub IsPointOf-mark : w.done ≤ length w.queue.actions → IsPointOf tx point p w
   IsPointOf-mark within = record {
@@ -128,7 +128,7 @@ module _ (tx : ℕ) (point : Point) (p q : Parts) (v w : Work) (of : IsPointOf t
   }
 
   -- points that aren't behind it stay
-  module _ (standing : standing_of tx q.store.book.out ≡ point.space.store.changes) (one : Point) (less : IsNotBehind one point) where
+  module _ (standing : standing_of tx q.store.book.actives ≡ point.space.store.changes) (one : Point) (less : IsNotBehind one point) where
     pub IsPointOf-back : IsPointOf tx one p v → IsPointOf tx one q w
     IsPointOf-back is = record {
       changes = λ up. let fewer = less.changes in omega arith;

@@ -12,7 +12,7 @@ use Rattle.sb_drive.specs.declared.space.SpaceFault.{SpaceFault}
 use Rattle.sb_map.specs.declared.place.Place.{Place}
 use Rattle.sb_engine.specs.declared.running.Running.{Running}
 use Rattle.sb_engine.specs.declared.running.Work.{Work}
-use Rattle.sb_engine.specs.Refusals.{HasCause, IsRefusedBy}
+use Rattle.sb_engine.specs.Refusals.{HasRefusalCause, IsRefusedBy}
 use Rattle.sb_engine.specs.Working.{IsStoppedBy, Stands, StandsFor, extensions_in, extensions_of}
 use Rattle.sb_transactions.specs.Driven.{WorksOn}
 use Rattle.sb_transactions.proofs.FinishLemmas.{StopsFrom-behind, StopsFrom-map, refusal-free}
@@ -62,11 +62,11 @@ module _ {B S : Type 0} (Has : Wanted → Slots → S → Type 0) (Fails : Space
   IsSo g m q z u = Stands Has m q.root g z u
 
   pub finish-stopped : (r : Refusal) → ((g : Going) → StandsFor Has meanings g a → StopsFrom (IsStoppedBy Fails) (finish (extensions_in meanings a)) g r b) → b.space.now ≡ y
-      → (g : Going) → Stands Has (meanings boxes) place.root g x w → StopsFrom (λ refusal trail z. HasCause Fails refusal z) (finish (extensions_of (meanings boxes))) g r y
+      → (g : Going) → Stands Has (meanings boxes) place.root g x w → StopsFrom (λ refusal trail z. HasRefusalCause Fails refusal z) (finish (extensions_of (meanings boxes))) g r y
   finish-stopped r stopped same g stands =
-      subst (λ (c : B). StopsFrom (λ refusal trail z. HasCause Fails refusal z) (finish (extensions_of (meanings c))) g r y) lent.boxes_are
-      (StopsFrom-map (IsStoppedBy Fails) (λ refusal trail z. HasCause Fails refusal z) (finish (extensions_in meanings a)) g r b y
-      (λ trail is. subst (λ (z : S). HasCause Fails r z) same is) (stopped g (parts-to meanings boxes place x w a lent (IsSo g) stands)))
+      subst (λ (c : B). StopsFrom (λ refusal trail z. HasRefusalCause Fails refusal z) (finish (extensions_of (meanings c))) g r y) lent.boxes_are
+      (StopsFrom-map (IsStoppedBy Fails) (λ refusal trail z. HasRefusalCause Fails refusal z) (finish (extensions_in meanings a)) g r b y
+      (λ trail is. subst (λ (z : S). HasRefusalCause Fails r z) same is) (stopped g (parts-to meanings boxes place x w a lent (IsSo g) stands)))
 
   module _ (made : (g : Going) → StandsFor Has meanings g a → MadeFrom (StandsFor Has meanings) (finish (extensions_in meanings a)) g tt b) where
     pub finish-freed : (c : Running B S) → ((g : Going) → StandsFor Has meanings g b → StandsFor Has meanings g c) → IsLent boxes place y v c
@@ -76,10 +76,10 @@ module _ {B S : Type 0} (Has : Wanted → Slots → S → Type 0) (Fails : Space
         subst (λ (d : B). MadeFrom (λ h z. Stands Has (meanings boxes) place.root h z v) (finish (extensions_of (meanings d))) g tt y) lent.boxes_are
         (record { picks = from.picks; after = from.after; leads = from.leads; stands = parts-from meanings boxes place y v c end (IsSo from.after) (freed from.after from.stands) })
 
-    pub finish-refused : (r : Refusal) → IsRefusedBy Fails r y → HasCause Fails r y
-        → (g : Going) → Stands Has (meanings boxes) place.root g x w → StopsFrom (λ refusal trail z. HasCause Fails refusal z) (finish (extensions_of (meanings boxes))) g r y
+    pub finish-refused : (r : Refusal) → IsRefusedBy Fails r y → HasRefusalCause Fails r y
+        → (g : Going) → Stands Has (meanings boxes) place.root g x w → StopsFrom (λ refusal trail z. HasRefusalCause Fails refusal z) (finish (extensions_of (meanings boxes))) g r y
     finish-refused r refused cause g stands =
-        subst (λ (d : B). StopsFrom (λ refusal trail z. HasCause Fails refusal z) (finish (extensions_of (meanings d))) g r y) lent.boxes_are
-        (StopsFrom-behind (StandsFor Has meanings) (λ refusal trail z. HasCause Fails refusal z) (finish (extensions_in meanings a)) g tt b r y
+        subst (λ (d : B). StopsFrom (λ refusal trail z. HasRefusalCause Fails refusal z) (finish (extensions_of (meanings d))) g r y) lent.boxes_are
+        (StopsFrom-behind (StandsFor Has meanings) (λ refusal trail z. HasRefusalCause Fails refusal z) (finish (extensions_in meanings a)) g tt b r y
         (subst (λ (q : Refusal). is_free q ≡ true) refused.is (refusal-free refused.fault)) (λ trail. cause)
         (made g (parts-to meanings boxes place x w a lent (IsSo g) stands)))

@@ -11,7 +11,7 @@ use Rattle.sb_map.specs.declared.place.Place.{Place}
 use Rattle.sb_standing.specs.Tables.{Kept}
 use Rattle.sb_opened.specs.declared.relation.OpenRelation.{OpenRelation}
 use Rattle.sb_opened.specs.Opened.{IsOpen}
-use Rattle.sb_txn.specs.Clauses.{Parts}
+use Rattle.sb_txn.specs.Parts.{Parts}
 use Rattle.sb_space.specs.Works as space
 use Rattle.sb_engine.specs.declared.running.Work.{Work}
 use Rattle.sb_engine.specs.Working.{AreOpened, IsOpened, left_of}

@@ -4,7 +4,8 @@ use Rattle.sb_disk.specs.Causes.{Rose}
 use Rattle.sb_disk.specs.Disk.{Story}
 use Rattle.sb_fold.specs.declared.refusal.Refusal.{Refusal}
 use Rattle.sb_fold.specs.declared.refusal.Refusal.TheVariants.{Fault}
-use Rattle.sb_txn.specs.Clauses.{parts, IsReady}
+use Rattle.sb_txn.specs.Clauses.{IsReady}
+use Rattle.sb_txn.specs.Parts.{parts}
 use Rattle.sb_txn.specs.State.{State}
 
 -- the call of a store that is down answers Fault, and nothing has changed

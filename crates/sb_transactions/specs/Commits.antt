@@ -14,10 +14,11 @@ use Rattle.sb_cascade.specs.Runs.{MadeFrom, StopsFrom}
 use Rattle.sb_registry.specs.Boxes.{Meanings}
 use Rattle.sb_drive.specs.Spaces.{Wanted}
 use Rattle.sb_drive.specs.declared.space.SpaceFault.{SpaceFault}
-use Rattle.sb_txn.specs.Clauses.{Parts, LeavesWanted}
+use Rattle.sb_txn.specs.Clauses.{LeavesWanted}
+use Rattle.sb_txn.specs.Parts.{Parts}
 use Rattle.sb_txn.specs.State.{State}
 use Rattle.sb_space.specs.Works.{Fails, Works}
-use Rattle.sb_engine.specs.Refusals.{HasCause}
+use Rattle.sb_engine.specs.Refusals.{HasRefusalCause}
 use Rattle.sb_engine.specs.Working.{extensions_of}
 use Rattle.sb_engine.specs.declared.running.Work.{Work}
 use Rattle.sb_transactions.specs.declared.refusals.Uncommitted.{Uncommitted}
@@ -71,12 +72,12 @@ IsLed told len faults tx old new = (k : ℕ) × Works told len faults tx k old.d
 pub record StopsAt {D : Type 0} (told : D → Option Story) (len faults : D → ℕ) (ext : Extensions) (tx : ℕ) (g : Going) (r : Refusal) (old : Mounted D) : Type 0 where
   pub there : Mounted D
   pub led : (r ≡ Fault → ⊥) → IsLed told len faults tx old there
-  pub stops : StopsFrom (λ refusal trail x. HasCause (FailsOn faults) refusal x) (finish ext) g r there
+  pub stops : StopsFrom (λ refusal trail x. HasRefusalCause (FailsOn faults) refusal x) (finish ext) g r there
 
 -- the refusal that led here, or a fault, since the disk failed on the way back
 pub record IsFaulted {D : Type 0} (faults : D → ℕ) (r : Refusal) (new : Mounted D) : Type 0 where
   pub only : IsOnlyFault r new.store
-  pub cause : HasCause (FailsOn faults) r new
+  pub cause : HasRefusalCause (FailsOn faults) r new
 
 abbrev pub IsOrFaulted : {D : Type 0} → (D → ℕ) → Refusal → Refusal → Mounted D → Type 0
 IsOrFaulted faults before r new = (r ≡ before) ⊎ IsFaulted faults r new

@@ -8,7 +8,8 @@ use Rattle.sb_registry.specs.Boxes.{Meanings}
 use Rattle.sb_drive.specs.Slots.{Slots}
 use Rattle.sb_drive.specs.Spaces.{LeadsOn, Wanted}
 use Rattle.sb_map.specs.declared.place.Place.{Place}
-use Rattle.sb_txn.specs.Clauses.{Parts, HoldsPages, LeavesWanted}
+use Rattle.sb_txn.specs.Clauses.{HoldsPages, LeavesWanted}
+use Rattle.sb_txn.specs.Parts.{Parts}
 use Rattle.sb_space.specs.declared.durable.Durable.{Durable}
 use Rattle.sb_space.specs.Durable.{Leads, parts_in}
 use Rattle.sb_space.specs.View.{lent}

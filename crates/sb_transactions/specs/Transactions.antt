@@ -15,7 +15,7 @@ use Rattle.sb_standing.specs.Tables.{Kept, db_of}
 use Rattle.sb_standing.specs.Standing.{Keeps}
 use Rattle.sb_opened.specs.Opened.{IsDurable}
 use Rattle.sb_txn.specs.Book.{standing_of}
-use Rattle.sb_txn.specs.Clauses.{Parts}
+use Rattle.sb_txn.specs.Parts.{Parts}
 use Rattle.sb_space.specs.Table.{slots_in}
 use Rattle.sb_space.specs.Transactions.{AreFormed, WasAt}
 use Rattle.sb_space.specs.Works.{HasPages}
@@ -94,7 +94,7 @@ pub record HasNothingLeft (w : Work) : Type 0 where
 -- ---- points
 -- as much stands still as stood at the point
 pub record IsPointOf (tx : ℕ) (point : Point) (p : Parts) (w : Work) : Type 0 where
-  pub changes : p.store.book.down ≡ false → point.space.store.changes ≤ standing_of tx p.store.book.out
+  pub changes : p.store.book.down ≡ false → point.space.store.changes ≤ standing_of tx p.store.book.actives
   pub queue : IsWithin point.queue w.queue
   pub done : point.done ≤ point.queue.actions
   pub gone : point.gone ≤ length w.gone.items

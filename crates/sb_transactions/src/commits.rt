@@ -6,10 +6,11 @@ ghost use Rattle.sb_fold.specs.Outcome.{Going};
 ghost use Rattle.sb_registry.specs.Boxes.{Meanings};
 ghost use Rattle.sb_drive.specs.Spaces.{Wanted};
 ghost use Rattle.sb_map.specs.declared.place.Place.{Place};
-ghost use Rattle.sb_txn.specs.Book.{Out, out_with};
-ghost use Rattle.sb_txn.specs.Clauses.{parts, CommitAsksNothing, LeavesWanted};
+ghost use Rattle.sb_txn.specs.Book.{ActiveTransaction, transaction_with};
+ghost use Rattle.sb_txn.specs.Clauses.{CommitAsksNothing, LeavesWanted};
+ghost use Rattle.sb_txn.specs.Parts.{parts};
 ghost use Rattle.sb_space.specs.Works.{Serves};
-ghost use Rattle.sb_engine.specs.Refusals.{HasCause};
+ghost use Rattle.sb_engine.specs.Refusals.{HasRefusalCause};
 ghost use Rattle.sb_engine.specs.Working.{extensions_of};
 ghost use Rattle.sb_transactions.specs.Calls.{IsOnlyFault, Remains};
 ghost use Rattle.sb_transactions.specs.Commits.{by_refusal, FailsOn, Finishes, IsDone, IsEnded, LeavesEither, LeavesOldOrFinished, StaysOpen, StopsAt, is_wanting};
@@ -61,7 +62,7 @@ pub fn commit<B: Boxes, D: Disk>(
     ensures aborted { IfErr result (λ e. e.transaction ≡ None → space.new.store.book.down ≡ false → (m : Meanings) (root : ℕ) (want : Wanted) (db : Db)
         → WasBegun m root want db transaction.tx.store.number (parts D.told D.len disk.old space.old.store)
         → Rests m root want db (parts D.told D.len disk.new space.new.store)) }
-    ensures none { IsEnded result → space.new.store.book.down ≡ false → space.new.store.book.out ≡ [] }
+    ensures none { IsEnded result → space.new.store.book.down ≡ false → space.new.store.book.actives ≡ [] }
 
     ensures any_moment { (want : Wanted) (g : Going)
         → IsAt (B.meanings boxes.now) place want transaction.tx.store.number g (parts D.told D.len disk.old space.old.store) transaction.work
@@ -71,7 +72,8 @@ pub fn commit<B: Boxes, D: Disk>(
 
     // Where nothing waits and no owner is to go it takes no memory, and makes no call on the disk where no page was changed.
     ensures quiet { HasNothingLeft transaction.work → IfErr result (λ e. IsOnlyFault e.refusal space.new.store) }
-    ensures idle { HasNothingLeft transaction.work → (o : Out) → out_with transaction.tx.store.number space.old.store.book.out ≡ Some o
+    ensures idle { HasNothingLeft transaction.work → (o : ActiveTransaction)
+        → transaction_with transaction.tx.store.number space.old.store.book.actives ≡ Some o
         → CommitAsksNothing o disk.old disk.new space.old.store space.new.store }
 
     ensures remains { Remains D.told D.len D.faults disk.old disk.new space.old.store space.new.store (by_refusal result) }
@@ -103,11 +105,11 @@ pub fn commit_pages<D: Disk>(
         → IsFinished m g transaction.work
         → LeavesEither m place.root want (parts D.told D.len disk.old space.old.store) g (parts D.told D.len disk.new space.new.store) }
     ensures up { OnOk result (space.old.store.book.down ≡ false) }
-    ensures none { OnOk result (space.new.store.book.out ≡ []) }
-    ensures idle { (o : Out) → out_with transaction.tx.store.number space.old.store.book.out ≡ Some o
+    ensures none { OnOk result (space.new.store.book.actives ≡ []) }
+    ensures idle { (o : ActiveTransaction) → transaction_with transaction.tx.store.number space.old.store.book.actives ≡ Some o
         → CommitAsksNothing o disk.old disk.new space.old.store space.new.store }
     ensures err { IfErr result (λ r. IsOnlyFault r space.new.store) }
-    ensures cause { IfErr result (λ r. HasCause (FailsOn D.faults) r (record { disk = disk.new; store = space.new.store })) }
+    ensures cause { IfErr result (λ r. HasRefusalCause (FailsOn D.faults) r (record { disk = disk.new; store = space.new.store })) }
     ensures remains { Remains D.told D.len D.faults disk.old disk.new space.old.store space.new.store result }
 {
     let Transaction { tx, work } = transaction;

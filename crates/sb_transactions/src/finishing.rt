@@ -7,8 +7,8 @@ ghost use Rattle.sb_fold.specs.Outcome.{Going};
 ghost use Rattle.sb_cascade.specs.Runs.{MadeFrom, StopsFrom};
 ghost use Rattle.sb_registry.specs.Boxes.{Meanings};
 ghost use Rattle.sb_drive.specs.Spaces.{LeadsOn, Wanted};
-ghost use Rattle.sb_txn.specs.Clauses.{parts};
-ghost use Rattle.sb_engine.specs.Refusals.{HasCause};
+ghost use Rattle.sb_txn.specs.Parts.{parts};
+ghost use Rattle.sb_engine.specs.Refusals.{HasRefusalCause};
 ghost use Rattle.sb_engine.specs.Working.{extensions_of};
 ghost use Rattle.sb_engine.specs.Working as engine;
 ghost use Rattle.sb_map.specs.declared.place.Place.{Place};
@@ -60,7 +60,7 @@ pub(crate) fn finish_work<B: Boxes, D: Disk>(
     ensures none { OnOk result (transaction.new.work.gone.items ≡ []) }
     ensures refused { IfErr result (λ r. (want : Wanted) (g : Going)
         → IsAt (B.meanings boxes.now) place want transaction.old.tx.store.number g (parts D.told D.len disk.old space.old.store) transaction.old.work
-        → StopsFrom (λ refusal trail x. HasCause (FailsOn D.faults) refusal x) (finish (extensions_of (B.meanings boxes.now))) g r
+        → StopsFrom (λ refusal trail x. HasRefusalCause (FailsOn D.faults) refusal x) (finish (extensions_of (B.meanings boxes.now))) g r
         (record { disk = disk.new; store = space.new.store })) }
     ensures begun { space.new.store.book.down ≡ false → (m : Meanings) (root : ℕ) (want : Wanted) (db : Db)
         → WasBegun m root want db transaction.old.tx.store.number (parts D.told D.len disk.old space.old.store)
@@ -94,7 +94,7 @@ fn finish_over<B: Boxes, S: Owners>(
         → MadeFrom (λ h x. engine.Stands S.has (B.meanings boxes.now) place.root h x work.new) (finish (extensions_of (B.meanings boxes.now))) g tt space.new) }
     ensures none { OnOk result (work.new.gone.items ≡ []) }
     ensures refused { IfErr result (λ r. (g : Going) → engine.Stands S.has (B.meanings boxes.now) place.root g space.old work.old
-        → StopsFrom (λ refusal trail x. HasCause S.fails refusal x) (finish (extensions_of (B.meanings boxes.now))) g r space.new) }
+        → StopsFrom (λ refusal trail x. HasRefusalCause S.fails refusal x) (finish (extensions_of (B.meanings boxes.now))) g r space.new) }
     ensures works { IfErr result (λ r. WorksOn S.leads space.old space.new work.old work.new) }
     ensures leads { LeadsOn S.leads space.old space.new }
     ensures ready { engine.Serves S.is_ready (B.meanings boxes.now) place space.new work.new }

@@ -4,7 +4,8 @@ ghost use Rattle.std.specs.Prelude.{◌≡◌, [], false, is_some, ℕ, IfSome};
 ghost use Rattle.sb_relation.specs.Db.{Db};
 ghost use Rattle.sb_registry.specs.Boxes.{Meanings};
 ghost use Rattle.sb_drive.specs.Spaces.{Wanted};
-ghost use Rattle.sb_txn.specs.Clauses.{parts, LeavesWanted};
+ghost use Rattle.sb_txn.specs.Clauses.{LeavesWanted};
+ghost use Rattle.sb_txn.specs.Parts.{parts};
 ghost use Rattle.sb_space.specs.Works.{Serves};
 ghost use Rattle.sb_transactions.specs.Calls.{Remains};
 ghost use Rattle.sb_transactions.specs.Commits.{IsOrFaulted, ended, is_wanting};
@@ -63,7 +64,7 @@ pub(crate) fn stop<D: Disk>(
     ensures aborted { result.transaction ≡ None → space.new.store.book.down ≡ false → (m : Meanings) (root : ℕ) (want : Wanted) (db : Db)
         → WasBegun m root want db transaction.tx.store.number (parts D.told D.len disk.old space.old.store)
         → Rests m root want db (parts D.told D.len disk.new space.new.store) }
-    ensures none { result.transaction ≡ None → space.new.store.book.down ≡ false → space.new.store.book.out ≡ [] }
+    ensures none { result.transaction ≡ None → space.new.store.book.down ≡ false → space.new.store.book.actives ≡ [] }
     ensures any_moment { LeavesWanted (parts D.told D.len disk.old space.old.store) (parts D.told D.len disk.new space.new.store) }
     ensures remains { Remains {T = Unit {0}} D.told D.len D.faults disk.old disk.new space.old.store space.new.store (Err result.refusal) }
 {

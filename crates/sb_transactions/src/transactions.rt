@@ -7,9 +7,10 @@ ghost use Rattle.sb_deferred.specs.Waiting.{nothing};
 ghost use Rattle.sb_registry.specs.Boxes.{Meanings};
 ghost use Rattle.sb_drive.specs.Spaces.{Wanted};
 ghost use Rattle.sb_map.specs.declared.place.Place.{Place};
-ghost use Rattle.sb_txn.specs.Clauses.{parts, AsksNothing, Grows, IsReady, LeavesWanted, Parts};
+ghost use Rattle.sb_txn.specs.Clauses.{AsksNothing, Grows, IsReady, LeavesWanted};
+ghost use Rattle.sb_txn.specs.Parts.{parts, Parts};
 ghost use Rattle.sb_space.specs.Works.{Serves};
-ghost use Rattle.sb_engine.specs.Refusals.{HasCause};
+ghost use Rattle.sb_engine.specs.Refusals.{HasRefusalCause};
 ghost use Rattle.sb_transactions.specs.Calls.{IsOnlyFault, Remains};
 ghost use Rattle.sb_transactions.specs.Commits.{FailsOn};
 ghost use Rattle.sb_transactions.specs.Transactions.{IsAt, IsCleared, IsFirst, IsUsable, Rests, WasBegun, unused};
@@ -44,7 +45,7 @@ pub fn begin<D: Disk>(
     alloc: Global,
 ) -> Result<Transaction, Refusal>
     requires ready { IsReady (parts D.told D.len disk.old space.old.store) }
-    requires none { space.old.store.book.down ≡ false → space.old.store.book.out ≡ [] }
+    requires none { space.old.store.book.down ≡ false → space.old.store.book.actives ≡ [] }
     requires few { space.old.store.pool.geometry.pages ≤ 65536 }
 
     ensures serves { IfOk result (λ t. Serves t.tx.store.number (parts D.told D.len disk.new space.new.store)) }
@@ -114,12 +115,12 @@ pub fn abort<D: Disk>(
     ensures rests { OnOk result ((m : Meanings) (root : ℕ) (want : Wanted) (db : Db)
         → WasBegun m root want db transaction.tx.store.number (parts D.told D.len disk.old space.old.store)
         → Rests m root want db (parts D.told D.len disk.new space.new.store)) }
-    ensures none { OnOk result (space.new.store.book.out ≡ []) }
+    ensures none { OnOk result (space.new.store.book.actives ≡ []) }
     ensures grows { OnOk result (Grows space.old.store space.new.store 0 0) }
     ensures any_moment { LeavesWanted (parts D.told D.len disk.old space.old.store) (parts D.told D.len disk.new space.new.store) }
     ensures up { OnOk result (space.old.store.book.down ≡ false) }
     ensures err { IfErr result (λ r. IsOnlyFault r space.new.store) }
-    ensures cause { IfErr result (λ r. HasCause (FailsOn D.faults) r (record { disk = disk.new; store = space.new.store })) }
+    ensures cause { IfErr result (λ r. HasRefusalCause (FailsOn D.faults) r (record { disk = disk.new; store = space.new.store })) }
     ensures remains { Remains D.told D.len D.faults disk.old disk.new space.old.store space.new.store result }
 {
     let Transaction { tx, work: _ } = transaction;

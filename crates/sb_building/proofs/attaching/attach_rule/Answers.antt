@@ -2,7 +2,7 @@ use Rattle.std.proofs.Common.{◌≡◌, ◌∙◌, ◌≤◌, true≢false, ari
 use Rattle.sb_drive.proofs.SpacesLemmas.{IfErr-passed}
 use Rattle.sb_opened.specs.declared.relation.OpenRelation.{OpenRelation}
 use Rattle.sb_opened.specs.Opened.{IsOpen}
-use Rattle.sb_engine.specs.Refusals.{HasCause, refusal_of}
+use Rattle.sb_engine.specs.Refusals.{HasRefusalCause, refusal_of}
 use Rattle.sb_engine.proofs.RefusedLemmas.{refused_cause}
 use Rattle.sb_building.proofs.CallLemmas.{IfErr-then, IfOk-failed, IfOk-then, leads_later}
 use Rattle.sb_building.proofs.EndedLemmas.{store_of}
@@ -54,7 +54,7 @@ returns-clause-refused g c =
     IfErr-then c.attach_to.result _ _ (λ e refused x has stores may.
     let found = ap (λ (o : Option OpenRelation). option_map (λ (q : OpenRelation). q.descriptor) o) (sym c.in-Some.is) ∙ c.in_ok-one.ensures.found x.want x.slots x.kept has stores.keeps.tables in
     let same = opened_descriptor x.kept relation x.one one.descriptor found stores.there in
-    caused_named m c.args.place.root x c.args.name.now c.args.rule (HasCause g.S.PageSpace.fails (refusal_of e) c.attach_to.new.space) one.name relation opened.1
+    caused_named m c.args.place.root x c.args.name.now c.args.rule (HasRefusalCause g.S.PageSpace.fails (refusal_of e) c.attach_to.new.space) one.name relation opened.1
     (λ own adds. refused x (c.in_ok-one.ensures.looks.same x.want x.slots has) own same adds) stores may) c.attach_to.ensures.refused
 
 pub returns-clause-leads : goal.returns-clause-leads

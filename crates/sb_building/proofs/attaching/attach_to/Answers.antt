@@ -1,6 +1,6 @@
 use Rattle.std.proofs.Common.{◌∙◌}
 use Rattle.sb_drive.proofs.SpacesLemmas.{IfErr-passed}
-use Rattle.sb_engine.specs.Refusals.{HasCause, refusal_of}
+use Rattle.sb_engine.specs.Refusals.{HasRefusalCause, refusal_of}
 use Rattle.sb_engine.proofs.RefusedLemmas.{refused_cause}
 use Rattle.sb_building.proofs.CallLemmas.{IfErr-then, IfOk-failed, IfOk-then, leads_later, leads_then}
 use Rattle.sb_building.proofs.EndedLemmas.{store_of}
@@ -62,7 +62,7 @@ returns-clause-refused g c =
     let live = c.in_ok-attached.ensures.live in
     IfErr-then c.build_on.result _ _ (λ e refused x has stores same may.
     caused_entry hold m root x one.name c.args.label.now c.args.rule c.in_ok-attached.attached c.in_ok-attached.ensures.entry c.in_ok-attached.inst live.box c.begin.new.space c.build_on.new.space
-    (HasCause g.S.PageSpace.fails (refusal_of e) c.build_on.new.space)
+    (HasRefusalCause g.S.PageSpace.fails (refusal_of e) c.build_on.new.space)
     (refused live x stores same) may
     (c.in_ok-attached.ensures.begun live x (store_of hold m root x one.name stores c.has_long_row.new.space (c.in_ok-long.ensures.looks.same x.want x.slots has)) same may)
     (long_found hold m root x one stores same c.requires.open c.args.space.now has c.args.rule c.in_ok-long.long c.in_ok-long.ensures.long ∙ c.if-long.false)) c.build_on.ensures.refused

@@ -2,7 +2,7 @@ use Rattle.std.proofs.Common.{◌∙◌, refl, sym, ap, subst}
 use Rattle.sb_rule.specs.Spelling.{SpellsRule}
 use Rattle.sb_ctx.specs.declared.instance.Instance.{Instance}
 use Rattle.sb_drive.proofs.SpacesLemmas.{IfErr-passed}
-use Rattle.sb_engine.specs.Refusals.{HasCause, refusal_of}
+use Rattle.sb_engine.specs.Refusals.{HasRefusalCause, refusal_of}
 use Rattle.sb_building.proofs.CallLemmas.{IfOk-failed, leads_then}
 use Rattle.sb_building.proofs.OpenLemmas.{ended_placed, ended_vetoed, none_long, placed_refused, table_here}
 use Rattle.sb_building.proofs.attaching.build_on.Goals as goal
@@ -57,7 +57,7 @@ returns-in_err-place_rule-clause-refused g c =
     let table = table_here has m root x one stores same c.requires.open d c.requires.storable inst c.requires.is live may c.args.space.now begun short in
     placed_refused has m root x one stores same c.requires.open d c.requires.storable inst c.requires.is live may c.args.space.now begun short c.build_rows.new.space c.place_rule.new.space c.in_ok-held.held c.if-not-held.false
     (c.in_ok-held.ensures.built live (record x { slots = begun.slots }) begun.site table begun.content)
-    (HasCause g.S.PageSpace.fails (refusal_of e) c.place_rule.new.space) c.in_err-place_rule.ensures.refused)
+    (HasRefusalCause g.S.PageSpace.fails (refusal_of e) c.place_rule.new.space) c.in_err-place_rule.ensures.refused)
 
 pub returns-in_err-place_rule-clause-leads : goal.returns-in_err-place_rule-clause-leads
 returns-in_err-place_rule-clause-leads g c =

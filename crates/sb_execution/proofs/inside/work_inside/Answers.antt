@@ -1,5 +1,5 @@
 use Rattle.std.proofs.Common.{refl, sym, ◌∙◌, subst}
-use Rattle.sb_txn.specs.Clauses.{parts}
+use Rattle.sb_txn.specs.Parts.{parts}
 use Rattle.sb_space.specs.declared.transactions.Tx.{Tx}
 use Rattle.sb_transactions.specs.Transactions.{IsPointOf}
 use Rattle.sb_session.specs.declared.session.Open.{Open}

@@ -1,6 +1,6 @@
 use Rattle.std.proofs.Common.{◌≡◌, ℕ, Option, Ok, IfSome, is_some, sym, ap, ◌∙◌, subst}
 use Rattle.sb_plain.specs.declared.reply.Reply.{Reply}
-use Rattle.sb_txn.specs.Clauses.{parts}
+use Rattle.sb_txn.specs.Parts.{parts}
 use Rattle.sb_space.specs.declared.transactions.Tx.{Tx}
 use Rattle.sb_space.specs.Works.{Serves}
 use Rattle.sb_transactions.specs.declared.transactions.Transaction.{Transaction}

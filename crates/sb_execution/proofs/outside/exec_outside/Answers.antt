@@ -1,5 +1,5 @@
 use Rattle.std.proofs.Common.{Option, ◌∙◌, subst}
-use Rattle.sb_txn.specs.Clauses.{parts}
+use Rattle.sb_txn.specs.Parts.{parts}
 use Rattle.sb_session.specs.declared.session.Open.{Open}
 use Rattle.sb_session.specs.Sessions.{CanGoOn}
 use Rattle.sb_execution.proofs.SessionLemmas.{ends_alone, keeps_session, runs_alone}

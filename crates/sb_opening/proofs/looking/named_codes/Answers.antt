@@ -1,5 +1,5 @@
 use Rattle.std.proofs.Common.{◌≡◌, refl}
-use Rattle.sb_txn.specs.Clauses.{parts}
+use Rattle.sb_txn.specs.Parts.{parts}
 use Rattle.sb_opening.specs.Naming.{named_in}
 use Rattle.sb_opening.proofs.SpaceLemmas.{IsLook-begin, IsLook-ended, IsLookErr-begin, IsLookErr-ended, IsUndamaged-down, RestsStill-ended, found-ended, undamaged-ended}
 use Rattle.sb_opening.proofs.looking.named_codes.Goals as goal

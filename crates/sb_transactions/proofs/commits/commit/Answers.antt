@@ -1,6 +1,6 @@
 use Rattle.std.proofs.Common.{ℕ, sym, ap, subst, ◌∙◌}
 use Rattle.std.proofs.lemmas.Bool.{false≢true}
-use Rattle.sb_txn.specs.Clauses.{parts}
+use Rattle.sb_txn.specs.Parts.{parts}
 use Rattle.sb_space.specs.declared.transactions.Tx.{Tx}
 use Rattle.sb_transactions.specs.Calls.{Remains}
 use Rattle.sb_transactions.specs.Commits.{is_wanting}

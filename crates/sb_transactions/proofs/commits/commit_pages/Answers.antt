@@ -1,4 +1,4 @@
-use Rattle.sb_txn.specs.Clauses.{parts}
+use Rattle.sb_txn.specs.Parts.{parts}
 use Rattle.sb_transactions.proofs.CallLemmas.{HasCause-of}
 use Rattle.sb_transactions.proofs.CommitLemmas.{IsDone-commit, LeavesEither-commit}
 use Rattle.sb_transactions.proofs.commits.commit_pages.Goals as goal

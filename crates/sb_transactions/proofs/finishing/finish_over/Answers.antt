@@ -1,7 +1,7 @@
 use Rattle.std.proofs.Common.{sym, subst, ◌∙◌, ◌+◌}
 use Rattle.sb_deferred.specs.Waiting.{IsFront}
 use Rattle.sb_fold.specs.Outcome.{Queue}
-use Rattle.sb_engine.specs.Refusals.{HasCause, IsRefusedBy}
+use Rattle.sb_engine.specs.Refusals.{HasRefusalCause, IsRefusedBy}
 use Rattle.sb_transactions.proofs.RunLemmas.{IsLent, finish-freed, finish-refused, finish-stopped, led_between, passed, works_between}
 use Rattle.sb_transactions.proofs.finishing.finish_over.Goals as goal
 
@@ -26,7 +26,7 @@ returns-in_err-free_gone-clause-refused g c =
     passed c.from_residual-in_err-free_gone.result r _ c.from_residual-in_err-free_gone.ensures.1
     (finish-refused g.S.PageSpace.has g.S.PageSpace.fails g.B.Boxes.meanings c.args.boxes.now c.args.place c.args.space.now _ c.args.work.now c.args.work.now c.new-running.result c.finish.new.layer lent c.in_ok-finish.ensures.made r
     (subst (λ z. IsRefusedBy g.S.PageSpace.fails r z) (sym end) c.in_err-free_gone.ensures.refused)
-    (subst (λ z. HasCause g.S.PageSpace.fails r z) (sym end) c.in_err-free_gone.ensures.cause))
+    (subst (λ z. HasRefusalCause g.S.PageSpace.fails r z) (sym end) c.in_err-free_gone.ensures.cause))
 
 pub returns-in_err-free_gone-clause-leads : goal.returns-in_err-free_gone-clause-leads
 returns-in_err-free_gone-clause-leads g c =

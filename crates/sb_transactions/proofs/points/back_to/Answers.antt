@@ -1,4 +1,4 @@
-use Rattle.sb_txn.specs.Clauses.{parts}
+use Rattle.sb_txn.specs.Parts.{parts}
 use Rattle.sb_transactions.proofs.CallLemmas.{HasCause-of}
 use Rattle.sb_transactions.proofs.PointLemmas.{IsAt-back, WasSo-back}
 use Rattle.sb_transactions.proofs.points.back_to.Goals as goal

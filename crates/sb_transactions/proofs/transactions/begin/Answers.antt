@@ -1,4 +1,4 @@
-use Rattle.sb_txn.specs.Clauses.{parts}
+use Rattle.sb_txn.specs.Parts.{parts}
 use Rattle.sb_transactions.proofs.PointLemmas.{IsAt-first, Rests-stays, WasBegun-first}
 use Rattle.sb_transactions.proofs.transactions.begin.Goals as goal
 

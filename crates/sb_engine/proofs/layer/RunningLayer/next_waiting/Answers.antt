@@ -40,8 +40,8 @@ returns-in-Err-clause-refused g c = λ h stands.
 pub returns-in_default-clause-leads : goal.returns-in_default-clause-leads
 returns-in_default-clause-leads g c = stays g.S.PageSpace.leads g.met.S.PageSpace.stays c.args.self.now
 
-pub returns-in_default-copy_action-clause-leads : goal.returns-in_default-copy_action-clause-leads
-returns-in_default-copy_action-clause-leads g c = stays g.S.PageSpace.leads g.met.S.PageSpace.stays c.args.self.now
+pub returns-in_default-copy-clause-leads : goal.returns-in_default-copy-clause-leads
+returns-in_default-copy-clause-leads g c = stays g.S.PageSpace.leads g.met.S.PageSpace.stays c.args.self.now
 
 pub returns-in-Ok-prepare-clause-leads : goal.returns-in-Ok-prepare-clause-leads
 returns-in-Ok-prepare-clause-leads g c = record {

@@ -1,6 +1,6 @@
 use Rattle.std.proofs.Common.{sym, ◌∙◌}
 use Rattle.sb_plain.specs.declared.command.Command.TheVariants as command
-use Rattle.sb_txn.specs.Clauses.{parts}
+use Rattle.sb_txn.specs.Parts.{parts}
 use Rattle.sb_txn.proofs.KeepsLemmas.{LeavesWanted-none}
 use Rattle.sb_session.proofs.Carried.{IsSame-itself}
 use Rattle.sb_session.proofs.Commands.{Carried-misplaced}
