@@ -1,0 +1,115 @@
+-- The states of plays.
+use Rattle.std.proofs.Common.{◌≡◌, ◌≤◌, ◌<◌, ℕ, suc, Bool, true, false, List, [], ◌∷◌, Option, refl, sym, subst, arith}
+use Rattle.std.specs.Prelude.{All, nat_lt, nat_le}
+use Rattle.std.proofs.lemmas.Bool.{ltb-true, ltb-false, leb-true, leb-false}
+use Rattle.std.proofs.lemmas.List.Elements.{All-nil, All-cons, All-head, All-tail}
+use Rattle.sb_disk.specs.Disk.{Story}
+use Rattle.sb_disk.specs.Moments.{MayLeave, moment}
+use Rattle.sb_fold.specs.declared.refusal.Refusal.TheVariants as refusal
+use Rattle.sb_fold.specs.declared.refusal.Room.{Room}
+use Rattle.sb_plain.specs.declared.command.Command.{Command}
+use Rattle.sb_plain.specs.declared.reply.Reply.{Reply}
+use Rattle.sb_plain.specs.declared.reply.Reply.TheVariants.{Refused}
+use Rattle.sb_plain.specs.State.{State, committed}
+use Rattle.sb_grammar.specs.Columns.{Item, Says, Bad}
+use Rattle.sb_registry.specs.Boxes.{Meanings}
+use Rattle.sb_engine.specs.Working.{extensions_of}
+use Rattle.sb_session.specs.Ends.{Ends}
+use Rattle.sb_kernel.specs.World.{World}
+use Rattle.sb_kernel.specs.Plays.{AreBoxesOf, MovesBy, Plays, last_state}
+use Rattle.sb_kernel.specs.Crashes.{LeavesAlong, next_start}
+use Rattle.sb_opening.specs.Opening.{opened}
+use Rattle.sb_said.specs.Written.{IsWritten, IsWrittenItem}
+use Rattle.sb_lawful_plays.proofs.Playing.{answers-written}
+use Rattle.sb_sound_said.proofs.Stepping.{down-sound}
+use Rattle.sb_sound_plays.specs.Laws.{IsSoundFor, HoldsSound, PlaysAreSound, PlayedAreSound, PlayedOutAreSound, RunsAreSound, MadeRunsAreSound}
+use Rattle.sb_sound_plays.proofs.Databases.{stepped, commits-sound, crashes-leave, nothing-over}
+
+module _ (m : Meanings) (Lacks : Room → Type 0) (HasFailed : Type 0) where
+  -- ---- one command
+  comes : (s : State) (c : Command) (boxes : Meanings) → AreBoxesOf m s boxes → IsWritten c → IsSoundFor m s → (reply : Reply) (t : State)
+      → Ends (λ u. t ≡ u) Lacks HasFailed (extensions_of boxes) s c reply → IsSoundFor m t
+  comes s c boxes are is sound (Refused (refusal.Room room)) t ends = subst (IsSoundFor m) (sym ends.stands) sound
+  comes s c boxes are is sound (Refused refusal.NoMemory) t ends = subst (IsSoundFor m) (sym ends.stands) sound
+  comes s c boxes are is sound (Refused refusal.Fault) t ends = subst (IsSoundFor m) (sym ends.stands) (down-sound (extensions_of m) s sound)
+  comes s c boxes are is sound (Refused (refusal.Damaged page)) t ends = absurd ends
+  comes s c boxes are is sound (Refused r) t ends = subst (IsSoundFor m) (sym ends.stands) (stepped m s c boxes are (Refused r) ends.after ends.steps is sound)
+  comes s c boxes are is sound reply t ends = subst (IsSoundFor m) (sym ends.stands) (stepped m s c boxes are reply ends.after ends.steps is sound)
+
+  -- ---- one item
+  moved : (s : State) (item : Item) (reply : Reply) (t : State) → IsWrittenItem item → IsSoundFor m s → MovesBy m Lacks HasFailed s item reply t → IsSoundFor m t
+  moved s (Bad column) reply t is sound by = subst (IsSoundFor m) (sym by.moves.1) sound
+  moved s (Says c) reply t is sound by = comes s c by.boxes by.are is sound reply t by.moves
+
+  -- ---- all of them
+  pub plays_sound : (s : State) (items : List Item) (replies : List Reply) (states : List State) → All IsWrittenItem items → IsSoundFor m s → Plays m Lacks HasFailed s items replies states
+      → All (IsSoundFor m) states
+  plays_sound s [] [] [] are sound plays = All-nil (IsSoundFor m)
+  plays_sound s (item ∷ items) (reply ∷ replies) (t ∷ states) are sound plays =
+      let next : IsSoundFor m t = moved s item reply t (All-head IsWrittenItem item items are) sound plays.0 in
+      All-cons (IsSoundFor m) t states next (plays_sound t items replies states (All-tail IsWrittenItem item items are) next plays.1)
+  plays_sound s [] [] (t ∷ states) are sound plays = absurd plays
+  plays_sound s [] (reply ∷ replies) states are sound plays = absurd plays
+  plays_sound s (item ∷ items) [] states are sound plays = absurd plays
+  plays_sound s (item ∷ items) (reply ∷ replies) [] are sound plays = absurd plays
+
+last_sound : (m : Meanings) (s : State) (states : List State) → IsSoundFor m s → All (IsSoundFor m) states → IsSoundFor m (last_state s states)
+last_sound m s [] sound all = sound
+last_sound m s (t ∷ states) sound all = last_sound m t states (All-head (IsSoundFor m) t states all) (All-tail (IsSoundFor m) t states all)
+
+-- ---- what a crash leaves
+module _ (m : Meanings) (told : Option Story) (end : ℕ) where
+  abbrev LeavesFrom : ℕ → Type 0
+  LeavesFrom start = (t : ℕ) (image : List ℕ) → start ≤ t → t < end → MayLeave told t image → HoldsSound m image
+
+  leaves_sound : (s : State) (items : List Item) (states : List State) (starts : List ℕ) → All IsWrittenItem items → IsSoundFor m s → All (IsSoundFor m) states
+      → LeavesAlong m told end s items states starts → LeavesFrom (next_start starts end)
+  leaves_sound s [] [] [] are sound all leaves t image from below may = absurd (omega (arith, from, below))
+  leaves_sound s (item ∷ items) (u ∷ states) (start ∷ starts) are sound all leaves t image from below may =
+      let next : IsSoundFor m u = All-head (IsSoundFor m) u states all in
+      of_test (nat_lt t (next_start starts end)) refl next
+      (leaves_sound u items states starts (All-tail IsWrittenItem item items are) next (All-tail (IsSoundFor m) u states all) leaves.1)
+    where
+      of_test : (b : Bool) → nat_lt t (next_start starts end) ≡ b → IsSoundFor m u → LeavesFrom (next_start starts end) → HoldsSound m image
+      of_test true e next rest =
+          crashes-leave m s u item image (All-head IsWrittenItem item items are) sound next (leaves.0 t image from (ltb-true t (next_start starts end) e) may)
+      of_test false e next rest = rest t image (ltb-false t (next_start starts end) e) below may
+  leaves_sound s _ _ _ are sound all leaves t image from below may = absurd leaves
+
+-- ---- the laws
+pub plays-sound : {D : Type 0} (faults : D → ℕ) → PlaysAreSound faults
+plays-sound faults m old new s items replies states are sound plays = plays_sound m _ _ s items replies states are sound plays
+
+pub played-sound : {B D : Type 0} (w : World B D) → PlayedAreSound w
+played-sound w m first s items replies here are sound played = plays_sound m _ _ s items replies played.states are sound played.plays
+
+pub played-out-sound : {D : Type 0} (told : D → Option Story) (faults : D → ℕ) → PlayedOutAreSound told faults
+played-out-sound {D} told faults m first s items replies starts now are sound played =
+    let all : All (IsSoundFor m) played.states = plays_sound m _ _ s items replies played.states are sound played.plays in
+    record {
+      sound = all;
+      leaves = λ t image from within may. of_test all t image from within may (nat_le t played.until) refl;
+    }
+  where
+    of_down : All (IsSoundFor m) played.states → (t : ℕ) (image : List ℕ) → played.until < t → t ≤ moment (told now) → MayLeave (told now) t image
+        → (b : Bool) → (last_state s played.states).down ≡ b → HoldsSound m image
+    of_down all t image late within may true down = let none : ⊥ = omega (arith, late, within, played.end down) in absurd none
+    of_down all t image late within may false up = record {
+      db = committed (last_state s played.states);
+      holds = played.last up t image (omega (arith, late)) may;
+      sound = (commits-sound m (last_state s played.states) (last_sound m s played.states sound all)).last;
+    }
+
+    of_test : All (IsSoundFor m) played.states → (t : ℕ) (image : List ℕ) → next_start starts (suc played.until) ≤ t → t ≤ moment (told now) → MayLeave (told now) t image
+        → (b : Bool) → nat_le t played.until ≡ b → HoldsSound m image
+    of_test all t image from within may true e =
+        leaves_sound m (told now) (suc played.until) s items played.states starts are sound all played.leaves t image from (omega (arith, leb-true t played.until e)) may
+    of_test all t image from within may false e = of_down all t image (leb-false t played.until e) within may ((last_state s played.states).down) refl
+
+pub runs-sound : {D : Type 0} (told : D → Option Story) (faults : D → ℕ) → RunsAreSound told faults
+runs-sound told faults m boxes db ending taken first items replies starts now sound answers played =
+    played-out-sound told faults m first (opened boxes db) items replies starts now (answers-written ending taken items answers) (sound boxes) played
+
+pub made-sound : {D : Type 0} (told : D → Option Story) (faults : D → ℕ) → MadeRunsAreSound told faults
+made-sound told faults m boxes ending taken first items replies starts now answers played =
+    runs-sound told faults m boxes [] ending taken first items replies starts now (nothing-over m) answers played
