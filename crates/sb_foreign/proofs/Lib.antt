@@ -3,4 +3,5 @@ pub mod WatchedLaws
 pub mod LimitLaws
 pub mod CountLaws
 pub mod OnceLaws
+pub mod LegendLaws
 mod ExampleLaws

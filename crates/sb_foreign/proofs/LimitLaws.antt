@@ -5,6 +5,7 @@ use Rattle.sb_rule.specs.declared.rule.Rule.{Rule}
 use Rattle.sb_rule.specs.declared.rule.Rule.TheVariants.{Foreign}
 use Rattle.sb_rule.specs.Bound.{row_after}
 use Rattle.sb_relation.specs.Changes.{of_new}
+use Rattle.sb_relation.specs.Content.{no_content}
 use Rattle.sb_relation.specs.Db.{Key, Row, Rows, Db}
 use Rattle.sb_forms.specs.Pages.{Pages}
 use Rattle.sb_ctx.specs.declared.instance.Instance.{Instance}
@@ -19,10 +20,10 @@ use Rattle.sb_ctx.proofs.AuthorLaws.{foreign_rule}
 use Rattle.sb_ctx.proofs.BoundLaws.{IsBoundlessFor, Changes-idle_for}
 use Rattle.sb_foreign.specs.Watched.{verdict_of}
 use Rattle.sb_foreign.specs.Limits.{limit, limit_rules, is_within}
-use Rattle.sb_foreign.proofs.WatchedLaws.{of_row, of_none, Keeps-new, HoldContent-nothing}
+use Rattle.sb_foreign.proofs.WatchedLaws.{of_row, of_none, Keeps-new, HoldContent-always}
 
 pub IsAttachment-limit : IsAttachment limit
-IsAttachment-limit = record { pageless = λ is. cc; formed = HoldContent-nothing limit_rules }
+IsAttachment-limit = record { pageless = λ is. cc; formed = HoldContent-always limit_rules no_content refl }
 
 boundless_limit : IsBoundlessFor limit
 boundless_limit = record { bound = λ content. refl; cost = λ c before after. refl; path = λ inst P c n. refl; code = refl }
@@ -34,7 +35,7 @@ ended inst c old made clean asks broken may ends = Changes-idle_for limit inst c
 
 pub Changes-prepared : (inst : Instance) (old : View) → dropped old ≡ old → Changes limit inst call.Prepare old old move.Done
 Changes-prepared inst old clean = ended inst call.Prepare old move.Done clean tt tt tt (λ P part new rule db stands.
-    subst (λ (r : Rule). Prepared limit inst r db P move.Done) (sym (foreign_rule 1000 inst.desc rule (omega arith) stands.spelled)) (Keeps-new inst P (new inst.root)))
+    subst (λ (r : Rule). Prepared limit inst r db P move.Done) (sym (foreign_rule 1000 inst.desc rule (omega arith) stands.spelled)) (Keeps-new no_content inst P (new inst.root)))
 
 pub Changes-built : (inst : Instance) (key : Key) (row : Row) (old : View) → dropped old ≡ old → Changes limit inst (call.Build key row) old old (verdict_of (is_within inst.desc row))
 Changes-built inst key row old clean = by (is_within inst.desc row) refl

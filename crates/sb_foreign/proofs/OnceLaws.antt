@@ -14,6 +14,7 @@ use Rattle.sb_rule.specs.declared.rule.Rule.TheVariants.{Foreign}
 use Rattle.sb_rule.specs.Bound.{row_after}
 use Rattle.sb_rule.specs.Spelling.{SpellsRule}
 use Rattle.sb_relation.specs.Changes.{changed, of_new}
+use Rattle.sb_relation.specs.Content.{no_content}
 use Rattle.sb_relation.specs.Db.{Name, Key, Row, Rows, Db}
 use Rattle.sb_forms.specs.Pages.{Pages}
 use Rattle.sb_ctx.specs.declared.held.Found.{Found}
@@ -28,10 +29,10 @@ use Rattle.sb_ctx.specs.View.{View, dropped, found_of, is_answer_to, keys_with, 
 use Rattle.sb_ctx.proofs.AuthorLaws.{foreign_rule}
 use Rattle.sb_ctx.proofs.BoundLaws.{IsBoundlessFor, Changes-idle_for, Changes-memory_for}
 use Rattle.sb_foreign.specs.Onces.{once, once_rules, number_row, asked, is_once, is_refused, known_once, AreOnce, Stops, Judges}
-use Rattle.sb_foreign.proofs.WatchedLaws.{of_row, of_none, Keeps-new, HoldContent-nothing}
+use Rattle.sb_foreign.proofs.WatchedLaws.{of_row, of_none, Keeps-new, HoldContent-always}
 
 pub IsAttachment-once : IsAttachment once
-IsAttachment-once = record { pageless = λ is. cc; formed = HoldContent-nothing once_rules }
+IsAttachment-once = record { pageless = λ is. cc; formed = HoldContent-always once_rules no_content refl }
 
 boundless_once : IsBoundlessFor once
 boundless_once = record { bound = λ content. refl; cost = λ c before after. refl; path = λ inst P c n. refl; code = refl }
@@ -126,7 +127,7 @@ foreign inst rule spells = foreign_rule 1001 inst.desc rule (omega arith) spells
 
 pub Changes-prepared : (inst : Instance) (old : View) → dropped old ≡ old → Changes once inst call.Prepare old old move.Done
 Changes-prepared inst old clean = ended inst call.Prepare old move.Done clean tt tt tt (λ P part new rule db stands.
-    subst (λ (r : Rule). Prepared once inst r db P move.Done) (sym (foreign inst rule stands.spelled)) (Keeps-new inst P (new inst.root)))
+    subst (λ (r : Rule). Prepared once inst r db P move.Done) (sym (foreign inst rule stands.spelled)) (Keeps-new no_content inst P (new inst.root)))
 
 pub Changes-built : (inst : Instance) (key : Key) (row : Row) (old : View) (made : Move) → dropped old ≡ old → Judges old inst.relation (asked inst.desc row) made → AsksFor old made → Changes once inst (call.Build key row) old old made
 Changes-built inst key row old made clean judges asks = by made judges asks

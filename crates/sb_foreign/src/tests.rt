@@ -6,11 +6,12 @@ ghost use Rattle.sb_relation.specs.Keys.{is_record_key};
 ghost use Rattle.sb_ctx.specs.View.{IsClean};
 ghost use Rattle.sb_foreign.specs.Counts.{count};
 ghost use Rattle.sb_foreign.specs.Examples.{IsExample, Keeps, Watches, MayBeHeld, MayBeMet};
+ghost use Rattle.sb_foreign.specs.Legends.{legend};
 ghost use Rattle.sb_foreign.specs.Limits.{limit};
 ghost use Rattle.sb_foreign.specs.Onces.{once};
 ghost use Rattle.sb_foreign.specs.Strips.{strip};
 
-use crate::{Count, Limit, Once, Strip};
+use crate::{Count, Legend, Limit, Once, Strip};
 use sb_ctx::{Attachment, Ctx, Instance, Keys, Move, StorageMethod};
 use sb_relation::Change;
 use sb_value::{Bytes, Column, Kind, Names, RecKey, Schema, Str, Tuple, Value};
@@ -84,6 +85,7 @@ enum Reply {
     Place(Option<u8>),
     Number(Option<i64>),
     Asks(Option<i64>),
+    Entry(Option<u8>, usize),
     Sum(Option<i128>),
     Other,
 }
@@ -105,6 +107,7 @@ fn reply_of(answer: Move) -> Reply {
         Move::Key(key) => Reply::Place(key.as_slice().first().copied()),
         Move::Row(_, row) => Reply::Number(number_in(&row)),
         Move::Find { values, .. } => Reply::Asks(number_in(&values)),
+        Move::Entry(first, second) => Reply::Entry(first.as_slice().first().copied(), second.len()),
         Move::Sums(sums) => Reply::Sum(sums.as_slice().first().copied()),
         _ => Reply::Other,
     }
@@ -222,6 +225,12 @@ fn count_instance(alloc: Global) -> Result<Instance, AllocError>
     instance(alloc, 1002, &[])
 }
 
+fn legend_instance(alloc: Global) -> Result<Instance, AllocError>
+    ensures { IfOk result (Watches legend) }
+{
+    instance(alloc, 1003, &[])
+}
+
 /// What becomes of a row: it stands already, comes, gets another number, or goes.
 #[derive(Clone, Copy)]
 enum Event {
@@ -337,23 +346,30 @@ fn sums<A: Attachment>(attachment: &A, alloc: Global, ctx: &mut Ctx, inst: &Inst
     reply_of(attachment.sums(alloc, ctx, inst))
 }
 
-/// Whether prepare and late_check are done with, and there is no entry.
-fn has_no_entry<A: Attachment>(attachment: &A, alloc: Global, inst: &Instance) -> bool
+/// What is answered for the least entry.
+fn first_entry<A: Attachment>(attachment: &A, alloc: Global, inst: &Instance) -> Reply
+    requires { Watches (A.attachment attachment.now) inst.now }
+{
+    let low = key(alloc);
+    reply_of(attachment.next_entry(alloc, &mut Ctx::new(alloc), inst, &low, None))
+}
+
+/// Whether prepare and late_check are done with, and the least entry is this one.
+fn begins_with<A: Attachment>(attachment: &A, alloc: Global, inst: &Instance, entry: Reply) -> bool
     requires { Watches (A.attachment attachment.now) inst.now }
 {
     let late = Bytes::new(alloc);
-    let low = key(alloc);
     let made = reply_of(attachment.prepare(alloc, &mut Ctx::new(alloc), inst));
     let checked = reply_of(attachment.late_check(alloc, &mut Ctx::new(alloc), inst, &late));
-    let entry = attachment.next_entry(alloc, &mut Ctx::new(alloc), inst, &low, None);
-    (made, checked, reply_of(entry)) == (Reply::Done, Reply::Done, Reply::End)
+    let first = first_entry(attachment, alloc, inst);
+    (made, checked, first) == (Reply::Done, Reply::Done, entry)
 }
 
 /// Whether there is no entry, and the sums of an empty Ctx are these.
 fn keeps<A: Attachment>(attachment: &A, alloc: Global, inst: &Instance, wanted: Reply) -> bool
     requires { Watches (A.attachment attachment.now) inst.now }
 {
-    has_no_entry(attachment, alloc, inst)
+    begins_with(attachment, alloc, inst, Reply::End)
         && sums(attachment, alloc, &mut Ctx::new(alloc), inst) == wanted
 }
 
@@ -477,5 +493,85 @@ fn a_count_is_summed(rt: HostRuntime) -> Result<(), Fail> {
     let alloc = rt.alloc();
     let inst = count_instance(alloc)?;
     assert_eq!(rt; first_other_sum(&Count {}, alloc, &inst, &COUNTS)?, None);
+    Ok(())
+}
+
+// ---- the legend
+
+/// What an entry is asked for by: the low key, the first part of the entry before, and the answer.
+type Place = (&'static [u8], Option<u8>, Reply);
+
+/// An entry of this first part.
+fn entry(alloc: Global, first: u8) -> Result<(RecKey, RecKey), AllocError> {
+    let first = RecKey::from_vec(vec![in alloc; first]?);
+    Ok((first, key(alloc)))
+}
+
+/// What is answered for the least entry from a key on, above the entry of another first part.
+fn next_entry<A: Attachment>(
+    attachment: &A,
+    alloc: Global,
+    inst: &Instance,
+    low: &[u8],
+    after: Option<u8>,
+) -> Result<Reply, AllocError>
+    requires { Watches (A.attachment attachment.now) inst.now }
+{
+    let low = RecKey::from_vec(low.to_vec(alloc)?);
+    let mut ctx = Ctx::new(alloc);
+    let Some(after) = after else {
+        return Ok(reply_of(attachment.next_entry(alloc, &mut ctx, inst, &low, None)));
+    };
+    let after = entry(alloc, after)?;
+    Ok(reply_of(attachment.next_entry(alloc, &mut ctx, inst, &low, Some(&after))))
+}
+
+/// The place of the first entry that is another one.
+fn first_other_entry<A: Attachment>(
+    attachment: &A,
+    alloc: Global,
+    inst: &Instance,
+    places: &[Place],
+) -> Result<Option<usize>, AllocError>
+    requires { Watches (A.attachment attachment.now) inst.now }
+{
+    for (i, (low, after, wanted)) in places.iter().enumerate() {
+        if next_entry(attachment, alloc, inst, low, *after)? != *wanted {
+            return Ok(Some(i));
+        }
+    }
+    Ok(None)
+}
+
+/// From the front and from an entry on, between the two, behind one and behind both.
+const ENTRIES: [Place; 8] = [
+    (&[], None, Reply::Entry(Some(1), 0)),
+    (&[1], None, Reply::Entry(Some(1), 0)),
+    (&[], Some(1), Reply::Entry(Some(2), 0)),
+    (&[1, 0], None, Reply::Entry(Some(2), 0)),
+    (&[2], Some(0), Reply::Entry(Some(2), 0)),
+    (&[2], Some(2), Reply::End),
+    (&[], Some(2), Reply::End),
+    (&[2, 0], None, Reply::End),
+];
+
+const ADMITTED: [Case; 4] = [
+    (Event::Stands, 9, &[], false, Reply::Done),
+    (Event::Comes, 9, &[], false, Reply::Done),
+    (Event::Changes, 9, &[], false, Reply::Done),
+    (Event::Goes, 9, &[], false, Reply::Done),
+];
+
+#[test]
+fn two_entries_follow(rt: HostRuntime) -> Result<(), Fail> {
+    let alloc = rt.alloc();
+    let inst = legend_instance(alloc)?;
+    assert!(rt; begins_with(&Legend {}, alloc, &inst, Reply::Entry(Some(1), 0)));
+    assert!(rt; sums(&Legend {}, alloc, &mut Ctx::new(alloc), &inst) == Reply::Sum(None));
+    assert_eq!(rt; first_other(&Legend {}, alloc, &inst, &ADMITTED)?, None);
+    assert_eq!(rt;
+        first_other_entry(&Legend {}, alloc, &inst, &ENTRIES)?,
+        None
+    );
     Ok(())
 }

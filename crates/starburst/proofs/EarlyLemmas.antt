@@ -8,7 +8,7 @@ use Rattle.sb_plain.specs.State.{State}
 use Rattle.sb_grammar.specs.Columns.{Item}
 use Rattle.sb_registry.specs.Boxes.{Meanings}
 use Rattle.sb_opening.specs.Opening.{opened}
-use Rattle.sb_kernel.specs.Crashes.{Holds, LeavesAlong, next_start}
+use Rattle.sb_kernel.specs.Crashes.{HoldsDatabase, LeavesAlong, next_start}
 use Rattle.sb_kernel.specs.Plays.{last_state}
 use Rattle.sb_kernel.specs.Runs.{BeginsAt, GoesOn, HoldsLast}
 
@@ -36,7 +36,7 @@ early-along old mid new (start ∷ starts) until P opening on begins none t imag
 -- where no item has begun, the last commit is the database that was opened
 pub holds-opened : (m boxes : Meanings) (db : Db) (told : Option Story) (until end : ℕ) (items : List Item) (states : List State) (starts : List ℕ)
     → LeavesAlong m told end (opened boxes db) items states starts → HoldsLast m told until (last_state (opened boxes db) states) → starts ≡ []
-    → (t : ℕ) (image : List ℕ) → until ≤ t → MayLeave told t image → Holds m image db
+    → (t : ℕ) (image : List ℕ) → until ≤ t → MayLeave told t image → HoldsDatabase m image db
 holds-opened m boxes db told until end [] [] starts along last is = last refl
 holds-opened m boxes db told until end [] (t ∷ states) starts along last is = absurd along
 holds-opened m boxes db told until end (item ∷ items) [] starts along last is = absurd along

@@ -12,7 +12,7 @@ use Rattle.sb_opening.specs.declared.codes.Named.{Named}
 use Rattle.sb_opening.specs.Naming.{HasLive}
 use Rattle.sb_opening.specs.Opening.{opened}
 use Rattle.sb_kernel.specs.declared.ending.Ending.{Ending}
-use Rattle.sb_kernel.specs.Crashes.{Holds}
+use Rattle.sb_kernel.specs.Crashes.{HoldsDatabase}
 use Rattle.sb_kernel.specs.Ending.{status_of}
 use Rattle.sb_kernel.specs.Runs.{HasPlayedOut, PlaysOut}
 use Rattle.sb_kernel.specs.Serving.{HasEndedSo, HasServed}
@@ -26,7 +26,7 @@ use Rattle.starburst.proofs.EarlyLemmas.{early-along, holds-opened}
 -- ---- what was played
 played-from : {D : Type 0} (d : Tells D) (m boxes : Meanings) (named : List Named) (IsEarly : List ℕ → Type 0) (db : Db) (mounted first now : D)
     (items : List Item) (replies : List Reply) (starts : List ℕ) → HasLive m named boxes → LeavesOnly (d.told mounted) (d.told first) IsEarly
-    → ((image : List ℕ) → Holds m image db → IsEarly image) → HasPlayedOut d.told d.faults m first (opened boxes db) items replies starts now
+    → ((image : List ℕ) → HoldsDatabase m image db → IsEarly image) → HasPlayedOut d.told d.faults m first (opened boxes db) items replies starts now
     → HasPlayedFrom d m named IsEarly db mounted now items replies starts
 played-from d m boxes named IsEarly db mounted first now items replies starts live early holds played = record {
   boxes = boxes;
@@ -44,11 +44,11 @@ plays-from : {B D : Type 0} (w : World B D) (m : Meanings) (words : Words) (crea
 unfolding played-from
 plays-from w m words false mounted items replies first now started plays = λ g want db stored single.
     let start = started g want db stored in
-    played-from (tells w.told w.len w.faults) m (w.meanings first.session.boxes) _ (λ image. Holds m image db) db mounted first.disk now.disk
+    played-from (tells w.told w.len w.faults) m (w.meanings first.session.boxes) _ (λ image. HoldsDatabase m image db) db mounted first.disk now.disk
     items replies now.starts start.live start.early (λ image holds. holds) (plays (opened (w.meanings first.session.boxes) db) start.now single)
 plays-from w m words true mounted items replies first now started plays = λ told settled single.
     let start = started told settled in (
-      played-from (tells w.told w.len w.faults) m (w.meanings first.session.boxes) [] (λ image. IsNoStore image ⊎ Holds m image []) [] mounted
+      played-from (tells w.told w.len w.faults) m (w.meanings first.session.boxes) [] (λ image. IsNoStore image ⊎ HoldsDatabase m image []) [] mounted
           first.disk now.disk items replies now.starts start.0.live start.0.early (λ image holds. inr holds)
           (plays (opened (w.meanings first.session.boxes) []) start.0.now single),
       start.1,

@@ -26,14 +26,14 @@ use Rattle.sb_opening.specs.Creating.{CreateErr}
 use Rattle.sb_opening.specs.Naming.{HasLive, all_live, named_in}
 use Rattle.sb_opening.specs.Opening.{IsStored, opened}
 use Rattle.sb_opening.proofs.NewLemmas.{committed-new}
-use Rattle.sb_kernel.specs.Crashes.{Holds}
+use Rattle.sb_kernel.specs.Crashes.{HoldsDatabase}
 use Rattle.sb_kernel.specs.World.{World}
 use Rattle.sb_words.specs.declared.words.Words.{Words}
 use Rattle.starburst.specs.Run.{IsNoSession, Tells}
 use Rattle.starburst.specs.Starting.{HasStarted}
 
 -- ---- what a crash leaves meanwhile
-holds-new : (m : Meanings) (g : Geometry) (image : List ℕ) → IsFormatting g image → IsNoStore image ⊎ Holds m image []
+holds-new : (m : Meanings) (g : Geometry) (image : List ℕ) → IsFormatting g image → IsNoStore image ⊎ HoldsDatabase m image []
 holds-new m g image is = ⊎_elim
     (λ (none : IsNoStore image). inl none)
     (λ (restores : Restores g (first_page g.pages) image).
@@ -68,7 +68,7 @@ module _ {B D E : Type 0} (w : World B D) (m : Meanings) (words : Words) (create
           root = ap (λ (place : Place). place.root) place;
           stands = record { want = want; is = stands g want db stored };
         };
-        early = weaker (w.told mounted) (w.told here) (Restores g want) (λ image. Holds m image db)
+        early = weaker (w.told mounted) (w.told here) (Restores g want) (λ image. HoldsDatabase m image db)
             (λ image restores. record { geometry = g; want = want; restores = restores; committed = stored.committed })
             (leaves want g stored.mounted);
       })
@@ -92,7 +92,7 @@ module _ {B D E : Type 0} (w : World B D) (m : Meanings) (words : Words) (create
             root = ap (λ (place : Place). place.root) place;
             stands = record { want = first_page words.pages; is = if_told (w.told mounted) _ tells stands };
           };
-          early = weaker (w.told mounted) (w.told here) (IsFormatting (geometry_of words.pages words.log)) (λ image. IsNoStore image ⊎ Holds m image [])
+          early = weaker (w.told mounted) (w.told here) (IsFormatting (geometry_of words.pages words.log)) (λ image. IsNoStore image ⊎ HoldsDatabase m image [])
               (holds-new m (geometry_of words.pages words.log)) (leaves settled none);
         },
         record { none = none; making = leaves settled none },

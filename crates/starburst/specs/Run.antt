@@ -23,7 +23,7 @@ use Rattle.sb_opening.specs.Creating.{CreateErr}
 use Rattle.sb_opening.specs.Naming.{HasLive, all_live, named_in}
 use Rattle.sb_opening.specs.Opening.{IsStored, MayRefuse, NamesTable, OpeningErr, opened}
 use Rattle.sb_kernel.specs.declared.ending.Ending.{Ending}
-use Rattle.sb_kernel.specs.Crashes.{Holds, next_start}
+use Rattle.sb_kernel.specs.Crashes.{HoldsDatabase, next_start}
 use Rattle.sb_kernel.specs.Ending.{status_of}
 use Rattle.sb_kernel.specs.Runs.{HasPlayedOut}
 use Rattle.sb_kernel.specs.Serving.{HasEndedSo}
@@ -67,10 +67,10 @@ pub record HasPlayedFrom {D : Type 0} (d : Tells D) (m : Meanings) (named : List
 abbrev pub PlaysFrom : {D : Type 0} → Tells D → Meanings → Words → (create : Bool) → (mounted now : D) → List ℕ → List Item → List Reply → Type 0
 PlaysFrom d m words false mounted now starts items replies =
     (g : Geometry) (want : Wanted) (db : Db) (stored : IsStored m (d.told mounted) g want db) → AreSingle (all_live m)
-    → HasPlayedFrom d m (named_in stored.committed.kept) (λ image. Holds m image db) db mounted now items replies starts
+    → HasPlayedFrom d m (named_in stored.committed.kept) (λ image. HoldsDatabase m image db) db mounted now items replies starts
 PlaysFrom d m words true mounted now starts items replies =
     is_some (d.told mounted) ≡ true → IsSettled (d.told mounted) → AreSingle (all_live m)
-    → (played : HasPlayedFrom d m [] (λ image. IsNoStore image ⊎ Holds m image []) [] mounted now items replies starts)
+    → (played : HasPlayedFrom d m [] (λ image. IsNoStore image ⊎ HoldsDatabase m image []) [] mounted now items replies starts)
     × MakesStore words (d.told mounted) (d.told played.first)
 
 -- a store was opened, or made and opened, and items were answered until the run ended

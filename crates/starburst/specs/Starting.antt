@@ -15,7 +15,7 @@ use Rattle.sb_opening.specs.declared.codes.Named.{Named}
 use Rattle.sb_opening.specs.Naming.{HasLive, named_in}
 use Rattle.sb_opening.specs.Opening.{IsStored, opened}
 use Rattle.sb_kernel.specs.World.{World, IsNow}
-use Rattle.sb_kernel.specs.Crashes.{Holds}
+use Rattle.sb_kernel.specs.Crashes.{HoldsDatabase}
 use Rattle.sb_words.specs.declared.words.Words.{Words}
 
 -- the sizes are those that a store may have, and so is the number of frames
@@ -40,7 +40,7 @@ pub record MakesStore (words : Words) (mounted here : Option Story) : Type 0 whe
 abbrev pub HasStarted : {B D : Type 0} → World B D → Meanings → Words → (create : Bool) → (mounted now : D) → Session B → Type 0
 HasStarted w m words false mounted now x =
     (g : Geometry) (want : Wanted) (db : Db) (stored : IsStored m (w.told mounted) g want db)
-    → StartsAt w m (named_in stored.committed.kept) (λ image. Holds m image db) db mounted now x
+    → StartsAt w m (named_in stored.committed.kept) (λ image. HoldsDatabase m image db) db mounted now x
 HasStarted w m words true mounted now x =
     is_some (w.told mounted) ≡ true → IsSettled (w.told mounted)
-    → StartsAt w m [] (λ image. IsNoStore image ⊎ Holds m image []) [] mounted now x × MakesStore words (w.told mounted) (w.told now)
+    → StartsAt w m [] (λ image. IsNoStore image ⊎ HoldsDatabase m image []) [] mounted now x × MakesStore words (w.told mounted) (w.told now)

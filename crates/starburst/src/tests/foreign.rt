@@ -3,13 +3,13 @@
 use super::{OPENED, PIECE, Row, SIZE, SMALLEST, boxes_of, run_row, words_of};
 use crate::report::Report;
 use crate::run;
-use sb_foreign::{Count, Limit, Once, Strip};
+use sb_foreign::{Count, Legend, Limit, Once, Strip};
 use sb_memdisk::{MemDisk, MemSink, MemSource};
 use sb_registry::Extensions;
 use std::alloc::{AllocError, Global};
 use std::test::Fail;
 
-const ROWS: [Row<'static>; 4] = [
+const ROWS: [Row<'static>; 5] = [
     // The boxes serve once they are registered. A row of f is a byte of its page, under its place, and most vetoes what is above its desc.
     Row {
         words: &SMALLEST,
@@ -97,7 +97,10 @@ const ROWS: [Row<'static>; 4] = [
             insert s values (8)\n\
             entries many on s\n\
             abort\n\
-            entries many on s\n",
+            entries many on s\n\
+            register attachment 1003\n\
+            attach code 1003 signs on s desc @\n\
+            entries signs on s\n",
         output: b"ok\n\
             ok\n\
             ok\n\
@@ -118,8 +121,18 @@ const ROWS: [Row<'static>; 4] = [
             ! veto s once\n\
             sum 3\nok 0\n\
             ok\n\
-            sum 2\nok 0\n",
-        begun: 21,
+            sum 2\nok 0\n\
+            ok\n\
+            ok\n\
+            @01 @\n@02 @\nok 2\n",
+        begun: 24,
+        ..OPENED
+    },
+    // Entries that no page keeps are there in the next run.
+    Row {
+        script: b"entries signs on s\n",
+        output: b"@01 @\n@02 @\nok 2\n",
+        begun: 1,
         ..OPENED
     },
 ];
@@ -146,6 +159,7 @@ fn boxes_of_another_author(alloc: Global) -> Result<Extensions, AllocError> {
     exts.spare_attachments.push(Box::new(alloc, Limit {})?)?;
     exts.spare_attachments.push(Box::new(alloc, Once {})?)?;
     exts.spare_attachments.push(Box::new(alloc, Count {})?)?;
+    exts.spare_attachments.push(Box::new(alloc, Legend {})?)?;
     Ok(exts)
 }
 
