@@ -1,1 +1,4 @@
 pub mod Load
+pub mod Watched
+pub mod Rows
+pub mod Inserts

@@ -1,7 +1,7 @@
 //! Transactions over the first pages of a store.
 
 ghost use Rattle.std.specs.Prelude.{OnOk};
-ghost use Rattle.sb_txn.specs.Clauses.{parts};
+ghost use Rattle.sb_txn.specs.Parts.{parts};
 ghost use Rattle.sb_bench.specs.Load.{IsAtRest, IsBusy};
 
 use sb_disk::Disk;

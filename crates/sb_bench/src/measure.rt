@@ -1,7 +1,7 @@
 //! What the loads cost over a disk in memory.
 
 ghost use Rattle.std.specs.Prelude.{IfSome};
-ghost use Rattle.sb_txn.specs.Clauses.{parts};
+ghost use Rattle.sb_txn.specs.Parts.{parts};
 ghost use Rattle.sb_bench.specs.Load.{IsAtRest};
 
 use crate::counted::{Cost, Counted};

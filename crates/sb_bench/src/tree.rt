@@ -2,8 +2,9 @@
 
 use sb_btree::{Walk, find};
 use sb_ctx::Ctx;
-use sb_drive::{Ask, Memory, PageSpace};
+use sb_drive::{Ask, PageSpace};
 use sb_map::{Place, get, put};
+use sb_memory::Memory;
 use std::alloc::Global;
 
 /// A tree of keys of 8 bytes with values of 8 bytes, in pages in memory. The keys rise as they are put in.

@@ -2,7 +2,8 @@
 
 ghost use Rattle.std.specs.Prelude.{◌≡◌, ◌≤◌, [], false, None, IfSome};
 ghost use Rattle.sb_registry.specs.Boxes.{repeated_in};
-ghost use Rattle.sb_txn.specs.Clauses.{parts, IsReady};
+ghost use Rattle.sb_txn.specs.Clauses.{IsReady};
+ghost use Rattle.sb_txn.specs.Parts.{parts};
 ghost use Rattle.sb_session.specs.Sessions.{CanRun};
 
 use sb_disk::Disk;

@@ -1,7 +1,8 @@
 //! Transactions over a new store of 64 pages, whose database is empty.
 
 ghost use Rattle.std.specs.Prelude.{◌≡◌, ◌≤◌, [], false, IfSome, OnOk};
-ghost use Rattle.sb_txn.specs.Clauses.{parts, IsReady};
+ghost use Rattle.sb_txn.specs.Clauses.{IsReady};
+ghost use Rattle.sb_txn.specs.Parts.{parts};
 
 use sb_disk::Disk;
 use sb_fold::Refusal;
@@ -25,10 +26,10 @@ const SIZE: u64 = 2_428_928;
 /// A transaction that goes back to a point and is aborted.
 fn goes_back<D: Disk>(alloc: Global, space: &mut Space, disk: &mut D) -> Result<(), Refusal>
     requires ready { IsReady (parts D.told D.len disk.old space.old.store) }
-    requires none { space.old.store.book.down ≡ false → space.old.store.book.out ≡ [] }
+    requires none { space.old.store.book.down ≡ false → space.old.store.book.actives ≡ [] }
     requires few { space.old.store.pool.geometry.pages ≤ 65536 }
     ensures ready { IsReady (parts D.told D.len disk.new space.new.store) }
-    ensures none { OnOk result (space.new.store.book.out ≡ []) }
+    ensures none { OnOk result (space.new.store.book.actives ≡ []) }
     ensures few { space.new.store.pool.geometry.pages ≤ 65536 }
 {
     let mut transaction = begin(space, disk, alloc)?;
@@ -42,10 +43,10 @@ fn goes_back<D: Disk>(alloc: Global, space: &mut Space, disk: &mut D) -> Result<
 /// A transaction without changes whose pages are committed: how many record keys it picked.
 fn commits_pages<D: Disk>(alloc: Global, space: &mut Space, disk: &mut D) -> Result<usize, Refusal>
     requires ready { IsReady (parts D.told D.len disk.old space.old.store) }
-    requires none { space.old.store.book.down ≡ false → space.old.store.book.out ≡ [] }
+    requires none { space.old.store.book.down ≡ false → space.old.store.book.actives ≡ [] }
     requires few { space.old.store.pool.geometry.pages ≤ 65536 }
     ensures ready { IsReady (parts D.told D.len disk.new space.new.store) }
-    ensures none { OnOk result (space.new.store.book.out ≡ []) }
+    ensures none { OnOk result (space.new.store.book.actives ≡ []) }
     ensures few { space.new.store.pool.geometry.pages ≤ 65536 }
 {
     let transaction = begin(space, disk, alloc)?;
@@ -61,7 +62,7 @@ fn commits<B: Boxes, D: Disk>(
     disk: &mut D,
 ) -> Result<usize, Refusal>
     requires ready { IsReady (parts D.told D.len disk.old space.old.store) }
-    requires none { space.old.store.book.down ≡ false → space.old.store.book.out ≡ [] }
+    requires none { space.old.store.book.down ≡ false → space.old.store.book.actives ≡ [] }
     requires few { space.old.store.pool.geometry.pages ≤ 65536 }
 {
     let (owner, root) = catalogue(&space.store);
@@ -76,7 +77,7 @@ fn commits<B: Boxes, D: Disk>(
 /// Opens the space.
 fn opened<D: Disk>(alloc: Global, disk: &mut D) -> Option<Space>
     ensures ready { IfSome result (λ s. IsReady (parts D.told D.len disk.new s.store)) }
-    ensures none { IfSome result (λ s. s.store.book.out ≡ []) }
+    ensures none { IfSome result (λ s. s.store.book.actives ≡ []) }
     ensures few { IfSome result (λ s. s.store.pool.geometry.pages ≤ 65536) }
 {
     let store = match Store::open(alloc, disk, 8) {

@@ -1,11 +1,5 @@
-//! Tests of the store over its libraries: transactions, and the pages of boxes.
+//! Tests of transactions over a store, over their libraries.
 #![tactic(auto)]
 
 #[cfg(test)]
-mod owners;
-#[cfg(test)]
-mod pages;
-#[cfg(test)]
 mod store;
-#[cfg(test)]
-mod turns;

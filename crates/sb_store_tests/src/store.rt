@@ -3,7 +3,8 @@
 ghost use Rattle.std.specs.Prelude.{◌≡◌, ◌<◌, ◌≤◌, [], true, false, length, IfSome, OnOk, OnErr};
 ghost use Rattle.sb_txn.specs.Beside.{IsOne, AreTwo};
 ghost use Rattle.sb_txn.specs.Book.{IsAmong, IsOnly, standing_of};
-ghost use Rattle.sb_txn.specs.Clauses.{parts, IsReady};
+ghost use Rattle.sb_txn.specs.Clauses.{IsReady};
+ghost use Rattle.sb_txn.specs.Parts.{parts};
 
 use sb_disk::Disk;
 use sb_memdisk::MemDisk;
@@ -49,7 +50,7 @@ fn made(alloc: Global, size: u64) -> Result<MemDisk, Fail> {
 // Opens a store of at least 64 pages.
 fn opened<D: Disk>(alloc: Global, disk: &mut D) -> Option<Store>
     ensures ready { IfSome result (λ s. IsReady (parts D.told D.len disk.new s)) }
-    ensures none { IfSome result (λ s. s.book.out ≡ []) }
+    ensures none { IfSome result (λ s. s.book.actives ≡ []) }
     ensures pages { IfSome result (λ s. 64 ≤ s.pool.geometry.pages) }
 {
     let store = match Store::open(alloc, disk, 8) {
@@ -69,7 +70,7 @@ fn three<D: Disk>(store: &mut Store, disk: &mut D, n: u32, at: usize) -> Result<
     requires page { n < 64 }
     requires place { at < 4000 }
     ensures ready { IsReady (parts D.told D.len disk.new store.new) }
-    ensures out { OnOk result (store.new.book.out ≡ store.old.book.out) }
+    ensures actives { OnOk result (store.new.book.actives ≡ store.old.book.actives) }
     ensures pages { 64 ≤ store.new.pool.geometry.pages }
 {
     let page = store.page(disk, n)?;
@@ -96,14 +97,14 @@ fn put<D: Disk>(
     bytes: &[u8],
 ) -> Result<(), StoreFault>
     requires ready { IsReady (parts D.told D.len disk.old store.old) }
-    requires only { store.old.book.down ≡ false → IsOnly tx.now.number store.old.book.out }
+    requires only { store.old.book.down ≡ false → IsOnly tx.now.number store.old.book.actives }
     requires pages { 64 ≤ store.old.pool.geometry.pages }
     requires page { page < 64 }
     requires some { 0 < length bytes.now }
     requires few { length bytes.now ≤ 4000 }
     ensures ready { IsReady (parts D.told D.len disk.new store.new) }
-    ensures only { store.new.book.down ≡ false → IsOnly tx.now.number store.new.book.out }
-    ensures standing { OnOk result (standing_of tx.now.number store.old.book.out ≤ standing_of tx.now.number store.new.book.out) }
+    ensures only { store.new.book.down ≡ false → IsOnly tx.now.number store.new.book.actives }
+    ensures standing { OnOk result (standing_of tx.now.number store.old.book.actives ≤ standing_of tx.now.number store.new.book.actives) }
     ensures pages { 64 ≤ store.new.pool.geometry.pages }
 {
     store.change(disk, tx, 1, page, LOW, bytes)
@@ -117,11 +118,11 @@ fn take_back<D: Disk>(
     mark: Mark,
 ) -> Result<(), StoreFault>
     requires ready { IsReady (parts D.told D.len disk.old store.old) }
-    requires only { store.old.book.down ≡ false → IsOnly tx.now.number store.old.book.out }
-    requires mark { store.old.book.down ≡ false → mark.changes ≤ standing_of tx.now.number store.old.book.out }
+    requires only { store.old.book.down ≡ false → IsOnly tx.now.number store.old.book.actives }
+    requires mark { store.old.book.down ≡ false → mark.changes ≤ standing_of tx.now.number store.old.book.actives }
     requires pages { 64 ≤ store.old.pool.geometry.pages }
     ensures ready { IsReady (parts D.told D.len disk.new store.new) }
-    ensures only { store.new.book.down ≡ false → IsOnly tx.now.number store.new.book.out }
+    ensures only { store.new.book.down ≡ false → IsOnly tx.now.number store.new.book.actives }
     ensures pages { 64 ≤ store.new.pool.geometry.pages }
 {
     store.back_to(disk, tx, mark)
@@ -135,10 +136,10 @@ fn finish<D: Disk>(
     done: Result<(), StoreFault>,
 ) -> Result<(), StoreFault>
     requires ready { IsReady (parts D.told D.len disk.old store.old) }
-    requires only { store.old.book.down ≡ false → IsOnly tx.number store.old.book.out }
+    requires only { store.old.book.down ≡ false → IsOnly tx.number store.old.book.actives }
     requires pages { 64 ≤ store.old.pool.geometry.pages }
     ensures ready { IsReady (parts D.told D.len disk.new store.new) }
-    ensures none { OnOk result (store.new.book.out ≡ []) }
+    ensures none { OnOk result (store.new.book.actives ≡ []) }
     ensures pages { 64 ≤ store.new.pool.geometry.pages }
 {
     match done {
@@ -153,10 +154,10 @@ fn finish<D: Disk>(
 // What the first transaction does.
 fn change_two<D: Disk>(store: &mut Store, disk: &mut D, tx: &Tx) -> Result<(), StoreFault>
     requires ready { IsReady (parts D.told D.len disk.old store.old) }
-    requires only { store.old.book.down ≡ false → IsOnly tx.now.number store.old.book.out }
+    requires only { store.old.book.down ≡ false → IsOnly tx.now.number store.old.book.actives }
     requires pages { 64 ≤ store.old.pool.geometry.pages }
     ensures ready { IsReady (parts D.told D.len disk.new store.new) }
-    ensures only { store.new.book.down ≡ false → IsOnly tx.now.number store.new.book.out }
+    ensures only { store.new.book.down ≡ false → IsOnly tx.now.number store.new.book.actives }
     ensures pages { 64 ≤ store.new.pool.geometry.pages }
 {
     put(store, disk, tx, 0, b"aaa")?;
@@ -166,11 +167,11 @@ fn change_two<D: Disk>(store: &mut Store, disk: &mut D, tx: &Tx) -> Result<(), S
 // What is taken back again.
 fn change_twice<D: Disk>(store: &mut Store, disk: &mut D, tx: &Tx) -> Result<(), StoreFault>
     requires ready { IsReady (parts D.told D.len disk.old store.old) }
-    requires only { store.old.book.down ≡ false → IsOnly tx.now.number store.old.book.out }
-    requires some { IsOnly tx.now.number store.old.book.out }
+    requires only { store.old.book.down ≡ false → IsOnly tx.now.number store.old.book.actives }
+    requires some { IsOnly tx.now.number store.old.book.actives }
     requires pages { 64 ≤ store.old.pool.geometry.pages }
     ensures ready { IsReady (parts D.told D.len disk.new store.new) }
-    ensures only { store.new.book.down ≡ false → IsOnly tx.now.number store.new.book.out }
+    ensures only { store.new.book.down ≡ false → IsOnly tx.now.number store.new.book.actives }
     ensures pages { 64 ≤ store.new.pool.geometry.pages }
 {
     let mark = store.mark(tx);
@@ -182,11 +183,11 @@ fn change_twice<D: Disk>(store: &mut Store, disk: &mut D, tx: &Tx) -> Result<(),
 // What the second transaction does.
 fn change_three<D: Disk>(store: &mut Store, disk: &mut D, tx: &Tx) -> Result<(), StoreFault>
     requires ready { IsReady (parts D.told D.len disk.old store.old) }
-    requires only { store.old.book.down ≡ false → IsOnly tx.now.number store.old.book.out }
-    requires some { IsOnly tx.now.number store.old.book.out }
+    requires only { store.old.book.down ≡ false → IsOnly tx.now.number store.old.book.actives }
+    requires some { IsOnly tx.now.number store.old.book.actives }
     requires pages { 64 ≤ store.old.pool.geometry.pages }
     ensures ready { IsReady (parts D.told D.len disk.new store.new) }
-    ensures only { store.new.book.down ≡ false → IsOnly tx.now.number store.new.book.out }
+    ensures only { store.new.book.down ≡ false → IsOnly tx.now.number store.new.book.actives }
     ensures pages { 64 ≤ store.new.pool.geometry.pages }
 {
     change_twice(store, disk, tx)?;
@@ -197,10 +198,10 @@ fn change_three<D: Disk>(store: &mut Store, disk: &mut D, tx: &Tx) -> Result<(),
 // The first transaction, which is committed.
 fn first<D: Disk>(store: &mut Store, disk: &mut D) -> Result<(), StoreFault>
     requires ready { IsReady (parts D.told D.len disk.old store.old) }
-    requires none { store.old.book.out ≡ [] }
+    requires none { store.old.book.actives ≡ [] }
     requires pages { 64 ≤ store.old.pool.geometry.pages }
     ensures ready { IsReady (parts D.told D.len disk.new store.new) }
-    ensures none { OnOk result (store.new.book.out ≡ []) }
+    ensures none { OnOk result (store.new.book.actives ≡ []) }
     ensures pages { 64 ≤ store.new.pool.geometry.pages }
 {
     let tx = store.begin(disk)?;
@@ -211,10 +212,10 @@ fn first<D: Disk>(store: &mut Store, disk: &mut D) -> Result<(), StoreFault>
 // The second, which is committed too.
 fn second<D: Disk>(store: &mut Store, disk: &mut D) -> Result<(), StoreFault>
     requires ready { IsReady (parts D.told D.len disk.old store.old) }
-    requires none { store.old.book.out ≡ [] }
+    requires none { store.old.book.actives ≡ [] }
     requires pages { 64 ≤ store.old.pool.geometry.pages }
     ensures ready { IsReady (parts D.told D.len disk.new store.new) }
-    ensures none { OnOk result (store.new.book.out ≡ []) }
+    ensures none { OnOk result (store.new.book.actives ≡ []) }
     ensures pages { 64 ≤ store.new.pool.geometry.pages }
 {
     let tx = store.begin(disk)?;
@@ -232,13 +233,13 @@ fn put_low<D: Disk>(
     bytes: &[u8],
 ) -> Result<(), StoreFault>
     requires ready { IsReady (parts D.told D.len disk.old store.old) }
-    requires two { store.old.book.down ≡ false → AreTwo true low.now.number high.now.number store.old.book.out }
+    requires two { store.old.book.down ≡ false → AreTwo true low.now.number high.now.number store.old.book.actives }
     requires pages { 64 ≤ store.old.pool.geometry.pages }
     requires page { page < 64 }
     requires some { 0 < length bytes.now }
     requires few { length bytes.now ≤ 90 }
     ensures ready { IsReady (parts D.told D.len disk.new store.new) }
-    ensures two { store.new.book.down ≡ false → AreTwo true low.now.number high.now.number store.new.book.out }
+    ensures two { store.new.book.down ≡ false → AreTwo true low.now.number high.now.number store.new.book.actives }
     ensures pages { 64 ≤ store.new.pool.geometry.pages }
 {
     store.change(disk, low, 1, page, LOW, bytes)
@@ -254,13 +255,13 @@ fn put_high<D: Disk>(
     bytes: &[u8],
 ) -> Result<(), StoreFault>
     requires ready { IsReady (parts D.told D.len disk.old store.old) }
-    requires two { store.old.book.down ≡ false → AreTwo true low.now.number high.now.number store.old.book.out }
+    requires two { store.old.book.down ≡ false → AreTwo true low.now.number high.now.number store.old.book.actives }
     requires pages { 64 ≤ store.old.pool.geometry.pages }
     requires page { page < 64 }
     requires some { 0 < length bytes.now }
     requires few { length bytes.now ≤ 90 }
     ensures ready { IsReady (parts D.told D.len disk.new store.new) }
-    ensures two { store.new.book.down ≡ false → AreTwo true low.now.number high.now.number store.new.book.out }
+    ensures two { store.new.book.down ≡ false → AreTwo true low.now.number high.now.number store.new.book.actives }
     ensures pages { 64 ≤ store.new.pool.geometry.pages }
 {
     store.change(disk, high, 1, page, HIGH, bytes)
@@ -274,10 +275,10 @@ fn take_turns<D: Disk>(
     high: &Tx,
 ) -> Result<(), StoreFault>
     requires ready { IsReady (parts D.told D.len disk.old store.old) }
-    requires two { store.old.book.down ≡ false → AreTwo true low.now.number high.now.number store.old.book.out }
+    requires two { store.old.book.down ≡ false → AreTwo true low.now.number high.now.number store.old.book.actives }
     requires pages { 64 ≤ store.old.pool.geometry.pages }
     ensures ready { IsReady (parts D.told D.len disk.new store.new) }
-    ensures two { store.new.book.down ≡ false → AreTwo true low.now.number high.now.number store.new.book.out }
+    ensures two { store.new.book.down ≡ false → AreTwo true low.now.number high.now.number store.new.book.actives }
     ensures pages { 64 ≤ store.new.pool.geometry.pages }
 {
     put_low(store, disk, low, high, 0, b"fff")?;
@@ -294,10 +295,10 @@ fn finish_high<D: Disk>(
     done: Result<(), StoreFault>,
 ) -> Result<(), StoreFault>
     requires ready { IsReady (parts D.told D.len disk.old store.old) }
-    requires two { store.old.book.down ≡ false → AreTwo true low.now.number high.number store.old.book.out }
+    requires two { store.old.book.down ≡ false → AreTwo true low.now.number high.number store.old.book.actives }
     requires pages { 64 ≤ store.old.pool.geometry.pages }
     ensures ready { IsReady (parts D.told D.len disk.new store.new) }
-    ensures only { store.new.book.down ≡ false → IsOnly low.now.number store.new.book.out }
+    ensures only { store.new.book.down ≡ false → IsOnly low.now.number store.new.book.actives }
     ensures pages { 64 ≤ store.new.pool.geometry.pages }
 {
     match done {
@@ -312,10 +313,10 @@ fn finish_high<D: Disk>(
 // What a transaction does beside another one.
 fn beside<D: Disk>(store: &mut Store, disk: &mut D, low: &Tx) -> Result<(), StoreFault>
     requires ready { IsReady (parts D.told D.len disk.old store.old) }
-    requires one { store.old.book.down ≡ false → IsOne true low.now.number store.old.book.out }
+    requires one { store.old.book.down ≡ false → IsOne true low.now.number store.old.book.actives }
     requires pages { 64 ≤ store.old.pool.geometry.pages }
     ensures ready { IsReady (parts D.told D.len disk.new store.new) }
-    ensures only { store.new.book.down ≡ false → IsOnly low.now.number store.new.book.out }
+    ensures only { store.new.book.down ≡ false → IsOnly low.now.number store.new.book.actives }
     ensures pages { 64 ≤ store.new.pool.geometry.pages }
 {
     if !store.may_begin() {
@@ -329,7 +330,7 @@ fn beside<D: Disk>(store: &mut Store, disk: &mut D, low: &Tx) -> Result<(), Stor
 // The third, which isn't committed, and the fourth beside it, which is. The end of the third makes no call on the disk.
 fn third<D: Disk>(store: &mut Store, disk: &mut D) -> Result<(), StoreFault>
     requires ready { IsReady (parts D.told D.len disk.old store.old) }
-    requires none { store.old.book.out ≡ [] }
+    requires none { store.old.book.actives ≡ [] }
     requires pages { 64 ≤ store.old.pool.geometry.pages }
     ensures ready { IsReady (parts D.told D.len disk.new store.new) }
     ensures pages { 64 ≤ store.new.pool.geometry.pages }
@@ -346,7 +347,7 @@ fn third<D: Disk>(store: &mut Store, disk: &mut D) -> Result<(), StoreFault>
 // All four, with the number of commits that were answered Ok, and whether no call failed.
 fn run<D: Disk>(store: &mut Store, disk: &mut D) -> (u32, bool)
     requires ready { IsReady (parts D.told D.len disk.old store.old) }
-    requires none { store.old.book.out ≡ [] }
+    requires none { store.old.book.actives ≡ [] }
     requires pages { 64 ≤ store.old.pool.geometry.pages }
     ensures ready { IsReady (parts D.told D.len disk.new store.new) }
     ensures pages { 64 ≤ store.new.pool.geometry.pages }
@@ -482,10 +483,10 @@ fn after_a_failed_call_the_store_is_down(rt: HostRuntime) -> Result<(), Fail> {
 // Changes of 4,000 bytes until one is refused: how many were made, and why no more.
 fn fill<D: Disk>(store: &mut Store, disk: &mut D, tx: &Tx) -> (u32, Option<StoreFault>)
     requires ready { IsReady (parts D.told D.len disk.old store.old) }
-    requires only { store.old.book.down ≡ false → IsOnly tx.now.number store.old.book.out }
+    requires only { store.old.book.down ≡ false → IsOnly tx.now.number store.old.book.actives }
     requires pages { 64 ≤ store.old.pool.geometry.pages }
     ensures ready { IsReady (parts D.told D.len disk.new store.new) }
-    ensures only { store.new.book.down ≡ false → IsOnly tx.now.number store.new.book.out }
+    ensures only { store.new.book.down ≡ false → IsOnly tx.now.number store.new.book.actives }
     ensures pages { 64 ≤ store.new.pool.geometry.pages }
 {
     let bytes = [7u8; 4000];
@@ -500,10 +501,10 @@ fn fill<D: Disk>(store: &mut Store, disk: &mut D, tx: &Tx) -> (u32, Option<Store
 // Takes all changes out again.
 fn leave<D: Disk>(store: &mut Store, disk: &mut D, tx: Tx) -> Result<(), StoreFault>
     requires ready { IsReady (parts D.told D.len disk.old store.old) }
-    requires only { store.old.book.down ≡ false → IsOnly tx.number store.old.book.out }
+    requires only { store.old.book.down ≡ false → IsOnly tx.number store.old.book.actives }
     requires pages { 64 ≤ store.old.pool.geometry.pages }
     ensures ready { IsReady (parts D.told D.len disk.new store.new) }
-    ensures none { OnOk result (store.new.book.out ≡ []) }
+    ensures none { OnOk result (store.new.book.actives ≡ []) }
     ensures pages { 64 ≤ store.new.pool.geometry.pages }
 {
     store.abort(disk, tx)
@@ -515,7 +516,7 @@ fn full<D: Disk>(
     disk: &mut D,
 ) -> Result<(u32, Option<StoreFault>, [u8; 3]), StoreFault>
     requires ready { IsReady (parts D.told D.len disk.old store.old) }
-    requires none { store.old.book.out ≡ [] }
+    requires none { store.old.book.actives ≡ [] }
     requires pages { 64 ≤ store.old.pool.geometry.pages }
 {
     let tx = store.begin(disk)?;
@@ -555,10 +556,10 @@ fn a_full_log_is_emptied_by_a_checkpoint(rt: HostRuntime) -> Result<(), Fail> {
 // The number of a transaction that changes nothing.
 fn number_of_one<D: Disk>(store: &mut Store, disk: &mut D) -> Result<u32, StoreFault>
     requires ready { IsReady (parts D.told D.len disk.old store.old) }
-    requires none { store.old.book.out ≡ [] }
+    requires none { store.old.book.actives ≡ [] }
     requires pages { 64 ≤ store.old.pool.geometry.pages }
     ensures ready { IsReady (parts D.told D.len disk.new store.new) }
-    ensures none { OnOk result (store.new.book.out ≡ []) }
+    ensures none { OnOk result (store.new.book.actives ≡ []) }
     ensures pages { 64 ≤ store.new.pool.geometry.pages }
 {
     let tx = store.begin(disk)?;
@@ -570,7 +571,7 @@ fn number_of_one<D: Disk>(store: &mut Store, disk: &mut D) -> Result<u32, StoreF
 // The numbers of two transactions, and of one behind a checkpoint.
 fn numbers<D: Disk>(store: &mut Store, disk: &mut D) -> Result<[u32; 3], StoreFault>
     requires ready { IsReady (parts D.told D.len disk.old store.old) }
-    requires none { store.old.book.out ≡ [] }
+    requires none { store.old.book.actives ≡ [] }
     requires pages { 64 ≤ store.old.pool.geometry.pages }
 {
     let first = number_of_one(store, disk)?;

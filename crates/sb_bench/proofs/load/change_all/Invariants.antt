@@ -1,4 +1,4 @@
-use Rattle.sb_txn.specs.Clauses.{parts}
+use Rattle.sb_txn.specs.Parts.{parts}
 use Rattle.sb_bench.specs.Load.{IsBusy}
 use Rattle.sb_bench.proofs.load.change_all.Given as goal
 

@@ -1,10 +1,10 @@
-use Rattle.sb_txn.specs.Clauses.{parts}
-use Rattle.sb_txn.proofs.BesideLemmas.{IsOnly-one_out, AreTwo-begin, down-refused}
+use Rattle.sb_txn.specs.Parts.{parts}
+use Rattle.sb_txn.proofs.BesideLemmas.{IsOnly-one_active, AreTwo-begin, down-refused}
 use Rattle.sb_txn.proofs.KeepsLemmas.{not_both, StaysReady-up}
 use Rattle.sb_store_tests.proofs.store.beside.Goals as goal
 
 pub returns-then-not-may_begin-clause-only : goal.returns-then-not-may_begin-clause-only
-returns-then-not-may_begin-clause-only g c up = IsOnly-one_out _ c.args.low.now.number c.args.store.now.book.out (c.requires.one up)
+returns-then-not-may_begin-clause-only g c up = IsOnly-one_active _ c.args.low.now.number c.args.store.now.book.actives (c.requires.one up)
 
 pub returns-in_err-high-clause-only : goal.returns-in_err-high-clause-only
 returns-in_err-high-clause-only g c up =

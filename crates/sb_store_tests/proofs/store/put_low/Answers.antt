@@ -3,12 +3,12 @@ use Rattle.sb_txn.proofs.BesideLemmas.{IsAmong-two, AreClear-two, AreTwo-change}
 use Rattle.sb_store_tests.proofs.store.put_low.Goals as goal
 
 pub change-requires-clause-among : goal.change-requires-clause-among
-change-requires-clause-among g c up = IsAmong-two _ _ c.args.high.now.number c.args.store.now.book.out (c.requires.two up)
+change-requires-clause-among g c up = IsAmong-two _ _ c.args.high.now.number c.args.store.now.book.actives (c.requires.two up)
 
 pub change-requires-clause-apart : goal.change-requires-clause-apart
 change-requires-clause-apart g c up =
     let on : 5 + length c.args.bytes.now ≤ 100 = omega arith in
-    AreClear-two _ _ c.args.high.now.number c.args.store.now.book.out (c.requires.two up) c.args.page 5 (length c.args.bytes.now) on
+    AreClear-two _ _ c.args.high.now.number c.args.store.now.book.actives (c.requires.two up) c.args.page 5 (length c.args.bytes.now) on
 
 pub returns-clause-two : goal.returns-clause-two
 returns-clause-two g c up =

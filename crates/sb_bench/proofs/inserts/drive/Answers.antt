@@ -1,0 +1,15 @@
+use Rattle.std.proofs.Common.{ℕ, subst}
+use Rattle.sb_space.specs.Durable.{parts_in}
+use Rattle.sb_space.specs.View.{lent}
+use Rattle.sb_space.specs.Works.{Serves}
+use Rattle.sb_bench.proofs.inserts.drive.Goals as goal
+
+pub returns : goal.returns
+returns g c =
+    let call = c.watch.ensures in
+    let led = call.leads in
+    record {
+      ready = subst (λ (tx : ℕ). Serves tx (parts_in g.D.Disk.told g.D.Disk.len (lent c.watch.new.space))) led.1.tx call.ready;
+      same_store = led.1.store;
+      same_disk = led.1.disk;
+    }

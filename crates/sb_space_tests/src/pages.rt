@@ -1,0 +1,112 @@
+//! A store of 64 pages that fills: each page that a call takes becomes its owner's, until all are used.
+
+ghost use Rattle.std.specs.Prelude.{◌≡◌, [], IfSome};
+ghost use Rattle.sb_space.specs.Durable.{parts_in};
+ghost use Rattle.sb_space.specs.View.{lent};
+ghost use Rattle.sb_txn.specs.Clauses.{IsReady};
+ghost use Rattle.sb_txn.specs.Parts.{parts};
+ghost use Rattle.sb_space.specs.Works.{Serves};
+
+mod instances;
+mod opening;
+
+use sb_ctx::Ctx;
+use sb_disk::Disk;
+use sb_drive::{Ask, PageSpace, SpaceFault};
+use sb_memdisk::MemDisk;
+use sb_recover::format;
+use sb_space::Durable;
+use sb_txn::{Store, Tx};
+use std::alloc::Global;
+use std::test::Fail;
+
+/// The smallest store, and the bytes that it takes of a disk.
+pub(crate) const PAGES: u32 = 64;
+
+pub(crate) const LOG: u64 = 2_097_152;
+
+pub(crate) const SIZE: u64 = 2_428_928;
+
+/// Takes a fresh page for owner 3.
+fn take_one<D: Disk>(alloc: Global, space: &mut Durable<'_, D>) -> Result<(), SpaceFault>
+    requires { Serves (lent space.old).tx (parts_in D.told D.len (lent space.old)) }
+    ensures ready { Serves (lent space.new).tx (parts_in D.told D.len (lent space.new)) }
+    ensures same_store { space.new.store.ghost_name ≡ space.old.store.ghost_name }
+    ensures same_disk { space.new.disk.ghost_name ≡ space.old.disk.ghost_name }
+    ensures same_tx { (lent space.new).tx ≡ (lent space.old).tx }
+{
+    let mut ctx = Ctx::new(alloc);
+    space.answer(3, &mut ctx, Ask::Fresh)?;
+    let _page = ctx.fresh();
+    space.store(alloc, 3, &ctx)
+}
+
+/// How many pages can be taken, and why no more.
+fn fill<D: Disk>(alloc: Global, space: &mut Durable<'_, D>) -> (u32, Option<SpaceFault>)
+    requires { Serves (lent space.old).tx (parts_in D.told D.len (lent space.old)) }
+    ensures ready { Serves (lent space.old).tx (parts_in D.told D.len (lent space.new)) }
+    ensures same_store { space.new.store.ghost_name ≡ space.old.store.ghost_name }
+    ensures same_disk { space.new.disk.ghost_name ≡ space.old.disk.ghost_name }
+{
+    for taken in 0..PAGES {
+        if let Err(fault) = take_one(alloc, space) {
+            return (taken, Some(fault));
+        }
+    }
+    (PAGES, None)
+}
+
+/// The same of a store within a transaction, which is the only one.
+fn fill_store<D: Disk>(
+    alloc: Global,
+    store: &mut Store,
+    disk: &mut D,
+    tx: &Tx,
+) -> (u32, Option<SpaceFault>)
+    requires { Serves tx.now.number (parts D.told D.len disk.old store.old) }
+    ensures { Serves tx.now.number (parts D.told D.len disk.new store.new) }
+{
+    let mut space = Durable::new(store, disk, tx);
+    fill(alloc, &mut space)
+}
+
+/// Opens a store of 64 pages.
+pub(crate) fn opened<D: Disk>(alloc: Global, disk: &mut D) -> Option<Store>
+    ensures ready { IfSome result (λ s. IsReady (parts D.told D.len disk.new s)) }
+    ensures none { IfSome result (λ s. s.book.actives ≡ []) }
+    ensures pages { IfSome result (λ s. s.pool.geometry.pages ≡ 64) }
+{
+    let store = match Store::open(alloc, disk, 8) {
+        Ok(store) => store,
+        Err(_) => return None,
+    };
+    if store.pages() != PAGES {
+        return None;
+    }
+    Some(store)
+}
+
+/// How many pages of a new store can be taken, and why no more. Then they are given back.
+fn filled(alloc: Global, disk: &mut MemDisk) -> Option<(u32, Option<SpaceFault>)> {
+    let mut store = opened(alloc, disk)?;
+    let tx = store.begin(disk).ok()?;
+    let found = fill_store(alloc, &mut store, disk, &tx);
+    match store.abort(disk, tx) {
+        Ok(()) => Some(found),
+        Err(_) => None,
+    }
+}
+
+#[test]
+fn all_pages_but_the_table_and_the_catalogue_can_be_taken(rt: HostRuntime) -> Result<(), Fail> {
+    let alloc = rt.alloc();
+    let mut disk = MemDisk::new(alloc, SIZE)?;
+    let made = format(alloc, &mut disk, PAGES, LOG).is_ok();
+    assert!(rt; made);
+    let full = SpaceFault::DataFull {
+        used: 64,
+        total: 64,
+    };
+    assert!(rt; filled(alloc, &mut disk) == Some((62, Some(full))));
+    Ok(())
+}

@@ -1,6 +1,0 @@
-use Rattle.std.proofs.Common.{refl}
-use Rattle.sb_store_tests.proofs.Scribing.{IsInstance-scribe}
-use Rattle.sb_store_tests.proofs.turns.tell_second.Goals as goal
-
-pub drive-requires-clause-inst : goal.drive-requires-clause-inst
-drive-requires-clause-inst g c = IsInstance-scribe _ 1 c.in_ok-inst.inst refl refl refl c.in_ok-inst.ensures
