@@ -1,5 +1,5 @@
 -- The column of a fault, and what a line says.
-use Rattle.std.proofs.Common.{◌≡◌, ℕ, false, inl, inr, List, [], ◌∷◌, ◌++◌, refl, sym, ◌∙◌, ap, subst, append_assoc}
+use Rattle.std.proofs.Common.{◌≡◌, ℕ, false, inl, inr, List, [], ◌∷◌, ◌++◌, refl, sym, ◌∙◌, ap, subst, append_assoc, Result, Err}
 use Rattle.std.proofs.lemmas.List.{append-nil, append_cancel_right, map-append}
 use Rattle.sb_plain.specs.declared.command.Command.{Command}
 use Rattle.sb_tokens.specs.declared.token.Token.{Token}
@@ -9,8 +9,11 @@ use Rattle.sb_tokens.specs.declared.token.Ending.TheVariants.{Whole, Stuck}
 use Rattle.sb_tokens.specs.Rows.{IsRow, HasOneRow, tokens_of}
 use Rattle.sb_grammar.specs.Grammar.{Spells}
 use Rattle.sb_grammar.specs.Columns.{IsCommand, IsFault, Begins, Misfit, FaultBehind, Says, Bad, IsItem, is_long}
-use Rattle.sb_reader.specs.Outcome.{EndsAtMisfit}
-use Rattle.sb_reader.specs.Line.{SaysOneThing, column_at}
+use Rattle.sb_reader.specs.declared.fault.Fault.{Fault}
+use Rattle.sb_reader.specs.declared.fault.Fault.TheVariants as fault
+use Rattle.sb_reader.specs.declared.line.LineFault.{LineFault}
+use Rattle.sb_reader.specs.Outcome.{EndsAtMisfit, FaultIsMisfit}
+use Rattle.sb_reader.specs.Line.{IsRead, SaysOneThing, column_at, unless_stuck, line_fault}
 use Rattle.sb_reader.proofs.Whole.{one_spelled}
 
 -- ---- where the fault is
@@ -52,6 +55,15 @@ bad_when_stuck line tokens place c short row s = inr (short, record { tokens = t
 pub bad_at_misfit : (line : List ℕ) (tokens rest : List Placed) (ending : Ending) (column : ℕ) → is_long line ≡ false → IsRow line tokens ending → EndsAtMisfit tokens rest → column ≡ column_at rest ending → IsItem line (Bad column)
 bad_at_misfit line tokens rest ending column short row m e =
     subst (λ n. IsItem line (Bad n)) (sym e) (inr (short, record { tokens = tokens; ending = ending; is_row = row; fault = misfit_fault tokens rest ending m }))
+
+-- ---- what is answered
+pub read_whole : (line : List ℕ) (tokens : List Placed) (ending : Ending) (c : Command) (r : Result Command LineFault) → is_long line ≡ false → IsRow line tokens ending → Spells c (tokens_of tokens) → r ≡ unless_stuck c ending → IsRead line r
+read_whole line tokens (Whole end) c r short row s e = subst (IsRead line) (sym e) (short, record { tokens = tokens; column = end; is_row = row; spelled = s })
+read_whole line tokens (Stuck place) c r short row s e = subst (IsRead line) (sym e) (bad_when_stuck line tokens place c short row s)
+
+pub read_fault : (line : List ℕ) (tokens : List Placed) (ending : Ending) (kind : Fault) (r : LineFault) → is_long line ≡ false → IsRow line tokens ending → FaultIsMisfit tokens (Err kind) → r ≡ line_fault kind ending → IsRead line (Err r)
+read_fault line tokens ending fault.NoMemory r short row m e = subst (λ (k : LineFault). IsRead line (Err k)) (sym e) tt
+read_fault line tokens ending (fault.Misfit rest) r short row m e = subst (λ (k : LineFault). IsRead line (Err k)) (sym e) (bad_at_misfit line tokens rest.now ending (column_at rest.now ending) short row m refl)
 
 -- ---- it says one thing
 -- a row of tokens has one fault

@@ -5,6 +5,8 @@ use Rattle.sb_tokens.specs.declared.token.Ending.{Ending}
 use Rattle.sb_tokens.specs.declared.token.Ending.TheVariants.{Whole, Stuck}
 use Rattle.sb_plain.specs.declared.command.Command.{Command}
 use Rattle.sb_grammar.specs.Columns.{Item, Says, Bad, IsItem}
+use Rattle.sb_reader.specs.declared.fault.Fault.{Fault}
+use Rattle.sb_reader.specs.declared.fault.Fault.TheVariants as fault
 use Rattle.sb_reader.specs.declared.line.LineFault.{LineFault}
 use Rattle.sb_reader.specs.declared.line.LineFault.TheVariants.{Syntax, NoMemory}
 
@@ -19,6 +21,16 @@ abbrev pub column_at : List Placed → Ending → ℕ
 column_at [] (Whole column) = column
 column_at [] (Stuck column) = column
 column_at (t ∷ ts) ending = t.column
+
+-- the command, unless no token was found behind its own
+abbrev pub unless_stuck : Command → Ending → Result Command LineFault
+unless_stuck c (Whole column) = Ok c
+unless_stuck c (Stuck column) = Err (Syntax column)
+
+-- the fault of the line, where its tokens are no command
+abbrev pub line_fault : Fault → Ending → LineFault
+line_fault fault.NoMemory ending = NoMemory
+line_fault (fault.Misfit rest) ending = Syntax (column_at rest.now ending)
 
 -- no line says two things
 abbrev pub SaysOneThing : List ℕ → Type 0

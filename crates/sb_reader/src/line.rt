@@ -7,7 +7,7 @@ ghost use Rattle.sb_reader.specs.Line.{IsRead, SaysOneThing};
 use crate::fault::Fault;
 use crate::reading::read_command;
 use sb_plain::Command;
-use sb_tokens::{Ending, Placed, has_one_row, scan};
+use sb_tokens::{Ending, Placed, Row, has_one_row, scan};
 use std::alloc::{AllocError, Global};
 
 /// How many bytes a line may have.
@@ -43,6 +43,32 @@ fn column_at(tokens: &[Placed], ending: Ending) -> u32
     }
 }
 
+/// The command, unless bytes behind its tokens are none.
+fn unless_stuck(command: Command, ending: Ending) -> Result<Command, LineFault>
+    ensures { result ≡ spec.unless_stuck command ending }
+{
+    match ending {
+        Ending::Whole(_) => Ok(command),
+        Ending::Stuck(column) => {
+            drop(command);
+            Err(LineFault::Syntax { column })
+        }
+    }
+}
+
+/// The line's fault, where its tokens are no command.
+fn line_fault(fault: Fault<'_>, row: &Row) -> LineFault
+    ensures { result ≡ spec.line_fault fault.entry row.now.ending }
+{
+    match fault {
+        Fault::Misfit(rest) => {
+            let column = column_at(rest, row.ending);
+            LineFault::Syntax { column }
+        }
+        Fault::NoMemory => LineFault::NoMemory,
+    }
+}
+
 /// The command that a line spells, or the column of its fault.
 pub fn parse_line(alloc: Global, line: &[u8]) -> Result<Command, LineFault>
     ensures read { IsRead line.now result }
@@ -52,15 +78,8 @@ pub fn parse_line(alloc: Global, line: &[u8]) -> Result<Command, LineFault>
     }
     let row = scan(alloc, line)?;
     match read_command(alloc, &row.tokens) {
-        Ok(command) => match row.ending {
-            Ending::Whole(_) => Ok(command),
-            Ending::Stuck(column) => Err(LineFault::Syntax { column }),
-        },
-        Err(Fault::Misfit(rest)) => {
-            let column = column_at(rest, row.ending);
-            Err(LineFault::Syntax { column })
-        }
-        Err(Fault::NoMemory) => Err(LineFault::NoMemory),
+        Ok(command) => unless_stuck(command, row.ending),
+        Err(fault) => Err(line_fault(fault, &row)),
     }
 }
 

@@ -46,7 +46,7 @@ returns-clause-reply g c = λ want s kept r has keeps ranges.
     let rule = IsRule-named _ c.args.place.root s kept r c.args.opened.now c.args.name.now c.in-Some.index.now keeps c.requires.open (sym c.instance_named.ensures ∙ ap (λ (x : Option (Bor Instance)). option_copied x) c.in-Some.is) in
     let o = c.args.opened.now in
     let found = c.in_ok-entries.ensures.entries want s kept rule.content has rule.has
-    ∙ (λ i. filter (is_within (c.in_ok-low.ensures i) (Some (c.in_ok-high.ensures i))) rule.content.entries) in
+    ∙ (λ i. filter (is_within (c.in_ok-low.ensures.code i) (Some (c.in_ok-high.ensures.code i))) rule.content.entries) in
     let read = c.in_ok-rows.ensures.rows want s r.rows (c.in_ok-entries.ensures.looks.same want s has) keeps.rows ∙ ap (filter_map (row_of r.rows)) (c.deref.ensures.value ∙ found) in
     let all = ranged (Some rule.box.rules) (db_of kept) o.name r (attachment_in r c.args.name.now) rule.a c.args.low.now c.args.high.now rule.content.entries c.in_ok-rows.rows.items keeps.there rule.found ranges rule.entries read in
     cc
