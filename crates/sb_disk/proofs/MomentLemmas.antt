@@ -1,9 +1,9 @@
 -- How a run of calls goes on, and what a crash in it may leave.
 use Rattle.std.proofs.Common.{◌≡◌, inl, inr, ⊎_elim, ℕ, ◌+◌, ◌<◌, ◌≤◌, Option, Some, None, Result, Ok, Err, OnOk, OnErr, List, [], ◌∷◌, length, refl, sym, ◌∙◌, subst, arith}
 use Rattle.std.proofs.lemmas.Bool.{cases_lt}
-use Rattle.sb_disk.specs.Disk.{Range, Moment, Story, AgreesBut, Leaves, WhereTold, splice, after_write, after_sync, after_failed_sync, wrote, synced, WriteFault, TornWrite, IdleWrite, LateWrite, SyncFault, LostSync, LateSync, FailedWrite, FailedSync, Mounted}
+use Rattle.sb_disk.specs.Disk.{Range, Moment, Story, Covered, Leaves, WhereTold, splice, after_write, after_sync, after_failed_sync, wrote, synced, WriteFault, TornWrite, IdleWrite, LateWrite, SyncFault, LostSync, LateSync, FailedWrite, FailedSync, Mounted}
 use Rattle.sb_disk.specs.Moments.{moment, contents, LeftAt, MayLeave, LeavesOnly, LeavesNow, LeavesTorn, IsSettled, Within, Sized, Step, Write, Sync, RanOk, RanErr, AllAlong, AllWithin}
-use Rattle.sb_disk.proofs.RangeLemmas.{AgreesBut-more, AgreesBut-then, AgreesBut-twice, AgreesBut-none, splice-AgreesBut}
+use Rattle.sb_disk.proofs.RangeLemmas.{AgreesBut-more, AgreesBut-then, AgreesBut-twice, AgreesBut-uncovered, splice-AgreesBut}
 
 -- ---- any run
 -- a moment of some has a number below theirs
@@ -150,14 +150,41 @@ FailedSync-LeavesNow None new failed image left = subst (λ (n : Option Story). 
 FailedSync-LeavesNow (Some s) None failed image left = absurd failed
 FailedSync-LeavesNow (Some s) (Some t) failed image left = sync_fault_left s t failed image left
 
--- where nothing is pending, the contents
+-- ---- where no byte is pending
+-- a crash leaves the contents
 pub IsSettled-LeavesNow : (a : Option Story) → IsSettled a → (image : List ℕ) → LeavesNow a image → image ≡ contents a
 IsSettled-LeavesNow None settled image left = absurd left
-IsSettled-LeavesNow (Some s) settled image left = AgreesBut-none s.now.reads image (subst (λ (ranges : List Range). AgreesBut ranges s.now.reads image) settled left)
+IsSettled-LeavesNow (Some s) settled image left = AgreesBut-uncovered s.now.written s.now.reads image settled left
 
 pub synced-IsSettled : (a new : Option Story) → new ≡ synced a → IsSettled new
 synced-IsSettled None new is = subst IsSettled (sym is) tt
-synced-IsSettled (Some s) new is = subst IsSettled (sym is) refl
+synced-IsSettled (Some s) new is = subst IsSettled (sym is) (λ i none. none)
+
+-- where no range is pending, no byte is
+pub IsSettled-none : (s : Story) → s.now.written ≡ [] → IsSettled (Some s)
+IsSettled-none s none i covered = subst (λ (ranges : List Range). Covered i ranges) none covered
+
+-- a range of no bytes more
+none_more : (at : ℕ) (ranges : List Range) → ((i : ℕ) → ¬ Covered i ranges) → (i : ℕ) → ¬ Covered i (record { start = at; len = 0 } ∷ ranges)
+none_more at ranges none i covered = ⊎_elim
+    (λ (here : (at ≤ i) × (i < at + 0)). let from = here.0 in let to = here.1 in absurd (omega arith))
+    (λ there. none i there)
+    covered
+
+-- a write of no bytes, of either end
+pub IsSettled-wrote : (at : ℕ) (told : Option Story) → IsSettled told → IsSettled (wrote at [] told)
+IsSettled-wrote at None settled = tt
+IsSettled-wrote at (Some s) settled = none_more at s.now.written settled
+
+write_fault_settled : (at : ℕ) (old new : Story) → IsSettled (Some old) → WriteFault at 0 old new → IsSettled (Some new)
+write_fault_settled at old new settled (TornWrite reads agrees is) = subst (λ (u : Story). IsSettled (Some u)) (sym is) (none_more at old.now.written settled)
+write_fault_settled at old new settled (IdleWrite is) = subst (λ (u : Story). IsSettled (Some u)) (sym is) settled
+write_fault_settled at old new settled (LateWrite is) = subst (λ (u : Story). IsSettled (Some u)) (sym is) settled
+
+pub IsSettled-FailedWrite : (at : ℕ) (old new : Option Story) → IsSettled old → FailedWrite at 0 old new → IsSettled new
+IsSettled-FailedWrite at None new settled failed = subst IsSettled (sym failed) tt
+IsSettled-FailedWrite at (Some s) None settled failed = absurd failed
+IsSettled-FailedWrite at (Some s) (Some t) settled failed = write_fault_settled at s t settled failed
 
 -- ---- one call more in a run, for each call and each of its ends
 pub on_write : (a b new : Option Story) (P : List ℕ → Type 0) (at : ℕ) (bytes : List ℕ) → Within at (length bytes) b → LeavesOnly a b P → new ≡ wrote at bytes b
@@ -184,13 +211,13 @@ on_sync_call (Ok x) a b new P so_far ok err = on_sync a b new P so_far ok
 on_sync_call (Err e) a b new P so_far ok err = on_failed_sync a b new P so_far err
 
 -- ---- mounting
--- where nothing was pending, nothing is
+-- where no byte was pending, none is
 pub Mounted-IsSettled : (a new : Option Story) → Mounted a new → IsSettled a → IsSettled new
 Mounted-IsSettled None new mounted settled = subst IsSettled (sym mounted) tt
 Mounted-IsSettled (Some s) None mounted settled = absurd mounted
-Mounted-IsSettled (Some s) (Some t) mounted settled = mounted.written ∙ settled
+Mounted-IsSettled (Some s) (Some t) mounted settled = λ i covered. settled i (subst (λ (ranges : List Range). Covered i ranges) mounted.written covered)
 
--- A mount before which nothing was pending leaves the bytes that are read after it, and nothing else.
+-- A mount before which no byte was pending leaves the bytes that are read after it, and nothing else.
 pub on_mount : (a b new : Option Story) (P : List ℕ → Type 0) → LeavesOnly a b P → IsSettled b → Mounted b new → P (contents new) → LeavesOnly a new P
 on_mount a None new P so_far settled mounted has = subst (λ (n : Option Story). LeavesOnly a n P) (sym mounted) so_far
 on_mount a (Some s) None P so_far settled mounted has = absurd mounted

@@ -3,7 +3,7 @@ use Rattle.std.proofs.Common.{◌≡◌, inl, inr, ⊎_elim, ℕ, ◌+◌, ◌-�
 use Rattle.std.proofs.lemmas.List.{length-take, get_or_append_left, get_or-append_right, get_or-take, get_or-drop, ext_get_or, take_at, drop_at}
 use Rattle.std.proofs.lemmas.Bool.{cases_lt}
 use Rattle.std.proofs.lemmas.Grind.{common_steps}
-use Rattle.sb_disk.specs.Disk.{Range, AgreesBut, splice}
+use Rattle.sb_disk.specs.Disk.{Range, Covered, AgreesBut, splice}
 use Rattle.sb_disk.specs.Moments.{Sure}
 
 -- bytes that agree at each place of a range are the same there
@@ -24,8 +24,11 @@ pub AgreesBut-byte : (ranges : List Range) (old new : List ℕ) (at count i : �
 AgreesBut-byte ranges old new at count i agrees sure from to = agrees.bytes i (sure i from to)
 
 -- where no byte may differ
+pub AgreesBut-uncovered : (ranges : List Range) (old new : List ℕ) → ((i : ℕ) → ¬ Covered i ranges) → AgreesBut ranges old new → new ≡ old
+AgreesBut-uncovered ranges old new none agrees = ext_get_or 0 new old (sym agrees.size) (λ i below. sym (agrees.bytes i (none i)))
+
 pub AgreesBut-none : (old new : List ℕ) → AgreesBut [] old new → new ≡ old
-AgreesBut-none old new agrees = ext_get_or 0 new old (sym agrees.size) (λ i below. sym (agrees.bytes i (λ none. none)))
+AgreesBut-none old new agrees = AgreesBut-uncovered [] old new (λ i none. none) agrees
 
 pub AgreesBut-same : (ranges : List Range) (bytes : List ℕ) → AgreesBut ranges bytes bytes
 AgreesBut-same ranges bytes = record { size = refl; bytes = λ i out. refl }

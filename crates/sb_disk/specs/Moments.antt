@@ -43,10 +43,10 @@ LeavesTorn at count (Some s) image = AgreesBut (record { start = at; len = count
 abbrev pub Sure : ℕ → ℕ → List Range → Type 0
 Sure at count written = (i : ℕ) → at ≤ i → i < at + count → ¬ Covered i written
 
--- no write is pending
+-- no byte is pending
 abbrev pub IsSettled : Option Story → Type 0
 IsSettled None = Unit {0}
-IsSettled (Some s) = s.now.written ≡ []
+IsSettled (Some s) = (i : ℕ) → ¬ Covered i s.now.written
 
 -- the range lies in the disk
 abbrev pub Within : ℕ → ℕ → Option Story → Type 0

@@ -3,8 +3,10 @@
 
 mod bytes;
 mod disk;
+mod laws;
 mod streams;
 
 pub use bytes::splice;
 pub use disk::Disk;
+pub use laws::{no_bytes_leave_none_pending, settled_leaves_contents};
 pub use streams::{Failed, Sink, Source};

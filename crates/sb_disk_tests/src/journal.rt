@@ -4,7 +4,7 @@ ghost use Rattle.std.specs.Prelude.{◌≡◌, ◌<◌, ◌≤◌, true, length,
 ghost use Rattle.sb_disk.specs.Moments.{IsSettled};
 ghost use Rattle.sb_journal.specs.State.{Lies, StandsOn};
 
-use sb_disk::Disk;
+use sb_disk::{Disk, Failed, no_bytes_leave_none_pending};
 use sb_journal::{Journal, JournalFault, Region, one_reading, past_is_one, past_is_unread};
 use sb_memdisk::MemDisk;
 use std::alloc::Global;
@@ -79,6 +79,15 @@ fn holds<D: Disk>(journal: &mut Journal, disk: &mut D, i: u32, bytes: &[u8]) -> 
     journal.read_chunk(disk, i, 0, held).is_ok() && &*held == bytes
 }
 
+// A write of no bytes.
+fn write_nothing<D: Disk>(disk: &mut D) -> Result<(), Failed>
+    requires settled { IsSettled (D.told disk.old) }
+    ensures settled { IsSettled (D.told disk.new) }
+{
+    no_bytes_leave_none_pending();
+    disk.write_at(0, b"")
+}
+
 // The number of chunks, where these are the first that a run makes.
 fn found<D: Disk>(alloc: Global, disk: &mut D) -> Option<u32>
     requires settled { IsSettled (D.told disk.old) }
@@ -125,6 +134,19 @@ fn a_stop_leaves_a_prefix_with_all_that_was_forced(rt: HostRuntime) -> Result<()
                 "call {call}, {torn} bytes"
             );
         }
+    }
+    Ok(())
+}
+
+#[test]
+fn a_journal_opens_behind_a_write_of_no_bytes(rt: HostRuntime) -> Result<(), Fail> {
+    let alloc = rt.alloc();
+    for (failing, written) in [(9, true), (0, false)] {
+        let mut disk = MemDisk::new(alloc, 64)?;
+        disk.fail_at(&[failing])?;
+        let done = write_nothing(&mut disk).is_ok();
+        let opened = open_on(alloc, &mut disk).is_ok();
+        assert!(rt; done == written && opened, "call {failing} fails");
     }
     Ok(())
 }

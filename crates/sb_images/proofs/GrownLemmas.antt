@@ -2,6 +2,7 @@
 use Rattle.std.proofs.Common.{◌≡◌, ℕ, ◌+◌, ◌-◌, ◌<◌, ◌≤◌, Option, Some, None, List, [], ◌∷◌, length, take, drop, get_or, sym, ◌∙◌, ap, subst, arith}
 use Rattle.std.proofs.lemmas.List.{take-take, drop-take, get_or-take}
 use Rattle.sb_disk.specs.Disk.{Story, Mounted}
+use Rattle.sb_disk.proofs.MomentLemmas.{Mounted-IsSettled}
 use Rattle.sb_journal.specs.Chunks.{ReadsFrom}
 use Rattle.sb_log.specs.declared.geometry.Geometry.{Geometry}
 use Rattle.sb_log.specs.Restored.{restored}
@@ -60,4 +61,4 @@ module _ (old new : List ℕ) (front : take (length old) new ≡ old) (longer : 
 pub IsMounted-mount : (want : ℕ → List ℕ) (g : Geometry) (told new : Option Story) → Mounted told new → IsMounted want told g → IsMounted want new g
 IsMounted-mount want g None new grown mounted = subst (λ (m : Option Story). IsMounted want m g) (sym grown) tt
 IsMounted-mount want g (Some s) None grown mounted = absurd grown
-IsMounted-mount want g (Some s) (Some t) grown mounted = (grown.written ∙ mounted.0, Restores-grown s.now.reads t.now.reads grown.front grown.longer g want mounted.1)
+IsMounted-mount want g (Some s) (Some t) grown mounted = (Mounted-IsSettled (Some s) (Some t) grown mounted.0, Restores-grown s.now.reads t.now.reads grown.front grown.longer g want mounted.1)

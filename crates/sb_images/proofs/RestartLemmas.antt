@@ -3,11 +3,10 @@ use Rattle.std.proofs.Common.{◌≡◌, inl, inr, ⊎_elim, ℕ, ◌+◌, ◌<�
 use Rattle.std.proofs.lemmas.Bool.{cases_Bool}
 use Rattle.std.proofs.lemmas.List.{append-nil}
 use Rattle.sb_disk.specs.Disk.{Range, Story, WhereTold}
-use Rattle.sb_disk.specs.Moments.{LeavesOnly, Sure}
-use Rattle.sb_disk.proofs.MomentLemmas.{started, Leaves-reads, IsSettled-LeavesNow}
+use Rattle.sb_disk.specs.Moments.{LeavesOnly, IsSettled, Sure}
+use Rattle.sb_disk.proofs.MomentLemmas.{started, Leaves-reads, IsSettled-LeavesNow, IsSettled-none}
 use Rattle.sb_journal.specs.Chunks.{IsOpen, ReadsAs, bytes_of}
 use Rattle.sb_journal.specs.State.{State, Sound, Stands, StandsOn, chunks_of, Closed, after_close}
-use Rattle.sb_journal.proofs.RegionLemmas.{none_sure}
 use Rattle.sb_log.specs.declared.geometry.Geometry.{Geometry}
 use Rattle.sb_log.specs.Records.{Record, AreRecords, Spells}
 use Rattle.sb_log.specs.Restored.{restored, imaged, IsCovered}
@@ -32,7 +31,7 @@ LeavesOnly-mounted want (Some s) g mounted = started (Some s) (Restores g want) 
 
 -- ---- what is found
 module _ (want : ℕ → List ℕ) (j : State) (g : Geometry) (gates : j.gates ≡ gates_of g) (log : j.log ≡ log_of g) (sound : Sound j) (up : j.failed ≡ false) (none : j.pending ≡ 0) (chunks : List (List ℕ)) (recs : List Record) (all : AreRecords recs) (spells : Spells chunks recs) where
-  module _ (s : Story) (stands : Stands s j) (settled : s.now.written ≡ []) (restores : Restores g want s.now.reads) (are : chunks ≡ chunks_of j s.now.reads) where
+  module _ (s : Story) (stands : Stands s j) (settled : IsSettled (Some s)) (restores : Restores g want s.now.reads) (are : chunks ≡ chunks_of j s.now.reads) where
     reads_here : ReadsAs (gates_of g) (log_of g) s.now.reads chunks
     reads_here = subst (λ (cs : List (List ℕ)). ReadsAs (gates_of g) (log_of g) s.now.reads cs) (sym are)
         (subst (λ (r : Range). ReadsAs r (log_of g) s.now.reads (chunks_of j s.now.reads)) gates (subst (λ (r : Range). ReadsAs j.gates r s.now.reads (chunks_of j s.now.reads)) log stands.reads))
@@ -41,7 +40,7 @@ module _ (want : ℕ → List ℕ) (j : State) (g : Geometry) (gates : j.gates �
     recs_are = Logs-one g s.now.reads restores.recs chunks recs restores.store.sizes restores.logs reads_here all spells
 
     settled_sure : (at count : ℕ) → Sure at count s.now.written
-    settled_sure at count = subst (λ (w : List Range). Sure at count w) (sym settled) (none_sure at count)
+    settled_sure at count = λ i from to. settled i
 
     ready_here : IsReady want s j g recs []
     ready_here = record {
@@ -57,7 +56,7 @@ module _ (want : ℕ → List ℕ) (j : State) (g : Geometry) (gates : j.gates �
       same = λ p lt. ap (λ (l : List Record). restored l p (page_at g p s.now.reads)) recs_are ∙ restores.each p lt;
     }
 
-  -- where the contents restore these pages and no write is pending, the records that are read in the chunks make the store ready
+  -- where the contents restore these pages and no byte is pending, the records that are read in the chunks make the store ready
   pub IsReadyOn-mounted : (told : Option Story) → StandsOn told j → IsMounted want told g → AreChunks told j chunks → IsReadyOn want told j g recs []
   IsReadyOn-mounted None stands mounted are = tt
   IsReadyOn-mounted (Some s) stands mounted are = ready_here s (stands up) mounted.0 mounted.1 are
@@ -81,7 +80,7 @@ module _ (j k : State) (g : Geometry) where
   pub IsMounted-close : (want : ℕ → List ℕ) (told new : Option Story) → WhereTold told new (Closed j k) → IsReadyOn want new k g [] [] → IsMounted want new g
   IsMounted-close want None new closed ready = subst (λ (m : Option Story). IsMounted want m g) (sym closed) tt
   IsMounted-close want (Some s) None closed ready = absurd closed
-  IsMounted-close want (Some s) (Some t) closed ready = (closed.settled, Restores-contents want t k g [] [] ready)
+  IsMounted-close want (Some s) (Some t) closed ready = (IsSettled-none t closed.settled, Restores-contents want t k g [] [] ready)
 
   shut_close : (s t : Story) → k ≡ after_close j → j.gates ≡ gates_of g → Closed j k s t → (i : ℕ) → 4096 ≤ i → i < 69632 → ¬ IsOpen t.now.reads i
   shut_close s t done gates closed i from to =

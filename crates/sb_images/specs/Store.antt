@@ -1,7 +1,7 @@
 -- What holds of a store's disk while its log grows and its pages are written.
 use Rattle.std.specs.Prelude.{◌≡◌, ◌⊎◌, ℕ, ◌<◌, ◌≤◌, true, false, Option, Some, None, List, [], ◌++◌}
 use Rattle.sb_disk.specs.Disk.{Story}
-use Rattle.sb_disk.specs.Moments.{Sure}
+use Rattle.sb_disk.specs.Moments.{IsSettled, Sure}
 use Rattle.sb_journal.specs.Chunks.{IsOpen}
 use Rattle.sb_journal.specs.State.{State, Sound, Stands, chunks_of, pending_of}
 use Rattle.sb_log.specs.declared.geometry.Geometry.{Geometry}
@@ -113,10 +113,10 @@ OnDisk pages None g = Unit {0}
 OnDisk pages (Some s) g =
     (p : ℕ) → p < g.pages → Sure (place_of g p) 4096 s.now.written × (page_at g p s.now.reads ≡ pages p)
 
--- no write is pending, and the contents restore these pages
+-- no byte is pending, and the contents restore these pages
 abbrev pub IsMounted : (ℕ → List ℕ) → Option Story → Geometry → Type 0
 IsMounted want None g = Unit {0}
-IsMounted want (Some s) g = (s.now.written ≡ []) × Restores g want s.now.reads
+IsMounted want (Some s) g = IsSettled (Some s) × Restores g want s.now.reads
 
 -- these are the chunks of the journal
 abbrev pub AreChunks : Option Story → State → List (List ℕ) → Type 0

@@ -1,11 +1,10 @@
 -- A write outside the regions of a journal, as that of a page.
-use Rattle.std.proofs.Common.{◌≡◌, inl, inr, ⊎_elim, ℕ, ◌+◌, ◌<◌, ◌≤◌, Option, Some, None, List, [], ◌∷◌, length, get_or, sym, ◌∙◌, subst, arith}
+use Rattle.std.proofs.Common.{◌≡◌, inl, inr, ⊎_elim, ℕ, ◌+◌, ◌≤◌, Option, Some, None, List, [], ◌∷◌, length, sym, subst, arith}
 use Rattle.sb_disk.specs.Disk.{Range, Story, AgreesBut, splice, after_write, after_idle, after_sync, after_failed_sync, wrote, synced, WriteFault, TornWrite, IdleWrite, LateWrite, SyncFault, LostSync, LateSync, FailedWrite, FailedSync}
 use Rattle.sb_disk.specs.Moments.{LeavesTorn, Sure}
 use Rattle.sb_disk.proofs.RangeLemmas.{splice-AgreesBut}
 use Rattle.sb_journal.specs.Chunks.{ReadsAs, bytes_of}
 use Rattle.sb_journal.specs.State.{State, chunks_of, Lies, Sound, Stands, StandsOn, IsOff}
-use Rattle.sb_journal.proofs.ChunkLemmas.{chunks_from_kept}
 use Rattle.sb_journal.proofs.RegionLemmas.{Ready, lies_on, none_sure, sure_more, kept_by, Stands-but}
 
 module _ (s : Story) (j : State) (stands : Stands s j) (lies : Lies (length s.now.reads) j.gates j.log) (sound : Sound j) (at count : ℕ) (off : IsOff j at count) where

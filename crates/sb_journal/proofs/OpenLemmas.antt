@@ -7,8 +7,8 @@ use Rattle.sb_disk.specs.Disk.{Range, Story, Fits, Reads}
 use Rattle.sb_journal.specs.Chunks.{IsOpen, ReadsFrom, bytes_of, chunks_from}
 use Rattle.sb_journal.specs.Opening.{GateIs, OpenGates, IsShut, LengthIs, BeginsFrom, Begins, ReadAll, RunsPast, AllShut, opened}
 use Rattle.sb_journal.specs.State.{StandsOn}
-use Rattle.sb_disk.specs.Moments.{IsSettled, Sure}
-use Rattle.sb_journal.proofs.RegionLemmas.{none_sure, take_two}
+use Rattle.sb_disk.specs.Moments.{IsSettled}
+use Rattle.sb_journal.proofs.RegionLemmas.{take_two}
 
 -- one chunk more
 begins_more : (lens : List ℕ) (n gate gates_end at log_end : ℕ) (image : List ℕ)
@@ -121,14 +121,14 @@ no_room (Some s) gates log lens n len is below short begins is_open spelled past
   },
 )
 
--- a journal that is opened where nothing is pending stands
+-- a journal that is opened where no byte is pending stands
 pub opens : (told : Option Story) (gates log : Range) (lens : List ℕ) (clean : Bool) → ReadAll told gates log lens
     → AllShut told (gates.start + length lens) (gates.start + gates.len) clean → IsSettled told → StandsOn told (opened gates log lens clean)
 opens None gates log lens clean read shut settled = tt
 opens (Some s) gates log lens clean read shut settled = λ up. record {
   reads = read;
-  gates = subst (λ (ranges : List Range). Sure gates.start gates.len ranges) (sym settled) (none_sure gates.start gates.len);
-  chunks = subst (λ (ranges : List Range). Sure log.start (bytes_of lens) ranges) (sym settled) (none_sure log.start (bytes_of lens));
+  gates = λ i from to. settled i;
+  chunks = λ i from to. settled i;
   shut = shut;
 }
 

@@ -19,7 +19,7 @@ pub record StoresSome (m : Meanings) (told : Option Story) (db : Db) : Type 0 wh
   pub want : Wanted
   pub stored : IsStored m told geometry want db
 
--- a disk on which no write is pending, with the contents of an image that holds a database, stores it for the same boxes
+-- a disk on which no byte is pending, with the contents of an image that holds a database, stores it for the same boxes
 abbrev pub HeldIsStored : Type 0
 HeldIsStored =
     (m n : Meanings) (image : List ℕ) (db : Db) (told : Option Story) → AreSameBoxes m n → HoldsDatabase m image db → is_some told ≡ true → IsSettled told

@@ -1,6 +1,7 @@
 -- A commit while other transactions are active.
 use Rattle.std.proofs.Common.{◌≡◌, ⊎_elim, ℕ, ◌+◌, ◌≤◌, Bool, true, false, cond, ◌&&◌, ◌||◌, ◌==◌, List, [], ◌∷◌, ◌++◌, length, refl, sym, ◌∙◌, ap, subst, arith}
 use Rattle.std.proofs.lemmas.Bool.{eqb-true, ne_eqb, both_ways, and_parts}
+use Rattle.std.proofs.Math.Bool.{or-false}
 use Rattle.sb_disk.specs.Disk.{splice}
 use Rattle.sb_disk.proofs.RangeLemmas.{length-splice}
 use Rattle.sb_log.specs.Records.{Change, Record}
@@ -8,7 +9,6 @@ use Rattle.sb_log.specs.Standing.{keep, standing, committed}
 use Rattle.sb_log.specs.Restored.{base, over, counting, restored}
 use Rattle.sb_log.specs.Undoing.{AreApart, IsClearOf, AreUndoable}
 use Rattle.sb_log.specs.Views.{Active, ending, is_active, cut, counts, changes, IsInactive, AreActive, IsPage}
-use Rattle.sb_log.proofs.StandingLemmas.{or_false}
 use Rattle.sb_log.proofs.RestoredLemmas.{counting-keep, counting-agree}
 use Rattle.sb_log.proofs.ViewLemmas.{restored-ending}
 use Rattle.sb_log.proofs.SpliceLemmas.{splice-swap}
@@ -108,7 +108,7 @@ pub restored-commit_over : (recs : List Record) (o : Active) (rest : List Active
     → restored (recs ++ ending (o ∷ [])) p disk ≡ over (counting (is_of o) p (keep o.tx o.n (standing recs))) (restored recs p disk)
 restored-commit_over recs o rest p disk now out page =
     restored-ending recs (o ∷ []) p disk
-    ∙ ap (λ (cs : List Change). over cs (base p recs disk)) (counting-agree (counts recs (o ∷ [])) (ours recs o) p (keep o.tx o.n (standing recs)) (λ tx. ap (λ (x : Bool). committed recs tx || x) (or_false (o.tx == tx)))
+    ∙ ap (λ (cs : List Change). over cs (base p recs disk)) (counting-agree (counts recs (o ∷ [])) (ours recs o) p (keep o.tx o.n (standing recs)) (λ tx. ap (λ (x : Bool). committed recs tx || x) (or-false (o.tx == tx)))
     ∙ sym (in_all (ours recs o) (λ tx is. sub tx (committed recs tx) (o.tx == tx) (is_active rest tx) is) (AreOff-rest recs o rest out.1 out.2)))
     ∙ over-either (committed recs) (is_of o) 4096 p (changes recs (o ∷ rest) p) (base p recs disk) (λ tx is own. never tx tx is own refl) page.long
     (AreApartFrom-undoable (is_active (o ∷ rest)) (committed recs) (is_of o) 4096 p (base p recs disk) (changes recs (o ∷ rest) p) (λ tx is. rw is refl) never page.undo)

@@ -1,6 +1,7 @@
 -- Pages without an Image, which are on the disk as they are now.
-use Rattle.std.proofs.Common.{◌≡◌, ℕ, suc, zero, Bool, true, false, cond, ◌&&◌, ◌||◌, ◌==◌, List, [], ◌∷◌, ◌++◌, refl, sym, ◌∙◌, ap, subst}
-use Rattle.std.proofs.lemmas.Bool.{ne_eqb, both_ways}
+use Rattle.std.proofs.Common.{◌≡◌, ℕ, suc, zero, Bool, true, false, cond, ◌==◌, List, [], ◌∷◌, ◌++◌, refl, sym, ◌∙◌, ap, subst}
+use Rattle.std.proofs.lemmas.Bool.{ne_eqb, both_ways, or_parts}
+use Rattle.std.proofs.Math.Bool.{and-false}
 use Rattle.sb_log.specs.Records.{Change, Record, Begin, Image, Changed, Back, Commit}
 use Rattle.sb_log.specs.Standing.{keep, stood, stood_all, standing, committed}
 use Rattle.sb_log.specs.Restored.{base, over, counting, restored, imaged, IsCoveredBy, IsCoveredBehind, IsCovered, IsHarmless}
@@ -35,22 +36,14 @@ NoPage-cut p (o ∷ active) cs none = NoPage-cut p active (keep o.tx o.n cs) (No
 
 NoPage-counting : (f : ℕ → Bool) (p : ℕ) (cs : List Change) → NoPage p cs → counting f p cs ≡ []
 NoPage-counting f p [] none = refl
-NoPage-counting f p (c ∷ cs) none = rw (ne_eqb c.page p none.0, and_false (f c.tx)) (NoPage-counting f p cs none.1)
-  where
-    and_false : (x : Bool) → (x && false) ≡ false
-    and_false true = refl
-    and_false false = refl
-
-or_left : (x y : Bool) → (x || y) ≡ false → x ≡ false
-or_left true y is = is
-or_left false y is = refl
+NoPage-counting f p (c ∷ cs) none = rw (ne_eqb c.page p none.0, and-false (f c.tx)) (NoPage-counting f p cs none.1)
 
 -- covered records change no page of which they hold no Image
 NoPage-stood_all : (p : ℕ) (past rs : List Record) (cs : List Change) → IsCoveredBehind past rs → imaged (past ++ rs) p ≡ false → NoPage p cs → NoPage p (stood_all cs rs)
 NoPage-stood_all p past [] cs covered is none = none
 NoPage-stood_all p past (r ∷ rs) cs covered is none =
     NoPage-stood_all p (past ++ r ∷ []) rs (stood cs r) covered.1 (subst (λ (l : List Record). imaged l p ≡ false) (append_row past r rs) is)
-    (one r covered.0 (or_left (imaged past p) (imaged (r ∷ rs) p) (sym (imaged-append past (r ∷ rs) p) ∙ is)))
+    (one r covered.0 (or_parts (imaged past p) (imaged (r ∷ rs) p) (sym (imaged-append past (r ∷ rs) p) ∙ is)).0)
   where
     one : (r : Record) → IsCoveredBy past r → imaged past p ≡ false → NoPage p (stood cs r)
     one (Begin t) needs out = none

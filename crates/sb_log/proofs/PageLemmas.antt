@@ -1,6 +1,7 @@
 -- What each step makes of one page.
 use Rattle.std.proofs.Common.{◌≡◌, ℕ, suc, ◌+◌, ◌≤◌, Bool, true, false, cond, ◌&&◌, ◌||◌, ◌==◌, List, [], ◌∷◌, ◌++◌, length, refl, sym, ◌∙◌, ap, subst}
 use Rattle.std.proofs.lemmas.Bool.{eq-eqb, ne_eqb}
+use Rattle.std.proofs.Math.Bool.{or-true}
 use Rattle.std.proofs.lemmas.List.{append-nil}
 use Rattle.sb_disk.specs.Disk.{splice}
 use Rattle.sb_log.specs.Records.{Change, Record, Changed, Back}
@@ -110,15 +111,7 @@ pub IsPage-back : (recs : List Record) (o : Active) (rest : List Active) (bytes 
 IsPage-back recs o rest bytes now p page = IsPage-as recs (recs ++ Back o.tx o.n ∷ []) (o ∷ rest) (o ∷ rest) bytes now p (changes-back recs o rest p) (λ tx is. is) page
 
 pub IsPage-commit : (recs : List Record) (o : Active) (rest : List Active) (bytes now : List ℕ) (p : ℕ) → IsPage recs (o ∷ rest) bytes now p → IsPage (recs ++ ending (o ∷ [])) rest bytes now p
-IsPage-commit recs o rest bytes now p page = IsPage-as recs (recs ++ ending (o ∷ [])) (o ∷ rest) rest bytes now p (changes-commit recs o rest p) (λ tx is. rw is (or_true (o.tx == tx))) page
-  where
-    or_true : (x : Bool) → (x || true) ≡ true
-    or_true true = refl
-    or_true false = refl
+IsPage-commit recs o rest bytes now p page = IsPage-as recs (recs ++ ending (o ∷ [])) (o ∷ rest) rest bytes now p (changes-commit recs o rest p) (λ tx is. rw is (or-true (o.tx == tx))) page
 
 pub IsPage-drop : (recs : List Record) (tx : ℕ) (rest : List Active) (bytes now : List ℕ) (p : ℕ) → committed recs tx ≡ false → IsInactive tx rest → IsPage recs (active_with tx 0 ∷ rest) bytes now p → IsPage recs rest bytes now p
-IsPage-drop recs tx rest bytes now p off not page = IsPage-as recs recs (active_with tx 0 ∷ rest) rest bytes now p (sym (changes-drop recs tx rest p off not)) (λ t is. rw is (or_true (tx == t))) page
-  where
-    or_true : (x : Bool) → (x || true) ≡ true
-    or_true true = refl
-    or_true false = refl
+IsPage-drop recs tx rest bytes now p off not page = IsPage-as recs recs (active_with tx 0 ∷ rest) rest bytes now p (sym (changes-drop recs tx rest p off not)) (λ t is. rw is (or-true (tx == t))) page

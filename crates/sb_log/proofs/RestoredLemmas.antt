@@ -1,6 +1,7 @@
 -- What records more make of a page.
 use Rattle.std.proofs.Common.{◌≡◌, ℕ, suc, zero, Bool, true, false, cond, ◌&&◌, ◌||◌, ◌==◌, List, [], ◌∷◌, ◌++◌, refl, sym, ◌∙◌, ap, subst, arith, append_assoc}
 use Rattle.std.proofs.lemmas.Bool.{eqb-true, both_ways}
+use Rattle.std.proofs.Math.Bool.{or_assoc, or-false}
 use Rattle.std.proofs.lemmas.List.{append-nil}
 use Rattle.std.proofs.lemmas.List.Elements.{filter-append}
 use Rattle.std.proofs.lemmas.Grind.{common_steps}
@@ -8,12 +9,12 @@ use Rattle.sb_disk.specs.Disk.{splice}
 use Rattle.sb_log.specs.Records.{Change, Record, Begin, Image, Changed, Back, Commit}
 use Rattle.sb_log.specs.Standing.{keep, stood_all, standing, committed}
 use Rattle.sb_log.specs.Restored.{base, over, counting, restored, imaged, IsCoveredBehind, IsHarmless, AreHarmless}
-use Rattle.sb_log.proofs.StandingLemmas.{or_assoc, or_false, stood_all-append, committed-append}
+use Rattle.sb_log.proofs.StandingLemmas.{stood_all-append, committed-append}
 
 pub imaged-append : (a b : List Record) (p : ℕ) → imaged (a ++ b) p ≡ (imaged a p || imaged b p)
 imaged-append [] b p = refl
 imaged-append (Begin t ∷ a) b p = imaged-append a b p
-imaged-append (Image page bytes ∷ a) b p = ap (λ (x : Bool). (page == p) || x) (imaged-append a b p) ∙ or_assoc (page == p) (imaged a p) (imaged b p)
+imaged-append (Image page bytes ∷ a) b p = ap (λ (x : Bool). (page == p) || x) (imaged-append a b p) ∙ sym (or_assoc (page == p) (imaged a p) (imaged b p))
 imaged-append (Changed c ∷ a) b p = imaged-append a b p
 imaged-append (Back t n ∷ a) b p = imaged-append a b p
 imaged-append (Commit t ∷ a) b p = imaged-append a b p
@@ -86,7 +87,7 @@ restored-append a b p disk = rw (base-append p a b disk, stood_all-append [] a b
     (counting-agree (committed (a ++ b)) (λ tx. committed a tx || committed b tx) p (stood_all (standing a) b) (λ tx. committed-append a b tx)))
 
 same_live : (recs : List Record) (p : ℕ) (cs : List Change) → counting (λ tx. committed recs tx || false) p cs ≡ counting (committed recs) p cs
-same_live recs p cs = counting-agree (λ tx. committed recs tx || false) (committed recs) p cs (λ tx. or_false (committed recs tx))
+same_live recs p cs = counting-agree (λ tx. committed recs tx || false) (committed recs) p cs (λ tx. or-false (committed recs tx))
 
 counting_one : (counts : ℕ → Bool) (p : ℕ) (c : Change) → counts c.tx ≡ false → counting counts p (c ∷ []) ≡ []
 counting_one counts p c off = rw off refl
@@ -126,10 +127,6 @@ restored-all_harmless recs (r ∷ rs) p disk harmless =
 -- where a page has an Image, the disk's page doesn't matter
 pub restored-imaged : (recs : List Record) (p : ℕ) (a b : List ℕ) → imaged recs p ≡ true → restored recs p a ≡ restored recs p b
 restored-imaged recs p a b is = ap (λ (x : List ℕ). over (counting (committed recs) p (standing recs)) x) (base-imaged p recs a b is)
-
--- a Commit lets the standing changes of its transaction count
-pub restored-commit : (recs : List Record) (tx p : ℕ) (disk : List ℕ) → restored (recs ++ Commit tx ∷ []) p disk ≡ over (counting (λ t. committed recs t || ((tx == t) || false)) p (standing recs)) (base p recs disk)
-restored-commit recs tx p disk = restored-append recs (Commit tx ∷ []) p disk
 
 -- ---- covered records
 pub IsCoveredBehind-parts : (past a b : List Record) → IsCoveredBehind past (a ++ b) → IsCoveredBehind past a × IsCoveredBehind (past ++ a) b

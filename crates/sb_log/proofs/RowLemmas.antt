@@ -1,6 +1,6 @@
 -- Rows of whole records.
-use Rattle.std.proofs.Common.{◌≡◌, ℕ, ◌+◌, ◌<◌, ◌≤◌, List, [], ◌∷◌, ◌++◌, length, drop, refl, sym, ap, subst, ◌∙◌, append_assoc, arith}
-use Rattle.std.proofs.lemmas.List.{length-append, length-drop, append-nil, drop-drop, drop_all}
+use Rattle.std.proofs.Common.{◌≡◌, ℕ, ◌+◌, ◌≤◌, List, [], ◌∷◌, ◌++◌, length, drop, refl, sym, ap, subst, ◌∙◌, append_assoc, arith}
+use Rattle.std.proofs.lemmas.List.{length-append, length-drop, append-nil, drop-drop}
 use Rattle.sb_log.specs.Records.{Record, spelling, spelled, Spells, AreRecords, Begins, NoneBegins, IsRow, HasRecords, IsBadAt}
 use Rattle.sb_log.proofs.RecordLemmas.{spelling-front, some_spelling, Begins-spelling}
 
@@ -59,9 +59,6 @@ pub record IsCounted (chunk : List ℕ) (at n : ℕ) : Type 0 where
   pub count : n ≡ length recs
   pub within : at ≤ length chunk
 
-pub IsCounted-none : (chunk : List ℕ) → IsCounted chunk 0 0
-IsCounted-none chunk = record { recs = []; row = record { sound = tt; front = refl; len = refl }; count = refl; within = omega arith }
-
 pub IsCounted-more : (chunk : List ℕ) (at n : ℕ) (r : Record) (len : ℕ) → IsCounted chunk at n → Begins (drop at chunk) r len → IsCounted chunk (at + len) (n + 1)
 IsCounted-more chunk at n r len counted begins = record {
   recs = counted.recs ++ r ∷ [];
@@ -84,17 +81,6 @@ IsCounted-more chunk at n r len counted begins = record {
 -- there are no more records than bytes
 pub IsCounted-few : (chunk : List ℕ) (at n : ℕ) → IsCounted chunk at n → n ≤ at
 IsCounted-few chunk at n counted = omega (arith, counted.count, counted.row.len, spelled_count counted.recs)
-
-pub IsCounted-all : (chunk : List ℕ) (at n : ℕ) → IsCounted chunk at n → length chunk ≤ at → HasRecords chunk n
-IsCounted-all chunk at n counted end = record {
-  recs = counted.recs;
-  sound = counted.row.sound;
-  whole = counted.row.front ∙ ap (λ (l : List ℕ). spelled counted.recs ++ l) (drop_all at chunk end) ∙ append-nil (spelled counted.recs);
-  count = counted.count;
-}
-
-pub IsCounted-bad : (chunk : List ℕ) (at n : ℕ) → IsCounted chunk at n → at < length chunk → NoneBegins (drop at chunk) → IsBadAt chunk at
-IsCounted-bad chunk at n counted some none = record { recs = counted.recs; row = counted.row; some = some; none = none }
 
 -- ---- bad in one place
 -- behind these records nothing is spelled, so the other row is no longer

@@ -1,6 +1,8 @@
 -- How the changes that stand come of the records.
 use Rattle.std.proofs.Common.{◌≡◌, ⊎_elim, ℕ, suc, zero, ◌≤◌, Bool, true, false, cond, ◌||◌, ◌==◌, List, [], ◌∷◌, ◌++◌, take, refl, sym, ◌∙◌, ap, subst, arith, length}
 use Rattle.std.proofs.lemmas.Bool.{eqb-true, eqb-false, eq-eqb, ne_eqb, cases_eq}
+use Rattle.std.proofs.Math.Bool.{or_assoc}
+pub use Rattle.std.proofs.Math.Bool.{or-false as or_false}
 use Rattle.std.proofs.lemmas.List.Elements.{filter-append}
 use Rattle.std.proofs.lemmas.Grind.{common_steps}
 use Rattle.sb_log.specs.Records.{Change, Record, Begin, Image, Changed, Back, Commit}
@@ -11,21 +13,13 @@ pub stood_all-append : (cs : List Change) (a b : List Record) → stood_all cs (
 stood_all-append cs [] b = refl
 stood_all-append cs (r ∷ a) b = stood_all-append (stood cs r) a b
 
-pub or_assoc : (x y z : Bool) → (x || (y || z)) ≡ ((x || y) || z)
-or_assoc true y z = refl
-or_assoc false y z = refl
-
-pub or_false : (x : Bool) → (x || false) ≡ x
-or_false true = refl
-or_false false = refl
-
 pub committed-append : (a b : List Record) (tx : ℕ) → committed (a ++ b) tx ≡ (committed a tx || committed b tx)
 committed-append [] b tx = refl
 committed-append (Begin t ∷ a) b tx = committed-append a b tx
 committed-append (Image page bytes ∷ a) b tx = committed-append a b tx
 committed-append (Changed c ∷ a) b tx = committed-append a b tx
 committed-append (Back t n ∷ a) b tx = committed-append a b tx
-committed-append (Commit t ∷ a) b tx = ap (λ (x : Bool). (t == tx) || x) (committed-append a b tx) ∙ or_assoc (t == tx) (committed a tx) (committed b tx)
+committed-append (Commit t ∷ a) b tx = ap (λ (x : Bool). (t == tx) || x) (committed-append a b tx) ∙ sym (or_assoc (t == tx) (committed a tx) (committed b tx))
 
 -- ---- changes that are kept
 -- where there are no more than are kept, all are

@@ -1,6 +1,7 @@
 -- What each record makes of the changes that count now.
 use Rattle.std.proofs.Common.{◌≡◌, ℕ, suc, zero, ◌<◌, ◌≤◌, Bool, true, false, cond, ◌&&◌, ◌||◌, ◌==◌, List, [], ◌∷◌, ◌++◌, refl, sym, ◌∙◌, ap, subst, arith, inl}
 use Rattle.std.proofs.lemmas.Bool.{eqb-true, eqb-false, eq-eqb, ne_eqb, both_ways, and_parts}
+use Rattle.std.proofs.Math.Bool.{and-false, or-false}
 use Rattle.std.proofs.lemmas.List.Elements.{filter-append}
 use Rattle.std.proofs.lemmas.List.{append-nil}
 use Rattle.sb_log.specs.Records.{Change, Record, Changed, Back}
@@ -8,7 +9,7 @@ use Rattle.sb_log.specs.Standing.{keep, stood, stood_all, standing, committed, c
 use Rattle.sb_log.specs.Restored.{base, over, counting, restored}
 use Rattle.sb_log.specs.Undoing.{IsFree}
 use Rattle.sb_log.specs.Views.{Active, active_with, ending, is_active, cut, counts, changes, IsInactive, AreActive}
-use Rattle.sb_log.proofs.StandingLemmas.{or_false, stood_all-append, committed-append, keep-enough, keep-again, keep-own, keep-own_none, keep-other, NoneOf-keep, NoneOf-keep_none, keep-append_other, count_of-append, keep-swap}
+use Rattle.sb_log.proofs.StandingLemmas.{stood_all-append, committed-append, keep-enough, keep-again, keep-own, keep-own_none, keep-other, NoneOf-keep, NoneOf-keep_none, keep-append_other, count_of-append, keep-swap}
 use Rattle.sb_log.proofs.RestoredLemmas.{counting-append, counting-keep, counting-agree, restored-append}
 
 -- ---- the last standing change of a transaction
@@ -114,7 +115,7 @@ restored-ending recs active p disk =
 -- records without a Commit
 counting-uncommitted : (recs more : List Record) (active : List Active) (p : ℕ) (cs : List Change) → ((tx : ℕ) → committed more tx ≡ false) → counting (counts (recs ++ more) active) p cs ≡ counting (counts recs active) p cs
 counting-uncommitted recs more active p cs none = counting-agree (counts (recs ++ more) active) (counts recs active) p cs
-    (λ tx. ap (λ (x : Bool). x || is_active active tx) (committed-append recs more tx ∙ ap (λ (x : Bool). committed recs tx || x) (none tx) ∙ or_false (committed recs tx)))
+    (λ tx. ap (λ (x : Bool). x || is_active active tx) (committed-append recs more tx ∙ ap (λ (x : Bool). committed recs tx || x) (none tx) ∙ or-false (committed recs tx)))
 
 pub changes-back : (recs : List Record) (o : Active) (rest : List Active) (p : ℕ) → changes (recs ++ Back o.tx o.n ∷ []) (o ∷ rest) p ≡ changes recs (o ∷ rest) p
 changes-back recs o rest p =
@@ -160,10 +161,6 @@ NoneOf-counting f p tx (k ∷ cs) none = by_test (f k.tx && (k.page == p)) none.
     by_test true not more = (not, more)
     by_test false not more = more
 
-and_false : (x : Bool) → (x && false) ≡ false
-and_false true = refl
-and_false false = refl
-
 -- the last change is undone on its own page, and every other page stays
 pub counting-last : (f : ℕ → Bool) (p : ℕ) (c : Change) (xs ys : List Change) → f c.tx ≡ true → c.page ≡ p → IsLastOf c xs ys → IsLastOf c (counting f p xs) (counting f p ys)
 counting-last f p c xs ys counts here s = record {
@@ -177,7 +174,7 @@ counting-last f p c xs ys counts here s = record {
 pub counting-elsewhere : (f : ℕ → Bool) (p : ℕ) (c : Change) (xs ys : List Change) → (c.page ≡ p → ⊥) → IsLastOf c xs ys → counting f p xs ≡ counting f p ys
 counting-elsewhere f p c xs ys there s =
     ap (λ (l : List Change). counting f p l) s.xs_is ∙ counting-append f p s.a (c ∷ s.b)
-    ∙ ap (λ (l : List Change). counting f p s.a ++ l) (rw (ne_eqb c.page p there, and_false (f c.tx)) refl)
+    ∙ ap (λ (l : List Change). counting f p s.a ++ l) (rw (ne_eqb c.page p there, and-false (f c.tx)) refl)
     ∙ sym (counting-append f p s.a s.b) ∙ sym (ap (λ (l : List Change). counting f p l) s.ys_is)
 
 cut-keep : (active : List Active) (t n : ℕ) (cs : List Change) → IsInactive t active → cut active (keep t n cs) ≡ keep t n (cut active cs)
@@ -277,4 +274,4 @@ changes-front recs before a rest p idle =
 -- no other one stands in the way of its changes
 pub IsFree-alone : (c : Change) (n : ℕ) (cs : List Change) → IsFree (is_active (active_with c.tx n ∷ [])) c cs
 IsFree-alone c n [] = tt
-IsFree-alone c n (d ∷ cs) = ((λ is. inl (eqb-true c.tx d.tx (sym (or_false (c.tx == d.tx)) ∙ is))), IsFree-alone c n cs)
+IsFree-alone c n (d ∷ cs) = ((λ is. inl (eqb-true c.tx d.tx (sym (or-false (c.tx == d.tx)) ∙ is))), IsFree-alone c n cs)

@@ -1,16 +1,17 @@
 -- What each step makes of the log and the pages.
-use Rattle.std.proofs.Common.{◌≡◌, ⊎_elim, ℕ, suc, ◌+◌, ◌<◌, ◌≤◌, Bool, true, false, cond, ◌||◌, ◌==◌, List, [], ◌∷◌, ◌++◌, length, refl, sym, ◌∙◌, ap, subst, append_assoc}
+use Rattle.std.proofs.Common.{◌≡◌, ⊎_elim, ℕ, suc, ◌+◌, ◌<◌, ◌≤◌, Bool, true, false, cond, ◌==◌, List, [], ◌∷◌, ◌++◌, length, refl, sym, ◌∙◌, ap, subst, append_assoc}
 use Rattle.std.proofs.lemmas.Bool.{eqb-true, eq-eqb, ne_eqb, cases_eq}
+use Rattle.std.proofs.Math.Bool.{or-true}
 use Rattle.std.proofs.lemmas.List.{append-nil}
 use Rattle.sb_disk.specs.Disk.{splice}
 use Rattle.sb_log.specs.Records.{Change, Record, Begin, Image, Changed, Back}
 use Rattle.sb_log.specs.Standing.{standing, committed, count_of}
-use Rattle.sb_log.specs.Restored.{base, over, restored, imaged, IsCoveredBy, IsCovered, IsHarmless, AreHarmless}
+use Rattle.sb_log.specs.Restored.{base, over, restored, imaged, IsCoveredBy, IsCovered, IsHarmless}
 use Rattle.sb_log.specs.Undoing.{IsBeneath, AreUndoable, IsFree}
 use Rattle.sb_log.specs.Views.{Active, active_with, ending, is_active, cut, counts, changes, IsInactive, AreActive, IsPage}
 use Rattle.sb_log.specs.Whole.{IsWhole, with_range}
 use Rattle.sb_log.proofs.StandingLemmas.{stood_all-append, count_of-keep}
-use Rattle.sb_log.proofs.RestoredLemmas.{imaged-append, base-append, base-imaged, restored-all_harmless, IsCoveredBehind-append, AreHarmless-append}
+use Rattle.sb_log.proofs.RestoredLemmas.{imaged-append, base-append, restored-all_harmless, IsCoveredBehind-append, AreHarmless-append}
 use Rattle.sb_log.proofs.ImageLemmas.{IsHarmless-image}
 use Rattle.sb_log.proofs.UndoLemmas.{AreUndoable-also}
 use Rattle.sb_log.proofs.ViewLemmas.{HasLast, restored-ending, changes-drop, changes-same, NoneOf-counting_off, is_active-idle, AreActive-more, AreActive-commit, AreActive-front, AreActive-place, is_active-front, changes-front}
@@ -156,7 +157,7 @@ module _ (count : ℕ) (disk now : ℕ → List ℕ) (opened pending : List Reco
         (changes-front recs before a rest p whole.active.1) (λ tx is. sym (is_active-front before a rest tx) ∙ is) (whole.pages p lt);
   }
 
-  -- ---- the log is forced, and pages are written
+  -- ---- the log is forced
   pub IsWhole-forced : (active : List Active) → IsWhole count disk now opened pending active → IsWhole count disk now recs [] active
   IsWhole-forced active whole = record {
     plain = λ p lt. tt;
@@ -167,23 +168,6 @@ module _ (count : ℕ) (disk now : ℕ → List ℕ) (opened pending : List Reco
     where
       all : recs ≡ recs ++ []
       all = sym (append-nil recs)
-
-  -- with nothing pending, a page that has an Image is written with any bytes
-  pub IsWhole-stolen : (active : List Active) (q : ℕ) (after : ℕ → List ℕ) → imaged opened q ≡ true → pending ≡ []
-      → ((p : ℕ) → p < count → (p ≡ q → ⊥) → after p ≡ disk p)
-      → IsWhole count disk now opened pending active → IsWhole count after now opened pending active
-  IsWhole-stolen active q after is none others whole = record {
-    plain = λ p lt. subst (λ (l : List Record). AreHarmless opened p (after p) l) (sym none) tt;
-    covered = whole.covered;
-    active = whole.active;
-    pages = λ p lt. subst (λ (b : List ℕ). IsPage recs active b (now p) p) (same p lt) (whole.pages p lt);
-  }
-    where
-      same : (p : ℕ) → p < count → base_of p ≡ base p recs (after p)
-      same p lt = ⊎_elim
-          (λ (here : p ≡ q). base-imaged p recs (disk p) (after p) (rw (imaged-append opened pending p, subst (λ (k : ℕ). imaged opened k ≡ true) (sym here) is) refl))
-          (λ (not : p ≡ q → ⊥). ap (λ (b : List ℕ). base p recs b) (sym (others p lt not)))
-          (cases_eq p q)
 
   -- after a checkpoint, with no transaction active, the log is empty
   pub IsWhole-checkpoint : IsWhole count disk now opened pending [] → IsWhole count now now [] [] []
@@ -224,27 +208,4 @@ count_of-back opened pending tx n =
 pub imaged-image : (opened pending : List Record) (r : Record) (q : ℕ) → imaged (r ∷ []) q ≡ true → imaged (opened ++ (pending ++ r ∷ [])) q ≡ true
 imaged-image opened pending r q is =
     subst (λ (l : List Record). imaged l q ≡ true) (append_assoc opened pending (r ∷ []))
-    (imaged-append (opened ++ pending) (r ∷ []) q ∙ rw is (or_true (imaged (opened ++ pending) q)))
-  where
-    or_true : (x : Bool) → (x || true) ≡ true
-    or_true true = refl
-    or_true false = refl
-
--- a Back, the Image of a page that has none yet, and the change
-pub IsWhole-change_all : (count : ℕ) (disk now : ℕ → List ℕ) (opened pending : List Record) (c : Change) (n : ℕ) (rest : List Active)
-    → imaged (opened ++ pending) c.page ≡ false → c.page < count → c.offset + length c.after ≤ 4096 → IsBeneath (now c.page) c
-    → IsFree (is_active (active_with c.tx n ∷ rest)) c (changes (opened ++ ((pending ++ Back c.tx n ∷ []) ++ Image c.page (now c.page) ∷ [])) (active_with c.tx n ∷ rest) c.page)
-    → IsWhole count disk now opened pending (active_with c.tx n ∷ rest)
-    → IsWhole count disk (with_range c c.after now) opened (((pending ++ Back c.tx n ∷ []) ++ Image c.page (now c.page) ∷ []) ++ Changed c ∷ []) (active_with c.tx (suc n) ∷ rest)
-IsWhole-change_all count disk now opened pending c n rest is lt fits beneath free whole =
-    let cut_back : List Record = pending ++ Back c.tx n ∷ [] in
-    let image : Record = Image c.page (now c.page) in
-    let none : imaged (opened ++ cut_back) c.page ≡ false =
-    subst (λ (l : List Record). imaged l c.page ≡ false) (append_assoc opened pending (Back c.tx n ∷ [])) (imaged-append (opened ++ pending) (Back c.tx n ∷ []) c.page ∙ rw is refl) in
-    let few : count_of c.tx (standing (opened ++ (cut_back ++ image ∷ []))) ≤ n =
-    subst (λ (l : List Record). count_of c.tx (standing l) ≤ n) (append_assoc opened cut_back (image ∷ []))
-    (subst (λ (cs : List Change). count_of c.tx cs ≤ n) (sym (stood_all-append [] (opened ++ cut_back) (image ∷ []))) (count_of-back opened pending c.tx n)) in
-    let back = IsWhole-back count disk now opened pending (active_with c.tx n) rest whole in
-    let imaged_now = IsWhole-image count disk now opened cut_back c.page (active_with c.tx n ∷ rest) none back in
-    IsWhole-change count disk now opened (cut_back ++ image ∷ []) c n rest
-    (imaged-image opened cut_back image c.page (rw (eq-eqb c.page c.page refl) refl)) few fits beneath free imaged_now
+    (imaged-append (opened ++ pending) (r ∷ []) q ∙ rw is (or-true (imaged (opened ++ pending) q)))

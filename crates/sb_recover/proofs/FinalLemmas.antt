@@ -2,9 +2,9 @@
 use Rattle.std.proofs.Common.{◌≡◌, inl, inr, ⊎_elim, ℕ, ◌+◌, ◌*◌, ◌<◌, ◌≤◌, true, false, Option, Some, None, Result, OnOk, OnErr, List, [], ◌∷◌, length, refl, sym, ◌∙◌, ap, subst, arith}
 use Rattle.std.proofs.lemmas.Bool.{cases_Bool, both_ways}
 use Rattle.sb_disk.specs.Disk.{Range, Story, IsIn, AgreesBut, WhereTold, synced, after_sync, FailedSync}
-use Rattle.sb_disk.specs.Moments.{LeavesOnly, IsSettled, Sure}
-use Rattle.sb_disk.proofs.MomentLemmas.{and_then, weaker, on_sync_call, synced-IsSettled}
-use Rattle.sb_disk.proofs.RangeLemmas.{same_slice}
+use Rattle.sb_disk.specs.Moments.{LeavesOnly, Sure}
+use Rattle.sb_disk.proofs.MomentLemmas.{and_then, weaker, on_sync_call, IsSettled-none}
+use Rattle.sb_disk.proofs.RangeLemmas.{AgreesBut-same, AgreesBut-then, same_slice}
 use Rattle.sb_journal.specs.Chunks.{ReadsAs, bytes_of}
 use Rattle.sb_journal.specs.State.{State, Stands, StandsOn, Lies, IsOff, chunks_of, IsClosingOn, Closed, after_close}
 use Rattle.sb_journal.proofs.ForeignLemmas.{foreign_torn, foreign_stands}
@@ -48,8 +48,8 @@ page_at-off g frames old new p off none = sym (same_slice (place_of g p) 4096 ol
     let same : held.p ≡ p = omega (arith, from, to, q_from, q_to) in
     both_ways (has frames p) none (subst (λ (q : ℕ). has frames q ≡ true) same held.held_is))))
 
--- ---- with the journal of a store that nothing is pending on
-module _ (s : Story) (g : Geometry) (j : State) (chunks frames : List (List ℕ)) (store : IsStoreOf g s.now.reads) (settled : s.now.written ≡ []) (log : IsLog (Some s) g j chunks) where
+-- ---- with the journal of a store
+module _ (s : Story) (g : Geometry) (j : State) (chunks frames : List (List ℕ)) (store : IsStoreOf g s.now.reads) (log : IsLog (Some s) g j chunks) where
   lies : Lies (length s.now.reads) j.gates j.log
   lies = Lies-at g (length s.now.reads) j store.sizes store.room log.gates log.log
 
@@ -78,7 +78,8 @@ module _ (s : Story) (g : Geometry) (j : State) (chunks frames : List (List ℕ)
     chunks_kept : ReadsAs (gates_of g) (log_of g) image chunks
     chunks_kept =
         let torn : AgreesBut (record { start = place_of g 0; len = 4096 * g.pages } ∷ s.now.written) s.now.reads image =
-        subst (λ (w : List Range). AgreesBut (record { start = place_of g 0; len = 4096 * g.pages } ∷ w) s.now.reads image) (sym settled) (AgreesBut-data g frames s.now.reads image agrees) in
+        AgreesBut-then (record { start = place_of g 0; len = 4096 * g.pages }) s.now.written s.now.reads image image (AgreesBut-data g frames s.now.reads image agrees)
+        (AgreesBut-same (record { start = place_of g 0; len = 4096 * g.pages } ∷ s.now.written) image) in
         subst (λ (cs : List (List ℕ)). ReadsAs (gates_of g) (log_of g) image cs) (sym log.are)
         (subst (λ (r : Range). ReadsAs r (log_of g) image (chunks_of j s.now.reads)) log.gates (subst (λ (r : Range). ReadsAs j.gates r image (chunks_of j s.now.reads)) log.log
         (foreign_torn s j stands lies log.sound (place_of g 0) (4096 * g.pages) off image torn)))
@@ -126,7 +127,7 @@ module _ (s : Story) (g : Geometry) (j : State) (chunks frames : List (List ℕ)
       page_now p lt = written.pages p lt ∙ (restores_pages spelled.recs spelled.are spelled.spells).each p lt
 
       pub IsMounted-written : (want : ℕ → List ℕ) → Restores g want s.now.reads → IsMounted want (Some t) g
-      IsMounted-written want old = (written.settled, Restores-pages t.now.reads written.elsewhere restores_pages want old)
+      IsMounted-written want old = (IsSettled-none t written.settled, Restores-pages t.now.reads written.elsewhere restores_pages want old)
 
       pub OnDisk-written : (want : ℕ → List ℕ) → Restores g want s.now.reads → OnDisk want (Some t) g
       OnDisk-written want old =
@@ -161,55 +162,55 @@ module _ (s : Story) (g : Geometry) (j : State) (chunks frames : List (List ℕ)
 module _ (want : ℕ → List ℕ) (h : Geometry) where
   pub IsMounted-synced : (told : Option Story) → IsMounted want told h → IsMounted want (synced told) h
   IsMounted-synced None mounted = tt
-  IsMounted-synced (Some s) mounted = (refl, mounted.1)
+  IsMounted-synced (Some s) mounted = ((λ i none. none), mounted.1)
 
   -- the first sync
   pub LeavesOnly-first : {T E : Type 0} (result : Result T E) (told new : Option Story) → IsMounted want told h → OnOk result (new ≡ synced told) → OnErr result (FailedSync told new) → LeavesOnly told new (Restores h want)
   LeavesOnly-first result told new mounted ok err = on_sync_call result told told new (Restores h want) (LeavesOnly-mounted want told h mounted) ok err
 
   module _ (g : Geometry) (j : State) (chunks frames : List (List ℕ)) where
-    pages_leave : (told : Option Story) → IsSettled told → IsMounted want told h → IsStoreTold told g → IsLog told g j chunks → RestoredOn told g chunks frames → (image : List ℕ) → LeavesPages g frames told image → Restores h want image
-    pages_leave None settled mounted store log restores image left = absurd left
-    pages_leave (Some s) settled mounted store log restores image left =
+    pages_leave : (told : Option Story) → IsMounted want told h → IsStoreTold told g → IsLog told g j chunks → RestoredOn told g chunks frames → (image : List ℕ) → LeavesPages g frames told image → Restores h want image
+    pages_leave None mounted store log restores image left = absurd left
+    pages_leave (Some s) mounted store log restores image left =
         let same : h ≡ g = one_geometry h g s.now.reads mounted.1.store store in
         subst (λ (x : Geometry). Restores x want image) (sym same)
-        (Restores-pages s g j chunks frames store settled log image left restores want (subst (λ (x : Geometry). Restores x want s.now.reads) same mounted.1))
+        (Restores-pages s g j chunks frames store log image left restores want (subst (λ (x : Geometry). Restores x want s.now.reads) same mounted.1))
 
-    pub LeavesOnly-pages : (told mid new : Option Story) → LeavesOnly told mid (Restores h want) → IsSettled mid → IsMounted want mid h → IsStoreTold mid g → IsLog mid g j chunks → RestoredOn mid g chunks frames
+    pub LeavesOnly-pages : (told mid new : Option Story) → LeavesOnly told mid (Restores h want) → IsMounted want mid h → IsStoreTold mid g → IsLog mid g j chunks → RestoredOn mid g chunks frames
         → LeavesOnly mid new (LeavesPages g frames mid) → LeavesOnly told new (Restores h want)
-    LeavesOnly-pages told mid new so_far settled mounted store log restores run =
-        and_then told mid new (Restores h want) so_far (weaker mid new (LeavesPages g frames mid) (Restores h want) (pages_leave mid settled mounted store log restores) run)
+    LeavesOnly-pages told mid new so_far mounted store log restores run =
+        and_then told mid new (Restores h want) so_far (weaker mid new (LeavesPages g frames mid) (Restores h want) (pages_leave mid mounted store log restores) run)
 
-    closing_leaves : (mid new last : Option Story) → IsSettled mid → IsMounted want mid h → IsStoreTold mid g → IsLog mid g j chunks → RestoredOn mid g chunks frames
+    closing_leaves : (mid new last : Option Story) → IsMounted want mid h → IsStoreTold mid g → IsLog mid g j chunks → RestoredOn mid g chunks frames
         → WhereTold mid new (AllWritten g frames) → LeavesOnly new last (IsClosingOn new j) → LeavesOnly new last (Restores h want)
-    closing_leaves None new last settled mounted store log restores written run =
+    closing_leaves None new last mounted store log restores written run =
         LeavesOnly-close want j h [] [] new last (subst (λ (m : Option Story). IsReadyOn want m j h [] []) (sym written) tt) (subst (λ (m : Option Story). OnDisk want m h) (sym written) tt) run
-    closing_leaves (Some s) None last settled mounted store log restores written run = absurd written
-    closing_leaves (Some s) (Some t) last settled mounted store log restores written run =
+    closing_leaves (Some s) None last mounted store log restores written run = absurd written
+    closing_leaves (Some s) (Some t) last mounted store log restores written run =
         let same : h ≡ g = one_geometry h g s.now.reads mounted.1.store store in
         let old : Restores g want s.now.reads = subst (λ (x : Geometry). Restores x want s.now.reads) same mounted.1 in
         subst (λ (x : Geometry). LeavesOnly (Some t) last (Restores x want)) (sym same)
-        (LeavesOnly-close want j g (spelled s g j chunks frames store settled log).recs [] (Some t) last
-        (IsReadyOn-written s g j chunks frames store settled log t written restores want old) (OnDisk-written s g j chunks frames store settled log t written restores want old) run)
+        (LeavesOnly-close want j g (spelled s g j chunks frames store log).recs [] (Some t) last
+        (IsReadyOn-written s g j chunks frames store log t written restores want old) (OnDisk-written s g j chunks frames store log t written restores want old) run)
 
-    pub LeavesOnly-closed : (told mid new last : Option Story) → LeavesOnly told new (Restores h want) → IsSettled mid → IsMounted want mid h → IsStoreTold mid g → IsLog mid g j chunks → RestoredOn mid g chunks frames
+    pub LeavesOnly-closed : (told mid new last : Option Story) → LeavesOnly told new (Restores h want) → IsMounted want mid h → IsStoreTold mid g → IsLog mid g j chunks → RestoredOn mid g chunks frames
         → WhereTold mid new (AllWritten g frames) → LeavesOnly new last (IsClosingOn new j) → LeavesOnly told last (Restores h want)
-    LeavesOnly-closed told mid new last so_far settled mounted store log restores written run =
-        and_then told new last (Restores h want) so_far (closing_leaves mid new last settled mounted store log restores written run)
+    LeavesOnly-closed told mid new last so_far mounted store log restores written run =
+        and_then told new last (Restores h want) so_far (closing_leaves mid new last mounted store log restores written run)
 
 module _ (g : Geometry) (j : State) (chunks frames : List (List ℕ)) where
   -- the journal stands when the pages are written
-  pub StandsOn-written : (mid new : Option Story) → IsSettled mid → IsStoreTold mid g → IsLog mid g j chunks → WhereTold mid new (AllWritten g frames) → StandsOn new j
-  StandsOn-written None new settled store log written = subst (λ (m : Option Story). StandsOn m j) (sym written) tt
-  StandsOn-written (Some s) None settled store log written = absurd written
-  StandsOn-written (Some s) (Some t) settled store log written = λ up. Stands-written s g j chunks frames store settled log t written
+  pub StandsOn-written : (mid new : Option Story) → IsStoreTold mid g → IsLog mid g j chunks → WhereTold mid new (AllWritten g frames) → StandsOn new j
+  StandsOn-written None new store log written = subst (λ (m : Option Story). StandsOn m j) (sym written) tt
+  StandsOn-written (Some s) None store log written = absurd written
+  StandsOn-written (Some s) (Some t) store log written = λ up. Stands-written s g j chunks frames store log t written
 
-  restarted : (k : State) (mid new last : Option Story) → IsSettled mid → IsStoreTold mid g → IsLog mid g j chunks → RestoredOn mid g chunks frames → WhereTold mid new (AllWritten g frames)
+  restarted : (k : State) (mid new last : Option Story) → IsStoreTold mid g → IsLog mid g j chunks → RestoredOn mid g chunks frames → WhereTold mid new (AllWritten g frames)
       → k ≡ after_close j → WhereTold new last (Closed j k) → WhereTold mid last (IsRestarted g)
-  restarted k None new last settled store log restores written done closed = subst (λ (m : Option Story). WhereTold m last (Closed j k)) written closed
-  restarted k (Some s) None last settled store log restores written done closed = absurd written
-  restarted k (Some s) (Some t) None settled store log restores written done closed = absurd closed
-  restarted k (Some s) (Some t) (Some u) settled store log restores written done closed = IsRestarted-closed s g j chunks frames store settled log t written restores k u done closed
+  restarted k None new last store log restores written done closed = subst (λ (m : Option Story). WhereTold m last (Closed j k)) written closed
+  restarted k (Some s) None last store log restores written done closed = absurd written
+  restarted k (Some s) (Some t) None store log restores written done closed = absurd closed
+  restarted k (Some s) (Some t) (Some u) store log restores written done closed = IsRestarted-closed s g j chunks frames store log t written restores k u done closed
 
   before_sync : (told last : Option Story) → WhereTold (synced told) last (IsRestarted g) → WhereTold told last (IsRestarted g)
   before_sync None last is = is
@@ -220,7 +221,7 @@ module _ (g : Geometry) (j : State) (chunks frames : List (List ℕ)) where
       → k ≡ after_close j → WhereTold new last (Closed j k) → WhereTold told last (IsRestarted g)
   IsRestarted-told k told mid new last is store log restores written done closed =
       before_sync told last (subst (λ (m : Option Story). WhereTold m last (IsRestarted g)) is
-      (restarted k mid new last (synced-IsSettled told mid is) store log restores written done closed))
+      (restarted k mid new last store log restores written done closed))
 
 -- ---- refusals
 pub HasSameBytes-synced : (told new : Option Story) → new ≡ synced told → WhereTold told new HasSameBytes
@@ -287,11 +288,8 @@ IsReadBefore-made told a b m mid g j chunks given frames held_frames synced_is b
 }
 
 module _ (told mid : Option Story) (g : Geometry) (j : State) (chunks frames : List (List ℕ)) (found : IsReadBefore told mid g j chunks frames) where
-  mid_settled : IsSettled mid
-  mid_settled = synced-IsSettled told mid found.is
-
   pub StandsOn-read : (new : Option Story) → WhereTold mid new (AllWritten g frames) → StandsOn new j
-  StandsOn-read new written = StandsOn-written g j chunks frames mid new mid_settled found.store found.log written
+  StandsOn-read new written = StandsOn-written g j chunks frames mid new found.store found.log written
 
   pub IsRestarted-read : (k : State) (new last : Option Story) → WhereTold mid new (AllWritten g frames) → k ≡ after_close j → WhereTold new last (Closed j k) → WhereTold told last (IsRestarted g)
   IsRestarted-read k new last written done closed = IsRestarted-told g j chunks frames k told mid new last found.is found.store found.log found.restores written done closed
@@ -301,8 +299,8 @@ module _ (told mid : Option Story) (g : Geometry) (j : State) (chunks frames : L
     mounted_mid = subst (λ (t : Option Story). IsMounted want t h) (sym found.is) (IsMounted-synced want h told mounted)
 
     pub LeavesOnly-read : (new : Option Story) → LeavesOnly mid new (LeavesPages g frames mid) → LeavesOnly told new (Restores h want)
-    LeavesOnly-read new run = LeavesOnly-pages want h g j chunks frames told mid new so_far mid_settled mounted_mid found.store found.log found.restores run
+    LeavesOnly-read new run = LeavesOnly-pages want h g j chunks frames told mid new so_far mounted_mid found.store found.log found.restores run
 
     pub LeavesOnly-last : (new last : Option Story) → LeavesOnly mid new (LeavesPages g frames mid) → WhereTold mid new (AllWritten g frames) → LeavesOnly new last (IsClosingOn new j) → LeavesOnly told last (Restores h want)
     LeavesOnly-last new last run written closing =
-        LeavesOnly-closed want h g j chunks frames told mid new last (LeavesOnly-read new run) mid_settled mounted_mid found.store found.log found.restores written closing
+        LeavesOnly-closed want h g j chunks frames told mid new last (LeavesOnly-read new run) mounted_mid found.store found.log found.restores written closing

@@ -5,7 +5,7 @@ use Rattle.std.proofs.lemmas.List.{get_or-take, ext_get_or}
 use Rattle.sb_disk.specs.Disk.{Range, Story, Fits, WhereTold, AgreesBut, Reads, splice, wrote, synced}
 use Rattle.sb_disk.specs.Moments.{LeavesOnly, LeavesTorn, IsSettled, Sized, Sure, Step, Write, Sync, RanOk, RanErr, AllAlong, AllWithin}
 use Rattle.sb_disk.proofs.RangeLemmas.{AgreesBut-slice, AgreesBut-byte, splice-AgreesBut}
-use Rattle.sb_disk.proofs.MomentLemmas.{started, weaker, ran_ok, ran_err, IsSettled-LeavesNow}
+use Rattle.sb_disk.proofs.MomentLemmas.{started, weaker, ran_ok, ran_err, IsSettled-LeavesNow, IsSettled-none}
 use Rattle.sb_journal.specs.Chunks.{IsOpen}
 use Rattle.sb_journal.proofs.RegionLemmas.{none_sure, sure_more}
 use Rattle.sb_log.specs.declared.geometry.Geometry.{Geometry}
@@ -54,10 +54,11 @@ same_but_gate old new agrees same = ext_get_or 0 old new agrees.size
     (λ (behind : 1 ≤ i). AgreesBut-byte (gate ∷ []) old new 1 i i agrees (off_gate 1 i (omega arith)) behind (omega arith))
     (cases_lt i 1))
 
-settled_torn : (at count : ℕ) (s : Story) (image : List ℕ) → s.now.written ≡ [] → LeavesTorn at count (Some s) image → AgreesBut (record { start = at; len = count } ∷ []) s.now.reads image
-settled_torn at count s image settled torn = subst (λ (ranges : List Range). AgreesBut (record { start = at; len = count } ∷ ranges) s.now.reads image) settled torn
+-- where no byte is pending, a write may change its own bytes alone
+settled_torn : (at count : ℕ) (s : Story) (image : List ℕ) → IsSettled (Some s) → LeavesTorn at count (Some s) image → AgreesBut (record { start = at; len = count } ∷ []) s.now.reads image
+settled_torn at count s image settled torn = record { size = torn.size; bytes = λ i out. torn.bytes i (λ covered. ⊎_elim (λ here. out (inl here)) (λ there. settled i there) covered) }
 
--- where nothing is pending and the contents are no store, a crash leaves none
+-- where no byte is pending and the contents are no store, a crash leaves none
 pub LeavesOnly-none : (o : Option Story) → IsSettled o → HoldsNone o → LeavesOnly o o IsNoStore
 LeavesOnly-none None settled none = started None IsNoStore (λ image left. absurd left)
 LeavesOnly-none (Some s) settled none = started (Some s) IsNoStore (λ image left. subst IsNoStore (sym (IsSettled-LeavesNow (Some s) settled image left)) none)
@@ -76,7 +77,7 @@ LeavesOnly-shut result size clock o p fits room is ok err settled none =
     ran_call result (Write 0 (0 ∷ []) ∷ Sync ∷ []) size clock o p IsNoStore fits (room, tt) (LeavesOnly-none o settled none) (closing_torn o settled none is, tt) ok err
 
 -- ---- while all but the gate is written
-laying_torn : (count : ℕ) (s t : Story) → s.now.written ≡ [] → ShutsGate s t → (image : List ℕ) → LeavesTorn 1 count (Some t) image → IsNoStore image
+laying_torn : (count : ℕ) (s t : Story) → IsSettled (Some s) → ShutsGate s t → (image : List ℕ) → LeavesTorn 1 count (Some t) image → IsNoStore image
 laying_torn count s t settled shut image torn =
     let agrees = settled_torn 1 count t image (shut.settled settled) torn in
     let same : get_or t.now.reads 0 0 ≡ get_or image 0 0 = AgreesBut-byte (record { start = 1; len = count } ∷ []) t.now.reads image 0 1 0 agrees
@@ -129,7 +130,7 @@ module _ (g : Geometry) (sizes : IsGeometry g) (s t : Story) (laid : IsLaid g s 
 -- a crash while the gate is opened
 opening_torn : (g : Geometry) (sizes : IsGeometry g) (s t : Story) → IsLaid g s t → need g.pages g.log ≤ length t.now.reads → (image : List ℕ) → LeavesTorn 0 1 (Some t) image → IsFormatting g image
 opening_torn g sizes s t laid room image torn = ⊎_elim
-    (λ (is_open : get_or image 0 0 ≡ 165). inr (made_restores g sizes s t laid room image (settled_torn 0 1 t image laid.settled torn) is_open))
+    (λ (is_open : get_or image 0 0 ≡ 165). inr (made_restores g sizes s t laid room image (settled_torn 0 1 t image (IsSettled-none t laid.settled) torn) is_open))
     (λ (shut : ¬ (get_or image 0 0 ≡ 165)). inl (shut_none image shut))
     (cases_eq (get_or image 0 0) 165)
 
@@ -161,7 +162,7 @@ module _ (g : Geometry) (sizes : IsGeometry g) (size clock : ℕ) (room : need g
       let here : need g.pages g.log ≤ length u.now.reads = omega arith in
       record {
         before = none;
-        mounted = (refl, made_restores g sizes t u laid here image agrees refl);
+        mounted = ((λ i none. none), made_restores g sizes t u laid here image agrees refl);
         pages = λ p lt. (none_sure (place_of g p) 4096, made_page g sizes t u laid here image agrees refl p lt);
         super = made_super g sizes t u laid here image agrees refl;
         shut = made_shut g sizes t u laid here image agrees refl;

@@ -2,6 +2,7 @@
 use Rattle.std.proofs.Common.{◌≡◌, ℕ, ◌<◌, Option, Some, None, List, [], ◌∷◌, length, refl, sym, ◌∙◌, ap, subst, arith}
 use Rattle.sb_disk.specs.Disk.{Range, Story, WhereTold}
 use Rattle.sb_disk.specs.Moments.{Sure}
+use Rattle.sb_disk.proofs.MomentLemmas.{IsSettled-none}
 use Rattle.sb_journal.specs.Chunks.{ReadsAs, chunks_from}
 use Rattle.sb_journal.specs.Opening.{Opened}
 use Rattle.sb_journal.specs.State.{State, Sound, StandsOn}
@@ -23,7 +24,7 @@ module _ (g : Geometry) (s t : Story) (restart : IsRestarted g s t) where
 
   -- each page as it stands on the disk
   pub IsMounted-pages : IsMounted (λ p. page_at g p t.now.reads) (Some t) g
-  IsMounted-pages = (restart.settled, Restores-empty g (λ p. page_at g p t.now.reads) t.now.reads restart.still none_read (λ p lt. refl))
+  IsMounted-pages = (IsSettled-none t restart.settled, Restores-empty g (λ p. page_at g p t.now.reads) t.now.reads restart.still none_read (λ p lt. refl))
 
   -- the pages that were wanted
   page_wanted : (want : ℕ → List ℕ) → Restores g want s.now.reads → (p : ℕ) → p < g.pages → page_at g p t.now.reads ≡ want p
@@ -32,7 +33,7 @@ module _ (g : Geometry) (s t : Story) (restart : IsRestarted g s t) where
       restart.pages p lt ∙ ap (λ (l : List Record). restored l p (page_at g p s.now.reads)) same ∙ old.each p lt
 
   mounted : (want : ℕ → List ℕ) → Restores g want s.now.reads → IsMounted want (Some t) g
-  mounted want old = (restart.settled, Restores-empty g want t.now.reads restart.still none_read (page_wanted want old))
+  mounted want old = (IsSettled-none t restart.settled, Restores-empty g want t.now.reads restart.still none_read (page_wanted want old))
 
   on_disk : (want : ℕ → List ℕ) → Restores g want s.now.reads → OnDisk want (Some t) g
   on_disk want old = λ p lt. (subst (λ (w : List Range). Sure (place_of g p) 4096 w) (sym restart.settled) (none_sure (place_of g p) 4096), page_wanted want old p lt)

@@ -26,7 +26,7 @@ module _ (g : Geometry) (frames : List (List ℕ)) where
       first = λ p lt below. absurd (omega (arith, lt));
       rest = λ p from below. refl;
       elsewhere = AgreesOff-same s.now.reads;
-      pending = λ i covered. absurd (subst (λ (w : List Range). Covered i w) settled covered);
+      pending = λ i covered. absurd (settled i covered);
     };
   }
 

@@ -1,7 +1,7 @@
 -- What runs of writes leave of a disk.
 use Rattle.std.specs.Prelude.{◌≡◌, ℕ, ◌+◌, ◌*◌, ◌<◌, ◌≤◌, Option, Some, None, List, [], ◌∷◌, slice_index, take, drop}
 use Rattle.sb_disk.specs.Disk.{Story, WhereTold, Covered, AgreesBut}
-use Rattle.sb_disk.specs.Moments.{LeavesOnly, LeavesTorn}
+use Rattle.sb_disk.specs.Moments.{LeavesOnly, LeavesTorn, IsSettled}
 use Rattle.sb_journal.specs.Chunks.{IsOpen}
 use Rattle.sb_log.specs.declared.geometry.Geometry.{Geometry}
 use Rattle.sb_images.specs.Layout.{gates_start, log_start, page_at}
@@ -31,7 +31,7 @@ IsGate (Some s) gate = slice_index s.now.reads 0 ≡ gate
 pub record ShutsGate (s t : Story) : Type 0 where
   pub gate : ¬ IsOpen t.now.reads 0
   pub within : IsWithin 0 1 s t
-  pub settled : s.now.written ≡ [] → t.now.written ≡ []
+  pub settled : IsSettled (Some s) → IsSettled (Some t)
 
 -- each byte of the log's region is as it was
 abbrev pub KeepsLog : Geometry → Story → Story → Type 0
