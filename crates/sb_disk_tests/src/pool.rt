@@ -1,6 +1,6 @@
 //! What no clause says: that calls succeed while memory lasts, and where the pages stand. And each call that fails, with the same call made again.
 
-ghost use Rattle.std.specs.Prelude.{◌≡◌, ◌≤◌, Some, IfOk};
+ghost use Rattle.std.specs.Prelude.{◌≡◌, Some, IfOk};
 ghost use Rattle.sb_disk.specs.Moments.{IsSettled};
 ghost use Rattle.sb_pool.specs.Calls.{Serves};
 ghost use Rattle.sb_pool.specs.Pages.{AgreesOn};
@@ -59,13 +59,11 @@ fn put<D: Disk>(pool: &mut Pool, disk: &mut D, journal: &mut Journal) -> bool
     requires serves { Serves (D.told disk.old) (D.len disk.old) journal.old pool.old.geometry }
     requires agrees { AgreesOn (D.told disk.old) journal.old pool.old }
     requires sizes { pool.old.geometry ≡ SIZES }
-    requires order { pool.old.position ≤ 9 }
     ensures serves { Serves (D.told disk.new) (D.len disk.new) journal.new pool.new.geometry }
     ensures agrees { AgreesOn (D.told disk.new) journal.new pool.new }
     ensures sizes { pool.new.geometry ≡ SIZES }
-    ensures order { pool.new.position ≤ 9 }
 {
-    pool.write(disk, journal, 3, 5, b"abc", 9).is_ok()
+    pool.write(disk, journal, 3, 5, b"abc").is_ok()
 }
 
 // Writes what is dirty.

@@ -16,7 +16,7 @@ use Rattle.sb_images.specs.Store.{OnDisk}
 use Rattle.sb_images.proofs.LayoutLemmas.{Lies-at, page_off_gates, page_off_log, page_at-AgreesBut}
 use Rattle.sb_pool.specs.Calls.{Serves, AreImaged}
 use Rattle.sb_pool.specs.Frames.{Put, dirty_from, puts}
-use Rattle.sb_pool.specs.Pages.{bytes_or, pool_page, IsClean, AgreesOn, KeepsPages, AreFlushed}
+use Rattle.sb_pool.specs.Pages.{bytes_or, pool_page, IsClean, PagesAgreeOn, AgreesOn, KeepsPages, AreFlushed}
 use Rattle.sb_pool.specs.State.{Held, State, held, IsWritten, IsDirty, NoneMoreDirty, cleaned, flushed}
 use Rattle.sb_pool.proofs.PutLemmas.{All, IsPut, All-dirty, dirty-IsPut}
 use Rattle.sb_pool.proofs.PutRuns.{IsPage, ArePut, StandsOn-puts, StandsOn-puts_err, puts_ok, is_put, none_told}
@@ -107,18 +107,21 @@ module _ (pool : State) where
     put_flushed s t (Some u) forced clean put = all_flushed s t u forced clean put
 
     -- where no call failed
-    pub AreFlushed-ok : (told mid new : Option Story) → j.failed ≡ false → Sized size mid → WhereTold told mid (Forced j k) → AgreesOn told j pool → RanOk (puts pool.geometry dirty_pages) mid new → AreFlushed pool told new
+    pub AreFlushed-ok : (told mid new : Option Story) → j.failed ≡ false → Sized size mid → WhereTold told mid (Forced j k) → PagesAgreeOn told j pool → RanOk (puts pool.geometry dirty_pages) mid new → AreFlushed pool told new
     AreFlushed-ok None mid new up long forced agrees ran = none_told pool.geometry dirty_pages new (subst (λ (m : Option Story). RanOk (puts pool.geometry dirty_pages) m new) forced ran)
     AreFlushed-ok (Some s) None new up long forced agrees ran = absurd forced
     AreFlushed-ok (Some s) (Some t) new up long forced agrees ran = put_flushed s t new forced (agrees up)
         (puts_ok pool.geometry (pool_page (Some s) pool) dirty_pages t new (room_at t long) (dirty-IsPage whole) (dirty-bytes (Some s)) ran)
 
   -- ---- what the pool says after it
-  pub AgreesOn-flushed : (k : journal.State) (told new : Option Story) → AreFlushed pool told new → AgreesOn new k (flushed pool)
-  AgreesOn-flushed k None new flush = subst (λ (n : Option Story). AgreesOn n k (flushed pool)) (sym flush) tt
-  AgreesOn-flushed k (Some s) None flush = tt
-  AgreesOn-flushed k (Some s) (Some u) flush = λ up p lt. subst (λ (h : Option Held). IsClean h (page_at pool.geometry p u.now.reads)) (sym (held_flushed p))
+  PagesAgreeOn-flushed : (k : journal.State) (told new : Option Story) → AreFlushed pool told new → PagesAgreeOn new k (flushed pool)
+  PagesAgreeOn-flushed k None new flush = subst (λ (n : Option Story). PagesAgreeOn n k (flushed pool)) (sym flush) tt
+  PagesAgreeOn-flushed k (Some s) None flush = tt
+  PagesAgreeOn-flushed k (Some s) (Some u) flush = λ up p lt. subst (λ (h : Option Held). IsClean h (page_at pool.geometry p u.now.reads)) (sym (held_flushed p))
       (cleaned_clean (held pool p) (page_at pool.geometry p s.now.reads) (page_at pool.geometry p u.now.reads) (flush p lt).1)
+
+  pub AgreesOn-flushed : (k : journal.State) (told new : Option Story) → AreFlushed pool told new → AgreesOn new k (flushed pool)
+  AgreesOn-flushed k told new flush = record { pages = PagesAgreeOn-flushed k told new flush; position = omega arith }
 
   pub KeepsPages-flushed : (k : journal.State) (told new : Option Story) → AreFlushed pool told new → KeepsPages k pool (flushed pool) told new
   KeepsPages-flushed k None new flush = flush
@@ -127,10 +130,6 @@ module _ (pool : State) where
       ∙ cleaned_page (held pool p) (page_at pool.geometry p s.now.reads) (page_at pool.geometry p u.now.reads) (flush p lt).1
 
   -- ---- where the force failed
-  pub AgreesOn-fault : (k : journal.State) (new : Option Story) → k.failed ≡ true → AgreesOn new k pool
-  AgreesOn-fault k None down = tt
-  AgreesOn-fault k (Some u) down = λ up. absurd (false≢true (sym up ∙ down))
-
   pub KeepsPages-fault : (k : journal.State) (told new : Option Story) → is_some told ≡ is_some new → k.failed ≡ true → KeepsPages k pool pool told new
   KeepsPages-fault k None None tells down = refl
   KeepsPages-fault k None (Some u) tells down = absurd (false≢true tells)

@@ -1,5 +1,5 @@
 -- What becomes of the pages of a pool when one of them is put into memory, or is written there.
-use Rattle.std.proofs.Common.{◌≡◌, ◌⊎◌, inl, inr, ⊎_elim, ℕ, zero, suc, ◌<◌, false, Option, Some, None, IsSome, List, length, take, drop, map, get_or, set, replicate, refl, sym, ◌∙◌, ap, subst}
+use Rattle.std.proofs.Common.{◌≡◌, ◌⊎◌, inl, inr, ⊎_elim, ℕ, zero, suc, ◌<◌, ◌≤◌, false, Option, Some, None, IsSome, List, length, take, drop, map, get_or, set, replicate, refl, sym, ◌∙◌, ap, subst, arith}
 use Rattle.std.proofs.lemmas.Bool.{cases_eq, false≢true}
 use Rattle.std.proofs.lemmas.List.{map-set, length-map, get_or-map, get_or-set_same, get_or-set_other}
 use Rattle.sb_disk.specs.Disk.{Story, Reads}
@@ -9,7 +9,7 @@ use Rattle.sb_images.specs.Layout.{place_of, page_at}
 use Rattle.sb_pool.specs.declared.frame.Frame.{Frame}
 use Rattle.sb_pool.specs.declared.pool.Pool.TheInside.{Inside}
 use Rattle.sb_pool.specs.State.{Held, State, held, IsHeld, IsWritten, NoneMoreDirty, empty_pool}
-use Rattle.sb_pool.specs.Pages.{bytes_or, pool_page, IsClean, AgreesOn, KeepsPages}
+use Rattle.sb_pool.specs.Pages.{bytes_or, pool_page, IsClean, PagesAgreeOn, AgreesOn, KeepsPages}
 use Rattle.sb_pool.specs.Frames.{held_of, IsLoaded}
 use Rattle.sb_pool.specs.View.{state_of}
 
@@ -117,14 +117,14 @@ module _ (pool after : State) where
       (λ is. fresh.reads ∙ ap (λ (n : ℕ). page_take n pool.geometry q s.now.reads) fresh.long))
       each
 
-  agrees_loaded : (told : Option Story) (j : journal.State) → Loads told pool after → AgreesOn told j pool → AgreesOn told j after
+  agrees_loaded : (told : Option Story) (j : journal.State) → Loads told pool after → PagesAgreeOn told j pool → PagesAgreeOn told j after
   agrees_loaded None j loads agrees = tt
   agrees_loaded (Some s) j loads agrees = λ up p lt.
       let below : p < pool.geometry.pages = subst (λ (g : Geometry). p < g.pages) loads.geometry lt in
       subst (λ (g : Geometry). IsClean (held after p) (page_at g p s.now.reads)) (sym loads.geometry) (clean_here s p (loads.each p) (agrees up p below))
 
-  pub Loads-agrees : (told new : Option Story) (j : journal.State) → new ≡ told → Loads told pool after → AgreesOn told j pool → AgreesOn new j after
-  Loads-agrees told new j same loads agrees = subst (λ (n : Option Story). AgreesOn n j after) (sym same) (agrees_loaded told j loads agrees)
+  pub Loads-agrees : (told new : Option Story) (j : journal.State) → new ≡ told → Loads told pool after → PagesAgreeOn told j pool → PagesAgreeOn new j after
+  Loads-agrees told new j same loads agrees = subst (λ (n : Option Story). PagesAgreeOn n j after) (sym same) (agrees_loaded told j loads agrees)
 
   pub Loads-dirty : (told : Option Story) → Loads told pool after → NoneMoreDirty pool after
   Loads-dirty told loads = λ p dirty. ⊎_elim
@@ -139,6 +139,9 @@ none_held (suc n) zero = refl
 none_held (suc n) (suc p) = none_held n p
 
 -- it agrees with every disk
+PagesAgreeOn-empty : (g : Geometry) (pool : State) → pool ≡ empty_pool g → (told : Option Story) (j : journal.State) → PagesAgreeOn told j pool
+PagesAgreeOn-empty g pool is None j = tt
+PagesAgreeOn-empty g pool is (Some s) j = λ up p lt. subst (λ (h : Option Held). IsClean h (page_at pool.geometry p s.now.reads)) (sym (ap (λ (x : State). held x p) is ∙ none_held g.pages p)) tt
+
 pub AgreesOn-empty : (g : Geometry) (pool : State) → pool ≡ empty_pool g → (told : Option Story) (j : journal.State) → AgreesOn told j pool
-AgreesOn-empty g pool is None j = tt
-AgreesOn-empty g pool is (Some s) j = λ up p lt. subst (λ (h : Option Held). IsClean h (page_at pool.geometry p s.now.reads)) (sym (ap (λ (x : State). held x p) is ∙ none_held g.pages p)) tt
+AgreesOn-empty g pool is told j = record { pages = PagesAgreeOn-empty g pool is told j; position = let e = ap (λ (x : State). x.position) is in omega arith }

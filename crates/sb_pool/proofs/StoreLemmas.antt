@@ -1,8 +1,8 @@
 -- A pool over a store: what the calls of the journal and of the pool make of both.
-use Rattle.std.proofs.Common.{◌≡◌, ◌⊎◌, ⊎_elim, ℕ, ◌<◌, true, false, cond, ◌==◌, Option, Some, None, List, [], ◌∷◌, ◌++◌, refl, sym, ◌∙◌, ap, subst}
+use Rattle.std.proofs.Common.{◌≡◌, ◌⊎◌, ⊎_elim, ℕ, ◌<◌, ◌≤◌, true, false, cond, ◌==◌, Option, Some, None, List, [], ◌∷◌, ◌++◌, refl, sym, ◌∙◌, ap, subst}
 use Rattle.sb_disk.specs.Disk.{Story, WhereTold, splice}
 use Rattle.sb_disk.specs.Moments.{Sure}
-use Rattle.sb_journal.specs.State.{Appended, Forced, Closed}
+use Rattle.sb_journal.specs.State.{used_of, Appended, Forced, Closed}
 use Rattle.sb_journal.specs.State as journal
 use Rattle.sb_journal.proofs.RegionLemmas.{none_sure, AgreesBut-gates}
 use Rattle.sb_log.specs.declared.geometry.Geometry.{Geometry}
@@ -14,7 +14,7 @@ use Rattle.sb_images.specs.Layout.{place_of, page_at, gates_of, log_of}
 use Rattle.sb_images.specs.Store.{IsReady, IsStore, IsStoreOn, KeepsRest}
 use Rattle.sb_images.proofs.LayoutLemmas.{page_off_gates, page_off_log, page_at-AgreesBut}
 use Rattle.sb_pool.specs.Calls.{IsReadyStill, IsReadyWith}
-use Rattle.sb_pool.specs.Pages.{bytes_or, pool_page, with_bytes, IsClean, AgreesOn, ArePagesOn, Becomes, KeepsPages}
+use Rattle.sb_pool.specs.Pages.{bytes_or, pool_page, with_bytes, IsClean, PagesAgreeOn, AgreesOn, ArePagesOn, Becomes, KeepsPages}
 use Rattle.sb_pool.specs.State.{State, held}
 
 -- ---- calls of the journal
@@ -52,10 +52,14 @@ module _ (g : Geometry) (j k : journal.State) (gates : j.gates ≡ gates_of g) (
 
 -- the journal, where it hasn't failed, had not
 module _ (j k : journal.State) (up : k.failed ≡ false → j.failed ≡ false) where
-  pub AgreesOn-same : (pool : State) (told new : Option Story) → WhereTold told new (SamePages pool.geometry) → AgreesOn told j pool → AgreesOn new k pool
-  AgreesOn-same pool None new same agrees = subst (λ (n : Option Story). AgreesOn n k pool) (sym same) tt
-  AgreesOn-same pool (Some s) None same agrees = tt
-  AgreesOn-same pool (Some s) (Some t) same agrees = λ still p lt. subst (λ (disk : List ℕ). IsClean (held pool p) disk) (sym (same.pages p)) (agrees (up still) p lt)
+  PagesAgreeOn-same : (pool : State) (told new : Option Story) → WhereTold told new (SamePages pool.geometry) → PagesAgreeOn told j pool → PagesAgreeOn new k pool
+  PagesAgreeOn-same pool None new same agrees = subst (λ (n : Option Story). PagesAgreeOn n k pool) (sym same) tt
+  PagesAgreeOn-same pool (Some s) None same agrees = tt
+  PagesAgreeOn-same pool (Some s) (Some t) same agrees = λ still p lt. subst (λ (disk : List ℕ). IsClean (held pool p) disk) (sym (same.pages p)) (agrees (up still) p lt)
+
+  -- where the log reaches the last write still
+  pub AgreesOn-same : (pool : State) (told new : Option Story) → WhereTold told new (SamePages pool.geometry) → pool.position ≤ used_of k → AgreesOn told j pool → AgreesOn new k pool
+  AgreesOn-same pool told new same reaches agrees = record { pages = PagesAgreeOn-same pool told new same agrees.pages; position = reaches }
 
   pub ArePagesOn-same : (pages : ℕ → List ℕ) (pool : State) (told new : Option Story) → WhereTold told new (SamePages pool.geometry) → ArePagesOn pages told j pool → ArePagesOn pages new k pool
   ArePagesOn-same pages pool None new same are = subst (λ (n : Option Story). ArePagesOn pages n k pool) (sym same) tt

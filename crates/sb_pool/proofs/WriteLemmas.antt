@@ -9,7 +9,7 @@ use Rattle.sb_pool.specs.declared.frame.Content.{Content}
 use Rattle.sb_pool.specs.declared.frame.Content.TheVariants.{Nothing, Clean, Dirty}
 use Rattle.sb_pool.specs.declared.frame.Frame.{Frame}
 use Rattle.sb_pool.specs.State.{Held, State, held, IsWritten, IsDirty, NoneMoreDirty}
-use Rattle.sb_pool.specs.Pages.{bytes_or, pool_page, with_bytes, IsClean, AgreesOn, Becomes, KeepsPages}
+use Rattle.sb_pool.specs.Pages.{bytes_or, pool_page, with_bytes, IsClean, PagesAgreeOn, Becomes, KeepsPages}
 use Rattle.sb_pool.specs.Frames.{held_as, held_of}
 use Rattle.sb_pool.proofs.PageLemmas.{Puts}
 
@@ -44,9 +44,9 @@ module _ (mid after : State) (page : ℕ) (bytes : List ℕ) (puts : Puts mid af
   clean_written : (disk : List ℕ) → IsClean (written bytes) disk
   clean_written disk = λ is. absurd (false≢true (sym is))
 
-  pub AgreesOn-written : (told : Option Story) (k : journal.State) → AgreesOn told k mid → AgreesOn told k after
-  AgreesOn-written None k agrees = tt
-  AgreesOn-written (Some s) k agrees = λ up p lt. subst (λ (g : Geometry). IsClean (held after p) (page_at g p s.now.reads)) (sym puts.geometry) (⊎_elim
+  pub PagesAgreeOn-written : (told : Option Story) (k : journal.State) → PagesAgreeOn told k mid → PagesAgreeOn told k after
+  PagesAgreeOn-written None k agrees = tt
+  PagesAgreeOn-written (Some s) k agrees = λ up p lt. subst (λ (g : Geometry). IsClean (held after p) (page_at g p s.now.reads)) (sym puts.geometry) (⊎_elim
       (λ (e : p ≡ page). subst (λ (h : Option Held). IsClean h (page_at mid.geometry p s.now.reads)) (sym (ap (λ (q : ℕ). held after q) e ∙ puts.here)) (clean_written (page_at mid.geometry p s.now.reads)))
       (λ (other : ¬ (p ≡ page)). subst (λ (h : Option Held). IsClean h (page_at mid.geometry p s.now.reads)) (sym (puts.others p other)) (agrees up p (subst (λ (g : Geometry). p < g.pages) puts.geometry lt)))
       (cases_eq p page))

@@ -38,7 +38,7 @@ pub record Serves (told : Option Story) (size : ℕ) (j : journal.State) (g : Ge
   pub clean : j.clean ≡ true
   pub free : 0 < j.pending → length j.lens < j.gates.len
 
--- What each call keeps: the sizes, at a fault the position, that disk and journal serve the pool, and that clean pages are as the disk has them. Its
+-- What each call keeps: the sizes, at a fault the position, that disk and journal serve the pool, and that the pool agrees with them. Its
 -- Fault means that the disk failed a call, now or in an earlier call of the journal.
 pub record KeepsPool {T : Type 0} (old new : Moment) (result : Result T PoolFault) : Type 0 where
   pub size : new.size ≡ old.size
@@ -51,7 +51,7 @@ pub record KeepsPool {T : Type 0} (old new : Moment) (result : Result T PoolFaul
   pub agrees : AgreesOn new.told new.journal new.pool
   pub sound : Sound old.journal → Sound new.journal
 
--- The same of a flush. After a failed one a page that was pending on the disk may read as anything, so it says nothing of clean pages then.
+-- The same of a flush. After a failed one a page that was pending on the disk may read as anything, so the pool needn't agree then.
 pub record KeepsFlushed {T : Type 0} (old new : Moment) (result : Result T PoolFault) : Type 0 where
   pub size : new.size ≡ old.size
   pub geometry : new.pool.geometry ≡ old.pool.geometry

@@ -1,7 +1,8 @@
 -- What a pool over a disk says of the pages of a store.
-use Rattle.std.specs.Prelude.{◌≡◌, ℕ, ◌<◌, false, cond, ◌==◌, Option, Some, None, List}
+use Rattle.std.specs.Prelude.{◌≡◌, ℕ, ◌<◌, ◌≤◌, false, cond, ◌==◌, Option, Some, None, List}
 use Rattle.sb_disk.specs.Disk.{Story, WhereTold, splice}
 use Rattle.sb_disk.specs.Moments.{contents}
+use Rattle.sb_journal.specs.State.{used_of}
 use Rattle.sb_journal.specs.State as journal
 use Rattle.sb_images.specs.Layout.{page_at}
 use Rattle.sb_images.specs.Store.{OnDisk}
@@ -26,10 +27,15 @@ IsClean None disk = Unit {0}
 IsClean (Some h) disk = h.dirty ≡ false → h.bytes ≡ disk
 
 -- Each page that is held and isn't dirty is as the disk has it, until the journal fails.
-abbrev pub AgreesOn : Option Story → journal.State → State → Type 0
-AgreesOn None j pool = Unit {0}
-AgreesOn (Some s) j pool =
+abbrev pub PagesAgreeOn : Option Story → journal.State → State → Type 0
+PagesAgreeOn None j pool = Unit {0}
+PagesAgreeOn (Some s) j pool =
     j.failed ≡ false → (p : ℕ) → p < pool.geometry.pages → IsClean (held pool p) (page_at pool.geometry p s.now.reads)
+
+-- So it is, and the position of the last write lies no further than the chunks of the log and what is pending reach.
+pub record AgreesOn (told : Option Story) (j : journal.State) (pool : State) : Type 0 where
+  pub pages : PagesAgreeOn told j pool
+  pub position : pool.position ≤ used_of j
 
 -- These are the pages as they were last written, until the journal fails.
 abbrev pub ArePagesOn : (ℕ → List ℕ) → Option Story → journal.State → State → Type 0

@@ -7,7 +7,7 @@ pub record Held : Type 0 where
   pub bytes : List ℕ
   pub dirty : Bool
 
--- The sizes of the store, what is held of each page by its number, and the position of the last write since the last flush.
+-- The sizes of the store, what is held of each page by its number, and the position of the last write since the last flush: how far the log reached then.
 pub record State : Type 0 where
   pub geometry : Geometry
   pub pages : List (Option Held)

@@ -3,7 +3,7 @@
 ghost use Rattle.std.specs.Prelude.{◌≡◌, ◌⊎◌, ◌+◌, ◌<◌, ◌≤◌, ℕ, Option, true, false, Some, length, OnOk, OnErr, IfOk, IfErr};
 ghost use Rattle.sb_disk.specs.Disk.{Story};
 ghost use Rattle.sb_images.specs.Store.{IfTold};
-ghost use Rattle.sb_journal.specs.State.{State, after_force};
+ghost use Rattle.sb_journal.specs.State.{State, used_of, after_force};
 ghost use Rattle.sb_log.specs.Restored.{imaged};
 ghost use Rattle.sb_pool.specs.declared.fault.PoolFault.TheVariants.{NoMemory};
 ghost use Rattle.sb_pool.specs.Calls.{moment, Serves, KeepsPool, KeepsFlushed, IsSameOrForced, InStore, KeepsImages, FlushesImages, IsLoad, ReadsClean};
@@ -143,7 +143,7 @@ impl Pool {
         Ok(self.page(page))
     }
 
-    /// Puts the bytes at a place of the page.
+    /// Puts the bytes at a place of the page, behind the records of the change.
     pub fn write<D: Disk>(
         &mut self,
         disk: &mut D,
@@ -151,17 +151,15 @@ impl Pool {
         page: u32,
         offset: u16,
         bytes: &[u8],
-        position: u64,
     ) -> Result<(), PoolFault>
         requires serves { Serves (D.told disk.old) (D.len disk.old) journal.old self.old.geometry }
         requires agrees { AgreesOn (D.told disk.old) journal.old self.old }
         requires page { page < self.old.geometry.pages }
         requires range { offset + length bytes.now ≤ 4096 }
-        requires order { self.old.position ≤ position }
 
         ensures written { OnOk result (Becomes (with_bytes page offset bytes.now (pool_page (D.told disk.old) self.old))
             journal.new self.new (D.told disk.old) (D.told disk.new)) }
-        ensures dirty { OnOk result (IsDirty self.new page × (self.new.position ≡ position)) }
+        ensures dirty { OnOk result (IsDirty self.new page × (self.new.position ≡ used_of journal.new)) }
         ensures others { (p : ℕ) → IsDirty self.new p → IsDirty self.old p ⊎ (p ≡ page) }
         ensures err { OnErr result (KeepsPages journal.new self.old self.new (D.told disk.old) (D.told disk.new)) }
 
@@ -176,7 +174,7 @@ impl Pool {
         self.load(disk, journal, page)?;
         let frame = &mut self.frames[page as usize];
         frame.write(offset as usize, bytes);
-        self.position = position;
+        self.position = journal.used();
         Ok(())
     }
 

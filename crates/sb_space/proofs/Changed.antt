@@ -10,15 +10,14 @@ use Rattle.sb_log.specs.declared.geometry.Geometry.{Geometry}
 use Rattle.sb_pool.specs.Pages.{with_bytes}
 use Rattle.sb_txn.specs.declared.fault.StoreFault.{StoreFault}
 use Rattle.sb_txn.specs.declared.fault.StoreFault.TheVariants.{Fault, LogFull, GatesFull, Down, NoMemory}
-use Rattle.sb_txn.specs.Book.{Undo, ActiveTransaction, Book, transaction_with, others, changed_transaction, leading, wants_of}
+use Rattle.sb_txn.specs.Book.{Undo, ActiveTransaction, Book, transaction_with, others, put_in, changed_transaction, wants_of}
 use Rattle.sb_txn.specs.Clauses.{HoldsPages, StaysReady, LeavesWanted, Changes, ChangeErr, Refused, undo_in, unwound}
 use Rattle.sb_txn.specs.Parts.{parts}
 use Rattle.sb_txn.specs.State.{State}
-use Rattle.sb_txn.proofs.CalledLemmas.{transaction_with-among, transaction_with-tx, transaction_with-split}
+use Rattle.sb_txn.proofs.CalledLemmas.{transaction_with-among, transaction_with-split, transaction_with-put, others-put}
 use Rattle.sb_txn.proofs.LawLemmas.{last_is_undone}
 use Rattle.sb_txn.proofs.LoggedLemmas.{change_len-most}
 use Rattle.sb_txn.proofs.OnlyLemmas.{IsOnly-change}
-use Rattle.sb_txn.proofs.PlaceLemmas.{transaction_with-first, others-first}
 use Rattle.sb_txn.proofs.RoomLemmas.{SameRoom-forced, Grows-rest}
 use Rattle.sb_drive.specs.Spaces.{UnlessDown}
 use Rattle.sb_space.specs.Faults.{fault_of}
@@ -65,30 +64,27 @@ module _ {D : Type 0} (told : D → Option Story) (len faults : D → ℕ) (tx :
 
   module _ (keeps : StaysReady {T = Unit {0}} told len faults d e s t (Ok tt)) (leaves : LeavesWanted (parts told len d s) (parts told len e t)) (only : IsAlone tx s.book)
       (owner page offset : ℕ) (bytes : List ℕ) (within : offset + length bytes ≤ 4096) (less : page < s.pool.geometry.pages) (small : All (λ b. b < 256) bytes)
-      (changes : (o : ActiveTransaction) → transaction_with tx s.book.actives ≡ Some o → Changes (parts told len d s) (parts told len e t) o (others tx s.book.actives) owner page offset bytes) where
+      (changes : (o : ActiveTransaction) → transaction_with tx s.book.actives ≡ Some o → Changes (parts told len d s) (parts told len e t) o owner page offset bytes) where
     abbrev up : s.book.down ≡ false
     up = was_up {T = Unit {0}} (Ok tt) keeps (no_error tt Down)
 
     abbrev found : (o : ActiveTransaction) × (transaction_with tx s.book.actives ≡ Some o)
     found = transaction_with-among tx s.book.actives (only up).0
 
-    abbrev made : Changes (parts told len d s) (parts told len e t) found.0 (others tx s.book.actives) owner page offset bytes
+    abbrev made : Changes (parts told len d s) (parts told len e t) found.0 owner page offset bytes
     made = changes found.0 found.1
 
     abbrev undo : Undo
     undo = undo_in page offset made.image bytes
 
-    actives : t.book.actives ≡ changed_transaction found.0 undo ∷ others tx s.book.actives
+    actives : t.book.actives ≡ put_in (changed_transaction found.0 undo) s.book.actives
     actives = ap (λ (b : Book). b.actives) made.book
-
-    abbrev number : found.0.tx ≡ tx
-    number = transaction_with-tx tx s.book.actives found.0 found.1
 
     abbrev undos_in : Option ActiveTransaction → List Undo
     undos_in o = elim o [ None ↦ [] | Some x ↦ x.undos ]
 
     own : undos_of tx t.book.actives ≡ undos_of tx s.book.actives ++ undo ∷ []
-    own = ap (λ (os : List ActiveTransaction). undos_in (transaction_with tx os)) actives ∙ ap undos_in (transaction_with-first tx (changed_transaction found.0 undo) (others tx s.book.actives) number)
+    own = ap (λ (os : List ActiveTransaction). undos_in (transaction_with tx os)) actives ∙ ap undos_in (transaction_with-put tx s.book.actives found.0 found.1 (changed_transaction found.0 undo) refl)
         ∙ ap (λ (o : Option ActiveTransaction). undos_in o ++ undo ∷ []) (sym found.1)
 
     stands_still : (want now : ℕ → List ℕ) → HoldsPages want now (parts told len d s) → AreWhole s.pool.geometry.pages now → made.image ≡ now page → (p : ℕ) → unwound (undo ∷ []) (with_bytes page offset bytes now) p ≡ now p
@@ -108,7 +104,7 @@ module _ {D : Type 0} (told : D → Option Story) (len faults : D → ℕ) (tx :
       undos = undo ∷ [];
       few = omega arith;
       own = own;
-      others = ap (λ (os : List ActiveTransaction). others tx os) actives ∙ others-first tx (changed_transaction found.0 undo) (others tx s.book.actives) number;
+      others = ap (λ (os : List ActiveTransaction). others tx os) actives ∙ others-put tx s.book.actives found.0 found.1 (changed_transaction found.0 undo) refl;
       pages = λ want now store. record {
         pages = with_bytes page offset bytes now;
         store = made.pages want now store;
@@ -139,32 +135,22 @@ module _ {D : Type 0} (told : D → Option Story) (len faults : D → ℕ) (tx :
 
   -- ---- it is refused, and nothing has changed
   module _ (f : StoreFault) (keeps : StaysReady {T = Unit {0}} told len faults d e s t (Err f)) (leaves : LeavesWanted (parts told len d s) (parts told len e t)) (only : IsAlone tx s.book) (other : IsErrOf {T = Unit {0}} (Err f) Down → ⊥)
-      (refused : (o : ActiveTransaction) → transaction_with tx s.book.actives ≡ Some o → Refused o.tx (parts told len d s) (parts told len e t)) where
+      (refused : (o : ActiveTransaction) → transaction_with tx s.book.actives ≡ Some o → Refused (parts told len d s) (parts told len e t)) where
     abbrev up-2 : s.book.down ≡ false
     up-2 = was_up {T = Unit {0}} (Err f) keeps other
 
     abbrev found-2 : (o : ActiveTransaction) × (transaction_with tx s.book.actives ≡ Some o)
     found-2 = transaction_with-among tx s.book.actives (only up-2).0
 
-    abbrev number-2 : found-2.0.tx ≡ tx
-    number-2 = transaction_with-tx tx s.book.actives found-2.0 found-2.1
-
-    abbrev still : Refused found-2.0.tx (parts told len d s) (parts told len e t)
+    abbrev still : Refused (parts told len d s) (parts told len e t)
     still = refused found-2.0 found-2.1
-
-    actives-2 : t.book.actives ≡ found-2.0 ∷ others tx s.book.actives
-    actives-2 = ap (λ (b : Book). b.actives) still.book ∙ (λ i. leading (transaction_with (number-2 i) s.book.actives) (others (number-2 i) s.book.actives)) ∙ ap (λ (o : Option ActiveTransaction). leading o (others tx s.book.actives)) found-2.1
-
-    abbrev undos_in-2 : Option ActiveTransaction → List Undo
-    undos_in-2 o = elim o [ None ↦ [] | Some x ↦ x.undos ]
 
     Makes-refused : Makes tx 1 (parts told len d s) (parts told len e t)
     Makes-refused = record {
       undos = [];
       few = omega arith;
-      own = ap (λ (os : List ActiveTransaction). undos_in-2 (transaction_with tx os)) actives-2 ∙ ap undos_in-2 (transaction_with-first tx found-2.0 (others tx s.book.actives) number-2)
-          ∙ ap undos_in-2 (sym found-2.1) ∙ nothing_more (undos_of tx s.book.actives);
-      others = ap (λ (os : List ActiveTransaction). others tx os) actives-2 ∙ others-first tx found-2.0 (others tx s.book.actives) number-2;
+      own = ap (λ (b : Book). undos_of tx b.actives) still.book ∙ nothing_more (undos_of tx s.book.actives);
+      others = ap (λ (b : Book). others tx b.actives) still.book;
       pages = λ want now store. record {
         pages = now;
         store = still.pages want now store;
@@ -239,7 +225,7 @@ module _ {D : Type 0} (told : D → Option Story) (len faults : D → ℕ) (tx :
 
 -- ---- and the store serves on
 pub Serves-changed : {D : Type 0} (told : D → Option Story) (len faults : D → ℕ) (tx : ℕ) (d e : D) (s t : State) (r : Result (Unit {0}) StoreFault) (owner page offset : ℕ) (bytes : List ℕ) → StaysReady told len faults d e s t r
-    → OnOk r ((o : ActiveTransaction) → transaction_with tx s.book.actives ≡ Some o → Changes (parts told len d s) (parts told len e t) o (others tx s.book.actives) owner page offset bytes)
+    → OnOk r ((o : ActiveTransaction) → transaction_with tx s.book.actives ≡ Some o → Changes (parts told len d s) (parts told len e t) o owner page offset bytes)
     → IfErr r (λ f. (o : ActiveTransaction) → transaction_with tx s.book.actives ≡ Some o → ChangeErr (parts told len d s) (parts told len e t) o page (length bytes) f)
     → Serves tx (parts told len d s) → Serves tx (parts told len e t)
 Serves-changed told len faults tx d e s t r owner page offset bytes keeps changes refused serves = record {

@@ -7,12 +7,11 @@ use Rattle.sb_disk.specs.Disk.{Story}
 use Rattle.sb_log.specs.declared.geometry.Geometry.{Geometry}
 use Rattle.sb_drive.specs.Slots.{Slots}
 use Rattle.sb_drive.specs.Spaces.{Wanted}
-use Rattle.sb_txn.specs.Book.{Undo, ActiveTransaction, Book, transaction_with, others, standing_of}
+use Rattle.sb_txn.specs.Book.{Undo, ActiveTransaction, Book, transaction_with, standing_of}
 use Rattle.sb_txn.specs.Clauses.{HoldsPages, LeavesWanted, GoesBack, cut_back, unwound}
 use Rattle.sb_txn.specs.Parts.{Parts}
 use Rattle.sb_txn.specs.State.{State}
-use Rattle.sb_txn.proofs.CalledLemmas.{transaction_with-tx}
-use Rattle.sb_txn.proofs.PlaceLemmas.{transaction_with-first, standing_of-first}
+use Rattle.sb_txn.proofs.CalledLemmas.{transaction_with-put, standing_of-put}
 use Rattle.sb_space.specs.Composing.{LeadsBack-none, LeadsBack-then, LeadsBack-before, LeadsBack-now, LeadsBack-was}
 use Rattle.sb_space.specs.Durable.{Lent, Leads, parts_in}
 use Rattle.sb_space.specs.Table.{AreWhole, IsTable, slots_in}
@@ -152,21 +151,15 @@ module _ (tx m : ℕ) (p q : Parts) (o : ActiveTransaction) (is : transaction_wi
       same : unwound (drop m o.undos) was.now ≡ was.was
       same = λ i x. (ap (λ (us : List Undo). unwound (drop m us) was.now x) (sym (undos-found tx p.store.book.actives o is)) ∙ was.back.back x) i
 
-  module _ (goes : GoesBack p q o (others tx p.store.book.actives) m) (within : m ≤ standing_of tx p.store.book.actives) where
-    abbrev rest : List ActiveTransaction
-    rest = others tx p.store.book.actives
-
-    number : o.tx ≡ tx
-    number = transaction_with-tx tx p.store.book.actives o is
-
+  module _ (goes : GoesBack p q o m) (within : m ≤ standing_of tx p.store.book.actives) where
     enough : m ≤ length o.undos
     enough = let all = standing-undos tx p.store.book.actives in let same = ap (λ (us : List Undo). length us) (undos-found tx p.store.book.actives o is) in omega (arith, all, same, within)
 
     pub standing-back : standing_of tx q.store.book.actives ≡ m
-    standing-back = ap (λ (b : Book). standing_of tx b.actives) goes.book ∙ standing_of-first tx (cut_back o m) rest number ∙ length-take-le m o.undos enough
+    standing-back = ap (λ (b : Book). standing_of tx b.actives) goes.book ∙ standing_of-put tx p.store.book.actives o is (cut_back o m) refl ∙ length-take-le m o.undos enough
 
     own : undos_of tx q.store.book.actives ≡ take m o.undos
-    own = ap (λ (b : Book). undos_of tx b.actives) goes.book ∙ ap undos_in (transaction_with-first tx (cut_back o m) rest number)
+    own = ap (λ (b : Book). undos_of tx b.actives) goes.book ∙ ap undos_in (transaction_with-put tx p.store.book.actives o is (cut_back o m) refl)
 
     -- before it: they can be given back still
     pub WasAt-back : (want : Wanted) (s : Slots) (n : ℕ) → n ≤ m → WasAt tx want s n p → WasAt tx want s n q

@@ -92,7 +92,7 @@ module _ {D : Type 0} (told : D → Option Story) (len faults : D → ℕ) (d e 
 
 -- ---- a way back
 pub Serves-back : {D : Type 0} (told : D → Option Story) (len faults : D → ℕ) (tx : ℕ) (d e : D) (s t : State) (r : Result (Unit {0}) StoreFault) (n : ℕ) → StaysReady told len faults d e s t r
-    → OnOk r ((o : ActiveTransaction) → transaction_with tx s.book.actives ≡ Some o → GoesBack (parts told len d s) (parts told len e t) o (others tx s.book.actives) n) → IfErr r IsFaultOrDown
+    → OnOk r ((o : ActiveTransaction) → transaction_with tx s.book.actives ≡ Some o → GoesBack (parts told len d s) (parts told len e t) o n) → IfErr r IsFaultOrDown
     → Serves tx (parts told len d s) → Serves tx (parts told len e t)
 Serves-back told len faults tx d e s t r n keeps back err serves = record {
   ready = keeps.ready;

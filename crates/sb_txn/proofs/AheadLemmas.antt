@@ -1,7 +1,6 @@
 -- What a write leaves of a store that was ahead of its pool.
 use Rattle.std.proofs.Common.{◌≡◌, ◌⊎◌, ⊎_elim, ℕ, true, Option, List, ◌++◌, sym, ◌∙◌, subst, arith}
 use Rattle.sb_disk.specs.Disk.{Story}
-use Rattle.sb_journal.specs.State.{used_of}
 use Rattle.sb_journal.specs.State as journal
 use Rattle.sb_log.specs.declared.geometry.Geometry.{Geometry}
 use Rattle.sb_log.specs.Records.{Record}
@@ -23,11 +22,11 @@ use Rattle.sb_txn.proofs.TiedLemmas.{HasReserve-same}
 
 module _ (want now : ℕ → List ℕ) (told new : Option Story) (size len : ℕ) (j k : journal.State) (p after : pool.State) (book : Book) (opened pending : List Record) (page offset : ℕ) (bytes : List ℕ) where
   pub HoldsAll-written : Leans want now (with_bytes page offset bytes now) opened pending (stored told size j p book) → imaged (opened ++ pending) page ≡ true
-      → after.geometry ≡ p.geometry → after.position ≡ used_of j → Becomes (with_bytes page offset bytes (pool_page told p)) k after told new
+      → after.geometry ≡ p.geometry → Becomes (with_bytes page offset bytes (pool_page told p)) k after told new
       → ((q : ℕ) → IsDirty after q → IsDirty p q ⊎ (q ≡ page)) → IsReadyWith want p.geometry (opened ++ pending) k told new
       → IsSameOrForced j k → Serves new len k after.geometry → AgreesOn new k after
       → HoldsAll want (with_bytes page offset bytes now) (opened ++ pending) (record { told = new; size = len; store = together k after book })
-  HoldsAll-written leans covered sizes position wrote others still forced serves agrees =
+  HoldsAll-written leans covered sizes wrote others still forced serves agrees =
       let room = SameRoom-forced j k forced in
       let then : ℕ → List ℕ = with_bytes page offset bytes now in
       let goes = IsStoreOn-with want then j k p.geometry opened pending (views book.actives) told new leans.store still in (
@@ -41,7 +40,6 @@ module _ (want now : ℕ → List ℕ) (told new : Option Story) (size len : ℕ
           pages = ArePagesOn-write j k (λ up. sym room.up ∙ up) now p after sizes page offset bytes told new wrote leans.pages;
           dirty = subst (λ (l : List Record). AreImaged after l) (sym goes.same)
               (λ q is. ⊎_elim (λ (was : IsDirty p q). leans.dirty q was) (λ (e : q ≡ page). subst (λ (n : ℕ). imaged (opened ++ pending) n ≡ true) (sym e) covered) (others q is));
-          position = let e = room.used in omega arith;
           knows = subst (λ (l : List Record). IsBookOf after.geometry.pages l book) (sym goes.same) (subst (λ (g : Geometry). IsBookOf g.pages (opened ++ pending) book) (sym sizes) leans.knows);
           spare = HasReserve-same j k book room leans.spare;
         },

@@ -1,5 +1,5 @@
 -- What going back to a savepoint leaves of a store.
-use Rattle.std.proofs.Common.{◌≡◌, inl, ℕ, zero, suc, ◌<◌, ◌≤◌, Bool, true, false, ◌||◌, Option, Result, Ok, List, [], ◌∷◌, ◌++◌, length, take, drop, get_or, nat_lt, refl, sym, ◌∙◌, ap, subst, arith}
+use Rattle.std.proofs.Common.{◌≡◌, inl, ℕ, zero, suc, ◌<◌, ◌≤◌, Bool, true, false, ◌||◌, Option, Some, Result, Ok, List, [], ◌∷◌, ◌++◌, length, take, drop, get_or, nat_lt, refl, sym, ◌∙◌, ap, subst, arith}
 use Rattle.std.proofs.Math.Seq.{take-suc, drop-cons, take-length, drop-length}
 use Rattle.std.proofs.lemmas.Bool.{lt-ltb, le-ltb}
 use Rattle.std.proofs.lemmas.List.{length_push, length-take-le}
@@ -7,15 +7,17 @@ use Rattle.sb_disk.specs.Disk.{Story}
 use Rattle.sb_log.proofs.StandingLemmas.{or_false}
 use Rattle.sb_journal.specs.State as journal
 use Rattle.sb_pool.specs.State as pool
-use Rattle.sb_txn.specs.Book.{Undo, ActiveTransaction, Book, standing_in, with_actives}
+use Rattle.sb_txn.specs.Book.{Undo, ActiveTransaction, Book, transaction_with, others, put_in, standing_of, with_actives}
 use Rattle.sb_txn.specs.Clauses.{IsReady, HoldsPages, LeavesWanted, StaysReady, unwound, cut_back, UndoesLast, GoesBack, Aborts}
-use Rattle.sb_txn.specs.Parts.{Parts, parts}
-use Rattle.sb_txn.specs.State.{State, together}
+use Rattle.sb_txn.specs.Parts.{Parts, parts, stored}
+use Rattle.sb_txn.specs.State.{State}
+use Rattle.sb_txn.specs.Tied.{Holds}
 use Rattle.sb_txn.specs.declared.fault.StoreFault.{StoreFault}
+use Rattle.sb_txn.proofs.CalledLemmas.{standing_of-found, found_standing, put_in-same, put_in-again, transaction_with-put, others-put}
 use Rattle.sb_txn.proofs.KeepsLemmas.{LeavesWanted-none, LeavesWanted-then, StaysReady-ok, StaysReady-then, StaysReady-still}
 use Rattle.sb_txn.proofs.RoomLemmas.{IsSameOrForced-then}
 use Rattle.sb_txn.proofs.EndLemmas.{Holds-drop, Holds-wanted}
-use Rattle.sb_txn.proofs.UndoLemmas.{some_first}
+use Rattle.sb_txn.proofs.OrderLemmas.{Holds-first}
 
 -- ---- lists
 snoc_one : (xs ys : List Undo) (x y : Undo) → xs ++ x ∷ [] ≡ ys ++ y ∷ [] → (xs ≡ ys) × (x ≡ y)
@@ -43,9 +45,10 @@ all_stand : (o : ActiveTransaction) → cut_back o (length o.undos) ≡ o
 all_stand o = ap (λ (us : List Undo). record o { undos = us; undone = o.undone || nat_lt (length o.undos) (length o.undos) }) (take-length o.undos)
     ∙ ap (λ (b : Bool). record o { undone = b }) (ap (λ (b : Bool). o.undone || b) (le-ltb (length o.undos) (length o.undos) (omega arith)) ∙ or_false o.undone)
 
-pub GoesBack-none : (p : Parts) (o : ActiveTransaction) (rest : List ActiveTransaction) → p.store.book.actives ≡ o ∷ rest → GoesBack p p o rest (length o.undos)
-GoesBack-none p o rest is = record {
-  book = ap (λ (l : List ActiveTransaction). with_actives p.store.book l) (is ∙ ap (λ (x : ActiveTransaction). x ∷ rest) (sym (all_stand o)));
+pub GoesBack-none : (p : Parts) (tx : ℕ) (o : ActiveTransaction) → transaction_with tx p.store.book.actives ≡ Some o → GoesBack p p o (length o.undos)
+GoesBack-none p tx o is = record {
+  book = ap (λ (l : List ActiveTransaction). with_actives p.store.book l)
+      (sym (ap (λ (x : ActiveTransaction). put_in x p.store.book.actives) (all_stand o) ∙ put_in-same tx p.store.book.actives o is));
   pages = λ want now store. subst (λ (us : List Undo). HoldsPages want (unwound us now) p) (sym (drop-length o.undos)) store;
   journal = inl refl;
 }
@@ -54,63 +57,67 @@ or_true : (b : Bool) → true ≡ (b || true)
 or_true true = refl
 or_true false = refl
 
-pub GoesBack-more : (old mid new : Parts) (o : ActiveTransaction) (rest : List ActiveTransaction) (n : ℕ) → n < length o.undos → GoesBack old mid o rest (suc n) → UndoesLast mid new (cut_back o (suc n)) rest → GoesBack old new o rest n
-GoesBack-more old mid new o rest n lt so_far one =
+pub GoesBack-more : (old mid new : Parts) (o : ActiveTransaction) (n : ℕ) → n < length o.undos → GoesBack old mid o (suc n) → UndoesLast mid new (cut_back o (suc n)) → GoesBack old new o n
+GoesBack-more old mid new o n lt so_far one =
     let cut = IsCut-at o.undos n one.others one.last lt one.was in
+    let book : Book = old.store.book in
+    let last : ActiveTransaction = record o { undos = one.others; undone = true } in
     record {
-      book = one.book ∙ ap (λ (b : Book). with_actives b (record o { undos = one.others; undone = true } ∷ rest)) so_far.book
-          ∙ ap (λ (us : List Undo). with_actives old.store.book (record o { undos = us; undone = true } ∷ rest)) cut.front
-          ∙ ap (λ (b : Bool). with_actives old.store.book (record o { undos = take n o.undos; undone = b } ∷ rest)) (or_true o.undone ∙ ap (λ (b : Bool). o.undone || b) (sym (lt-ltb n (length o.undos) lt)));
+      book = one.book ∙ ap (λ (b : Book). with_actives b (put_in last b.actives)) so_far.book
+          ∙ ap (λ (l : List ActiveTransaction). with_actives book l) (put_in-again (cut_back o (suc n)) last book.actives refl)
+          ∙ ap (λ (us : List Undo). with_actives book (put_in (record o { undos = us; undone = true }) book.actives)) cut.front
+          ∙ ap (λ (b : Bool). with_actives book (put_in (record o { undos = take n o.undos; undone = b }) book.actives)) (or_true o.undone ∙ ap (λ (b : Bool). o.undone || b) (sym (lt-ltb n (length o.undos) lt)));
       pages = λ want now store.
           subst (λ (us : List Undo). HoldsPages want (unwound us now) new) (sym cut.behind) (one.pages want (unwound (drop (suc n) o.undos) now) (so_far.pages want now store));
       journal = IsSameOrForced-then old.store.journal mid.store.journal new.store.journal so_far.journal one.journal;
     }
+
+-- the transaction is active still, with those of its changes alone
+pub transaction_with-back : (old new : Parts) (tx : ℕ) (o : ActiveTransaction) → transaction_with tx old.store.book.actives ≡ Some o → (n : ℕ) → GoesBack old new o n → transaction_with tx new.store.book.actives ≡ Some (cut_back o n)
+transaction_with-back old new tx o is n back = ap (λ (b : Book). transaction_with tx b.actives) back.book ∙ transaction_with-put tx old.store.book.actives o is (cut_back o n) refl
 
 -- ---- the loop
 -- what a call answers that has nothing to say
 abbrev pub done : Result (Unit {0}) StoreFault
 done = Ok tt
 
--- So many changes stand still, at least those up to the savepoint.
-pub record WentBack {D : Type 0} (told : D → Option Story) (len faults : D → ℕ) (old new : D) (s t : State) (n : ℕ) : Type 0 where
+-- So many changes of the transaction stand still, at least those up to the savepoint.
+pub record WentBack {D : Type 0} (told : D → Option Story) (len faults : D → ℕ) (old new : D) (s t : State) (tx n : ℕ) : Type 0 where
   pub left : ℕ
-  pub standing : standing_in t.book.actives ≡ left
+  pub standing : standing_of tx t.book.actives ≡ left
   pub least : n ≤ left
-  pub most : (o : ActiveTransaction) (rest : List ActiveTransaction) → s.book.actives ≡ o ∷ rest → left ≤ length o.undos
-  pub undoes : (o : ActiveTransaction) (rest : List ActiveTransaction) → s.book.actives ≡ o ∷ rest → GoesBack (parts told len old s) (parts told len new t) o rest left
-  pub first : 0 < left → (o : ActiveTransaction) × (rest : List ActiveTransaction) × (s.book.actives ≡ o ∷ rest)
+  pub most : (o : ActiveTransaction) → transaction_with tx s.book.actives ≡ Some o → left ≤ length o.undos
+  pub undoes : (o : ActiveTransaction) → transaction_with tx s.book.actives ≡ Some o → GoesBack (parts told len old s) (parts told len new t) o left
+  pub found : 0 < left → (o : ActiveTransaction) × (transaction_with tx s.book.actives ≡ Some o)
   pub up : t.book.down ≡ false
   pub leaves : LeavesWanted (parts told len old s) (parts told len new t)
   pub keeps : StaysReady told len faults old new s t done
 
 module _ {D : Type 0} (told : D → Option Story) (len faults : D → ℕ) where
-  none_of : (s : State) (o : ActiveTransaction) (rest : List ActiveTransaction) → s.book.actives ≡ o ∷ rest → standing_in s.book.actives ≡ length o.undos
-  none_of s o rest is = ap standing_in is
-
-  pub WentBack-none : (d : D) (s : State) (n : ℕ) → s.book.down ≡ false → n ≤ standing_in s.book.actives → IsReady (parts told len d s) → WentBack told len faults d d s s n
-  WentBack-none d s n up least ready = record {
-    left = standing_in s.book.actives;
+  pub WentBack-none : (d : D) (s : State) (tx n : ℕ) → s.book.down ≡ false → n ≤ standing_of tx s.book.actives → IsReady (parts told len d s) → WentBack told len faults d d s s tx n
+  WentBack-none d s tx n up least ready = record {
+    left = standing_of tx s.book.actives;
     standing = refl;
     least = least;
-    most = λ o rest is. let e = none_of s o rest is in omega arith;
-    undoes = λ o rest is. subst (λ (k : ℕ). GoesBack (parts told len d s) (parts told len d s) o rest k) (sym (none_of s o rest is)) (GoesBack-none (parts told len d s) o rest is);
-    first = λ some. some_first s.book.actives some;
+    most = λ o is. let e = standing_of-found tx s.book.actives o is in omega arith;
+    undoes = λ o is. subst (λ (k : ℕ). GoesBack (parts told len d s) (parts told len d s) o k) (sym (standing_of-found tx s.book.actives o is)) (GoesBack-none (parts told len d s) tx o is);
+    found = λ some. found_standing tx s.book.actives some;
     up = up;
     leaves = LeavesWanted-none (parts told len d s);
     keeps = StaysReady-ok told len faults tt d d s s up up refl refl (omega arith) ready;
   }
 
-  module _ (old mid new : D) (s m t : State) (n : ℕ) (so_far : WentBack told len faults old mid s m n) (some : n < standing_in m.book.actives)
+  module _ (old mid new : D) (s m t : State) (tx n : ℕ) (so_far : WentBack told len faults old mid s m tx n) (some : n < standing_of tx m.book.actives)
       (leaves : LeavesWanted (parts told len mid m) (parts told len new t)) where
-    now_first : (o : ActiveTransaction) × (rest : List ActiveTransaction) × (s.book.actives ≡ o ∷ rest)
-    now_first = so_far.first (let e = so_far.standing in omega arith)
+    now_found : (o : ActiveTransaction) × (transaction_with tx s.book.actives ≡ Some o)
+    now_found = so_far.found (let e = so_far.standing in omega arith)
 
     -- up to the call, also where it fails
     pub leaves_now : LeavesWanted (parts told len old s) (parts told len new t)
-    leaves_now = LeavesWanted-then (parts told len old s) (parts told len mid m) (parts told len new t) (unwound (drop so_far.left now_first.0.undos)) so_far.keeps.geometry
-        (so_far.undoes now_first.0 now_first.1 now_first.2).pages so_far.leaves leaves
+    leaves_now = LeavesWanted-then (parts told len old s) (parts told len mid m) (parts told len new t) (unwound (drop so_far.left now_found.0.undos)) so_far.keeps.geometry
+        (so_far.undoes now_found.0 now_found.1).pages so_far.leaves leaves
 
-    module _ (undoes : (o : ActiveTransaction) (rest : List ActiveTransaction) → m.book.actives ≡ o ∷ rest → UndoesLast (parts told len mid m) (parts told len new t) o rest) where
+    module _ (undoes : (o : ActiveTransaction) → transaction_with tx m.book.actives ≡ Some o → UndoesLast (parts told len mid m) (parts told len new t) o) where
       one_fewer : (k : ℕ) → 0 < k → (j : ℕ) × (k ≡ suc j)
       one_fewer zero lt = absurd (omega arith)
       one_fewer (suc j) lt = (j, refl)
@@ -118,54 +125,60 @@ module _ {D : Type 0} (told : D → Option Story) (len faults : D → ℕ) where
       fewer : (j : ℕ) × (so_far.left ≡ suc j)
       fewer = one_fewer so_far.left (let e = so_far.standing in omega arith)
 
-      below : (o : ActiveTransaction) (rest : List ActiveTransaction) → s.book.actives ≡ o ∷ rest → fewer.0 < length o.undos
-      below o rest is = let e = fewer.1 in let h = so_far.most o rest is in omega arith
+      below : (o : ActiveTransaction) → transaction_with tx s.book.actives ≡ Some o → fewer.0 < length o.undos
+      below o is = let e = fewer.1 in let h = so_far.most o is in omega arith
 
-      mid_actives : (o : ActiveTransaction) (rest : List ActiveTransaction) → s.book.actives ≡ o ∷ rest → m.book.actives ≡ cut_back o (suc fewer.0) ∷ rest
-      mid_actives o rest is = ap (λ (b : Book). b.actives) (so_far.undoes o rest is).book ∙ ap (λ (k : ℕ). cut_back o k ∷ rest) fewer.1
+      mid_found : (o : ActiveTransaction) → transaction_with tx s.book.actives ≡ Some o → transaction_with tx m.book.actives ≡ Some (cut_back o (suc fewer.0))
+      mid_found o is = transaction_with-back (parts told len old s) (parts told len mid m) tx o is so_far.left (so_far.undoes o is) ∙ ap (λ (k : ℕ). Some (cut_back o k)) fewer.1
 
-      undoes_now : (o : ActiveTransaction) (rest : List ActiveTransaction) → s.book.actives ≡ o ∷ rest → GoesBack (parts told len old s) (parts told len new t) o rest fewer.0
-      undoes_now o rest is = GoesBack-more (parts told len old s) (parts told len mid m) (parts told len new t) o rest fewer.0 (below o rest is)
-          (subst (λ (k : ℕ). GoesBack (parts told len old s) (parts told len mid m) o rest k) fewer.1 (so_far.undoes o rest is))
-          (undoes (cut_back o (suc fewer.0)) rest (mid_actives o rest is))
+      undoes_now : (o : ActiveTransaction) → transaction_with tx s.book.actives ≡ Some o → GoesBack (parts told len old s) (parts told len new t) o fewer.0
+      undoes_now o is = GoesBack-more (parts told len old s) (parts told len mid m) (parts told len new t) o fewer.0 (below o is)
+          (subst (λ (k : ℕ). GoesBack (parts told len old s) (parts told len mid m) o k) fewer.1 (so_far.undoes o is))
+          (undoes (cut_back o (suc fewer.0)) (mid_found o is))
 
-      standing_now : (o : ActiveTransaction) (rest : List ActiveTransaction) → s.book.actives ≡ o ∷ rest → standing_in t.book.actives ≡ fewer.0
-      standing_now o rest is = ap (λ (b : Book). standing_in b.actives) (undoes_now o rest is).book ∙ length-take-le fewer.0 o.undos (let h = below o rest is in omega arith)
+      standing_now : (o : ActiveTransaction) → transaction_with tx s.book.actives ≡ Some o → standing_of tx t.book.actives ≡ fewer.0
+      standing_now o is = standing_of-found tx t.book.actives (cut_back o fewer.0) (transaction_with-back (parts told len old s) (parts told len new t) tx o is fewer.0 (undoes_now o is))
+          ∙ length-take-le fewer.0 o.undos (let h = below o is in omega arith)
 
-      pub WentBack-more : StaysReady told len faults mid new m t done → WentBack told len faults old new s t n
+      pub WentBack-more : StaysReady told len faults mid new m t done → WentBack told len faults old new s t tx n
       WentBack-more keeps = record {
         left = fewer.0;
-        standing = standing_now now_first.0 now_first.1 now_first.2;
+        standing = standing_now now_found.0 now_found.1;
         least = let e = fewer.1 in let h = so_far.standing in omega arith;
-        most = λ o rest is. let h = below o rest is in omega arith;
+        most = λ o is. let h = below o is in omega arith;
         undoes = undoes_now;
-        first = λ _. now_first;
+        found = λ _. now_found;
         up = StaysReady-still told len faults tt mid new m t so_far.up keeps;
         leaves = leaves_now;
         keeps = StaysReady-then told len faults tt done old mid new s m t so_far.keeps keeps;
       }
 
-      pub fewer_now : standing_in t.book.actives < standing_in m.book.actives
-      fewer_now = let e = standing_now now_first.0 now_first.1 now_first.2 in let f = fewer.1 in let h = so_far.standing in omega arith
+      pub fewer_now : standing_of tx t.book.actives < standing_of tx m.book.actives
+      fewer_now = let e = standing_now now_found.0 now_found.1 in let f = fewer.1 in let h = so_far.standing in omega arith
 
 -- ---- what the calls say of it
 -- none is left, and the transaction ends
-pub Aborts-back : (old : Parts) (told : Option Story) (size : ℕ) (j : journal.State) (p : pool.State) (book : Book) (o : ActiveTransaction) (rest : List ActiveTransaction) → GoesBack old (record { told = told; size = size; store = together j p book }) o rest 0
-    → Aborts old (record { told = told; size = size; store = together j p (with_actives book rest) }) o rest
-Aborts-back old told size j p book o rest back = record {
-  book = ap (λ (b : Book). with_actives b rest) back.book;
-  pages = pages_now;
-  alone = λ none want now store.
-      let end = pages_now want now store in
-      (end.0, end.1, Holds-wanted want (unwound o.undos now) told size j p (with_actives book rest) end.0 end.1 none end.2);
-  journal = back.journal;
-}
-  where
-    pages_now : (want now : ℕ → List ℕ) → HoldsPages want now old → HoldsPages want (unwound o.undos now) (record { told = told; size = size; store = together j p (with_actives book rest) })
-    pages_now want now store =
-        let mid = back.pages want now store in
-        (mid.0, mid.1, Holds-drop want (unwound o.undos now) told size j p book (cut_back o 0) rest (ap (λ (b : Book). b.actives) back.book) mid.0 mid.1 mid.2 refl)
+module _ (old : Parts) (told : Option Story) (size : ℕ) (j : journal.State) (p : pool.State) (book : Book) (tx : ℕ) (o : ActiveTransaction) (is : transaction_with tx old.store.book.actives ≡ Some o) (back : GoesBack old (stored told size j p book) o 0) where
+  same_others : others tx book.actives ≡ others tx old.store.book.actives
+  same_others = ap (λ (b : Book). others tx b.actives) back.book ∙ others-put tx old.store.book.actives o is (cut_back o 0) refl
 
-pub any_first : (actives : List ActiveTransaction) → 0 < length actives → (o : ActiveTransaction) × (rest : List ActiveTransaction) × (actives ≡ o ∷ rest)
-any_first [] some = absurd (omega arith)
-any_first (o ∷ rest) some = (o, rest, refl)
+  abbrev ended : Book
+  ended = with_actives book (others tx book.actives)
+
+  pages_now : (want now : ℕ → List ℕ) → HoldsPages want now old → HoldsPages want (unwound o.undos now) (stored told size j p ended)
+  pages_now want now store =
+      let mid = back.pages want now store in
+      let found = transaction_with-back old (stored told size j p book) tx o is 0 back in
+      let first : Holds want (unwound o.undos now) mid.0 mid.1 (stored told size j p (with_actives book (cut_back o 0 ∷ others tx book.actives))) =
+      Holds-first want (unwound o.undos now) told size j p book mid.0 mid.1 tx (cut_back o 0) found mid.2 in
+      (mid.0, mid.1, Holds-drop want (unwound o.undos now) told size j p (with_actives book (cut_back o 0 ∷ others tx book.actives)) (cut_back o 0) (others tx book.actives) refl mid.0 mid.1 first refl)
+
+  pub Aborts-back : Aborts old (stored told size j p ended) o (others tx old.store.book.actives)
+  Aborts-back = record {
+    book = ap (λ (l : List ActiveTransaction). with_actives book l) same_others ∙ ap (λ (b : Book). with_actives b (others tx old.store.book.actives)) back.book;
+    pages = pages_now;
+    alone = λ none want now store.
+        let end = pages_now want now store in
+        (end.0, end.1, Holds-wanted want (unwound o.undos now) told size j p ended end.0 end.1 (same_others ∙ none) end.2);
+    journal = back.journal;
+  }

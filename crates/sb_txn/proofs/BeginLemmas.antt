@@ -25,7 +25,7 @@ use Rattle.sb_txn.specs.Tied.{AreUndos, IsTransactionOf, AreTransactionsOf, AreO
 use Rattle.sb_txn.specs.Clauses.{Checkpoints, MakesRoom}
 use Rattle.sb_txn.specs.Parts.{Parts, stored}
 use Rattle.sb_txn.specs.Steps.{TakesCheckpoint}
-use Rattle.sb_txn.proofs.CalledLemmas.{views-append}
+use Rattle.sb_txn.proofs.OrderLemmas.{views-append}
 
 -- ---- a checkpoint
 cleaned_dirty : (h : Option Held) → IsWritten (cleaned h) → ⊥
@@ -66,7 +66,6 @@ module _ (want now : ℕ → List ℕ) (told new : Option Story) (size len : ℕ
         agrees = agrees;
         pages = pages;
         dirty = λ q dirty. absurd (none_dirty p q (subst (λ (x : pool.State). IsDirty x q) is dirty));
-        position = let e = ap (λ (x : pool.State). x.position) is in omega arith;
         knows = subst (λ (g : Geometry). IsBookOf g.pages [] (emptied_book book)) (sym same) (IsBookOf-emptied p.geometry.pages (opened ++ pending) book none holds.knows);
         spare = subst (λ (k : journal.State). HasReserve k (emptied_book book)) (sym done) (HasReserve-emptied (after_force j) book none);
       }
@@ -142,7 +141,6 @@ module _ (want now : ℕ → List ℕ) (told : Option Story) (size : ℕ) (j : j
         agrees = holds.agrees;
         pages = holds.pages;
         dirty = holds.dirty;
-        position = holds.position;
         knows = record {
           images = holds.knows.images;
           count = holds.knows.count;

@@ -1,11 +1,11 @@
 -- Two transactions stay beside each other.
 use Rattle.std.proofs.Common.{◌≡◌, inl, inr, ⊎_elim, ℕ, Bool, true, false, cond, not, Option, Some, IsSome, Result, Ok, Err, OnOk, IfErr, IsErrOf, List, [], ◌∷◌, ◌++◌, length, drop, refl, sym, ◌∙◌, ap, subst, arith}
 use Rattle.std.specs.List.{All}
-use Rattle.std.proofs.lemmas.Bool.{ne_eqb}
+use Rattle.std.proofs.lemmas.Bool.{eq-eqb, ne_eqb}
 use Rattle.std.proofs.lemmas.List.{length-take}
 use Rattle.std.proofs.lemmas.List.Elements.{All-nil, All-cons, All-head, All-tail, All-append}
 use Rattle.sb_disk.specs.Disk.{Story}
-use Rattle.sb_txn.specs.Book.{Undo, ActiveTransaction, Book, MayBegin, IsClear, AreClear, transaction_with, IsAmong, others, IsOnly, leading, called, changed_transaction}
+use Rattle.sb_txn.specs.Book.{Undo, ActiveTransaction, Book, MayBegin, IsClear, AreClear, transaction_with, IsAmong, others, put_in, IsOnly, changed_transaction}
 use Rattle.sb_txn.specs.Tied.{AreOnce}
 use Rattle.sb_txn.specs.Beside.{IsOn, AreOn, IsOne, AreTwo}
 use Rattle.sb_txn.specs.Clauses.{IsReady, StaysReady, Refused, Begins, undo_in, Changes, ChangeErr, IsFaultOrDown}
@@ -78,25 +78,13 @@ module _ (low : Bool) (tx other : ℕ) (actives : List ActiveTransaction) (two :
   AreClear-two page offset count on = subst (λ (l : List ActiveTransaction). AreClear page offset count l) (sym others_two)
       (All-cons (λ (o : ActiveTransaction). All (IsClear page offset count) o.undos) b [] (clear_all low page offset count b.undos on two.beside) (All-nil (λ (o : ActiveTransaction). All (IsClear page offset count) o.undos)))
 
-  -- with it in front
-  two_called : AreTwo low tx other (leading (transaction_with tx actives) (others tx actives))
-  two_called = record {
-    first = a;
-    second = b;
-    own = two.own;
-    others = two.others;
-    differ = two.differ;
-    on = two.on;
-    beside = two.beside;
-    is = inl (ap (λ (o : Option ActiveTransaction). leading o (others tx actives)) found_two ∙ ap (λ (l : List ActiveTransaction). a ∷ l) others_two);
-  }
-
   -- with a change more
-  two_changed : (page offset : ℕ) (image bytes : List ℕ) → IsOn low offset (length bytes) → AreTwo low tx other (changed_transaction a (undo_in page offset image bytes) ∷ others tx actives)
+  two_changed : (page offset : ℕ) (image bytes : List ℕ) → IsOn low offset (length bytes) → AreTwo low tx other (put_in (changed_transaction a (undo_in page offset image bytes)) actives)
   two_changed page offset image bytes on =
       let u : Undo = undo_in page offset image bytes in
+      let x : ActiveTransaction = changed_transaction a u in
       record {
-        first = changed_transaction a u;
+        first = x;
         second = b;
         own = two.own;
         others = two.others;
@@ -104,7 +92,11 @@ module _ (low : Bool) (tx other : ℕ) (actives : List ActiveTransaction) (two :
         on = All-append (λ (v : Undo). IsOn low v.offset (length v.before)) a.undos (u ∷ []) two.on
             (All-cons (λ (v : Undo). IsOn low v.offset (length v.before)) u [] (on_undo low page offset image bytes on) (All-nil (λ (v : Undo). IsOn low v.offset (length v.before))));
         beside = two.beside;
-        is = inl (ap (λ (l : List ActiveTransaction). changed_transaction a u ∷ l) others_two);
+        is = ⊎_elim
+            (λ (e : actives ≡ a ∷ b ∷ []). inl (ap (put_in x) e ∙ ap (λ (t : Bool). cond t (x ∷ b ∷ []) (a ∷ put_in x (b ∷ []))) (eq-eqb a.tx a.tx refl)))
+            (λ (e : actives ≡ b ∷ a ∷ []). inr (ap (put_in x) e ∙ ap (λ (t : Bool). cond t (x ∷ a ∷ []) (b ∷ put_in x (a ∷ []))) (ne_eqb b.tx a.tx (λ same. not_own (same ∙ two.own)))
+            ∙ ap (λ (t : Bool). b ∷ cond t (x ∷ []) (a ∷ [])) (eq-eqb a.tx a.tx refl)))
+            two.is;
       }
 
 -- ---- a begin
@@ -152,18 +144,17 @@ module _ {D : Type 0} (told : D → Option Story) (len faults : D → ℕ) (old 
   fault_two : StaysReady {T = Unit {0}} told len faults old new s t (Err Fault) → AreTwo low tx other t.book.actives
   fault_two keeps = not_both t.book.down up (keeps.fault refl).1
 
-  refused_two : (e : StoreFault) → StaysReady {T = Unit {0}} told len faults old new s t (Err e) → (IsErrOf {T = Unit {0}} (Err e) Down → ⊥) → ((o : ActiveTransaction) → transaction_with tx s.book.actives ≡ Some o → Refused o.tx (parts told len old s) (parts told len new t)) → AreTwo low tx other t.book.actives
+  refused_two : (e : StoreFault) → StaysReady {T = Unit {0}} told len faults old new s t (Err e) → (IsErrOf {T = Unit {0}} (Err e) Down → ⊥) → ((o : ActiveTransaction) → transaction_with tx s.book.actives ≡ Some o → Refused (parts told len old s) (parts told len new t)) → AreTwo low tx other t.book.actives
   refused_two e keeps not_down refused =
       let was = two (by_case s.book.down (λ on. not_down (keeps.down on).answer)) in
-      let book = subst (λ (n : ℕ). t.book ≡ called n s.book) was.own (refused was.first (found_two low tx other s.book.actives was)).book in
-      subst (λ (b : Book). AreTwo low tx other b.actives) (sym book) (two_called low tx other s.book.actives was)
+      subst (λ (b : Book). AreTwo low tx other b.actives) (sym (refused was.first (found_two low tx other s.book.actives was)).book) was
     where
       by_case : (b : Bool) → (b ≡ true → ⊥) → b ≡ false
       by_case true off = absurd (off refl)
       by_case false off = refl
 
   pub AreTwo-change : (result : Result (Unit {0}) StoreFault) (owner page offset : ℕ) (bytes : List ℕ) → IsOn low offset (length bytes) → StaysReady told len faults old new s t result
-      → OnOk result ((o : ActiveTransaction) → transaction_with tx s.book.actives ≡ Some o → Changes (parts told len old s) (parts told len new t) o (others tx s.book.actives) owner page offset bytes)
+      → OnOk result ((o : ActiveTransaction) → transaction_with tx s.book.actives ≡ Some o → Changes (parts told len old s) (parts told len new t) o owner page offset bytes)
       → IfErr result (λ e. (o : ActiveTransaction) → transaction_with tx s.book.actives ≡ Some o → ChangeErr (parts told len old s) (parts told len new t) o page (length bytes) e) → AreTwo low tx other t.book.actives
   AreTwo-change (Ok x) owner page offset bytes on keeps changes refused =
       let was = two (StaysReady-up told len faults x old new s t keeps) in

@@ -1,5 +1,5 @@
 -- What the end of a transaction leaves of a store.
-use Rattle.std.proofs.Common.{◌≡◌, ℕ, suc, ◌+◌, ◌*◌, ◌<◌, ◌≤◌, Bool, false, true, cond, ◌||◌, Option, Some, None, List, [], ◌∷◌, ◌++◌, length, refl, sym, ◌∙◌, ap, subst, arith, append_assoc}
+use Rattle.std.proofs.Common.{◌≡◌, ℕ, suc, ◌+◌, ◌*◌, ◌^◌, ◌<◌, ◌≤◌, Bool, false, true, cond, ◌==◌, ◌||◌, Option, Some, None, List, [], ◌∷◌, ◌++◌, length, refl, sym, ◌∙◌, ap, subst, arith, append_assoc}
 use Rattle.std.specs.List.{All}
 use Rattle.std.proofs.lemmas.Bool.{false≢true}
 use Rattle.std.proofs.lemmas.List.{append-nil}
@@ -28,12 +28,14 @@ use Rattle.sb_pool.specs.Calls.{AreImaged}
 use Rattle.sb_pool.specs.Pages.{ArePagesOn}
 use Rattle.sb_pool.specs.State as pool
 use Rattle.sb_pool.proofs.StoreLemmas.{SamePages, AgreesOn-same, ArePagesOn-same}
-use Rattle.sb_txn.specs.Book.{Undo, ActiveTransaction, Book, views, begun_in, with_actives, IsFirst, standing_in}
-use Rattle.sb_txn.specs.Clauses.{committed_pages, Commits, LeavesCommit, LeavesOne}
+use Rattle.sb_txn.specs.Book.{Undo, ActiveTransaction, Book, views, begun_in, transaction_with, others, standing_of, with_actives}
+use Rattle.sb_txn.specs.Clauses.{IsReady, LeavesWanted, committed_pages, Commits, LeavesCommit, LeavesOne}
 use Rattle.sb_txn.specs.Parts.{Parts, stored}
 use Rattle.sb_txn.specs.Steps.{some, KeepsDisk, filled}
 use Rattle.sb_txn.specs.Tied.{IsTransactionOf, AreTransactionsOf, AreOnce, IsBookOf, Holds, reserve, gates_used}
+use Rattle.sb_txn.proofs.CalledLemmas.{transaction_with-tx, standing_of-found}
 use Rattle.sb_txn.proofs.LogLemmas.{SamePages-as}
+use Rattle.sb_txn.proofs.OrderLemmas.{Holds-first}
 use Rattle.sb_txn.proofs.OthersLemmas.{own-ended, AreTransactionsOf-still}
 use Rattle.sb_txn.proofs.RoomLemmas.{SameRoom-force, lens-gates, filled-used, used-append, gates-append}
 
@@ -92,7 +94,6 @@ module _ (want now : ℕ → List ℕ) (told : Option Story) (size : ℕ) (j : j
     agrees = holds.agrees;
     pages = holds.pages;
     dirty = holds.dirty;
-    position = holds.position;
     knows = record { images = holds.knows.images; count = holds.knows.count; actives = rest_transactions; fresh = holds.knows.fresh; once = first_once.1; most = let h = rest_most in omega arith };
     spare = record { few = rest_few (used_of j) (omega arith); room = let h = first_room in omega arith; gates = let h = first_gates in omega arith };
   }
@@ -115,7 +116,6 @@ Holds-idle want now told size j p book opened pending none holds = record {
   agrees = holds.agrees;
   pages = holds.pages;
   dirty = holds.dirty;
-  position = holds.position;
   knows = holds.knows;
   spare = holds.spare;
 }
@@ -147,7 +147,6 @@ Holds-wanted want now told size j p book opened pending none holds =
       agrees = holds.agrees;
       pages = pages_wanted want now told j p opened pending store holds.pages;
       dirty = holds.dirty;
-      position = holds.position;
       knows = holds.knows;
       spare = holds.spare;
     }
@@ -304,10 +303,9 @@ module _ (told new : Option Story) (size len : ℕ) (j k : journal.State) (p : p
         clean = finished.clean ∙ holds.serves.clean;
         free = λ some. absurd (let e = finished.none in omega arith);
       };
-      agrees = AgreesOn-same j k was_up p told new same_disk holds.agrees;
+      agrees = AgreesOn-same j k was_up p told new same_disk (let h = holds.agrees.position in let m = finish_more in omega arith) holds.agrees;
       pages = ArePagesOn-same j k was_up now p told new same_disk holds.pages;
       dirty = subst (λ (l : List Record). AreImaged p l) all (λ q dirty. no_image (opened ++ pending) o.undone o.tx (length o.undos) q ∙ holds.dirty q dirty);
-      position = let h = holds.position in let m = finish_more in omega arith;
       knows = subst (λ (l : List Record). IsBookOf p.geometry.pages l (with_actives book rest)) all (record {
         images = λ q lt. holds.knows.images q lt ∙ sym (no_image (opened ++ pending) o.undone o.tx (length o.undos) q);
         count = holds.knows.count;
@@ -361,15 +359,61 @@ LeavesCommit-finish told new size len j k p book after o rest is leaves want now
     leaves.each want now p.geometry opened pending (views rest) (first_store want now told size j p book o rest is opened pending holds)
     (first_transaction want now told size j p book o rest is opened pending holds).logged
 
--- ---- the transaction of the call is the first
-pub first_is : (tx : ℕ) (actives : List ActiveTransaction) → IsFirst tx actives → (o : ActiveTransaction) × (rest : List ActiveTransaction) × (actives ≡ o ∷ rest)
-first_is tx [] first = absurd first
-first_is tx (o ∷ rest) first = (o, rest, refl)
+-- there is room for the records of its end, and a gate
+pub room_finish : (want now : ℕ → List ℕ) (told : Option Story) (size : ℕ) (j : journal.State) (p : pool.State) (book : Book) (o : ActiveTransaction) (rest : List ActiveTransaction) (is : book.actives ≡ o ∷ rest) (opened pending : List Record)
+    (holds : Holds want now opened pending (stored told size j p book)) → o.begun ≡ true → (filled j + 14 ≤ j.log.len) × (length j.lens < j.gates.len)
+room_finish want now told size j p book o rest is opened pending holds begun =
+    let one = one_if o.begun begun in
+    let bytes = first_room want now told size j p book o rest is opened pending holds in
+    let gates = first_gates want now told size j p book o rest is opened pending holds in
+    let used = (filled-used j).0 in
+    let lens = lens-gates j in
+    (omega arith, omega arith)
 
-module _ (P : ℕ → ℕ → Bool → Type 0) (actives : List ActiveTransaction) (o : ActiveTransaction) (rest : List ActiveTransaction) (is : actives ≡ o ∷ rest) (tx n : ℕ) (undone : Bool) where
+-- ---- the same of a transaction that stands anywhere among the active ones
+-- its changes that stand are few
+standing_most : (tx n : ℕ) (os : List ActiveTransaction) → All (λ (x : ActiveTransaction). length x.undos ≤ n) os → standing_of tx os ≤ n
+standing_most tx n [] few = omega arith
+standing_most tx n (o ∷ os) few = by_test (o.tx == tx) (All-head (λ (x : ActiveTransaction). length x.undos ≤ n) o os few) (standing_most tx n os (All-tail (λ (x : ActiveTransaction). length x.undos ≤ n) o os few))
+  where
+    by_test : (t : Bool) → length o.undos ≤ n → standing_of tx os ≤ n → cond t (length o.undos) (standing_of tx os) ≤ n
+    by_test true here behind = here
+    by_test false here behind = behind
+
+pub standing_few : (p : Parts) (tx : ℕ) → p.store.book.down ≡ false → IsReady p → standing_of tx p.store.book.actives < 2 ^ 32
+standing_few p tx up ready =
+    let holds = (ready up).2.2 in
+    let most = standing_most tx (used_of p.store.journal) p.store.book.actives holds.spare.few in
+    let room = holds.spare.room in
+    let log = ap (λ (r : Range). r.len) holds.serves.log in
+    let sizes = holds.serves.sizes.log.1 in
+    omega arith
+
+module _ (told : Option Story) (size : ℕ) (j : journal.State) (p : pool.State) (book : Book) (tx : ℕ) (o : ActiveTransaction) (is : transaction_with tx book.actives ≡ Some o) (new : Parts) where
+  -- what a commit says of the store with it first
+  pub Commits-first : Commits (stored told size j p (with_actives book (o ∷ others tx book.actives))) new o (others tx book.actives) → Commits (stored told size j p book) new o (others tx book.actives)
+  Commits-first commits = record {
+    book = commits.book;
+    pages = λ want now opened pending holds. commits.pages want now opened pending (Holds-first want now told size j p book opened pending tx o is holds);
+    alone = λ last want now store. commits.alone last want now (store.0, store.1, Holds-first want now told size j p book store.0 store.1 tx o is store.2);
+    grows = record { bytes = commits.grows.bytes; least = commits.grows.least; gates = commits.grows.gates };
+    chunks = commits.chunks;
+  }
+
+  pub LeavesCommit-first : LeavesCommit (stored told size j p (with_actives book (o ∷ others tx book.actives))) new o → LeavesCommit (stored told size j p book) new o
+  LeavesCommit-first leaves want now opened pending holds = leaves want now opened pending (Holds-first want now told size j p book opened pending tx o is holds)
+
+module _ (P : ℕ → ℕ → Bool → Type 0) (tx : ℕ) (actives : List ActiveTransaction) (o : ActiveTransaction) (is : transaction_with tx actives ≡ Some o) (n : ℕ) (undone : Bool) where
   -- what is so of its number, the count of its changes and its flag
-  pub of_first : IsFirst tx actives → n ≡ standing_in actives → undone ≡ o.undone → P tx n undone → P o.tx (length o.undos) o.undone
-  of_first first count flag has =
-      let number : o.tx ≡ tx = subst (λ (l : List ActiveTransaction). IsFirst tx l) is first in
-      let size : n ≡ length o.undos = count ∙ ap standing_in is in
+  pub of_found : n ≡ standing_of tx actives → undone ≡ o.undone → P tx n undone → P o.tx (length o.undos) o.undone
+  of_found count flag has =
+      let number : o.tx ≡ tx = transaction_with-tx tx actives o is in
+      let size : n ≡ length o.undos = count ∙ standing_of-found tx actives o is in
       subst (λ (t : ℕ). P t (length o.undos) o.undone) (sym number) (subst (λ (m : ℕ). P tx m o.undone) size (subst (λ (u : Bool). P tx n u) flag has))
+
+-- ---- a commit of which a crash leaves the pages wanted
+pub LeavesCommit-wanted : (old new : Parts) (o : ActiveTransaction) → LeavesWanted old new → LeavesCommit old new o
+LeavesCommit-wanted old new o leaves want now opened pending holds = LeavesOnly-old want (committed_pages (opened ++ pending) o want) old.store.pool.geometry old.told new.told (leaves.each want now (opened, pending, holds))
+
+pub LeavesOne-wanted : (old new : Parts) → LeavesWanted old new → LeavesOne old new
+LeavesOne-wanted old new leaves want now store = LeavesOnly-old want now old.store.pool.geometry old.told new.told (leaves.each want now store)

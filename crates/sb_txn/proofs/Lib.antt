@@ -18,7 +18,8 @@ pub mod EditLemmas
 pub mod LoadedLemmas
 pub mod LawLemmas
 pub mod PlaceLemmas
+pub mod BookLemmas
 pub mod OnlyLemmas
 pub mod CalledLemmas
-pub mod CallLemmas
+pub mod OrderLemmas
 pub mod BesideLemmas

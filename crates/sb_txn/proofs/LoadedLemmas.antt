@@ -1,5 +1,5 @@
 -- A change of a page that was brought into memory first.
-use Rattle.std.proofs.Common.{◌≡◌, ⊎_elim, ℕ, ◌+◌, ◌≤◌, Option, Some, None, is_some, List, ◌∷◌, ◌++◌, length, sym, ◌∙◌, ap, subst, arith}
+use Rattle.std.proofs.Common.{◌≡◌, ⊎_elim, ℕ, ◌+◌, ◌≤◌, Option, Some, None, is_some, List, ◌++◌, length, sym, ◌∙◌, ap, subst, arith}
 use Rattle.std.proofs.lemmas.Bool.{false≢true}
 use Rattle.sb_disk.specs.Disk.{Story, Range}
 use Rattle.sb_journal.specs.State.{after_force}
@@ -52,11 +52,11 @@ module _ (old mid : Parts) (loads : Loads old mid) where
         omega arith;
   }
 
-  pub ChangeErr-room : (o : ActiveTransaction) (rest : List ActiveTransaction) (page count : ℕ) (e : StoreFault) → old.store.book.actives ≡ o ∷ rest → NoRoom mid.store.journal mid.store.book o page count e → ChangeErr old mid o page count e
-  ChangeErr-room o rest page count (LogFull used need total) is none =
+  pub ChangeErr-room : (o : ActiveTransaction) (page count : ℕ) (e : StoreFault) → NoRoom mid.store.journal mid.store.book o page count e → ChangeErr old mid o page count e
+  ChangeErr-room o page count (LogFull used need total) none =
       let l = ap (λ (r : Range). r.len) room_same.log_is in
-      (none.0 ∙ room_same.used, none.1 ∙ need_same o page count, none.2 ∙ l, none.3, Refused-loads old mid o rest is loads)
-  ChangeErr-room o rest page count (GatesFull used total) is none =
+      (none.0 ∙ room_same.used, none.1 ∙ need_same o page count, none.2 ∙ l, none.3, Refused-loads old mid loads)
+  ChangeErr-room o page count (GatesFull used total) none =
       let l = ap (λ (r : Range). r.len) room_same.log_is in
       let g = ap (λ (r : Range). r.len) room_same.gates_is in
       let b = ap (λ (x : Book). length x.actives) loads.book in
@@ -64,30 +64,30 @@ module _ (old mid : Parts) (loads : Loads old mid) where
       let u = room_same.used in
       let n = need_same o page count in
       let over = none.3 in
-      (omega arith, none.1, none.2 ∙ g, omega arith, Refused-loads old mid o rest is loads)
-  ChangeErr-room o rest page count Fault is none = absurd none
-  ChangeErr-room o rest page count Down is none = absurd none
-  ChangeErr-room o rest page count NoMemory is none = absurd none
+      (omega arith, none.1, none.2 ∙ g, omega arith, Refused-loads old mid loads)
+  ChangeErr-room o page count Fault none = absurd none
+  ChangeErr-room o page count Down none = absurd none
+  ChangeErr-room o page count NoMemory none = absurd none
 
-  pub ChangeErr-add : (new : Parts) (o : ActiveTransaction) (rest : List ActiveTransaction) (page count : ℕ) (e : StoreFault) → old.store.book.actives ≡ o ∷ rest → AddErr mid new e → ChangeErr old new o page count e
-  ChangeErr-add new o rest page count NoMemory is err = subst (λ (p : Parts). Refused o.tx old p) (sym err) (Refused-loads old mid o rest is loads)
-  ChangeErr-add new o rest page count Fault is err = tt
-  ChangeErr-add new o rest page count (LogFull used need total) is err = absurd err
-  ChangeErr-add new o rest page count (GatesFull used total) is err = absurd err
-  ChangeErr-add new o rest page count Down is err = absurd err
+  pub ChangeErr-add : (new : Parts) (o : ActiveTransaction) (page count : ℕ) (e : StoreFault) → AddErr mid new e → ChangeErr old new o page count e
+  ChangeErr-add new o page count NoMemory err = subst (λ (p : Parts). Refused old p) (sym err) (Refused-loads old mid loads)
+  ChangeErr-add new o page count Fault err = tt
+  ChangeErr-add new o page count (LogFull used need total) err = absurd err
+  ChangeErr-add new o page count (GatesFull used total) err = absurd err
+  ChangeErr-add new o page count Down err = absurd err
 
   -- what the change wants is the same
   wants_same : (o : ActiveTransaction) (page : ℕ) → wants_of mid.store.book o page ≡ wants_of old.store.book o page
   wants_same o page = ap (λ (b : Book). wants_of b o page) loads.book
 
-  pub Changes-loaded : (new : Parts) (o : ActiveTransaction) (rest : List ActiveTransaction) (owner page offset : ℕ) (bytes : List ℕ) → offset + length bytes ≤ 4096 → LeavesWanted old mid → Changes mid new o rest owner page offset bytes → Changes old new o rest owner page offset bytes
-  Changes-loaded new o rest owner page offset bytes range leaves changes =
+  pub Changes-loaded : (new : Parts) (o : ActiveTransaction) (owner page offset : ℕ) (bytes : List ℕ) → offset + length bytes ≤ 4096 → LeavesWanted old mid → Changes mid new o owner page offset bytes → Changes old new o owner page offset bytes
+  Changes-loaded new o owner page offset bytes range leaves changes =
       let w = wants_same o page in
       let logged = subst (λ (v : Wants). IsLogged old.store.journal new.store.journal (change_len v (length bytes))) w (IsLogged-behind old.store.journal mid.store.journal new.store.journal (change_len (wants_of mid.store.book o page) (length bytes)) loads.journal changes.journal) in
       record {
         image = changes.image;
         was = λ want now store. as_told old.told mid.told (changes.image ≡ now page) (leaves.each want now store).tells (changes.was want now (loads.pages want now store));
-        book = changes.book ∙ ap (λ (b : Book). with_change b o rest (undo_in page offset changes.image bytes)) loads.book;
+        book = changes.book ∙ ap (λ (b : Book). with_change b o (undo_in page offset changes.image bytes)) loads.book;
         pages = λ want now store. changes.pages want now (loads.pages want now store);
         logged = λ want now opened pending holds.
             let at = loads.logged want now opened pending holds in

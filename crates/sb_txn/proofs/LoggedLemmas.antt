@@ -27,7 +27,7 @@ use Rattle.sb_pool.specs.State as pool
 use Rattle.sb_pool.proofs.StoreLemmas.{SamePages, AgreesOn-same, ArePagesOn-same}
 use Rattle.sb_txn.specs.declared.changing.Wants.{Wants}
 use Rattle.sb_txn.specs.Ahead.{Leans}
-use Rattle.sb_txn.specs.Book.{Undo, ActiveTransaction, Book, AreClear, views, begun_in, changed_transaction, with_change, wants_of, change_len}
+use Rattle.sb_txn.specs.Book.{Undo, ActiveTransaction, Book, AreClear, views, begun_in, changed_transaction, with_actives, with_change, wants_of, change_len}
 use Rattle.sb_txn.specs.Changing.{before, IsNext}
 use Rattle.sb_txn.specs.Clauses.{HasRoom}
 use Rattle.sb_txn.specs.Parts.{stored}
@@ -106,7 +106,7 @@ module _ (now : ℕ → List ℕ) (p : pool.State) (book : Book) (opened pending
   edit_records = changed opened pending (wants_of book o page) o.tx (length o.undos) page image edit_change
 
   abbrev pub edit_book : Book
-  edit_book = with_change book o rest edit_undo
+  edit_book = with_actives (with_change book o edit_undo) (changed_transaction o edit_undo ∷ rest)
 
   transactions : AreTransactionsOf p.geometry.pages recs book.next (o ∷ rest)
   transactions = subst (λ (l : List ActiveTransaction). AreTransactionsOf p.geometry.pages recs book.next l) is knows.actives
@@ -245,6 +245,10 @@ module _ (want now : ℕ → List ℕ) (told : Option Story) (size : ℕ) (j : j
       used_now : used_of k ≡ bytes_of j.lens + 4 + j.pending + m
       used_now = used-append j k m (let e = size_of in let s = len_some in omega arith) done
 
+      -- the log only grows
+      reaches : p.position ≤ used_of k
+      reaches = let a = holds.agrees.position in let b = used_now in let d = room_of-most j.pending in omega arith
+
       edit_serves : Serves new len k p.geometry
       edit_serves = record {
         sizes = holds.serves.sizes;
@@ -262,7 +266,7 @@ module _ (want now : ℕ → List ℕ) (told : Option Story) (size : ℕ) (j : j
             omega arith;
       }
 
-      edit_spare : HasReserve k (with_change book o rest u)
+      edit_spare : HasReserve k (with_actives (with_change book o u) (changed_transaction o u ∷ rest))
       edit_spare =
           let q = one_active in
           let us = used_now in
@@ -288,15 +292,14 @@ module _ (want now : ℕ → List ℕ) (told : Option Story) (size : ℕ) (j : j
 
       pub Leans-logged : (IsNext (before w o.tx (length o.undos) page image) now opened pending (views rest) c → IsStoreOn want now told j p.geometry opened pending act
           → IsStoreOn want (with_range c bytes now) new k p.geometry opened more (active_with o.tx (suc (length o.undos)) ∷ views rest))
-          → Leans want now (with_bytes page offset bytes now) opened more (stored new len k p (with_change book o rest u))
+          → Leans want now (with_bytes page offset bytes now) opened more (stored new len k p (with_actives (with_change book o u) (changed_transaction o u ∷ rest)))
       Leans-logged stored = record {
         up = up_now;
         store = edit_store stored;
         serves = edit_serves;
-        agrees = AgreesOn-same j k (λ up. holds.up) p told new same_pages holds.agrees;
+        agrees = AgreesOn-same j k (λ up. holds.up) p told new same_pages reaches holds.agrees;
         pages = ArePagesOn-same j k (λ up. holds.up) now p told new same_pages holds.pages;
         dirty = λ q dirty. imaged-changed opened pending w o.tx (length o.undos) page image c q (holds.dirty q dirty);
-        position = let a = holds.position in let b = used_now in let d = room_of-most j.pending in omega arith;
         knows = edit_knows now p book opened pending o rest owner page offset image bytes holds.knows is lt range long;
         spare = edit_spare;
       }

@@ -96,7 +96,6 @@ module _ (g : Geometry) (sizes : IsGeometry g) (size : ℕ) (room : need g.pages
     agrees = agrees;
     pages = pages_empty want told journal_of g ready;
     dirty = λ q dirty. absurd (none_dirty g q dirty);
-    position = omega arith;
     knows = IsBookOf-empty g.pages;
     spare = HasReserve-empty g;
   }

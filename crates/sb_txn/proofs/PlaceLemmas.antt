@@ -1,11 +1,12 @@
 -- Where a transaction stands among the active ones.
-use Rattle.std.proofs.Common.{◌≡◌, ℕ, zero, suc, ◌+◌, ◌<◌, ◌==◌, nat_lt, not, Bool, true, false, cond, Option, Some, None, is_some, IsSome, List, [], ◌∷◌, length, map, get_or, take, drop, position, refl, sym, ◌∙◌, ap, subst, arith, eq-eqb}
+use Rattle.std.proofs.Common.{◌≡◌, ℕ, zero, suc, ◌+◌, ◌<◌, ◌==◌, nat_lt, not, Bool, true, false, cond, Option, Some, None, is_some, IsSome, List, [], ◌∷◌, length, map, get_or, set, take, drop, position, refl, sym, ◌∙◌, ap, subst, arith, eq-eqb}
 use Rattle.std.specs.List.{remove, position_or_len}
 use Rattle.std.proofs.Math.ListN.{get_or-map}
 use Rattle.std.proofs.lemmas.Bool.{false≢true, lt-ltb}
-use Rattle.std.proofs.lemmas.List.{length-map, take-map, drop-map, map-append}
+use Rattle.std.proofs.lemmas.List.{length-map, take-map, drop-map, map-append, map-set}
 use Rattle.std.proofs.lemmas.List.Quantifiers.{position-Some}
-use Rattle.sb_txn.specs.Book.{ActiveTransaction, Book, transaction_with, IsAmong, others, IsOnly, standing_of, with_actives, leading, called}
+use Rattle.sb_txn.specs.Book.{ActiveTransaction, transaction_with, IsAmong, others, put_in, IsOnly, standing_of}
+use Rattle.sb_txn.proofs.CalledLemmas.{standing_of-unfound}
 
 -- it has this number
 abbrev pub has : ℕ → ActiveTransaction → Bool
@@ -45,6 +46,11 @@ module _ (tx : ℕ) (d : ActiveTransaction) where
   others-at (o ∷ os) zero at = ap (λ (b : Bool). cond b os (o ∷ others tx os)) at.1
   others-at (o ∷ os) (suc n) at = ap (λ (b : Bool). cond b os (o ∷ others tx os)) (at.2 zero (omega arith)) ∙ ap (λ (l : List ActiveTransaction). o ∷ l) (others-at os n (behind o os n at))
 
+  put_in-at : (actives : List ActiveTransaction) (n : ℕ) (x : ActiveTransaction) → x.tx ≡ tx → StandsAt tx d actives n → put_in x actives ≡ set actives n x
+  put_in-at [] n x own at = absurd (omega (arith, at.0))
+  put_in-at (o ∷ os) zero x own at = ap (λ (b : Bool). cond b (x ∷ os) (o ∷ put_in x os)) (ap (λ (m : ℕ). o.tx == m) own ∙ at.1)
+  put_in-at (o ∷ os) (suc n) x own at = ap (λ (b : Bool). cond b (x ∷ os) (o ∷ put_in x os)) (ap (λ (m : ℕ). o.tx == m) own ∙ at.2 zero (omega arith)) ∙ ap (λ (l : List ActiveTransaction). o ∷ l) (put_in-at os n x own (behind o os n at))
+
 -- where an active one stands
 place-below : (tx : ℕ) (actives : List ActiveTransaction) → IsAmong tx actives → position_or_len (has tx) actives < length actives
 place-below tx [] among = absurd (cc)
@@ -61,14 +67,6 @@ IsSome-place tx actives among =
     ap (λ (b : Bool). is_some (cond b (Some place) None)) (lt-ltb place (length actives) (place-below tx actives among))
 
 -- one that has no place has no change
-standing_of-unfound : (tx : ℕ) (os : List ActiveTransaction) → transaction_with tx os ≡ None → standing_of tx os ≡ 0
-standing_of-unfound tx [] none = refl
-standing_of-unfound tx (o ∷ os) none = by_test (has tx o) (standing_of-unfound tx os) none
-  where
-    by_test : (t : Bool) → (transaction_with tx os ≡ None → standing_of tx os ≡ 0) → cond t (Some o) (transaction_with tx os) ≡ None → cond t (length o.undos) (standing_of tx os) ≡ 0
-    by_test true behind is = absurd (cc)
-    by_test false behind is = behind is
-
 pub standing_of-unplaced : (tx : ℕ) (actives : List ActiveTransaction) → position (has tx) actives ≡ None → standing_of tx actives ≡ 0
 standing_of-unplaced tx actives none = by_option (transaction_with tx actives) refl
   where
@@ -91,9 +89,9 @@ module _ {X : Type 0} (f : X → ActiveTransaction) (xs : List X) (x : X) (tx n 
   pub transaction_with-place : transaction_with tx (map f xs) ≡ Some (f x)
   transaction_with-place = transaction_with-at tx (f x) (map f xs) n (position-Some (has tx) (map f xs) n (f x) is) ∙ ap Some (get_or-map f xs n x ∙ ap f (sym at))
 
-  others-place : others tx (map f xs) ≡ map f (remove xs n)
+  pub others-place : others tx (map f xs) ≡ map f (remove xs n)
   others-place = others-at tx (f x) (map f xs) n (position-Some (has tx) (map f xs) n (f x) is) ∙ rw (take-map f n xs, drop-map f (suc n) xs, map-append f (take n xs) (drop (suc n) xs))
 
-  pub called-place : (book : Book) → book.actives ≡ map f xs → called tx book ≡ with_actives book (map f (x ∷ remove xs n))
-  called-place book same =
-      ap (λ (l : List ActiveTransaction). with_actives book (leading (transaction_with tx l) (others tx l))) same ∙ ap (with_actives book) (ap (λ (o : Option ActiveTransaction). leading o (others tx (map f xs))) transaction_with-place ∙ ap (λ (l : List ActiveTransaction). f x ∷ l) others-place)
+  -- what is put there
+  pub put_in-place : (y : X) → (f y).tx ≡ tx → put_in (f y) (map f xs) ≡ map f (set xs n y)
+  put_in-place y own = put_in-at tx (f x) (map f xs) n (f y) own (position-Some (has tx) (map f xs) n (f x) is) ∙ sym (map-set f xs n y)

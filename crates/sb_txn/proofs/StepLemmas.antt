@@ -60,9 +60,9 @@ module _ (g : Geometry) (k l : journal.State) (done : l ≡ after_close k) (mid 
     free = λ some. absurd (let none = ap (λ (x : journal.State). x.pending) done in omega arith);
   }
 
-  pub AgreesOn-close : (p : pool.State) → p.geometry ≡ g → WhereTold mid new (Closed k l) → AgreesOn mid k p → AgreesOn new l p
-  AgreesOn-close p is closed agrees = AgreesOn-same k l still_up p mid new
-      (subst (λ (h : Geometry). WhereTold mid new (SamePages h)) (sym is) (SamePages-close g k l serves.gates serves.log mid new closed)) agrees
+  pub AgreesOn-close : (p : pool.State) → p.geometry ≡ g → p.position ≡ 0 → WhereTold mid new (Closed k l) → AgreesOn mid k p → AgreesOn new l p
+  AgreesOn-close p is none closed agrees = AgreesOn-same k l still_up p mid new
+      (subst (λ (h : Geometry). WhereTold mid new (SamePages h)) (sym is) (SamePages-close g k l serves.gates serves.log mid new closed)) (omega arith) agrees
 
   pub ArePagesOn-close : (now : ℕ → List ℕ) (p : pool.State) → p.geometry ≡ g → WhereTold mid new (Closed k l) → ArePagesOn now mid k p → ArePagesOn now new l p
   ArePagesOn-close now p is closed pages = ArePagesOn-same k l still_up now p mid new

@@ -1,12 +1,12 @@
 -- What each step leaves of a store.
-use Rattle.std.proofs.Common.{◌≡◌, ℕ, ◌<◌, ◌≤◌, Bool, false, Option, Some, None, is_some, List, ◌∷◌, ◌++◌, length, refl, sym, ◌∙◌, ap, subst, arith}
+use Rattle.std.proofs.Common.{◌≡◌, ℕ, ◌<◌, ◌≤◌, Bool, false, Option, Some, None, is_some, List, ◌++◌, length, sym, ◌∙◌, ap, subst, arith}
 use Rattle.std.specs.List.{All}
 use Rattle.sb_disk.specs.Disk.{Story, Range}
 use Rattle.sb_journal.specs.State.{used_of}
 use Rattle.sb_journal.specs.State as journal
 use Rattle.sb_log.specs.declared.geometry.Geometry.{Geometry}
 use Rattle.sb_log.specs.Records.{Record}
-use Rattle.std.proofs.lemmas.Bool.{false≢true, eq-eqb}
+use Rattle.std.proofs.lemmas.Bool.{false≢true}
 use Rattle.sb_images.specs.Layout.{page_at}
 use Rattle.sb_images.specs.Store.{IfTold, IsStoreOn}
 use Rattle.sb_pool.specs.Calls.{Serves, AreImaged, IsSameOrForced, IsReadyWith}
@@ -14,7 +14,7 @@ use Rattle.sb_pool.specs.Pages.{bytes_or, AgreesOn, ArePagesOn, KeepsPages}
 use Rattle.sb_pool.specs.State.{Held, held, NoneMoreDirty}
 use Rattle.sb_pool.specs.State as pool
 use Rattle.sb_pool.proofs.StoreLemmas.{ArePagesOn-kept, IsStoreOn-with}
-use Rattle.sb_txn.specs.Book.{ActiveTransaction, Book, views, called, with_actives}
+use Rattle.sb_txn.specs.Book.{ActiveTransaction, Book, views}
 use Rattle.sb_txn.specs.Clauses.{HoldsAll, Loads, Refused}
 use Rattle.sb_txn.specs.Parts.{Parts, stored}
 use Rattle.sb_txn.specs.State.{together}
@@ -33,9 +33,9 @@ HasReserve-same j k book same spare = record {
 -- ---- a page is brought into memory
 module _ (want now : ℕ → List ℕ) (told new : Option Story) (size len : ℕ) (j k : journal.State) (p after : pool.State) (book : Book) (opened pending : List Record) where
   -- the store after a call of the pool that keeps the pages
-  pub HoldsAll-kept : Holds want now opened pending (stored told size j p book) → after.geometry ≡ p.geometry → after.position ≡ p.position → KeepsPages k p after told new → NoneMoreDirty p after → IsReadyWith want p.geometry (opened ++ pending) k told new
+  pub HoldsAll-kept : Holds want now opened pending (stored told size j p book) → after.geometry ≡ p.geometry → KeepsPages k p after told new → NoneMoreDirty p after → IsReadyWith want p.geometry (opened ++ pending) k told new
       → IsSameOrForced j k → Serves new len k after.geometry → AgreesOn new k after → HoldsAll want now (opened ++ pending) (record { told = new; size = len; store = together k after book })
-  HoldsAll-kept holds sizes position kept fewer still forced serves agrees =
+  HoldsAll-kept holds sizes kept fewer still forced serves agrees =
       let room = SameRoom-forced j k forced in
       let goes = IsStoreOn-with want now j k p.geometry opened pending (views book.actives) told new holds.store still in (
         goes.opened_now,
@@ -47,7 +47,6 @@ module _ (want now : ℕ → List ℕ) (told new : Option Story) (size len : ℕ
           agrees = agrees;
           pages = ArePagesOn-kept j k (λ up. sym room.up ∙ up) now p after sizes told new kept holds.pages;
           dirty = subst (λ (l : List Record). AreImaged after l) (sym goes.same) (λ q is. holds.dirty q (fewer q is));
-          position = let e = room.used in let h = holds.position in omega arith;
           knows = subst (λ (l : List Record). IsBookOf after.geometry.pages l book) (sym goes.same) (subst (λ (g : Geometry). IsBookOf g.pages (opened ++ pending) book) (sym sizes) holds.knows);
           spare = HasReserve-same j k book room holds.spare;
         },
@@ -55,16 +54,8 @@ module _ (want now : ℕ → List ℕ) (told new : Option Story) (size len : ℕ
       )
 
 -- ---- what the calls say of it
--- a transaction that is the first already
-called-first : (book : Book) (o : ActiveTransaction) (rest : List ActiveTransaction) → book.actives ≡ o ∷ rest → called o.tx book ≡ book
-called-first book o rest is = subst (λ (l : List ActiveTransaction). called o.tx (with_actives book l) ≡ with_actives book l) (sym is) (rw (eq-eqb o.tx o.tx refl) refl)
-
-pub Refused-loads : (old new : Parts) (o : ActiveTransaction) (rest : List ActiveTransaction) → old.store.book.actives ≡ o ∷ rest → Loads old new → Refused o.tx old new
-Refused-loads old new o rest is loads = record {
-  book = loads.book ∙ sym (called-first old.store.book o rest is);
-  pages = loads.pages;
-  journal = loads.journal;
-}
+pub Refused-loads : (old new : Parts) → Loads old new → Refused old new
+Refused-loads old new loads = record { book = loads.book; pages = loads.pages; journal = loads.journal }
 
 -- the bytes of a page that is held are those now
 pub bytes_now : (now : ℕ → List ℕ) (old new : Option Story) (k : journal.State) (p : pool.State) (n : ℕ) (bytes : List ℕ) (dirty : Bool) → is_some old ≡ is_some new → ArePagesOn now new k p → k.failed ≡ false → n < p.geometry.pages

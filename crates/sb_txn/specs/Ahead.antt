@@ -1,7 +1,6 @@
 -- A store whose log and book have a write that its pool hasn't yet.
-use Rattle.std.specs.Prelude.{◌≡◌, ℕ, ◌≤◌, true, false, List, ◌++◌}
+use Rattle.std.specs.Prelude.{◌≡◌, ℕ, true, false, List, ◌++◌}
 use Rattle.sb_disk.specs.Moments.{LeavesOnly}
-use Rattle.sb_journal.specs.State.{used_of}
 use Rattle.sb_log.specs.Records.{Record}
 use Rattle.sb_log.specs.Restored.{imaged}
 use Rattle.sb_images.specs.Images.{Restores}
@@ -21,7 +20,6 @@ pub record Leans (want now then : ℕ → List ℕ) (opened pending : List Recor
   pub agrees : AgreesOn p.told p.store.journal p.store.pool
   pub pages : ArePagesOn now p.told p.store.journal p.store.pool
   pub dirty : AreImaged p.store.pool (opened ++ pending)
-  pub position : p.store.pool.position ≤ used_of p.store.journal
   pub knows : IsBookOf p.store.pool.geometry.pages (opened ++ pending) p.store.book
   pub spare : HasReserve p.store.journal p.store.book
 

@@ -72,8 +72,8 @@ wants_len w = cond w.begin 5 0 + cond w.back 9 0 + cond w.image 4101 0
 abbrev pub change_len : Wants → ℕ → ℕ
 change_len w count = wants_len w + (15 + 2 * count)
 
--- ---- the transaction of a call
--- the one of this number, where it is active
+-- ---- the transaction of a number
+-- the one of it, where it is active
 abbrev pub transaction_with : ℕ → List ActiveTransaction → Option ActiveTransaction
 transaction_with tx [] = None
 transaction_with tx (o ∷ os) = cond (o.tx == tx) (Some o) (transaction_with tx os)
@@ -91,6 +91,11 @@ others tx (o ∷ os) = cond (o.tx == tx) os (o ∷ others tx os)
 abbrev pub IsOnly : ℕ → List ActiveTransaction → Type 0
 IsOnly tx actives = IsAmong tx actives × (others tx actives ≡ [])
 
+-- with this one in the place of that of its number
+abbrev pub put_in : ActiveTransaction → List ActiveTransaction → List ActiveTransaction
+put_in o [] = []
+put_in o (x ∷ os) = cond (x.tx == o.tx) (o ∷ os) (x ∷ put_in o os)
+
 -- how many changes of the transaction stand
 abbrev pub standing_of : ℕ → List ActiveTransaction → ℕ
 standing_of tx [] = 0
@@ -104,40 +109,21 @@ IsClear page offset count u = u.page ≡ page → (u.offset + length u.before �
 abbrev pub AreClear : ℕ → ℕ → ℕ → List ActiveTransaction → Type 0
 AreClear page offset count actives = All (λ o. All (IsClear page offset count) o.undos) actives
 
--- ---- the first transaction
--- it has this number
-abbrev pub IsFirst : ℕ → List ActiveTransaction → Type 0
-IsFirst tx [] = ⊥
-IsFirst tx (o ∷ os) = o.tx ≡ tx
-
--- how many of its changes stand
-abbrev pub standing_in : List ActiveTransaction → ℕ
-standing_in [] = 0
-standing_in (o ∷ os) = length o.undos
-
--- the book with these active transactions
+-- ---- what calls make of the book
+-- with these active transactions
 abbrev pub with_actives : Book → List ActiveTransaction → Book
 with_actives book actives = record book { actives = actives }
 
--- a transaction, if it is there, and those behind it
-abbrev pub leading : Option ActiveTransaction → List ActiveTransaction → List ActiveTransaction
-leading None os = os
-leading (Some o) os = o ∷ os
-
--- the book with the transaction of a call first
-abbrev pub called : ℕ → Book → Book
-called tx book = with_actives book (leading (transaction_with tx book.actives) (others tx book.actives))
-
--- the book with a change more of the first transaction, of a page that has an Image now
-abbrev pub with_change : Book → ActiveTransaction → List ActiveTransaction → Undo → Book
-with_change book o rest u = record book { imaged = slice_set book.imaged u.page true; actives = changed_transaction o u ∷ rest }
+-- with a change more of this transaction, of a page that has an Image now
+abbrev pub with_change : Book → ActiveTransaction → Undo → Book
+with_change book o u = record book { imaged = slice_set book.imaged u.page true; actives = put_in (changed_transaction o u) book.actives }
 
 -- the transaction with these changes alone, since the others were undone
 abbrev pub undone_transaction : ActiveTransaction → List Undo → ActiveTransaction
 undone_transaction o undos = record o { undos = undos; undone = true }
 
--- the last change of the first transaction is undone
-pub record Pops (o : ActiveTransaction) (rest : List ActiveTransaction) (old new : Book) (u : Undo) : Type 0 where
+-- the last change of this transaction is undone
+pub record Pops (o : ActiveTransaction) (old new : Book) (u : Undo) : Type 0 where
   pub others : List Undo
   pub was : o.undos ≡ others ++ u ∷ []
-  pub is : new ≡ record old { actives = undone_transaction o others ∷ rest }
+  pub is : new ≡ with_actives old (put_in (undone_transaction o others) old.actives)

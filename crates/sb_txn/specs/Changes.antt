@@ -1,11 +1,11 @@
 -- What the steps of a change want and leave.
-use Rattle.std.specs.Prelude.{◌≡◌, ℕ, ◌+◌, ◌^◌, ◌<◌, ◌≤◌, Option, List, [], ◌∷◌, length, take, drop}
+use Rattle.std.specs.Prelude.{◌≡◌, ℕ, ◌+◌, ◌^◌, ◌<◌, ◌≤◌, Option, Some, [], length, take, drop}
 use Rattle.sb_journal.specs.State.{used_of}
 use Rattle.sb_journal.specs.State as journal
 use Rattle.sb_pool.specs.Pages.{bytes_or}
 use Rattle.sb_pool.specs.State.{Held}
 use Rattle.sb_pool.specs.State as pool
-use Rattle.sb_txn.specs.Book.{Undo, ActiveTransaction, Book, with_change}
+use Rattle.sb_txn.specs.Book.{Undo, ActiveTransaction, Book, transaction_with, with_change}
 use Rattle.sb_txn.specs.Clauses.{need_of}
 use Rattle.sb_txn.specs.Parts.{Parts}
 use Rattle.sb_txn.specs.declared.fault.StoreFault.{StoreFault}
@@ -15,18 +15,17 @@ use Rattle.sb_txn.specs.declared.fault.StoreFault.TheVariants.{Fault, LogFull, G
 abbrev pub undo_at : Option Held → ℕ → ℕ → ℕ → Undo
 undo_at h page offset count = record { page = page; offset = offset; before = take count (drop offset (bytes_or [] h)) }
 
--- the book with that change more
-abbrev pub AddsUndo : Option Held → Book → Book → ℕ → ℕ → ℕ → Type 0
-AddsUndo h old new page offset count =
-    (o : ActiveTransaction) (rest : List ActiveTransaction) → old.actives ≡ o ∷ rest → new ≡ with_change old o rest (undo_at h page offset count)
+-- the book with that change more, by the transaction of this number
+abbrev pub AddsUndo : ℕ → Option Held → Book → Book → ℕ → ℕ → ℕ → Type 0
+AddsUndo tx h old new page offset count =
+    (o : ActiveTransaction) → transaction_with tx old.actives ≡ Some o → new ≡ with_change old o (undo_at h page offset count)
 
--- Journal and book are sized as a store's, and a transaction is active.
+-- Journal and book are sized as a store's.
 pub record IsInStore (j : journal.State) (p : pool.State) (book : Book) : Type 0 where
   pub log : p.geometry.log ≡ j.log.len
   pub short : j.log.len < 2 ^ 32
   pub used : used_of j ≤ j.log.len
   pub gates : j.gates.len ≡ 65536
-  pub some : 0 < length book.actives
   pub most : length book.actives ≤ 8
 
 -- Why there is no room for a change of so many bytes: the log hasn't the bytes, or it has them and no gate is left.

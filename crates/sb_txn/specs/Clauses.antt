@@ -11,7 +11,7 @@ use Rattle.sb_images.specs.Images.{Restores, IsOldOrNew}
 use Rattle.sb_images.specs.Store.{IfTold, own_of, with_changes}
 use Rattle.sb_pool.specs.Calls.{IsSameOrForced}
 use Rattle.sb_pool.specs.Pages.{with_bytes}
-use Rattle.sb_txn.specs.Book.{Undo, ActiveTransaction, Book, called, new_transaction, begun_book, emptied_book, with_actives, with_change, undone_transaction, wants_of, change_len}
+use Rattle.sb_txn.specs.Book.{Undo, ActiveTransaction, Book, put_in, new_transaction, begun_book, emptied_book, with_actives, with_change, undone_transaction, wants_of, change_len}
 use Rattle.sb_txn.specs.State.{State, together}
 use Rattle.sb_txn.specs.Steps.{TakesCheckpoint, some}
 use Rattle.sb_txn.specs.Tied.{Holds, reserve, gates_used}
@@ -80,9 +80,9 @@ pub record IsLogged (j k : journal.State) (n : ℕ) : Type 0 where
   pub then : IsSameOrForced (after_append n from) k
   pub bytes : used_of k ≡ used_of j + journal.need_of from.pending n
 
--- The call of this transaction has changed nothing, and no byte more of the log is used; what was pending may be forced.
-pub record Refused (tx : ℕ) (old new : Parts) : Type 0 where
-  pub book : new.store.book ≡ called tx old.store.book
+-- The call has changed nothing, and no byte more of the log is used; what was pending may be forced.
+pub record Refused (old new : Parts) : Type 0 where
+  pub book : new.store.book ≡ old.store.book
   pub pages : Leads old new (λ now. now)
   pub journal : IsSameOrForced old.store.journal new.store.journal
 
@@ -147,10 +147,10 @@ abbrev pub undo_in : ℕ → ℕ → List ℕ → List ℕ → Undo
 undo_in page offset image bytes = record { page = page; offset = offset; before = range_of offset (length bytes) image }
 
 -- A change of the transaction: its range has these bytes now, and can be given back what it had. The log has its records behind all others, and no more.
-pub record Changes (old new : Parts) (o : ActiveTransaction) (rest : List ActiveTransaction) (owner page offset : ℕ) (bytes : List ℕ) : Type 0 where
+pub record Changes (old new : Parts) (o : ActiveTransaction) (owner page offset : ℕ) (bytes : List ℕ) : Type 0 where
   pub image : List ℕ
   pub was : (want now : ℕ → List ℕ) → HoldsPages want now old → IfTold old.told (image ≡ now page)
-  pub book : new.store.book ≡ with_change old.store.book o rest (undo_in page offset image bytes)
+  pub book : new.store.book ≡ with_change old.store.book o (undo_in page offset image bytes)
   pub pages : Leads old new (with_bytes page offset bytes)
   pub logged : (want now : ℕ → List ℕ) (opened pending : List Record) → Holds want now opened pending old
       → HoldsAll want (with_bytes page offset bytes now)
@@ -163,12 +163,12 @@ pub record Changes (old new : Parts) (o : ActiveTransaction) (rest : List Active
 abbrev pub ChangeErr : Parts → Parts → ActiveTransaction → ℕ → ℕ → StoreFault → Type 0
 ChangeErr old new o page count (LogFull used need total) =
     (used ≡ used_of old.store.journal) × (need ≡ need_of old.store.book o page count) × (total ≡ old.store.journal.log.len)
-    × (total < used + need) × Refused o.tx old new
+    × (total < used + need) × Refused old new
 ChangeErr old new o page count (GatesFull used total) =
     (used_of old.store.journal + need_of old.store.book o page count ≤ old.store.journal.log.len)
     × (used ≡ length new.store.journal.lens) × (total ≡ old.store.journal.gates.len) × (65535 < used + length old.store.book.actives)
-    × Refused o.tx old new
-ChangeErr old new o page count NoMemory = Refused o.tx old new
+    × Refused old new
+ChangeErr old new o page count NoMemory = Refused old new
 ChangeErr old new o page count e = IsFaultOrDown e
 
 -- there is room for a change: each that isn't refused had it
@@ -187,17 +187,17 @@ abbrev pub cut_back : ActiveTransaction → ℕ → ActiveTransaction
 cut_back o n = record o { undos = take n o.undos; undone = o.undone || nat_lt n (length o.undos) }
 
 -- the last change of the transaction is undone, and what was pending may be forced
-pub record UndoesLast (old new : Parts) (o : ActiveTransaction) (rest : List ActiveTransaction) : Type 0 where
+pub record UndoesLast (old new : Parts) (o : ActiveTransaction) : Type 0 where
   pub others : List Undo
   pub last : Undo
   pub was : o.undos ≡ others ++ last ∷ []
-  pub book : new.store.book ≡ with_actives old.store.book (undone_transaction o others ∷ rest)
+  pub book : new.store.book ≡ with_actives old.store.book (put_in (undone_transaction o others) old.store.book.actives)
   pub pages : Leads old new (with_bytes last.page last.offset last.before)
   pub journal : IsSameOrForced old.store.journal new.store.journal
 
 -- Back to the first n changes of the transaction. No byte more of the log is used; what was pending may be forced.
-pub record GoesBack (old new : Parts) (o : ActiveTransaction) (rest : List ActiveTransaction) (n : ℕ) : Type 0 where
-  pub book : new.store.book ≡ with_actives old.store.book (cut_back o n ∷ rest)
+pub record GoesBack (old new : Parts) (o : ActiveTransaction) (n : ℕ) : Type 0 where
+  pub book : new.store.book ≡ with_actives old.store.book (put_in (cut_back o n) old.store.book.actives)
   pub pages : Leads old new (unwound (drop n o.undos))
   pub journal : IsSameOrForced old.store.journal new.store.journal
 

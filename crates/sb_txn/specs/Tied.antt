@@ -87,6 +87,5 @@ pub record Holds (want now : ℕ → List ℕ) (opened pending : List Record) (p
   pub agrees : AgreesOn p.told p.store.journal p.store.pool
   pub pages : ArePagesOn now p.told p.store.journal p.store.pool
   pub dirty : AreImaged p.store.pool (opened ++ pending)
-  pub position : p.store.pool.position ≤ used_of p.store.journal
   pub knows : IsBookOf p.store.pool.geometry.pages (opened ++ pending) p.store.book
   pub spare : HasReserve p.store.journal p.store.book

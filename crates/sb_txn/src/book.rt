@@ -1,10 +1,9 @@
 //! What a store has in memory of its log.
 
-ghost use Rattle.std.specs.Prelude.{◌≡◌, ◌==◌, ◌+◌, ◌-◌, ◌^◌, ◌<◌, ◌≤◌, ◌∷◌, ◌++◌, [], ℕ, List, suc, true, false, Some, length, map, take, drop, position, IfOk, IfErr, OnOk, OnErr};
-ghost use Rattle.sb_txn.specs.Book.{ActiveTransaction as Actives, MayBegin, IsAmong, standing_of as count_of, called, empty_book, new_transaction, begun_book, emptied_book, changed_transaction, with_change, wants_of, standing_in, with_actives, Pops};
+ghost use Rattle.std.specs.Prelude.{◌≡◌, ◌==◌, ◌+◌, ◌-◌, ◌^◌, ◌<◌, ◌≤◌, ◌∷◌, ◌++◌, [], suc, true, false, Some, length, map, take, drop, position, IfOk, OnOk, OnErr};
+ghost use Rattle.sb_txn.specs.Book.{ActiveTransaction as Actives, MayBegin, transaction_with, IsAmong, others, standing_of as count_of, empty_book, new_transaction, begun_book, emptied_book, changed_transaction, with_change, wants_of, with_actives, Pops};
 ghost use Rattle.sb_txn.specs.View.{undo_of, transaction_of};
 
-use crate::StoreFault;
 use crate::changing::Wants;
 use std::alloc::{AllocError, Global};
 use std::marker::Model;
@@ -169,25 +168,6 @@ impl Book {
         tx
     }
 
-    /// Brings the transaction of a call to the front. A store that is down is left as it is.
-    pub fn call(&mut self, tx: u32) -> Result<(), StoreFault>
-        requires among { self.old.down ≡ false → IsAmong tx self.old.actives }
-        requires most { self.old.down ≡ false → length self.old.actives ≤ 8 }
-
-        ensures first { OnOk result (self.new ≡ called tx self.old) }
-        ensures up { OnOk result (self.old.down ≡ false) }
-        ensures err { IfErr result (λ e. e ≡ StoreFault.Down) }
-        ensures down { OnErr result ((self.old.down ≡ true) × (self.new ≡ self.old)) }
-    {
-        if self.down {
-            return Err(StoreFault::Down);
-        }
-        let at = self.place(tx);
-        let transaction = self.actives.remove(at);
-        self.actives.insert(0, transaction).unwrap();
-        Ok(())
-    }
-
     /// How many changes of a transaction stand: none of one that isn't active.
     pub fn standing_of(&self, tx: u32) -> usize
         ensures { result ≡ count_of tx self.now.actives }
@@ -206,39 +186,37 @@ impl Book {
         place_of(&self.actives, tx).unwrap()
     }
 
-    /// Whether the log has a record of the first transaction.
-    pub fn is_begun(&self) -> bool
-        requires { 0 < length self.now.actives }
-        ensures { (o : Actives) (rest : List Actives) → self.now.actives ≡ o ∷ rest → result ≡ o.begun }
+    /// The transaction of this number.
+    fn active(&self, tx: u32) -> &ActiveTransaction
+        requires { IsAmong tx self.now.actives }
+        ensures { transaction_with tx self.now.actives ≡ Some (transaction_of result.now) }
     {
-        self.actives[0].begun
+        &self.actives[self.place(tx)]
     }
 
-    /// Whether changes of the first transaction were undone since its last record.
-    pub fn is_undone(&self) -> bool
-        requires { 0 < length self.now.actives }
-        ensures { (o : Actives) (rest : List Actives) → self.now.actives ≡ o ∷ rest → result ≡ o.undone }
+    /// Whether the log has a record of the transaction.
+    pub fn is_begun(&self, tx: u32) -> bool
+        requires { IsAmong tx self.now.actives }
+        ensures { (o : Actives) → transaction_with tx self.now.actives ≡ Some o → result ≡ o.begun }
     {
-        self.actives[0].undone
+        self.active(tx).begun
     }
 
-    /// How many changes of the first transaction stand.
-    pub fn standing(&self) -> usize
-        ensures { result ≡ standing_in self.now.actives }
+    /// Whether changes of the transaction were undone since its last record.
+    pub fn is_undone(&self, tx: u32) -> bool
+        requires { IsAmong tx self.now.actives }
+        ensures { (o : Actives) → transaction_with tx self.now.actives ≡ Some o → result ≡ o.undone }
     {
-        match self.actives.first() {
-            Some(transaction) => transaction.undos.len(),
-            None => 0,
-        }
+        self.active(tx).undone
     }
 
-    /// The records that are wanted before a change of the page by the first transaction.
-    pub fn wants(&self, page: u32) -> Wants
+    /// The records that are wanted before a change of the page by the transaction.
+    pub fn wants(&self, tx: u32, page: u32) -> Wants
         requires page { page < length self.now.imaged }
-        requires some { 0 < length self.now.actives }
-        ensures { (o : Actives) (rest : List Actives) → self.now.actives ≡ o ∷ rest → result ≡ wants_of self.now o page }
+        requires among { IsAmong tx self.now.actives }
+        ensures { (o : Actives) → transaction_with tx self.now.actives ≡ Some o → result ≡ wants_of self.now o page }
     {
-        let transaction = &self.actives[0];
+        let transaction = self.active(tx);
         Wants {
             begin: !transaction.begun,
             back: transaction.undone,
@@ -266,34 +244,36 @@ impl Book {
         })
     }
 
-    /// A change more of the first transaction, of a page that has an Image now.
-    pub fn add(&mut self, undo: Undo) -> Result<(), AllocError>
+    /// A change more of the transaction, of a page that has an Image now.
+    pub fn add(&mut self, tx: u32, undo: Undo) -> Result<(), AllocError>
         requires page { undo.page < length self.old.imaged }
-        requires some { 0 < length self.old.actives }
-        ensures ok { OnOk result ((o : Actives) (rest : List Actives) → self.old.actives ≡ o ∷ rest
-            → self.new ≡ with_change self.old o rest (undo_of undo)) }
+        requires among { IsAmong tx self.old.actives }
+        ensures ok { OnOk result ((o : Actives) → transaction_with tx self.old.actives ≡ Some o → self.new ≡ with_change self.old o (undo_of undo)) }
         ensures err { OnErr result (self.new ≡ self.old) }
     {
         let page = undo.page as usize;
-        self.actives[0].add(undo)?;
+        let at = self.place(tx);
+        self.actives[at].add(undo)?;
         self.imaged[page] = true;
         Ok(())
     }
 
-    /// The last change of the first transaction, which is undone.
-    pub fn pop(&mut self) -> Undo
-        requires { 0 < standing_in self.old.actives }
-        ensures { (o : Actives) (rest : List Actives) → self.old.actives ≡ o ∷ rest → Pops o rest self.old self.new (undo_of result) }
+    /// The last change of the transaction, which is undone.
+    pub fn pop(&mut self, tx: u32) -> Undo
+        requires { 0 < count_of tx self.old.actives }
+        ensures { (o : Actives) → transaction_with tx self.old.actives ≡ Some o → Pops o self.old self.new (undo_of result) }
     {
-        self.actives[0].pop()
+        let at = self.place(tx);
+        self.actives[at].pop()
     }
 
-    /// The first transaction ends.
-    pub fn end(&mut self)
-        requires { 0 < length self.old.actives }
-        ensures { (o : Actives) (rest : List Actives) → self.old.actives ≡ o ∷ rest → self.new ≡ with_actives self.old rest }
+    /// The transaction ends.
+    pub fn end(&mut self, tx: u32)
+        requires { IsAmong tx self.old.actives }
+        ensures { self.new ≡ with_actives self.old (others tx self.old.actives) }
     {
-        self.actives.remove(0);
+        let at = self.place(tx);
+        self.actives.remove(at);
     }
 }
 

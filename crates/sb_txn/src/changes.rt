@@ -1,8 +1,8 @@
 //! How a transaction changes a range of a page.
 
-ghost use Rattle.std.specs.Prelude.{◌≡◌, ◌∷◌, ◌+◌, ◌<◌, ◌≤◌, ℕ, List, Some, cond, false, length, IfErr, OnErr, OnOk};
+ghost use Rattle.std.specs.Prelude.{◌≡◌, ◌+◌, ◌<◌, ◌≤◌, ℕ, Some, cond, false, length, IfErr, OnErr, OnOk};
 ghost use Rattle.sb_pool.specs.State.{IsHeld, held};
-ghost use Rattle.sb_txn.specs.Book.{ActiveTransaction, IsAmong, transaction_with, others, AreClear, IsFirst, change_len as len_of_change};
+ghost use Rattle.sb_txn.specs.Book.{ActiveTransaction, IsAmong, transaction_with, others, AreClear, change_len as len_of_change};
 ghost use Rattle.sb_txn.specs.Changes.{AddsUndo, IsInStore, NoRoom, AddErr};
 ghost use Rattle.sb_txn.specs.Clauses.{IsReady, IsFaultOrDown, StaysReady, LeavesWanted, Changes, ChangeErr, HasRoom};
 ghost use Rattle.sb_txn.specs.Parts.{parts};
@@ -51,8 +51,7 @@ impl Store {
         requires apart { self.old.book.down ≡ false → AreClear page offset (length bytes.now) (others tx.now.number self.old.book.actives) }
 
         ensures changes { OnOk result ((o : ActiveTransaction) → transaction_with tx.now.number self.old.book.actives ≡ Some o
-            → Changes (parts D.told D.len disk.old self.old) (parts D.told D.len disk.new self.new)
-            o (others tx.now.number self.old.book.actives) owner page offset bytes.now) }
+            → Changes (parts D.told D.len disk.old self.old) (parts D.told D.len disk.new self.new) o owner page offset bytes.now) }
         ensures room { OnOk result ((o : ActiveTransaction) → transaction_with tx.now.number self.old.book.actives ≡ Some o
             → HasRoom self.old o page (length bytes.now)) }
         ensures refused { IfErr result (λ e. (o : ActiveTransaction) → transaction_with tx.now.number self.old.book.actives ≡ Some o
@@ -60,7 +59,8 @@ impl Store {
         ensures any_moment { LeavesWanted (parts D.told D.len disk.old self.old) (parts D.told D.len disk.new self.new) }
         ensures keeps { StaysReady D.told D.len D.faults disk.old disk.new self.old self.new result }
     {
-        self.book.call(tx.number)?;
+        self.load(disk, page)?;
+        self.check_room(tx.number, page, bytes.len())?;
         let edit = Edit {
             tx: tx.number,
             owner,
@@ -68,47 +68,22 @@ impl Store {
             offset,
             bytes,
         };
-        self.change_first(disk, &edit)
-    }
-
-    /// Changes the range, where there is room for it.
-    fn change_first<D: Disk>(&mut self, disk: &mut D, edit: &Edit<'_>) -> Result<(), StoreFault>
-        requires ready { IsReady (parts D.told D.len disk.old self.old) }
-        requires first { self.old.book.down ≡ false → IsFirst edit.now.tx self.old.book.actives }
-        requires page { edit.now.page < self.old.pool.geometry.pages }
-        requires some { 0 < length edit.now.bytes.now }
-        requires range { edit.now.offset + length edit.now.bytes.now ≤ 4096 }
-        requires apart { self.old.book.down ≡ false → (o : ActiveTransaction) (rest : List ActiveTransaction) → self.old.book.actives ≡ o ∷ rest
-            → AreClear edit.now.page edit.now.offset (length edit.now.bytes.now) rest }
-
-        ensures changes { OnOk result ((o : ActiveTransaction) (rest : List ActiveTransaction) → self.old.book.actives ≡ o ∷ rest
-            → Changes (parts D.told D.len disk.old self.old) (parts D.told D.len disk.new self.new)
-            o rest edit.now.owner edit.now.page edit.now.offset edit.now.bytes.now) }
-        ensures room { OnOk result ((o : ActiveTransaction) (rest : List ActiveTransaction) → self.old.book.actives ≡ o ∷ rest
-            → HasRoom self.old o edit.now.page (length edit.now.bytes.now)) }
-        ensures refused { IfErr result (λ e. (o : ActiveTransaction) (rest : List ActiveTransaction) → self.old.book.actives ≡ o ∷ rest
-            → ChangeErr (parts D.told D.len disk.old self.old) (parts D.told D.len disk.new self.new) o edit.now.page (length edit.now.bytes.now) e) }
-        ensures any_moment { LeavesWanted (parts D.told D.len disk.old self.old) (parts D.told D.len disk.new self.new) }
-        ensures keeps { StaysReady D.told D.len D.faults disk.old disk.new self.old self.new result }
-    {
-        self.load(disk, edit.page)?;
-        self.check_room(edit.page, edit.bytes.len())?;
-        self.add_change(disk, edit)
+        self.add_change(disk, &edit)
     }
 
     /// Refuses a change of so many bytes for which the log has no room.
-    fn check_room(&self, page: u32, count: usize) -> Result<(), StoreFault>
+    fn check_room(&self, tx: u32, page: u32, count: usize) -> Result<(), StoreFault>
         requires store { IsInStore self.now.journal self.now.pool self.now.book }
+        requires among { IsAmong tx self.now.book.actives }
         requires page { page < length self.now.book.imaged }
         requires count { count ≤ 4096 }
 
-        ensures ok { OnOk result ((o : ActiveTransaction) (rest : List ActiveTransaction) → self.now.book.actives ≡ o ∷ rest
-            → HasRoom self.now o page count) }
-        ensures err { IfErr result (λ e. (o : ActiveTransaction) (rest : List ActiveTransaction) → self.now.book.actives ≡ o ∷ rest
+        ensures ok { OnOk result ((o : ActiveTransaction) → transaction_with tx self.now.book.actives ≡ Some o → HasRoom self.now o page count) }
+        ensures err { IfErr result (λ e. (o : ActiveTransaction) → transaction_with tx self.now.book.actives ≡ Some o
             → NoRoom self.now.journal self.now.book o page count e) }
     {
         let used = self.journal.used();
-        let need = change_len(self.book.wants(page), count)
+        let need = change_len(self.book.wants(tx, page), count)
             + 4
             + RESERVE * self.book.active_count() as u64;
         let total = self.pool.geometry().log;
@@ -129,28 +104,28 @@ impl Store {
     fn add_change<D: Disk>(&mut self, disk: &mut D, edit: &Edit<'_>) -> Result<(), StoreFault>
         requires ready { IsReady (parts D.told D.len disk.old self.old) }
         requires up { self.old.book.down ≡ false }
-        requires first { IsFirst edit.now.tx self.old.book.actives }
-        requires room { (o : ActiveTransaction) (rest : List ActiveTransaction) → self.old.book.actives ≡ o ∷ rest
+        requires among { IsAmong edit.now.tx self.old.book.actives }
+        requires room { (o : ActiveTransaction) → transaction_with edit.now.tx self.old.book.actives ≡ Some o
             → HasRoom self.old o edit.now.page (length edit.now.bytes.now) }
         requires held { IsHeld self.old.pool edit.now.page }
         requires page { edit.now.page < self.old.pool.geometry.pages }
         requires some { 0 < length edit.now.bytes.now }
         requires range { edit.now.offset + length edit.now.bytes.now ≤ 4096 }
-        requires apart { (o : ActiveTransaction) (rest : List ActiveTransaction) → self.old.book.actives ≡ o ∷ rest
-            → AreClear edit.now.page edit.now.offset (length edit.now.bytes.now) rest }
+        requires apart { AreClear edit.now.page edit.now.offset (length edit.now.bytes.now) (others edit.now.tx self.old.book.actives) }
 
-        ensures changes { OnOk result ((o : ActiveTransaction) (rest : List ActiveTransaction) → self.old.book.actives ≡ o ∷ rest
+        ensures changes { OnOk result ((o : ActiveTransaction) → transaction_with edit.now.tx self.old.book.actives ≡ Some o
             → Changes (parts D.told D.len disk.old self.old) (parts D.told D.len disk.new self.new)
-            o rest edit.now.owner edit.now.page edit.now.offset edit.now.bytes.now) }
+            o edit.now.owner edit.now.page edit.now.offset edit.now.bytes.now) }
         ensures refused { IfErr result (AddErr (parts D.told D.len disk.old self.old) (parts D.told D.len disk.new self.new)) }
         ensures any_moment { LeavesWanted (parts D.told D.len disk.old self.old) (parts D.told D.len disk.new self.new) }
         ensures keeps { StaysReady D.told D.len D.faults disk.old disk.new self.old self.new result }
     {
-        let wants = self.book.wants(edit.page);
-        let n = self.book.standing() as u32;
+        let wants = self.book.wants(edit.tx, edit.page);
+        let n = self.book.standing_of(edit.tx) as u32;
         add_undo(
             &mut self.book,
             &self.pool,
+            edit.tx,
             edit.page,
             edit.offset,
             edit.bytes.len(),
@@ -207,6 +182,7 @@ fn len_if(wanted: bool, len: u64) -> u64
 fn add_undo(
     book: &mut Book,
     pool: &Pool,
+    tx: u32,
     page: u32,
     offset: u16,
     count: usize,
@@ -214,11 +190,11 @@ fn add_undo(
     requires held { IsHeld pool.now page }
     requires range { offset + count ≤ 4096 }
     requires page { page < length book.old.imaged }
-    requires some { 0 < length book.old.actives }
+    requires among { IsAmong tx book.old.actives }
 
-    ensures ok { OnOk result (AddsUndo (held pool.now page) book.old book.new page offset count) }
+    ensures ok { OnOk result (AddsUndo tx (held pool.now page) book.old book.new page offset count) }
     ensures err { OnErr result (book.new ≡ book.old) }
 {
     let undo = book.undo(page, offset, count, pool.page(page))?;
-    book.add(undo)
+    book.add(tx, undo)
 }

@@ -1,6 +1,6 @@
 //! How a transaction ends.
 
-ghost use Rattle.std.specs.Prelude.{◌≡◌, ◌⊎◌, ◌+◌, ◌<◌, ◌≤◌, ◌∷◌, ◌++◌, [], true, false, cond, ℕ, List, length, OnOk, IfErr, IsErrOf};
+ghost use Rattle.std.specs.Prelude.{◌≡◌, ◌⊎◌, ◌+◌, ◌<◌, ◌≤◌, ◌∷◌, ◌++◌, [], true, false, cond, ℕ, List, Some, length, OnOk, IfErr, IsErrOf};
 ghost use Rattle.sb_disk.specs.Causes.{Rose};
 ghost use Rattle.sb_disk.specs.Moments.{LeavesOnly};
 ghost use Rattle.sb_images.specs.Images.{IsOldOrNew};
@@ -10,7 +10,7 @@ ghost use Rattle.sb_log.specs.declared.geometry.Geometry.{Geometry};
 ghost use Rattle.sb_log.specs.Records.{Record, Back, Commit};
 ghost use Rattle.sb_log.specs.Standing.{standing, count_of};
 ghost use Rattle.sb_log.specs.Views.{Active, active_with};
-ghost use Rattle.sb_txn.specs.Book.{ActiveTransaction, IsFirst};
+ghost use Rattle.sb_txn.specs.Book.{ActiveTransaction, transaction_with, IsAmong, others};
 ghost use Rattle.sb_txn.specs.Clauses.{IsReady, IsFaultOrDown, StaysReady, LeavesWanted, Commits, LeavesCommit, CommitAsksNothing, Aborts};
 ghost use Rattle.sb_txn.specs.Parts.{parts};
 ghost use Rattle.sb_txn.specs.Steps.{KeepsDisk, Stays, some, filled};
@@ -61,34 +61,34 @@ fn finish<D: Disk>(
 }
 
 impl Store {
-    /// Commits the first transaction. One that has no record in the log ends without a call on the disk.
-    pub(crate) fn commit_first<D: Disk>(&mut self, disk: &mut D, tx: u32) -> Result<(), StoreFault>
+    /// Commits an active transaction. One that has no record in the log ends without a call on the disk.
+    pub(crate) fn commit_active<D: Disk>(&mut self, disk: &mut D, tx: u32) -> Result<(), StoreFault>
         requires ready { IsReady (parts D.told D.len disk.old self.old) }
         requires up { self.old.book.down ≡ false }
-        requires first { IsFirst tx self.old.book.actives }
+        requires among { IsAmong tx self.old.book.actives }
 
-        ensures commits { OnOk result ((o : ActiveTransaction) (rest : List ActiveTransaction) → self.old.book.actives ≡ o ∷ rest
-            → Commits (parts D.told D.len disk.old self.old) (parts D.told D.len disk.new self.new) o rest) }
-        ensures any_moment { (o : ActiveTransaction) (rest : List ActiveTransaction) → self.old.book.actives ≡ o ∷ rest
+        ensures commits { OnOk result ((o : ActiveTransaction) → transaction_with tx self.old.book.actives ≡ Some o
+            → Commits (parts D.told D.len disk.old self.old) (parts D.told D.len disk.new self.new) o (others tx self.old.book.actives)) }
+        ensures any_moment { (o : ActiveTransaction) → transaction_with tx self.old.book.actives ≡ Some o
             → LeavesCommit (parts D.told D.len disk.old self.old) (parts D.told D.len disk.new self.new) o }
-        ensures idle { (o : ActiveTransaction) (rest : List ActiveTransaction) → self.old.book.actives ≡ o ∷ rest
+        ensures idle { (o : ActiveTransaction) → transaction_with tx self.old.book.actives ≡ Some o
             → CommitAsksNothing o disk.old disk.new self.old self.new }
         ensures err { IfErr result IsFaultOrDown }
         ensures keeps { StaysReady D.told D.len D.faults disk.old disk.new self.old self.new result }
     {
-        if !self.book.is_begun() {
-            self.book.end();
+        if !self.book.is_begun(tx) {
+            self.book.end(tx);
             return Ok(());
         }
         match finish(
             disk,
             &mut self.journal,
             tx,
-            self.book.is_undone(),
-            self.book.standing() as u32,
+            self.book.is_undone(tx),
+            self.book.standing_of(tx) as u32,
         ) {
             Ok(()) => {
-                self.book.end();
+                self.book.end(tx);
                 Ok(())
             }
             Err(_) => {
@@ -98,20 +98,20 @@ impl Store {
         }
     }
 
-    /// Undoes the changes of the first transaction, and ends it.
-    pub(crate) fn abort_first<D: Disk>(&mut self, disk: &mut D) -> Result<(), StoreFault>
+    /// Undoes the changes of an active transaction, and ends it.
+    pub(crate) fn abort_active<D: Disk>(&mut self, disk: &mut D, tx: u32) -> Result<(), StoreFault>
         requires ready { IsReady (parts D.told D.len disk.old self.old) }
         requires up { self.old.book.down ≡ false }
-        requires some { 0 < length self.old.book.actives }
+        requires among { IsAmong tx self.old.book.actives }
 
-        ensures aborts { OnOk result ((o : ActiveTransaction) (rest : List ActiveTransaction) → self.old.book.actives ≡ o ∷ rest
-            → Aborts (parts D.told D.len disk.old self.old) (parts D.told D.len disk.new self.new) o rest) }
+        ensures aborts { OnOk result ((o : ActiveTransaction) → transaction_with tx self.old.book.actives ≡ Some o
+            → Aborts (parts D.told D.len disk.old self.old) (parts D.told D.len disk.new self.new) o (others tx self.old.book.actives)) }
         ensures any_moment { LeavesWanted (parts D.told D.len disk.old self.old) (parts D.told D.len disk.new self.new) }
         ensures err { IfErr result IsFaultOrDown }
         ensures keeps { StaysReady D.told D.len D.faults disk.old disk.new self.old self.new result }
     {
-        self.undo_behind(disk, 0)?;
-        self.book.end();
+        self.undo_behind(disk, tx, 0)?;
+        self.book.end(tx);
         Ok(())
     }
 }

@@ -29,10 +29,9 @@ impl Store {
         ensures err { IfErr result IsFaultOrDown }
         ensures keeps { StaysReady D.told D.len D.faults disk.old disk.new self.old self.new result }
     {
-        let position = self.journal.used();
         match self
             .pool
-            .write(disk, &mut self.journal, page, offset, bytes, position)
+            .write(disk, &mut self.journal, page, offset, bytes)
         {
             Ok(()) => Ok(()),
             Err(_) => {

@@ -160,14 +160,15 @@ impl Store {
         requires mark { self.old.book.down ≡ false → mark.changes ≤ standing_of tx.now.number self.old.book.actives }
 
         ensures back { OnOk result ((o : ActiveTransaction) → transaction_with tx.now.number self.old.book.actives ≡ Some o
-            → GoesBack (parts D.told D.len disk.old self.old) (parts D.told D.len disk.new self.new)
-            o (others tx.now.number self.old.book.actives) mark.changes) }
+            → GoesBack (parts D.told D.len disk.old self.old) (parts D.told D.len disk.new self.new) o mark.changes) }
         ensures any_moment { LeavesWanted (parts D.told D.len disk.old self.old) (parts D.told D.len disk.new self.new) }
         ensures err { IfErr result IsFaultOrDown }
         ensures keeps { StaysReady D.told D.len D.faults disk.old disk.new self.old self.new result }
     {
-        self.book.call(tx.number)?;
-        self.undo_behind(disk, mark.changes)
+        if self.book.is_down() {
+            return Err(StoreFault::Down);
+        }
+        self.undo_behind(disk, tx.number, mark.changes)
     }
 
     /// Commits the transaction: when it answers Ok, the changes that stand are there after any crash. One that made no change makes no call on the disk.
@@ -187,8 +188,10 @@ impl Store {
         ensures keeps { StaysReady D.told D.len D.faults disk.old disk.new self.old self.new result }
     {
         let Tx { number } = tx;
-        self.book.call(number)?;
-        self.commit_first(disk, number)
+        if self.book.is_down() {
+            return Err(StoreFault::Down);
+        }
+        self.commit_active(disk, number)
     }
 
     /// Undoes the changes of the transaction.
@@ -203,8 +206,10 @@ impl Store {
         ensures keeps { StaysReady D.told D.len D.faults disk.old disk.new self.old self.new result }
     {
         let Tx { number } = tx;
-        self.book.call(number)?;
-        self.abort_first(disk)
+        if self.book.is_down() {
+            return Err(StoreFault::Down);
+        }
+        self.abort_active(disk, number)
     }
 
     /// Writes the changed pages to the disk and empties the log.

@@ -2,6 +2,7 @@ use Rattle.std.proofs.Common.{◌≡◌, false, [], refl, sym, ◌∙◌, ap}
 use Rattle.sb_images.proofs.StoreLemmas.{IsStoreOn-ready}
 use Rattle.sb_txn.proofs.StepLemmas.{LeavesOnly-checkpoint, IsStoreOn-checkpoint, Serves-close, AgreesOn-close, ArePagesOn-close}
 use Rattle.sb_journal.specs.State as journal
+use Rattle.sb_pool.specs.State as pool
 use Rattle.sb_pool.proofs.StoreLemmas.{ArePagesOn-kept}
 use Rattle.sb_txn.proofs.steps.checkpoint.Goals as goal
 
@@ -34,7 +35,7 @@ pub returns-clause-agrees : goal.returns-clause-agrees
 returns-clause-agrees g c =
     let flush = c.in_ok-flush_all.ensures in
     AgreesOn-close c.flush_all.new.self.geometry c.flush_all.new.journal c.close_all.new.self c.in_ok-close_all.ensures.done (g.D.Disk.told c.flush_all.new.disk) _ (g.D.Disk.len c.flush_all.new.disk) 0 flush.keeps.serves c.flush_all.new.self refl
-    c.in_ok-close_all.ensures.closed flush.keeps.agrees
+    (ap (λ (x : pool.State). x.position) flush.flushed) c.in_ok-close_all.ensures.closed flush.keeps.agrees
 
 pub returns-clause-pages : goal.returns-clause-pages
 returns-clause-pages g c now pages =

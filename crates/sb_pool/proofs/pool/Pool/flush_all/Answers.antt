@@ -78,7 +78,7 @@ returns g c =
     let whole = IsPool-inside c.self.inside pool c.self.view_is c.self.invariant in
     let long = sized_as mid _ _ (g.D.Disk.len c.args.disk.now) (g.met.D.Disk.fits c.force.new.disk) forced.keeps.size in
     let ran = RanOk-inside c.self.inside pool c.self.view_is _ mid new c.deref.ensures.value c.in_ok-put_all_out.ensures.ran in
-    let flush = AreFlushed-ok pool (g.D.Disk.len c.args.disk.now) j k serves.room serves.gates serves.log whole told mid new forced.up long forced.forced c.requires.agrees ran in
+    let flush = AreFlushed-ok pool (g.D.Disk.len c.args.disk.now) j k serves.room serves.gates serves.log whole told mid new forced.up long forced.forced c.requires.agrees.pages ran in
     let back = with_items_is c.self.inside.frames c.mark_all_clean.new.frames (c.mark_all_clean.auto.frames ∙ c.deref_mut.ensures.len) in
     let is = flushed-inside c.self.inside pool c.self.view_is _ (with_items c.self.inside.frames c.mark_all_clean.new.frames).items c.deref_mut.ensures.value (ap (map held_of) back ∙ c.mark_all_clean.ensures.clean) in
     record {

@@ -1,6 +1,7 @@
-use Rattle.std.proofs.Common.{rules, ◌≡◌, inl, ◌<◌, ℕ, Option, length, map, get_or, set, refl, sym, ◌∙◌, ap, subst, arith}
+use Rattle.std.proofs.Common.{rules, ◌≡◌, inl, ◌<◌, ◌≤◌, ℕ, Option, length, map, get_or, set, refl, sym, ◌∙◌, ap, subst, arith}
 use Rattle.sb_disk.specs.Disk.{Story}
 use Rattle.sb_images.specs.Layout.{place_of}
+use Rattle.sb_journal.specs.State.{used_of}
 use Rattle.sb_pool.specs.declared.frame.Frame.{Frame}
 use Rattle.sb_pool.specs.declared.pool.Pool.TheInside.{Inside}
 use Rattle.sb_pool.specs.Frames.{IsFrame, held_of, IsLoaded}
@@ -56,7 +57,10 @@ returns-in_err-load g c =
         fault = search rules;
         cause = λ is. search rules;
         serves = Serves-as told _ _ _ c.args.journal.now c.args.self.now.geometry _ c.load.ensures.told c.load.ensures.len kept.geometry c.requires.serves;
-        agrees = Loads-agrees c.args.self.now _ told _ c.args.journal.now c.load.ensures.told kept c.requires.agrees;
+        agrees = record {
+          pages = Loads-agrees c.args.self.now _ told _ c.args.journal.now c.load.ensures.told kept c.requires.agrees.pages;
+          position = subst (λ (n : ℕ). n ≤ used_of c.args.journal.now) (sym (ap (λ (s : State). s.position) c.self.view_is)) c.requires.agrees.position;
+        };
         sound = λ sound. sound;
       };
     }
@@ -82,7 +86,10 @@ returns g c =
         fault = search rules;
         cause = λ is. search rules;
         serves = Serves-as told _ _ _ c.args.journal.now c.args.self.now.geometry _ c.load.ensures.told c.load.ensures.len kept.geometry c.requires.serves;
-        agrees = Loads-agrees c.args.self.now _ told _ c.args.journal.now c.load.ensures.told kept c.requires.agrees;
+        agrees = record {
+          pages = Loads-agrees c.args.self.now _ told _ c.args.journal.now c.load.ensures.told kept c.requires.agrees.pages;
+          position = subst (λ (n : ℕ). n ≤ used_of c.args.journal.now) (sym (ap (λ (s : State). s.position) c.self.view_is)) c.requires.agrees.position;
+        };
         sound = λ sound. sound;
       };
     }

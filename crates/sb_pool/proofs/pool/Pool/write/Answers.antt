@@ -1,6 +1,7 @@
-use Rattle.std.proofs.Common.{rules, ◌≡◌, ◌<◌, ℕ, List, Option, Result, Ok, Err, OnOk, length, map, get_or, set, refl, ◌∙◌, ap, subst, arith}
+use Rattle.std.proofs.Common.{rules, ◌≡◌, ◌<◌, ◌≤◌, ℕ, List, Option, Result, Ok, Err, OnOk, length, map, get_or, set, refl, sym, ◌∙◌, ap, subst, arith}
 use Rattle.std.specs.Result.{IsErrAnd}
 use Rattle.sb_disk.specs.Disk.{splice}
+use Rattle.sb_journal.specs.State.{used_of}
 use Rattle.sb_log.specs.declared.geometry.Geometry.{Geometry}
 use Rattle.sb_pool.specs.declared.frame.Content.TheVariants.{Dirty}
 use Rattle.sb_pool.specs.declared.frame.Frame.{Frame}
@@ -11,7 +12,7 @@ use Rattle.sb_pool.specs.State.{State, Held, held, IsHeld}
 use Rattle.sb_pool.specs.View.{state_of}
 use Rattle.sb_pool.proofs.CallLemmas.{Serves-as}
 use Rattle.sb_pool.proofs.PageLemmas.{Puts, Puts-frame, held-frame}
-use Rattle.sb_pool.proofs.WriteLemmas.{some_bytes, written, dirty_frame, IsDirty-written, dirty-written, AgreesOn-written, Becomes-written}
+use Rattle.sb_pool.proofs.WriteLemmas.{some_bytes, written, dirty_frame, IsDirty-written, dirty-written, PagesAgreeOn-written, Becomes-written}
 use Rattle.sb_pool.proofs.pool.Pool.write.Goals as goal
 
 -- what is known of the pool with the page written, and of the page before it
@@ -46,11 +47,11 @@ returns g c =
     let load = c.in_ok-load.ensures in
     let kept = load.keeps in
     let told = g.D.Disk.told c.load.new.disk in
-    let at = write_at c.self.inside c.args.self.now c.load.new.self c.args.page c.args.offset c.args.position c.args.bytes.now c.index_mut-frame.result.now c.write.new.self c.self.view_is c.self.invariant.count
+    let at = write_at c.self.inside c.args.self.now c.load.new.self c.args.page c.args.offset c.used-self-inside.result c.args.bytes.now c.index_mut-frame.result.now c.write.new.self c.self.view_is c.self.invariant.count
     kept.geometry c.requires.page c.index_mut-frame.ensures.value load.held.0 c.write.ensures.dirty c.write.ensures.bytes in
     record {
       written = Becomes-written c.load.new.self _ c.args.page _ at.puts c.args.self.now c.args.offset c.args.bytes.now c.index_mut-frame.result.now.bytes.items at.was refl (g.D.Disk.told c.args.disk.now) told c.load.new.journal load.pages;
-      dirty = (IsDirty-written c.load.new.self _ c.args.page _ at.puts, refl);
+      dirty = (IsDirty-written c.load.new.self _ c.args.page _ at.puts, c.used-self-inside.ensures);
       others = dirty-written c.load.new.self _ c.args.page _ at.puts c.args.self.now load.dirty;
       err = tt;
       images = λ want opened pending ready imaged here. let i = load.images want opened pending ready imaged in record { leaves = i.leaves; ready = i.ready };
@@ -63,7 +64,10 @@ returns g c =
         fault = tt;
         cause = λ is. search rules;
         serves = Serves-as told told _ _ c.load.new.journal c.load.new.self.geometry _ refl refl at.puts.geometry kept.serves;
-        agrees = AgreesOn-written c.load.new.self _ c.args.page _ at.puts told c.load.new.journal kept.agrees;
+        agrees = record {
+          pages = PagesAgreeOn-written c.load.new.self _ c.args.page _ at.puts told c.load.new.journal kept.agrees.pages;
+          position = subst (λ (n : ℕ). n ≤ used_of c.load.new.journal) (sym c.used-self-inside.ensures) (omega arith);
+        };
         sound = kept.sound;
       };
     }

@@ -35,7 +35,7 @@ returns-in-Ok-clause-written g c =
     let ready = IsStoreOn-ready want (with_bytes c.args.page c.args.offset c.args.bytes.now now) (g.D.Disk.told c.args.disk.now) c.args.self.now.journal c.args.self.now.pool.geometry ahead.opened ahead.pending (views c.args.self.now.book.actives) ahead.leans.store in
     HoldsAll-written want now (g.D.Disk.told c.args.disk.now) (g.D.Disk.told c.write.new.disk) (g.D.Disk.len c.args.disk.now) (g.D.Disk.len c.write.new.disk) c.args.self.now.journal c.write.new.journal c.args.self.now.pool c.write.new.self c.args.self.now.book
     ahead.opened ahead.pending c.args.page c.args.offset c.args.bytes.now ahead.leans ahead.covered
-    call.keeps.geometry (call.dirty.1 ∙ c.used-position.ensures) call.written call.others (call.images want ahead.opened ahead.pending ready ahead.leans.dirty ahead.covered).ready call.journal call.keeps.serves call.keeps.agrees in
+    call.keeps.geometry call.written call.others (call.images want ahead.opened ahead.pending ready ahead.leans.dirty ahead.covered).ready call.journal call.keeps.serves call.keeps.agrees in
     record {
       book = refl;
       journal = c.in-Ok.ensures.journal;
