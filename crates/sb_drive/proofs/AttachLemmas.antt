@@ -1,5 +1,5 @@
--- One call of an attachment, and a turn of its driver.
-use Rattle.std.proofs.Common.{◌≡◌, List, All, sym, ap, subst, ◌∙◌}
+-- One call of an attachment, and what it promises to its driver.
+use Rattle.std.proofs.Common.{◌≡◌, true, List, All, sym, ap, subst, ◌∙◌}
 use Rattle.sb_relation.specs.Changes.{changed}
 use Rattle.sb_relation.specs.Db.{Db}
 use Rattle.sb_forms.specs.Pages.{Pages}
@@ -11,14 +11,12 @@ use Rattle.sb_ctx.specs.declared.moves.Move.{Move}
 use Rattle.sb_ctx.specs.declared.moves.Move.TheVariants.{Need, Fresh, After, Find, Broken, NoMemory}
 use Rattle.sb_ctx.specs.Attachment.{Attachment}
 use Rattle.sb_ctx.specs.AttachAnswers.{Answers, AsksFor, Changes, Ends, IsBroken, Looks, Spends}
-use Rattle.sb_ctx.specs.View.{View, given_at, dropped, HoldsPart, FoundIn, keys_with, stored, IsClean}
+use Rattle.sb_ctx.specs.View.{View, given_at, dropped, FoundIn, keys_with, stored, IsClean}
 use Rattle.sb_ctx.proofs.ViewLaws.{stored-clean}
 use Rattle.sb_ctx.proofs.PageLaws.{AreSomeOf-given}
-use Rattle.sb_drive.specs.declared.space.SpaceFault.{SpaceFault}
-use Rattle.sb_drive.specs.declared.space.SpaceFault.TheVariants as fault
-use Rattle.sb_drive.specs.declared.turns.Turn.TheVariants.{Stop}
-use Rattle.sb_drive.specs.AttachCalls.{HasSpaceCause, IsAsking}
-use Rattle.sb_drive.specs.Turns.{turn_of}
+use Rattle.sb_drive.specs.AttachCalls.{IsAsking, promise_of}
+use Rattle.sb_drive.specs.Promises.{KeepsPromise}
+use Rattle.sb_drive.specs.Turns.{is_find}
 
 -- a reading call is one that changes nothing
 pub Changes-Looks : (a : Attachment) (inst : Instance) (call : AttachCall) (old new : View) (move : Move) → IsClean old → Looks a inst call old new move → Changes a inst call old new move
@@ -73,21 +71,25 @@ IsAsking-asked a inst call old handed c move fresh found changes = record {
   asks = subst (λ (v : View). Changes a inst call v c Fresh) (sym changes.given) (subst (λ (to : Move). Changes a inst call old c to) fresh changes);
 }
 
--- ---- a page that is called broken
--- a driver stops at Damaged only where the box called that page broken
-pub HasSpaceCause-stop : (a : Attachment) (inst : Instance) (call : AttachCall) (c : View) (P after : Pages) (move : Move) (e : SpaceFault) → turn_of move ≡ Stop e → HoldsPart c P → IsBroken a inst c move → Answers a inst call c P after move
-    → HasSpaceCause a inst call P e
-HasSpaceCause-stop a inst call c P after (Need n) e is part broken answers = cc
-HasSpaceCause-stop a inst call c P after Fresh e is part broken answers = cc
-HasSpaceCause-stop a inst call c P after (After low) e is part broken answers = cc
-HasSpaceCause-stop a inst call c P after (Broken n) e is part broken answers =
-    let same : fault.Damaged n ≡ e = cc in
-    subst (HasSpaceCause a inst call P) same (record { held = given_at c; given = AreSomeOf-given c P part; may = broken; not_new = answers })
-HasSpaceCause-stop a inst call c P after NoMemory e is part broken answers = let same : fault.NoMemory ≡ e = cc in subst (HasSpaceCause a inst call P) same tt
-HasSpaceCause-stop a inst call c P after move e is part broken answers = cc
+-- ---- what a call promises
+Answers-find : (a : Attachment) (inst : Instance) (call : AttachCall) (c : View) (P after : Pages) (move : Move) → is_find move ≡ true → Answers a inst call c P after move
+Answers-find a inst call c P after (Find relation columns values) is = tt
+Answers-find a inst call c P after move is = cc
 
--- ---- the end of a call
--- the end of a call, once its edits are stored
-pub Answers-end : (a : Attachment) (inst : Instance) (call : AttachCall) (c : View) (P stored after : Pages) (move end : Move) → move ≡ end → after ≡ stored → Answers a inst call c P stored move → Answers a inst call c P after end
-Answers-end a inst call c P stored after move end is same answers =
-    subst (λ (Q : Pages). Answers a inst call c P Q end) (sym same) (subst (λ (e : Move). Answers a inst call c P stored e) is answers)
+-- with the finds of the Ctx that it was handed
+pub KeepsPromise-changes : (a : Attachment) (inst : Instance) (call : AttachCall) (old handed new : View) (move : Move) → old.found ≡ handed.found → Changes a inst call old new move → KeepsPromise (promise_of a inst call handed) old new move
+KeepsPromise-changes a inst call old handed new move found changes = record {
+  given = changes.given;
+  asks = changes.asks;
+  ends = changes.ends;
+  answers = λ P part. Answers-found a inst call old handed P (stored new P) move found (changes.answers P part);
+  find = λ P after is. Answers-find a inst call handed P after move is;
+  broken = λ P n part is. record {
+    held = given_at old;
+    given = AreSomeOf-given old P part;
+    may = subst (λ (to : Move). IsBroken a inst old to) is changes.broken;
+    not_new = subst (λ (to : Move). Answers a inst call old P (stored new P) to) is (changes.answers P part);
+  };
+  spends = λ ctx P part. Spends-found a inst call old handed P new move found (changes.spends ctx P part);
+  fresh = λ is. IsAsking-asked a inst call old handed new move is found changes;
+}

@@ -6,5 +6,6 @@ pub mod MeasureLemmas
 pub mod AsksLemmas
 pub mod GiftLemmas
 pub mod SpacesLemmas
+pub mod PromiseLemmas
 pub mod MethodLemmas
 pub mod AttachLemmas

@@ -1,21 +1,20 @@
--- One call of a storage method, and a turn of its driver.
-use Rattle.std.proofs.Common.{◌≡◌, ℕ, ◌≤◌, length, sym, ap, subst, ◌∙◌, arith}
+-- One call of a storage method, and what it promises to its driver.
+use Rattle.std.proofs.Common.{◌≡◌, ℕ, ◌≤◌, true, length, sym, ap, subst, ◌∙◌, arith}
 use Rattle.sb_relation.specs.Db.{Rows}
 use Rattle.sb_forms.specs.Pages.{Pages}
 use Rattle.sb_ctx.specs.declared.instance.Instance.{Instance}
 use Rattle.sb_ctx.specs.declared.calls.MethodCall.{MethodCall}
 use Rattle.sb_ctx.specs.declared.moves.Move.{Move}
-use Rattle.sb_ctx.specs.declared.moves.Move.TheVariants.{Need, Fresh, After, Broken, NoMemory}
+use Rattle.sb_ctx.specs.declared.moves.Move.TheVariants.{Fresh, Find}
+use Rattle.sb_ctx.specs.AttachAnswers.{AsksFor as AsksForAny}
 use Rattle.sb_ctx.specs.Method.{Method}
-use Rattle.sb_ctx.specs.MethodAnswers.{Answers, AsksFor, Before, Changes, HasRoom, Holds, IsBroken, Looks, Reads, most_pages}
-use Rattle.sb_ctx.specs.View.{View, given_at, dropped, HoldsPart, stored, IsClean}
+use Rattle.sb_ctx.specs.MethodAnswers.{Answers, AsksFor, Before, Changes, HasRoom, Holds, IsBroken, Looks, MayEnd, Reads, most_pages}
+use Rattle.sb_ctx.specs.View.{View, given_at, dropped, stored, IsClean}
 use Rattle.sb_ctx.proofs.PageLaws.{AreSomeOf-given}
 use Rattle.sb_ctx.proofs.ViewLaws.{stored-clean}
-use Rattle.sb_drive.specs.declared.space.SpaceFault.{SpaceFault}
-use Rattle.sb_drive.specs.declared.space.SpaceFault.TheVariants as fault
-use Rattle.sb_drive.specs.declared.turns.Turn.TheVariants.{Stop}
-use Rattle.sb_drive.specs.MethodCalls.{HasSpaceCause, IsAsking}
-use Rattle.sb_drive.specs.Turns.{turn_of}
+use Rattle.sb_drive.specs.MethodCalls.{IsAsking, promise_of}
+use Rattle.sb_drive.specs.Promises.{KeepsPromise}
+use Rattle.sb_drive.specs.Turns.{is_find}
 use Rattle.sb_drive.proofs.StoresLemmas.{edits_of-clean}
 
 -- a reading call asks for no fresh page
@@ -50,20 +49,29 @@ pub IsAsking-asked : (m : Method) (inst : Instance) (call : MethodCall) (old c :
 IsAsking-asked m inst call old c move fresh changes =
     subst (λ (v : View). Changes m inst call v c Fresh) (sym changes.given) (subst (λ (to : Move). Changes m inst call old c to) fresh changes)
 
--- ---- a page that is called broken
--- a driver stops at Damaged only where the box called that page broken
-pub HasSpaceCause-stop : (m : Method) (inst : Instance) (call : MethodCall) (c : View) (P after : Pages) (move : Move) (e : SpaceFault) → turn_of move ≡ Stop e → HoldsPart c P → IsBroken m inst c move → Answers m inst call P after move
-    → HasSpaceCause m inst call P e
-HasSpaceCause-stop m inst call c P after (Need n) e is part broken answers = cc
-HasSpaceCause-stop m inst call c P after Fresh e is part broken answers = cc
-HasSpaceCause-stop m inst call c P after (After low) e is part broken answers = cc
-HasSpaceCause-stop m inst call c P after (Broken n) e is part broken answers =
-    let same : fault.Damaged n ≡ e = cc in
-    subst (HasSpaceCause m inst call P) same (record { held = given_at c; given = AreSomeOf-given c P part; may = broken; not_new = answers })
-HasSpaceCause-stop m inst call c P after NoMemory e is part broken answers = let same : fault.NoMemory ≡ e = cc in subst (HasSpaceCause m inst call P) same tt
-HasSpaceCause-stop m inst call c P after move e is part broken answers = cc
+-- ---- what a call promises
+-- no find answers it, so it asks as any box may
+AsksFor-method : (inst : Instance) (call : MethodCall) (c : View) (move : Move) → MayEnd inst call move → AsksFor c move → AsksForAny c move
+AsksFor-method inst call c (Find relation columns values) may asks = absurd may
+AsksFor-method inst call c move may asks = asks
 
--- the end of a call, once its edits are stored
-pub Answers-end : (m : Method) (inst : Instance) (call : MethodCall) (P stored after : Pages) (move end : Move) → move ≡ end → after ≡ stored → Answers m inst call P stored move → Answers m inst call P after end
-Answers-end m inst call P stored after move end is same answers =
-    subst (λ (Q : Pages). Answers m inst call P Q end) (sym same) (subst (λ (e : Move). Answers m inst call P stored e) is answers)
+no_find : (inst : Instance) (call : MethodCall) (move : Move) → MayEnd inst call move → is_find move ≡ true → ⊥
+no_find inst call (Find relation columns values) may is = may
+no_find inst call move may is = cc
+
+pub KeepsPromise-changes : (m : Method) (inst : Instance) (call : MethodCall) (old new : View) (move : Move) → Changes m inst call old new move → KeepsPromise (promise_of m inst call) old new move
+KeepsPromise-changes m inst call old new move changes = record {
+  given = changes.given;
+  asks = AsksFor-method inst call new move changes.ends changes.asks;
+  ends = changes.ends;
+  answers = changes.answers;
+  find = λ P after is. absurd (no_find inst call move changes.ends is);
+  broken = λ P n part is. record {
+    held = given_at old;
+    given = AreSomeOf-given old P part;
+    may = subst (λ (to : Move). IsBroken m inst old to) is changes.broken;
+    not_new = subst (λ (to : Move). Answers m inst call P (stored new P) to) is (changes.answers P part);
+  };
+  spends = changes.spends;
+  fresh = λ is. IsAsking-asked m inst call old new move is changes;
+}

@@ -8,7 +8,7 @@ use Rattle.sb_drive.specs.declared.space.SpaceFault.TheVariants.{Fault, DataFull
 use Rattle.sb_drive.specs.declared.turns.Ask.{Ask}
 use Rattle.sb_drive.specs.declared.turns.Ask.TheVariants.{Page, Fresh, After}
 use Rattle.sb_drive.specs.Slots.{AreWhole, Slots, owned}
-use Rattle.sb_drive.specs.Spaces.{HoldsOf, IsFull, IsFullFor, IsReadFault, IsRefused, IsStoreFault, Leaves, LeadsWithin, UnlessDown, Wanted, WhereFull}
+use Rattle.sb_drive.specs.Spaces.{HoldsOf, IsFull, IsFullFor, IsRefused, IsStoreFault, Leaves, LeadsWithin, UnlessDown, Wanted, WhereFull}
 use Rattle.sb_drive.proofs.OwnedLemmas.{bytes_for-free}
 use Rattle.sb_drive.proofs.WholeLemmas.{bytes_for-whole}
 
@@ -51,18 +51,7 @@ IsRefused-store Same Fails (Damaged n) is fails = absurd is
 IsRefused-store Same Fails NoMemory is fails = inr fails
 IsRefused-store Same Fails e is fails = fails
 
--- no page is wanting to a call that only reads, nor to a store
-pub WhereFull-reads : (e : SpaceFault) (IsSo : Type 0) → IsReadFault e → WhereFull e IsSo
-WhereFull-reads (DataFull used total) IsSo reads = absurd reads
-WhereFull-reads (TempFull used total) IsSo reads = absurd reads
-WhereFull-reads e IsSo reads = tt
-
-pub WhereFull-store : (e : SpaceFault) (IsSo : Type 0) → IsStoreFault e → WhereFull e IsSo
-WhereFull-store (DataFull used total) IsSo is = absurd is
-WhereFull-store (TempFull used total) IsSo is = absurd is
-WhereFull-store e IsSo is = tt
-
--- it is where a fresh one is asked for
+-- no page is wanting but where a fresh one is asked for
 pub WhereFull-asked : {S : Type 0} (Leads : ℕ → S → S → Type 0) (durable : S → Bool) (total : S → ℕ) (owner : ℕ) (Asks IsWithin : View → Type 0) (old space : S) (s : Slots) (c : View) (ask : Ask) (e : SpaceFault) → Leads 0 old space →
     HoldsOf s owner (dropped c) → (ask ≡ Fresh → Asks c) → (ask ≡ Fresh → IsWithin c) → IsFull (durable space) (total space) s (dropped c) ask e → WhereFull e (IsFullFor Leads durable total owner Asks IsWithin old s e)
 WhereFull-asked Leads durable total owner Asks IsWithin old space s c ask e leads holds asks within full = by ask e asks within full
@@ -80,6 +69,19 @@ WhereFull-asked Leads durable total owner Asks IsWithin old space s c ask e lead
     by (After low) (DataFull used of) asks within full = absurd full
     by (After low) (TempFull used of) asks within full = absurd full
     by (After low) e asks within full = tt
+
+-- what was within one room is within another
+pub WhereFull-within : {S : Type 0} (Leads : ℕ → S → S → Type 0) (durable : S → Bool) (total : S → ℕ) (owner : ℕ) (Asks IsWithin IsThen : View → Type 0) (old : S) (s : Slots) (e : SpaceFault) → ((c : View) → IsWithin c → IsThen c) →
+    WhereFull e (IsFullFor Leads durable total owner Asks IsWithin old s e) → WhereFull e (IsFullFor Leads durable total owner Asks IsThen old s e)
+WhereFull-within Leads durable total owner Asks IsWithin IsThen old s e then full = by e full
+  where
+    so : (e : SpaceFault) → IsFullFor Leads durable total owner Asks IsWithin old s e → IsFullFor Leads durable total owner Asks IsThen old s e
+    so e full = record { space = full.space; ctx = full.ctx; leads = full.leads; holds = full.holds; asks = full.asks; within = then full.ctx full.within; full = full.full }
+
+    by : (e : SpaceFault) → WhereFull e (IsFullFor Leads durable total owner Asks IsWithin old s e) → WhereFull e (IsFullFor Leads durable total owner Asks IsThen old s e)
+    by (DataFull used of) full = so (DataFull used of) full
+    by (TempFull used of) full = so (TempFull used of) full
+    by e full = tt
 
 -- ---- what is left unless a call on the disk has failed
 UnlessDown-err : (T U : Type 0) (e : SpaceFault) (A B : Type 0) → (A → B) → UnlessDown {T = T} (Err e) A → UnlessDown {T = U} (Err e) B

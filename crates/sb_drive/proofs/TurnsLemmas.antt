@@ -12,11 +12,11 @@ use Rattle.sb_drive.specs.declared.turns.Turn.TheVariants.{Give, Stop, End as En
 use Rattle.sb_drive.specs.declared.space.SpaceFault.{SpaceFault}
 use Rattle.sb_drive.specs.declared.space.SpaceFault.TheVariants as fault
 use Rattle.sb_drive.specs.Spaces.{IsAskFault, IsReadFault}
-use Rattle.sb_drive.specs.Turns.{turn_of, IsEnd}
+use Rattle.sb_drive.specs.Turns.{turn_of}
 use Rattle.sb_drive.proofs.AsksLemmas.{IsAsked}
 
 -- what is asked for isn't held
-pub IsAsked-method : (c : View) (move : Move) (a : Ask) → turn_of move ≡ Give a → AsksFor c move → IsAsked c a
+IsAsked-method : (c : View) (move : Move) (a : Ask) → turn_of move ≡ Give a → AsksFor c move → IsAsked c a
 IsAsked-method c (Need n) a is asks = let same : ask.Page n ≡ a = cc in subst (IsAsked c) same asks
 IsAsked-method c Fresh a is asks = let same : ask.Fresh ≡ a = cc in subst (IsAsked c) same tt
 IsAsked-method c (After low) a is asks = let same : ask.After low ≡ a = cc in subst (IsAsked c) same asks
@@ -52,14 +52,6 @@ end-is (After low) end is = cc
 end-is (Broken n) end is = cc
 end-is NoMemory end is = cc
 end-is move end is = cc
-
-pub IsEnd-end : (move end : Move) → turn_of move ≡ Ends end → IsEnd end
-IsEnd-end (Need n) end is = cc
-IsEnd-end Fresh end is = cc
-IsEnd-end (After low) end is = cc
-IsEnd-end (Broken n) end is = cc
-IsEnd-end NoMemory end is = cc
-IsEnd-end move end is = let same : move ≡ end = cc in subst IsEnd same tt
 
 -- ---- calls that only read
 -- what they ask for is refused as to a call that only reads

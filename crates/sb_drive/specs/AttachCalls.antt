@@ -9,9 +9,10 @@ use Rattle.sb_ctx.specs.declared.moves.Move.{Move}
 use Rattle.sb_ctx.specs.declared.moves.Move.TheVariants.{Need, Fresh}
 use Rattle.sb_ctx.specs.View.{View, HeldPages, AreSomeOf, IsClean, dropped, edits_of, fresh_pages, holds_fresh, page_of}
 use Rattle.sb_ctx.specs.Attachment.{Attachment, MayHold, MayMeet}
-use Rattle.sb_ctx.specs.AttachAnswers.{AsksFor, Changes, NotNew, Spends}
+use Rattle.sb_ctx.specs.AttachAnswers.{Answers, AsksFor, Changes, MayEnd, NotNew, Spends}
 use Rattle.sb_drive.specs.declared.space.SpaceFault.{SpaceFault}
 use Rattle.sb_drive.specs.declared.space.SpaceFault.TheVariants as space
+use Rattle.sb_drive.specs.Promises.{Promise}
 use Rattle.sb_drive.specs.Slots.{Slots, owned}
 use Rattle.sb_drive.specs.Spaces.{HoldsOf, LeadsWithin, Wanted}
 
@@ -73,3 +74,13 @@ pub record IsDamaged (a : Attachment) (inst : Instance) (c : AttachCall) (P : Pa
 abbrev pub HasSpaceCause : Attachment → Instance → AttachCall → Pages → SpaceFault → Type 0
 HasSpaceCause a inst c P (space.Damaged n) = IsDamaged a inst c P n
 HasSpaceCause a inst c P e = Unit {0}
+
+-- what a call promises with the finds that it was handed
+abbrev pub promise_of : Attachment → Instance → AttachCall → View → Promise
+promise_of a inst c handed = record {
+  MayEnd = MayEnd c;
+  Answers = Answers a inst c handed;
+  IsDamaged = IsDamaged a inst c;
+  Spends = Spends a inst c handed;
+  IsAsking = IsAsking a inst c handed;
+}

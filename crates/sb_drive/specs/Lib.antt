@@ -3,5 +3,6 @@ pub mod Instances
 pub mod Turns
 pub mod Spaces
 pub mod Stores
+pub mod Promises
 pub mod MethodCalls
 pub mod AttachCalls

@@ -8,9 +8,10 @@ use Rattle.sb_ctx.specs.declared.calls.MethodCall.TheVariants as call
 use Rattle.sb_ctx.specs.declared.moves.Move.TheVariants.{Fresh}
 use Rattle.sb_ctx.specs.View.{View, HeldPages, AreSomeOf, dropped}
 use Rattle.sb_ctx.specs.Method.{Method, MayHold}
-use Rattle.sb_ctx.specs.MethodAnswers.{Before, Changes, HasRoom, NotNew, most_pages}
+use Rattle.sb_ctx.specs.MethodAnswers.{Answers, Before, Changes, HasRoom, MayEnd, NotNew, Spends, most_pages}
 use Rattle.sb_drive.specs.declared.space.SpaceFault.{SpaceFault}
 use Rattle.sb_drive.specs.declared.space.SpaceFault.TheVariants as space
+use Rattle.sb_drive.specs.Promises.{Promise}
 
 -- what the box wants of the arguments of its call
 abbrev pub Fits : Method → Instance → MethodCall → Type 0
@@ -43,3 +44,13 @@ pub record IsDamaged (m : Method) (inst : Instance) (c : MethodCall) (P : Pages)
 abbrev pub HasSpaceCause : Method → Instance → MethodCall → Pages → SpaceFault → Type 0
 HasSpaceCause m inst c P (space.Damaged n) = IsDamaged m inst c P n
 HasSpaceCause m inst c P e = Unit {0}
+
+-- what a call promises: what it spends, over pages that hold rows
+abbrev pub promise_of : Method → Instance → MethodCall → Promise
+promise_of m inst c = record {
+  MayEnd = MayEnd inst c;
+  Answers = Answers m inst c;
+  IsDamaged = IsDamaged m inst c;
+  Spends = λ P new move. (rows : Rows) → Before m inst c P rows → Spends m inst c P rows new move;
+  IsAsking = IsAsking m inst c;
+}

@@ -1,17 +1,17 @@
-//! The driver of attachments.
+//! Driven calls of attachments.
 
 ghost use Rattle.std.specs.Prelude.{◌≡◌, IsTrue, ◌↔◌, IfOk, IfErr};
 ghost use Rattle.sb_ctx.specs.Attachment.{IsInstance};
 ghost use Rattle.sb_ctx.specs.AttachAnswers.{Answers, Changes, MayEnd, Reads, Spends};
 ghost use Rattle.sb_ctx.specs.View.{IsClean};
 ghost use Rattle.sb_ctx.specs.declared.moves.Move.TheVariants.{Fresh};
-ghost use Rattle.sb_drive.specs.AttachCalls.{CostsIn, Fits, IsAskedFor, IsAsking, IsGivenMore, IsReading, HandsUpIn, HasSpaceCause};
+ghost use Rattle.sb_drive.specs.AttachCalls.{CostsIn, Fits, IsAskedFor, IsAsking, IsGivenMore, IsReading, HandsUpIn, HasSpaceCause, promise_of};
 ghost use Rattle.sb_drive.specs.Slots.{Slots, owned};
 ghost use Rattle.sb_drive.specs.Spaces.{HoldsOf, IsFullFor, IsReadFault, IsRefused, Leaves, LeadsOn, UnlessDown, Wanted, WhereFull};
 ghost use Rattle.sb_drive.specs.Turns.{IsEnd, OnFind};
 
-use crate::space::{PageSpace, SpaceFault, store_edits};
-use crate::turns::{Turn, is_find, turn_of};
+use crate::driving::{BoxCall, run_call};
+use crate::space::{PageSpace, SpaceFault};
 use sb_ctx::{AttachCall, Attachment, Ctx, Instance, Move};
 use std::alloc::Global;
 
@@ -57,32 +57,41 @@ pub fn run_attachment<S: PageSpace>(
     ensures refused { IfErr result (λ e. IsRefused (S.leads 0 space.old space.new) (S.fails e space.old space.new) e) }
     ensures ready { S.is_ready space.new }
 {
-    loop {
-        let made = make_call(boxed, alloc, ctx, inst, call);
-        ctx.is_ctx();
-        match turn_of(made) {
-            Turn::Give(ask) => space.answer(inst.owner, ctx, ask)?,
-            Turn::Stop(fault) => return Err(fault),
-            Turn::End(end) => {
-                if is_find(&end) {
-                    ctx.drop_edits();
-                    return Ok(end);
-                }
-                store_edits(space, alloc, inst.owner, ctx, is_reading(call))?;
-                return Ok(end);
-            }
-        }
-    }
+    run_call(
+        space,
+        alloc,
+        inst.owner,
+        &AttachmentOn { boxed, inst, call },
+        ctx,
+    )
 }
 
-/// Whether the call makes nothing of the pages.
-fn is_reading(call: &AttachCall) -> bool
-    ensures { IsTrue result ↔ IsReading call.now }
-{
-    matches!(
-        call,
-        AttachCall::Late(_) | AttachCall::NextEntry(_, _) | AttachCall::Sums
-    )
+/// A call of an attachment on an instance.
+#[derive(Drop)]
+struct AttachmentOn<'a, B> {
+    boxed: B,
+    inst: &'a Instance,
+    call: &'a AttachCall,
+}
+
+impl<'a> BoxCall for AttachmentOn<'a, &'a dyn Attachment> {
+    ghost fits = { λ t. IsInstance ((Attachment-dyn t.boxed.now).attachment t.boxed.now.1) t.inst.now
+        × Fits ((Attachment-dyn t.boxed.now).attachment t.boxed.now.1) t.inst.now t.call.now };
+
+    ghost reads = { λ t. IsReading t.call.now };
+
+    ghost promise = { λ t handed. promise_of ((Attachment-dyn t.boxed.now).attachment t.boxed.now.1) t.inst.now t.call.now handed };
+
+    fn make(&self, alloc: Global, ctx: &mut Ctx) -> Move {
+        make_call(self.boxed, alloc, ctx, self.inst, self.call)
+    }
+
+    fn is_reading(&self) -> bool {
+        matches!(
+            self.call,
+            AttachCall::Late(_) | AttachCall::NextEntry(_, _) | AttachCall::Sums
+        )
+    }
 }
 
 /// Makes the call once.

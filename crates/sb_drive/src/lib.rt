@@ -2,6 +2,7 @@
 #![tactic(auto)]
 
 mod attachments;
+mod driving;
 mod methods;
 mod space;
 mod turns;

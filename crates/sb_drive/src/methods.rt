@@ -1,17 +1,17 @@
-//! The driver of storage methods.
+//! Driven calls of storage methods.
 
 ghost use Rattle.std.specs.Prelude.{◌≡◌, IsTrue, ◌↔◌, IfOk, IfErr};
 ghost use Rattle.sb_relation.specs.Db.{Rows};
 ghost use Rattle.sb_ctx.specs.Method.{IsInstance};
 ghost use Rattle.sb_ctx.specs.MethodAnswers.{Answers, Before, Changes, MayEnd, Reads};
 ghost use Rattle.sb_ctx.specs.View.{IsClean};
-ghost use Rattle.sb_drive.specs.MethodCalls.{Fits, IsAsking, IsReading, HasRoomFor, HasSpaceCause};
+ghost use Rattle.sb_drive.specs.MethodCalls.{Fits, IsAsking, IsReading, HasRoomFor, HasSpaceCause, promise_of};
 ghost use Rattle.sb_drive.specs.Slots.{Slots, owned};
 ghost use Rattle.sb_drive.specs.Spaces.{IsFullFor, IsReadFault, IsRefused, Leaves, LeadsOn, LeadsWithin, UnlessDown, Wanted, WhereFull};
 ghost use Rattle.sb_drive.specs.Turns.{IsEnd};
 
-use crate::space::{PageSpace, SpaceFault, store_edits};
-use crate::turns::{Turn, turn_of};
+use crate::driving::{BoxCall, run_call};
+use crate::space::{PageSpace, SpaceFault};
 use sb_ctx::{Ctx, Instance, MethodCall, Move, StorageMethod};
 use std::alloc::Global;
 
@@ -53,25 +53,38 @@ pub fn run_method<S: PageSpace>(
     ensures ready { S.is_ready space.new }
 {
     let mut ctx = Ctx::new(alloc);
-    loop {
-        let made = make_call(boxed, alloc, &mut ctx, inst, call);
-        ctx.is_ctx();
-        match turn_of(made) {
-            Turn::Give(ask) => space.answer(inst.owner, &mut ctx, ask)?,
-            Turn::Stop(fault) => return Err(fault),
-            Turn::End(end) => {
-                store_edits(space, alloc, inst.owner, &ctx, is_reading(call))?;
-                return Ok(end);
-            }
-        }
-    }
+    run_call(
+        space,
+        alloc,
+        inst.owner,
+        &MethodOn { boxed, inst, call },
+        &mut ctx,
+    )
 }
 
-/// Whether the call makes nothing of the pages.
-fn is_reading(call: &MethodCall) -> bool
-    ensures { IsTrue result ↔ IsReading call.now }
-{
-    matches!(call, MethodCall::Get(_) | MethodCall::Next(_))
+/// A call of a storage method on an instance.
+#[derive(Drop)]
+struct MethodOn<'a, B> {
+    boxed: B,
+    inst: &'a Instance,
+    call: &'a MethodCall,
+}
+
+impl<'a> BoxCall for MethodOn<'a, &'a dyn StorageMethod> {
+    ghost fits = { λ t. IsInstance ((StorageMethod-dyn t.boxed.now).method t.boxed.now.1) t.inst.now
+        × Fits ((StorageMethod-dyn t.boxed.now).method t.boxed.now.1) t.inst.now t.call.now };
+
+    ghost reads = { λ t. IsReading t.call.now };
+
+    ghost promise = { λ t handed. promise_of ((StorageMethod-dyn t.boxed.now).method t.boxed.now.1) t.inst.now t.call.now };
+
+    fn make(&self, alloc: Global, ctx: &mut Ctx) -> Move {
+        make_call(self.boxed, alloc, ctx, self.inst, self.call)
+    }
+
+    fn is_reading(&self) -> bool {
+        matches!(self.call, MethodCall::Get(_) | MethodCall::Next(_))
+    }
 }
 
 /// Makes the call once.
