@@ -1,8 +1,9 @@
 -- A removal below the root, as the pages are held: what stays, what may be called broken or asked for.
 use Rattle.std.proofs.Common.{◌≡◌, ℕ, suc, ◌-◌, ◌<◌, ◌≤◌, Bool, true, false, cond, not, ◌&&◌, List, [], length, Option, Some, None, IsSome, refl, ap, sym, ◌∙◌, subst, inl, inr, arith, true≢false}
 use Rattle.std.specs.Prelude.{◌||◌, nat_eq, Result, Ok, Err, IfOk}
-use Rattle.std.proofs.lemmas.Bool.{and_parts}
+use Rattle.std.proofs.lemmas.Bool.{and_parts, or_left, or_right, eq-eqb}
 use Rattle.std.proofs.lemmas.Option.{same_Some}
+use Rattle.std.proofs.lemmas.List.{nil_from_length}
 use Rattle.sb_ctx.specs.View.{View, page_of, with_page, dropped}
 use Rattle.sb_ctx.proofs.ViewLaws.{page_of-same, page_of-other}
 use Rattle.sb_forms.specs.Pages.{zeros}
@@ -25,15 +26,14 @@ use Rattle.sb_btree.specs.declared.walk.Stop.{Stop}
 use Rattle.sb_btree.specs.declared.walk.Stop.TheVariants as stop
 use Rattle.sb_btree.specs.declared.walk.Walk.{Walk}
 use Rattle.sb_btree.specs.declared.walk.Walk.TheVariants as walk
-use Rattle.sb_btree.proofs.Descending.{or_left, or_right, not_zero, spelled_not, breaks_here, breaks_step, shown, find_step}
+use Rattle.sb_btree.proofs.Descending.{not_zero, spelled_not, breaks_here, breaks_step, shown, find_step}
 use Rattle.sb_btree.proofs.Edits.{held_still, level_of_head}
 use Rattle.sb_btree.proofs.Walked.{held_is, level_here}
 use Rattle.sb_btree.proofs.Dropping.{beside_is}
-use Rattle.sb_btree.proofs.Without.{no_items, length-without}
+use Rattle.sb_btree.proofs.Without.{length-without}
 use Rattle.sb_btree.proofs.Giving.{HasNode, node_some, free_bare, wrote_node, put_others}
 use Rattle.sb_btree.proofs.Merging.{node_held}
 use Rattle.sb_btree.proofs.Passing.{child_passed}
-use Rattle.sb_btree.proofs.Reading.{eq_says}
 use Rattle.sb_btree.proofs.Joining.{NodeAt, node_at, levels_apart, gave_keeps, wrote_dropped}
 
 -- ---- a page that is called broken
@@ -93,7 +93,7 @@ dropped_leaves old new l page n i Done some like held low d = tt
 dropped_leaves old new l page n i Empty some like held low d = absurd d
 dropped_leaves old new l page n i (Single g) some like held low d =
     let less : i - 1 < length n.entries = omega (arith, low, d.0) in
-    (some, without_child i n, wrote_node old new page (without_child i n) held d.2, like, no_items (without (i - 1) n.entries) (omega (arith, length-without (i - 1) n.entries less, d.0)))
+    (some, without_child i n, wrote_node old new page (without_child i n) held d.2, like, nil_from_length (without (i - 1) n.entries) (omega (arith, length-without (i - 1) n.entries less, d.0)))
 dropped_leaves old new l page n i (Split bound r) some like held low d = absurd d
 
 pub raised_leaves : (old new : View) (l page : ℕ) (n : Node) (bound : List ℕ) (r : ℕ) (taken : Taken) → is_of_level l n.head ≡ true → held_node (page_of old page) ≡ Some n → RaisesChild old new l page (Some n) bound r (Ok taken) → LeavesPage new l page taken
@@ -302,7 +302,7 @@ module _ (old mid : View) (l m page child : ℕ) (bytes : List ℕ) (head : Head
         by : (outcome : Result Taken Stop) → MergesChild mid new (suc m) page (Some (node_in bytes)) i child left outcome → Needs (λ n. has n (removal_way (suc m) N key page)) (as_walk outcome)
         by (Ok taken) h = tt
         by (Err (stop.Need x)) h =
-            or_right _ _ (or_left _ _ ((eq_says x (beside_in key (N page))).1
+            or_right _ _ (or_left _ _ (eq-eqb x (beside_in key (N page))
             (h.0 ∙ ap (λ j. page_beside j (node_in bytes)) count ∙ sym (ap (beside_in key) at ∙ beside_is key (node_in bytes).head.a (node_in bytes).entries full))))
         by (Err stop.Fresh) h = tt
         by (Err (stop.Broken x)) h = tt

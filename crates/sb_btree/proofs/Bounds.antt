@@ -5,6 +5,7 @@ use Rattle.std.specs.List.{AllByRecursion}
 use Rattle.std.specs.FinMap.Entries.{find, put}
 use Rattle.std.proofs.lemmas.Bool.Decides.{nat_tests}
 use Rattle.std.proofs.lemmas.List.Sums.{sum_by-cons}
+use Rattle.std.proofs.lemmas.Bool.{and_right, false_from_ne_true, eqb-true}
 use Rattle.sb_bytes.specs.Field.{number_at}
 use Rattle.sb_ctx.specs.View.{View, free_page}
 use Rattle.sb_node.specs.Entries.{Entry, key_cmp, size_of, sizes}
@@ -22,9 +23,7 @@ use Rattle.sb_btree.specs.declared.walk.Stop.TheVariants as stop
 use Rattle.sb_btree.proofs.Children.{all_map}
 use Rattle.sb_btree.proofs.Halved.{put_small, parts_small}
 use Rattle.sb_btree.proofs.Raised.{put_bounds, parts_bounds}
-use Rattle.sb_btree.proofs.Order.{tested}
 use Rattle.sb_btree.proofs.Reading.{all_says, small_says, bound_says}
-use Rattle.sb_btree.proofs.Whole.{and_no}
 
 -- the kind of a page is its first byte
 pub kind_first : (b : List ℕ) → (node_in b).head.kind ≡ slice_index b 0
@@ -42,20 +41,17 @@ short_sizes (e ∷ x ∷ es) short all = absurd (omega (arith, short))
 
 pub lacks_amiss : (l : ℕ) (n m : Node) (key value : List ℕ) (lesser : List Entry) → length key ≤ 602 → length key + length value ≤ 2032 → (0 < l → length value ≡ 4) → put key_cmp key value n.entries ≡ lesser ++ m.entries
     → ((most : ℕ) → AllByRecursion (λ e. size_of e ≤ most) (put key_cmp key value n.entries) → 4072 < sizes m.entries + 2036 + most) → LacksBound l m → are_of_level l n.entries ≡ false
-lacks_amiss l n m key value lesser short both spelled parts wide lacks = tested (are_of_level l n.entries) (λ all. by (nat_eq l 0) refl all lacks)
+lacks_amiss l n m key value lesser short both spelled parts wide lacks = false_from_ne_true (are_of_level l n.entries) (λ all. by (nat_eq l 0) refl all lacks)
   where
     some : (l : ℕ) → nat_eq l 0 ≡ false → 0 < l
     some l h = grind (arith, nat_tests)
-
-    none : (l : ℕ) → nat_eq l 0 ≡ true → l ≡ 0
-    none l h = grind (arith, nat_tests)
 
     by : (t : Bool) → nat_eq l 0 ≡ t → all_by (cond t is_small is_bound) n.entries ≡ true → (all_by (cond t is_small is_bound) m.entries ≡ false) ⊎ ((0 < l) × (length m.entries ≤ 1)) → ⊥
     by true q all (inl fails) =
         let smalls = put_small key value n.entries (short, both) ((all_says is_small IsSmall small_says n.entries).0 all) in
         let right = (parts_small lesser m.entries (subst (AllByRecursion IsSmall) parts smalls)).1 in
         true≢false (sym ((all_says is_small IsSmall small_says m.entries).1 right) ∙ fails)
-    by true q all (inr w) = let z = none l q in omega (arith, z, w.0)
+    by true q all (inr w) = let z = eqb-true l 0 q in omega (arith, z, w.0)
     by false q all (inl fails) =
         let bounds = put_bounds key value n.entries (spelled (some l q), short) ((all_says is_bound IsBound bound_says n.entries).0 all) in
         let right = (parts_bounds lesser m.entries (subst (AllByRecursion IsBound) parts bounds)).1 in
@@ -72,7 +68,7 @@ lacks_page l p₀ p₁ o₀ o₁ key value h short both spelled lacks =
     let there : (node_in o₁).entries ≡ h.greater = ap (λ (m : Node). m.entries) h.moves.node_is in
     let wrong = lacks_amiss l (node_in p₀) (node_in o₁) key value h.lesser short both spelled (h.parts ∙ ap (λ es. h.lesser ++ es) (sym there))
     (subst (λ es. (most : ℕ) → AllByRecursion (λ e. size_of e ≤ most) (put key_cmp key value (node_in p₀).entries) → 4072 < sizes es + 2036 + most) (sym there) h.wide) lacks in
-    and_no (is_of_level l (node_in p₀).head) (are_of_level l (node_in p₀).entries) wrong
+    and_right (is_of_level l (node_in p₀).head) (are_of_level l (node_in p₀).entries) wrong
 
 -- ---- the second half with its bound
 record Second (l : ℕ) (n : Node) (after : Option Node) (bound : List ℕ) (all lesser : List Entry) : Type 0 where

@@ -1,6 +1,7 @@
 -- The child that an inner page is left with, where it may be called broken.
-use Rattle.std.proofs.Common.{◌≡◌, ℕ, zero, suc, ◌-◌, ◌≤◌, Bool, true, false, cond, not, ◌&&◌, List, [], length, Option, Some, None, IsSome, refl, ap, sym, ◌∙◌, subst, arith, true≢false}
+use Rattle.std.proofs.Common.{◌≡◌, ℕ, zero, suc, ◌-◌, ◌≤◌, Bool, true, false, cond, not, List, [], length, Option, Some, None, IsSome, refl, ap, sym, ◌∙◌, subst, arith, true≢false}
 use Rattle.std.specs.Prelude.{nat_eq, Result, Ok, Err, IfOk}
+use Rattle.std.proofs.lemmas.Bool.{and_left, not-true}
 use Rattle.sb_ctx.specs.View.{View, page_of, with_page, dropped}
 use Rattle.sb_ctx.proofs.ViewLaws.{page_of-same, page_of-other}
 use Rattle.sb_node.specs.declared.head.Head.{Head}
@@ -36,13 +37,9 @@ pub unlike_page : (l : ℕ) (o : Option (List ℕ)) → is_unlike l o ≡ true �
 unlike_page l None is = absurd (true≢false (sym is))
 unlike_page l (Some bytes) is = by (node_of bytes) is
   where
-    apart : (a b : Bool) → not a ≡ true → (a && b) ≡ false
-    apart true b e = absurd (true≢false (sym e))
-    apart false b e = refl
-
     by : (o : Option Node) → elim o as (λ x. Bool) [ None ↦ true | Some n ↦ not (is_of_level l n.head) ] ≡ true → is_page l o ≡ false
     by None e = refl
-    by (Some n) e = apart (is_of_level l n.head) _ e
+    by (Some n) e = and_left (is_of_level l n.head) _ (not-true (is_of_level l n.head) e)
 
 -- ---- the other child of two
 -- it stands at a place

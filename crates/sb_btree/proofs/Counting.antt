@@ -1,5 +1,5 @@
 -- How many pages a tree has, and how high it is.
-use Rattle.std.proofs.Common.{◌≡◌, ℕ, zero, suc, ◌+◌, ◌*◌, ◌/◌, ◌%◌, ◌^◌, ◌<◌, ◌≤◌, nat_lt, Bool, true, false, true≢false, List, [], ◌∷◌, length, Option, Some, None, refl, sym, ◌∙◌, arith, length-append}
+use Rattle.std.proofs.Common.{◌≡◌, ℕ, zero, suc, ◌+◌, ◌*◌, ◌/◌, ◌^◌, ◌<◌, ◌≤◌, nat_lt, Bool, true, false, true≢false, List, [], ◌∷◌, length, Option, Some, None, refl, sym, ◌∙◌, arith, length-append}
 use Rattle.std.proofs.Math.Nat.{div-add-mod, pow-suc}
 use Rattle.std.proofs.lemmas.List.{length-map}
 use Rattle.std.proofs.lemmas.Bool.{lt-ltb, ltb-true, ltb-false}
@@ -47,9 +47,6 @@ items_many N (suc l) p part =
     doubled m c two = omega (arith, mul-le 2 m c m two (omega arith))
 
 -- ---- digits
-half_of : (n : ℕ) → 2 * (n / 2) + n % 2 ≡ n
-half_of n = div-add-mod n 2
-
 some_power : (l : ℕ) → 1 ≤ 2 ^ l
 some_power zero = omega arith
 some_power (suc l) = omega (arith, some_power l, pow-suc 2 l)
@@ -66,7 +63,7 @@ digits_many l zero n fits big = absurd (omega (arith, fits, big, some_power l))
 digits_many zero (suc most) n fits big = one_more most n 0 big (omega arith)
 digits_many (suc l) (suc most) n fits big =
     one_more most n (suc l) (omega (arith, big, some_power (suc l)))
-    (omega (arith, digits_many l most (n / 2) (omega (arith, fits, big, half_of n, some_power (suc l))) (omega (arith, big, half_of n, mod_below n 2 (omega arith), pow-suc 2 l))))
+    (omega (arith, digits_many l most (n / 2) (omega (arith, fits, big, div-add-mod n 2, some_power (suc l))) (omega (arith, big, div-add-mod n 2, mod_below n 2 (omega arith), pow-suc 2 l))))
 
 -- a tree of one level and more has so many entries, or is an empty leaf
 pub digits_of_tree : (N : Nodes) (l p : ℕ) → IsPart l N p → l + 1 ≤ digits (length (items l N p) + 1)
@@ -79,7 +76,7 @@ digits_few l (suc most) n small = by (nat_lt 0 n) refl (λ k low. digits_few k m
   where
     half : (l : ℕ) → 0 < n → n < 2 ^ l → (k : ℕ) × (l ≡ suc k) × (n / 2 < 2 ^ k)
     half zero some low = absurd (omega (arith, some, low))
-    half (suc k) some low = (k, refl, omega (arith, low, half_of n, pow-suc 2 k))
+    half (suc k) some low = (k, refl, omega (arith, low, div-add-mod n 2, pow-suc 2 k))
 
     by : (b : Bool) → nat_lt 0 n ≡ b → ((k : ℕ) → n / 2 < 2 ^ k → digits_within most (n / 2) ≤ k) → elim b [ true ↦ digits_within most (n / 2) + 1 | false ↦ 0 ] ≤ l
     by true is rest = let h = half l (ltb-true 0 n is) small in omega (arith, h.1, rest h.0 h.2)

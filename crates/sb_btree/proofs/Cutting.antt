@@ -2,6 +2,7 @@
 use Rattle.std.proofs.Common.{◌≡◌, ℕ, ◌+◌, ◌-◌, ◌<◌, Bool, true, false, cond, List, [], length, Some, None, IsSome, is_some, refl, ap, sym, ◌∙◌, subst, inl, inr, ◌⊎◌, arith}
 use Rattle.std.specs.Prelude.{nat_eq, Result, Ok, Err, IfSome}
 use Rattle.std.specs.FinMap.Entries.{find}
+use Rattle.std.proofs.lemmas.List.{nil_from_length}
 use Rattle.sb_ctx.specs.View.{View, page_of, with_page, spliced, dropped}
 use Rattle.sb_ctx.proofs.ViewLaws.{room_of-page, dropped-with_page}
 use Rattle.sb_node.specs.declared.head.Head.{Head}
@@ -21,7 +22,7 @@ use Rattle.sb_btree.specs.declared.walk.Stop.TheVariants as stop
 use Rattle.sb_btree.proofs.Descending.{positive}
 use Rattle.sb_btree.proofs.Edits.{edited}
 use Rattle.sb_btree.proofs.Placing.{page_count, passed-ok, nth_first}
-use Rattle.sb_btree.proofs.Without.{no_items, cut_is}
+use Rattle.sb_btree.proofs.Without.{cut_is}
 
 -- a page that is written whole has this node
 pub wrote : (old new : View) (page : ℕ) (bytes left : List ℕ) (n : Node) → page_of old page ≡ Some bytes → has_form bytes ≡ true → has_form left ≡ true → node_in left ≡ n → IfSome (page_of old page) (λ was. new ≡ with_page page (spliced 0 left was) old) → Wrote old new page n
@@ -88,7 +89,7 @@ pub count_of : (bytes : List ℕ) (head : Head) → head ≡ (node_in bytes).hea
 count_of bytes head is = ap (λ (h : Head). h.count) is ∙ page_count bytes
 
 pub count_none : (bytes : List ℕ) (head : Head) → head ≡ (node_in bytes).head → head.count ≡ 0 → (node_in bytes).entries ≡ []
-count_none bytes head is none = no_items (node_in bytes).entries (sym (count_of bytes head is) ∙ none)
+count_none bytes head is none = nil_from_length (node_in bytes).entries (sym (count_of bytes head is) ∙ none)
 
 -- the child that is the leftmost one then
 first_is : (i k : ℕ) (n : Node) → ((i ≡ 0) × (k ≡ 1)) ⊎ ((i ≡ 0 → ⊥) × (k ≡ 0)) → nth_child n.head.a n.entries k ≡ first_without i n

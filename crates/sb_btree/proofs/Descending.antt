@@ -3,6 +3,7 @@ use Rattle.std.proofs.Common.{◌≡◌, ℕ, zero, suc, Bool, true, false, cond
 use Rattle.std.specs.Prelude.{nat_eq, ◌||◌, Err}
 use Rattle.std.specs.FinMap.Entries.{find}
 use Rattle.std.proofs.lemmas.Bool.Decides.{nat_tests}
+use Rattle.std.proofs.lemmas.Bool.{and_from, and_right, or_left, or_right, eq-eqb}
 use Rattle.sb_bytes.specs.Field.{number_at}
 use Rattle.sb_ctx.specs.View.{View, HeldPages, page_of}
 use Rattle.sb_node.specs.declared.head.Head.{Head}
@@ -23,19 +24,7 @@ use Rattle.sb_btree.specs.declared.walk.Walk.{Walk}
 use Rattle.sb_btree.specs.declared.walk.Walk.TheVariants.{Ready, Need, Fresh, Broken, NoMemory}
 use Rattle.sb_btree.proofs.Children.{tree_child, tree_step}
 use Rattle.sb_btree.proofs.Passing.{child_passed}
-use Rattle.sb_btree.proofs.Reading.{eq_says, all_says, small_says, bound_says}
-
-pub or_left : (a b : Bool) → a ≡ true → (a || b) ≡ true
-or_left true b e = refl
-or_left false b e = absurd (cc)
-
-pub or_right : (a b : Bool) → b ≡ true → (a || b) ≡ true
-or_right true b e = refl
-or_right false b e = e
-
-both_are : (a b : Bool) → a ≡ true → b ≡ true → (a && b) ≡ true
-both_are true b e f = f
-both_are false b e f = absurd (cc)
+use Rattle.sb_btree.proofs.Reading.{all_says, small_says, bound_says}
 
 pub positive : (n : ℕ) → 0 < n → nat_eq n 0 ≡ false
 positive n h = grind (arith, nat_tests)
@@ -43,19 +32,16 @@ positive n h = grind (arith, nat_tests)
 pub not_zero : (l : ℕ) → nat_eq (suc l) 0 ≡ false
 not_zero l = grind (arith, nat_tests)
 
-same : (n : ℕ) → nat_eq n n ≡ true
-same n = (eq_says n n).1 refl
-
 -- ---- pages of trees are pages of their levels
 leaf_page : (o : Option Node) → IsLeaf o → is_page 0 o ≡ true
 leaf_page None h = absurd h
-leaf_page (Some n) h = both_are _ _ (both_are _ _ ((eq_says n.head.kind 2).1 h.0) ((eq_says n.head.level 0).1 h.1)) ((all_says is_small IsSmall small_says n.entries).1 h.2)
+leaf_page (Some n) h = and_from _ _ (and_from _ _ (eq-eqb n.head.kind 2 h.0) (eq-eqb n.head.level 0 h.1)) ((all_says is_small IsSmall small_says n.entries).1 h.2)
 
 pub inner_page : (l : ℕ) (o : Option Node) → IsInner (suc l) o → is_page (suc l) o ≡ true
 inner_page l None h = absurd h
 inner_page l (Some n) h =
-    both_are _ _
-    (ap (λ b. nat_eq n.head.kind (cond b 2 3) && nat_eq n.head.level (suc l)) (not_zero l) ∙ both_are _ _ ((eq_says n.head.kind 3).1 h.0) ((eq_says n.head.level (suc l)).1 h.1))
+    and_from _ _
+    (ap (λ b. nat_eq n.head.kind (cond b 2 3) && nat_eq n.head.level (suc l)) (not_zero l) ∙ and_from _ _ (eq-eqb n.head.kind 3 h.0) (eq-eqb n.head.level (suc l) h.1))
     (ap (λ b. all_by (cond b is_small is_bound) n.entries) (not_zero l) ∙ (all_says is_bound IsBound bound_says n.entries).1 h.2)
 
 pub tree_page : (l : ℕ) (N : Nodes) (p : ℕ) → IsTree l N p → is_page l (N p) ≡ true
@@ -69,11 +55,7 @@ leaf_wide (Some n) = refl
 
 inner_wide : (l : ℕ) (o : Option Node) → 0 < length (entries_of o) → is_narrow (suc l) o ≡ false
 inner_wide l None full = refl
-inner_wide l (Some n) full = both_not (not (nat_eq (suc l) 0)) (nat_eq (length n.entries) 0) (positive (length n.entries) full)
-  where
-    both_not : (a b : Bool) → b ≡ false → (a && b) ≡ false
-    both_not true b e = e
-    both_not false b e = refl
+inner_wide l (Some n) full = and_right (not (nat_eq (suc l) 0)) (nat_eq (length n.entries) 0) (positive (length n.entries) full)
 
 pub tree_wide : (l : ℕ) (N : Nodes) (p : ℕ) → IsTree l N p → is_narrow l (N p) ≡ false
 tree_wide zero N p t = leaf_wide (N p)
@@ -88,8 +70,8 @@ tree_amiss l (Some bytes) N p shows t =
 
 -- ---- a page that is amiss ends the walk
 pub breaks_here : (l : ℕ) (held : HeldPages) (p : ℕ) → is_amiss l (held p) ≡ true → breaks_below l held p p ≡ true
-breaks_here zero held p amiss = both_are _ _ (same p) amiss
-breaks_here (suc l) held p amiss = or_left _ _ (both_are _ _ (same p) amiss)
+breaks_here zero held p amiss = and_from _ _ (eq-eqb p p refl) amiss
+breaks_here (suc l) held p amiss = or_left _ _ (and_from _ _ (eq-eqb p p refl) amiss)
 
 pub stop_breaks : (T : Type 0) (l : ℕ) (held : HeldPages) (p : ℕ) (s : Stop) → Lacks (held p) (is_amiss l (held p)) p s → Breaks {T = T} (breaks_below l held p) (as_walk (Err s))
 stop_breaks T l held p (stop.Need n) lacks = tt
@@ -149,8 +131,8 @@ breaks_step l m held p bytes head i child NoMemory is page at b = tt
 
 -- ---- the way down to a key
 pub way_first : (l : ℕ) (N : Nodes) (key : Option (List ℕ)) (p : ℕ) → has p (way l N key p) ≡ true
-way_first zero N key p = or_left _ _ (same p)
-way_first (suc l) N key p = or_left _ _ (same p)
+way_first zero N key p = or_left _ _ (eq-eqb p p refl)
+way_first (suc l) N key p = or_left _ _ (eq-eqb p p refl)
 
 -- the nodes have the page that is held
 pub shown : (c : View) (N : Nodes) (p l : ℕ) (bytes : List ℕ) (head : Head) → Shows c N → IsTreePage (page_of c p) l bytes head → N p ≡ Some (node_in bytes)

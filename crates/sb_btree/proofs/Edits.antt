@@ -1,8 +1,9 @@
 -- Pages of a Ctx that a put writes, and those that it leaves as they are.
 use Rattle.std.proofs.Common.{◌≡◌, ℕ, ◌+◌, ◌<◌, ◌≤◌, Bool, true, false, cond, not, List, [], ◌++◌, length, Option, Some, None, IsSome, option_map, refl, ap, sym, ◌∙◌, subst, arith, true≢false}
 use Rattle.std.specs.Prelude.{◌||◌, Result, Ok, Err, IfOk, IfSome}
-use Rattle.std.proofs.lemmas.Bool.{and_parts}
+use Rattle.std.proofs.lemmas.Bool.{and_parts, eqb-true}
 use Rattle.std.proofs.lemmas.List.{append-nil, drop_all}
+use Rattle.std.proofs.lemmas.Option.{same_Some}
 use Rattle.sb_bytes.specs.Field.{number_at}
 use Rattle.sb_forms.specs.Pages.{zeros}
 use Rattle.sb_ctx.proofs.HeldLaws.{page_in-each}
@@ -21,7 +22,6 @@ use Rattle.sb_btree.specs.declared.walk.Stop.{Stop}
 use Rattle.sb_btree.specs.declared.walk.Stop.TheVariants as stop
 use Rattle.sb_btree.proofs.Descending.{breaks_here}
 use Rattle.sb_btree.proofs.Halved.{held_some, free_page_of}
-use Rattle.sb_btree.proofs.Reading.{eq_says}
 
 -- ---- a page that is written whole
 pub edited : (c new : View) (n : ℕ) (bytes : List ℕ) → room_of c n ≡ 4096 → length bytes ≡ 4096 → IfSome (page_of c n) (λ page. new ≡ with_page n (spliced 0 bytes page) c) → new ≡ with_page n bytes c
@@ -53,11 +53,8 @@ formless = refl
 
 pub not_free : (old : View) (page next : ℕ) (bytes : List ℕ) → page_of old page ≡ Some bytes → has_form bytes ≡ true → IsFree old next → page ≡ next → ⊥
 not_free old page next bytes held form free same =
-    let empty : bytes ≡ [] = same_bytes (sym held ∙ ap (page_of old) same ∙ free_page_of old next free) in
+    let empty : bytes ≡ [] = same_Some bytes [] (sym held ∙ ap (page_of old) same ∙ free_page_of old next free) in
     true≢false (sym form ∙ ap has_form empty ∙ formless)
-  where
-    same_bytes : Some bytes ≡ Some [] → bytes ≡ []
-    same_bytes e = cc
 
 -- a held page of a level
 pub record IsTreeAt (c : View) (l page : ℕ) (bytes : List ℕ) : Type 0 where
@@ -82,16 +79,13 @@ tree_at c l page bytes is level = by (has_form bytes) refl (ap (λ o. is_tree_pa
 
 -- ---- what a put at a held page leaves
 pub level_of_head : (l : ℕ) (head : Head) → is_of_level l head ≡ true → head.level ≡ l
-level_of_head l head is = (eq_says head.level l).0 (and_parts _ _ is).1
+level_of_head l head is = eqb-true head.level l (and_parts _ _ is).1
 
 -- a held page of a level that isn't the page of a put
 other_page : (old : View) (page n : ℕ) (bytes b : List ℕ) (l : ℕ) → page_of old page ≡ Some bytes → (node_in bytes).head.level ≡ l → page_of old n ≡ Some b → l < (node_in b).head.level → page ≡ n → ⊥
 other_page old page n bytes b l held level at up same =
-    let one : (node_in bytes).head.level ≡ (node_in b).head.level = ap (λ (x : List ℕ). (node_in x).head.level) (same_bytes (sym held ∙ ap (page_of old) same ∙ at)) in
+    let one : (node_in bytes).head.level ≡ (node_in b).head.level = ap (λ (x : List ℕ). (node_in x).head.level) (same_Some bytes b (sym held ∙ ap (page_of old) same ∙ at)) in
     omega (arith, one, level, up)
-  where
-    same_bytes : Some bytes ≡ Some b → bytes ≡ b
-    same_bytes e = cc
 
 pub put_keeps : (stands : Bool) (old new : View) (l page : ℕ) (bytes key value : List ℕ) (outcome : Result Put Stop) → page_of old page ≡ Some bytes → has_form bytes ≡ true → (node_in bytes).head.level ≡ l
     → PutAt stands old new l page (Some (node_in bytes)) key value outcome → IfOk outcome (λ put. KeepsHigher old new l)

@@ -2,7 +2,7 @@
 use Rattle.std.proofs.Common.{◌≡◌, ℕ, zero, suc, ◌<◌, true, false, cond, List, [], ◌∷◌, length, map, Option, Some, None, option_map, is_some, refl, ap, sym, ◌∙◌, subst, inl, inr, ◌⊎◌, arith, true≢false, length-append}
 use Rattle.std.specs.Prelude.{nat_lt, Err}
 use Rattle.std.specs.List.{find as first}
-use Rattle.std.proofs.lemmas.Bool.Decides.{nat_tests}
+use Rattle.std.proofs.lemmas.Bool.{lt-ltb, le-ltb}
 use Rattle.sb_ctx.specs.View.{View, page_of}
 use Rattle.sb_node.specs.declared.head.Head.{Head}
 use Rattle.sb_node.specs.Entries.{Entry}
@@ -112,10 +112,7 @@ module _ (m : ℕ) (N : Nodes) (p : ℕ) (n : Node) (after : Option (List ℕ)) 
   pub next_first : first_in m N after (nth n (passed after n.entries)) ≡ None → passed after n.entries < length n.entries → first_in (suc m) N after p ≡ first_in m N None (nth n (suc (passed after n.entries)))
   next_first none less =
       next_in m N p n after inner ∙ ap (λ o. or_else o (cond (nat_lt (passed after n.entries) (length n.entries)) (first_in m N None (nth n (suc (passed after n.entries)))) None)) none
-      ∙ ap (λ b. cond b (first_in m N None (nth n (suc (passed after n.entries)))) None) (is_less (passed after n.entries) (length n.entries) less)
-    where
-      is_less : (a b : ℕ) → a < b → nat_lt a b ≡ true
-      is_less a b h = grind (arith, nat_tests)
+      ∙ ap (λ b. cond b (first_in m N None (nth n (suc (passed after n.entries)))) None) (lt-ltb (passed after n.entries) (length n.entries) less)
 
   pub ways_next : first_in m N after (nth n (passed after n.entries)) ≡ None → passed after n.entries < length n.entries → (x : ℕ) → Has x (next_ways m N None (nth n (suc (passed after n.entries)))) → Has x (next_ways (suc m) N after p)
   ways_next none less x h = by (first_in m N None next) refl (has_either x (way m N None next) _ h)
@@ -156,10 +153,7 @@ end_first m N p n after inner (Some e) is ends = sym (next_in m N p n after inne
 end_first m N p n after inner None is (inl some) = absurd (true≢false (sym some))
 end_first m N p n after inner None is (inr all) =
     sym (next_in m N p n after inner ∙ ap (λ o. or_else o (cond (nat_lt (passed after n.entries) (length n.entries)) (first_in m N None (nth n (suc (passed after n.entries)))) None)) (sym is)
-    ∙ ap (λ b. cond b (first_in m N None (nth n (suc (passed after n.entries)))) None) (not_less (passed after n.entries) (length n.entries) all))
-  where
-    not_less : (a b : ℕ) → a ≡ b → nat_lt a b ≡ false
-    not_less a b h = grind (arith, nat_tests)
+    ∙ ap (λ b. cond b (first_in m N None (nth n (suc (passed after n.entries)))) None) (le-ltb (passed after n.entries) (length n.entries) (omega (arith, all))))
 
 lead_first : (m : ℕ) (N : Nodes) (p : ℕ) (n : Node) (after : Option (List ℕ)) (w : Walk (Option LeafEntry)) → Inner m N p n → NextLeads m N after (nth n (passed after n.entries)) w → Ends after n.entries w → NextLeads (suc m) N after p w
 lead_first m N p n after (Ready next) inner g ends = (end_first m N p n after inner next g.0 ends, tt)

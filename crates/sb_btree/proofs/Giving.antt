@@ -1,8 +1,9 @@
 -- A page that takes a child of the page beside, as the pages are held.
-use Rattle.std.proofs.Common.{◌≡◌, ℕ, suc, ◌-◌, ◌<◌, ◌≤◌, Bool, true, false, cond, ◌&&◌, List, [], length, Option, Some, None, IsSome, refl, ap, sym, ◌∙◌, subst, inl, inr, ◌⊎◌, arith, true≢false}
+use Rattle.std.proofs.Common.{◌≡◌, ℕ, suc, ◌-◌, ◌<◌, ◌≤◌, Bool, true, false, cond, List, [], length, Option, Some, None, IsSome, refl, ap, sym, ◌∙◌, subst, inl, inr, ◌⊎◌, arith, true≢false}
 use Rattle.std.specs.Prelude.{nat_eq, slice_get, Result, Ok, Err}
 use Rattle.std.specs.FinMap.Entries.{put}
 use Rattle.std.proofs.lemmas.Bool.Decides.{nat_tests}
+use Rattle.std.proofs.lemmas.Bool.{and_right, cases_eq}
 use Rattle.sb_forms.specs.Pages.{zeros}
 use Rattle.sb_ctx.specs.View.{HeldPage, View, held_at, page_of, room_of, with_page}
 use Rattle.sb_ctx.proofs.ViewLaws.{page_of-same, page_of-other, room_of-page}
@@ -23,7 +24,7 @@ use Rattle.sb_btree.specs.declared.walk.Stop.TheVariants as stop
 use Rattle.sb_btree.proofs.Descending.{positive}
 use Rattle.sb_btree.proofs.Placing.{all_by_fails}
 use Rattle.sb_btree.proofs.Halved.{free_page_of}
-use Rattle.sb_btree.proofs.Shrinking.{same_or_not, no_node}
+use Rattle.sb_btree.proofs.Shrinking.{no_node}
 use Rattle.sb_btree.proofs.Takes.{held_other}
 use Rattle.sb_btree.proofs.Cutting.{wrote_given}
 
@@ -64,7 +65,7 @@ wrote_node old new page n held w = wrote_page old new page w.bytes held w.change
 
 -- pages with nodes keep nodes where pages with nodes are written
 pub has_with : (c : View) (q : ℕ) (bytes : List ℕ) (n : Node) → node_of bytes ≡ Some n → (x : ℕ) → HasNode c x → HasNode (with_page q bytes c) x
-has_with c q bytes n is x h = elim (same_or_not q x) [
+has_with c q bytes n is x h = elim (cases_eq q x) [
   | inl e ↦ subst (λ y. HasNode (with_page q bytes c) y) e (node_some (held_node (page_of (with_page q bytes c) q)) n (ap held_node (page_of-same c q bytes (has_held (page_of c q) (subst (HasNode c) (sym e) h))) ∙ is))
   | inr ne ↦ subst (λ (o : Option (List ℕ)). IsSome (held_node o)) (sym (page_of-other c q x bytes ne)) h
 ]
@@ -98,7 +99,7 @@ alike_page c d x e = ap (λ (o : Option HeldPage). page_in o) e
 pub took_nodes : (old new : View) (l b : ℕ) (other : Node) (bound : List ℕ) (child : ℕ) (in_front : Bool) (put_is : Put) → TookChild old new l b other bound child in_front put_is → (x : ℕ) → HasNode old x → HasNode new x
 took_nodes old new l b other bound child in_front put_is t x has =
     put_nodes t.mid new l b (taker in_front child other) bound (entered in_front child other) put_is t.puts x
-    (elim (same_or_not x b) [
+    (elim (cases_eq x b) [
       | inl e ↦ subst (HasNode t.mid) (sym e) (node_some (held_node (page_of t.mid b)) (taker in_front child other) t.there)
       | inr ne ↦ subst (λ (o : Option (List ℕ)). IsSome (held_node o)) (sym (alike_page t.mid old x (t.alike x ne))) has
     ])
@@ -154,14 +155,10 @@ takes_nodes old new l b bound child in_front put_is t x has = by (held_node (pag
 
 -- ---- a child goes to the page beside
 pub long_bound : (es : List Entry) (j : ℕ) (e : Entry) → slice_get es j ≡ Some e → 602 < length e.0 → all_by is_bound es ≡ false
-long_bound es j e at long = all_by_fails is_bound es j e at (too_long (nat_eq (length e.1) 4) (is_upto (length e.0) 602) (over (length e.0) long))
+long_bound es j e at long = all_by_fails is_bound es j e at (and_right (nat_eq (length e.1) 4) (is_upto (length e.0) 602) (over (length e.0) long))
   where
     over : (n : ℕ) → 602 < n → is_upto n 602 ≡ false
     over n h = grind (arith, nat_tests)
-
-    too_long : (a b : Bool) → b ≡ false → (a && b) ≡ false
-    too_long true b h = h
-    too_long false b h = refl
 
 -- the place of the page beside
 pub beside_place : (i k : ℕ) → ((i ≡ 0) × (k ≡ 1)) ⊎ ((i ≡ 0 → ⊥) × (k ≡ i - 1)) → k ≡ place_beside i

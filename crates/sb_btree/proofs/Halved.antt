@@ -4,6 +4,7 @@ use Rattle.std.specs.List.{AllByRecursion}
 use Rattle.std.specs.FinMap.Entries.{find, put, by_order, is_sorted, is_sorted-put}
 use Rattle.std.specs.declared.cmp.Ordering.TheVariants.{Less, Equal, Greater}
 use Rattle.std.proofs.lemmas.Cmp.{nat_list_cmp_total}
+use Rattle.sb_value.proofs.Truths.{some_none}
 use Rattle.sb_forms.specs.Pages.{Pages, zeros}
 use Rattle.sb_ctx.specs.View.{HeldPage, View, page_of, with_page, stored}
 use Rattle.sb_ctx.proofs.ViewLaws.{page_of-same, page_of-other, stored-page, stored-same, stored-other}
@@ -89,10 +90,7 @@ two_others old new P l page next x n bound key value t other fresh =
 
 -- a page with a node isn't a free one
 pub apart_free : (old : View) (P : Pages) (page next : ℕ) (n : Node) → nodes (stored old P) page ≡ Some n → IsFree old next → page ≡ next → ⊥
-apart_free old P page next n at free same = none_some (sym at ∙ ap (nodes (stored old P)) same ∙ free_node old P next free)
-  where
-    none_some : Some n ≡ None → ⊥
-    none_some e = cc
+apart_free old P page next n at free same = some_none n (sym at ∙ ap (nodes (stored old P)) same ∙ free_node old P next free)
 
 pub parts_small : (xs ys : List Entry) → AllByRecursion IsSmall (xs ++ ys) → AllByRecursion IsSmall xs × AllByRecursion IsSmall ys
 parts_small [] ys h = (tt, h)

@@ -8,6 +8,8 @@ use Rattle.std.specs.declared.cmp.Ordering.TheVariants.{Less, Equal, Greater}
 use Rattle.std.proofs.lemmas.Bool.Decides.{nat_tests}
 use Rattle.std.proofs.lemmas.List.{take-append-drop}
 use Rattle.std.proofs.lemmas.List.Sums.{sum_by-cons, sum_by-append}
+use Rattle.std.proofs.lemmas.Bool.{eqb-true, true_from_ne_false}
+use Rattle.sb_value.proofs.Truths.{ok_err}
 use Rattle.sb_node.specs.Entries.{Entry, key_cmp, size_of, sizes, lesser, place_of}
 use Rattle.sb_node.specs.Page.{Node, Becomes, has_form, node_in, with_entries}
 use Rattle.sb_node.proofs.Placed.{place_from, scanned, err_within}
@@ -16,9 +18,6 @@ use Rattle.sb_node.proofs.Sizes.{first, second, T_to, T_from, is_less, below_mor
 use Rattle.sb_btree.specs.Halves.{halfway, Halves}
 use Rattle.sb_btree.proofs.Order.{AllLess, AllMore}
 use Rattle.sb_btree.proofs.Putting.{put_less, put_more, put_some}
-
-zero_is : (n : ℕ) → nat_eq n 0 ≡ true → n ≡ 0
-zero_is n e = grind (arith, nat_tests)
 
 sizes_take : (n : ℕ) (e : Entry) (es : List Entry) → sizes (take (suc n) (e ∷ es)) ≡ size_of e + sizes (take n es)
 sizes_take n e es = sum_by-cons size_of e (take n es)
@@ -36,7 +35,7 @@ halfway_low left (e ∷ es) h =
     let all : sizes (e ∷ es) ≡ size_of e + sizes es = sum_by-cons size_of e es in
     let rest = halfway_low (left - size_of e) es (omega (arith, all, h)) in
     elim (nat_eq left 0) as (λ b. nat_eq left 0 ≡ b → left ≤ sizes (take (cond b 0 (suc (halfway (left - size_of e) es))) (e ∷ es))) [
-      | true ↦ λ q. let none = zero_is left q in omega (arith, none)
+      | true ↦ λ q. let none = eqb-true left 0 q in omega (arith, none)
       | false ↦ λ q. let more = sizes_take (halfway (left - size_of e) es) e es in omega (arith, rest, more)
     ] refl
 
@@ -134,10 +133,7 @@ pub place-none : (key : List ℕ) (es : List Entry) → find key_cmp key es ≡ 
 place-none key es none = ap (λ o. cond (is_some o) (Ok (lesser key es)) (Err (lesser key es))) none
 
 pub not_there : (key : List ℕ) (es : List Entry) (i : ℕ) → find key_cmp key es ≡ None → place_of key es ≡ Ok i → ⊥
-not_there key es i none is = ok_err (sym is ∙ place-none key es none)
-  where
-    ok_err : Ok i ≡ Err (lesser key es) → ⊥
-    ok_err e = cc
+not_there key es i none is = ok_err i (lesser key es) (sym is ∙ place-none key es none)
 
 -- ---- pages
 sizes-put : (key value : List ℕ) (es : List Entry) → find key_cmp key es ≡ None → sizes (put key_cmp key value es) ≡ size_of (key, value) + sizes es
@@ -215,7 +211,7 @@ halves_greater p₀ p₁ o₀ o₁ o₂ key value i half done press is before cu
     let low : 2036 ≤ sizes (take half es) = subst (λ n. 2036 ≤ sizes (take n es)) (sym is) (halfway_low 2036 es (omega (arith, f.0, press.small))) in
     let some : 0 < length (take half es) = some_sized (take half es) (omega (arith, low)) in
     let both = sizes_halves half es in
-    let made : done ≡ true = fits done (λ q. let u = used_of o₀ o₁ (drop half es) (node_in o₀) cuts.tail.form cuts.tail in omega (arith, full q, u, both, low, f.1, press.small)) in
+    let made : done ≡ true = true_from_ne_false done (λ q. let u = used_of o₀ o₁ (drop half es) (node_in o₀) cuts.tail.form cuts.tail in omega (arith, full q, u, both, low, f.1, press.small)) in
     record {
       lesser = take half es;
       greater = put key_cmp key value (drop half es);
@@ -227,10 +223,6 @@ halves_greater p₀ p₁ o₀ o₁ o₂ key value i half done press is before cu
       more = put_some key value (drop half es);
     }
   where
-    fits : (b : Bool) → (b ≡ false → ⊥) → b ≡ true
-    fits true h = refl
-    fits false h = absurd (h refl)
-
     none_taken : (n : ℕ) (es : List Entry) → n ≡ 0 → length (take n es) ≡ 0
     none_taken n es e = ap (λ k. length (take k es)) e
 
@@ -258,7 +250,7 @@ halves_lesser p₀ p₁ p₂ o₀ o₁ key value i half done press is behind cut
     let high : sizes (take (half - 1) es) < 2036 = halfway_high 2036 es (half - 1) (sym is ∙ n) in
     let both = sizes_halves (half - 1) es in
     let within = halfway_within 2036 es in
-    let made : done ≡ true = fits done (λ q. let u = used_of p₀ p₁ (take (half - 1) es) (node_in p₀) cuts.front.form cuts.front in omega (arith, full q, u, high, press.small)) in
+    let made : done ≡ true = true_from_ne_false done (λ q. let u = used_of p₀ p₁ (take (half - 1) es) (node_in p₀) cuts.front.form cuts.front in omega (arith, full q, u, high, press.small)) in
     record {
       lesser = put key_cmp key value (take (half - 1) es);
       greater = drop (half - 1) es;
@@ -269,7 +261,3 @@ halves_lesser p₀ p₁ p₂ o₀ o₁ key value i half done press is behind cut
       wide = λ most all. let new = (all_put (λ (e : Entry). size_of e ≤ most) key value es press.none all).0 in omega (arith, new, f.0, both, high);
       more = omega (arith, length-drop (half - 1) es, within, is, n);
     }
-  where
-    fits : (b : Bool) → (b ≡ false → ⊥) → b ≡ true
-    fits true h = refl
-    fits false h = absurd (h refl)

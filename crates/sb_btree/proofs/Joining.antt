@@ -2,6 +2,7 @@
 use Rattle.std.proofs.Common.{◌≡◌, ℕ, suc, ◌-◌, ◌<◌, true, false, cond, ◌&&◌, List, [], Option, Some, None, refl, ap, sym, ◌∙◌, subst, inl, arith, true≢false}
 use Rattle.std.specs.Prelude.{nat_eq, Result, Ok, Err}
 use Rattle.std.proofs.lemmas.Option.{same_Some}
+use Rattle.std.proofs.lemmas.Bool.{false_from_ne_true}
 use Rattle.sb_ctx.specs.View.{View, page_of, dropped}
 use Rattle.sb_ctx.proofs.ViewLaws.{page_of-other}
 use Rattle.sb_node.specs.Entries.{without}
@@ -18,7 +19,6 @@ use Rattle.sb_btree.specs.declared.removal.Taken.TheVariants.{Lacks, Done, Empty
 use Rattle.sb_btree.specs.declared.walk.Stop.{Stop}
 use Rattle.sb_btree.specs.declared.walk.Stop.TheVariants as stop
 use Rattle.sb_btree.proofs.Descending.{not_zero}
-use Rattle.sb_btree.proofs.Order.{tested}
 use Rattle.sb_btree.proofs.Reading.{all_says, bound_says}
 use Rattle.sb_btree.proofs.Edits.{level_of_head}
 use Rattle.sb_btree.proofs.Without.{without_every}
@@ -62,7 +62,7 @@ wrote_dropped old new page n i (Split bound r) d = absurd d
 -- a page without a child is amiss where it was
 pub without_amiss : (m i : ℕ) (n : Node) → is_of_level (suc m) n.head ≡ true → is_page (suc m) (Some (without_child i n)) ≡ false → all_by is_bound n.entries ≡ false
 without_amiss m i n like wrong =
-    tested (all_by is_bound n.entries) (λ all.
+    false_from_ne_true (all_by is_bound n.entries) (λ all.
     let left : all_by is_bound (without (i - 1) n.entries) ≡ true = (all_says is_bound IsBound bound_says (without (i - 1) n.entries)).1 (without_every IsBound (i - 1) n.entries ((all_says is_bound IsBound bound_says n.entries).0 all)) in
     true≢false (sym ((λ t. like t && all_by (cond (not_zero m t) is_small is_bound) (without (i - 1) n.entries)) ∙ left) ∙ wrong))
 

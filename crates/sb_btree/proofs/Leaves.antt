@@ -6,7 +6,7 @@ use Rattle.std.specs.FinMap.Entries.{find}
 use Rattle.std.specs.Ordering.{is_eq}
 use Rattle.std.specs.declared.cmp.Ordering.{Ordering}
 use Rattle.std.specs.declared.cmp.Ordering.TheVariants.{Less, Equal, Greater}
-use Rattle.std.proofs.lemmas.Bool.{and_parts, and_from}
+use Rattle.std.proofs.lemmas.Bool.{and_parts, and_from, eqb-true, eq-eqb}
 use Rattle.sb_ctx.specs.View.{HeldPages}
 use Rattle.sb_forms.specs.Tree.{Nodes, nodes, Child, children_of, entries_of, items, level_of, over}
 use Rattle.sb_node.specs.declared.head.Head.{Head}
@@ -21,7 +21,7 @@ use Rattle.sb_btree.specs.declared.walk.Walk.{Walk}
 use Rattle.sb_btree.specs.declared.walk.Walk.TheVariants.{Ready, Need, Fresh, Broken, NoMemory}
 use Rattle.sb_btree.proofs.Descending.{any_child_at}
 use Rattle.sb_btree.proofs.Order.{same_key}
-use Rattle.sb_btree.proofs.Reading.{eq_says, read_root}
+use Rattle.sb_btree.proofs.Reading.{read_root}
 use Rattle.sb_btree.proofs.Whole.{AreShown}
 
 -- ---- the place of an entry
@@ -67,7 +67,7 @@ stands_leaf l held p bytes head o found is page stands same =
     subst (λ (f : Option LeafEntry). Finds (IsInLeaf (leads_below l held p) held) (Ready f)) (sym same) (by o stands)
   where
     led : leads_below l held p p ≡ true
-    led = subst (λ k. leads_below k held p p ≡ true) (sym is) ((eq_says p p).1 refl)
+    led = subst (λ k. leads_below k held p p ≡ true) (sym is) (eq-eqb p p refl)
 
     by : (o : Option Entry) → Stands (node_in bytes).entries o → Finds (IsInLeaf (leads_below l held p) held) (Ready (option_map (in_leaf p) o))
     by None s = tt
@@ -132,14 +132,14 @@ held_all t N p all (Some bytes) shows = subst (λ (o : Option Node). list_all t 
 
 leaf_whole : (l : ℕ) (held : HeldPages) (N : Nodes) (p n : ℕ) (t : Entry → Bool) → AreShown held N → list_all t (items l N p) ≡ true → leads_below l held p n ≡ true → list_all t (entries_of (held_node (held n))) ≡ true
 leaf_whole zero held N p n t shows all led =
-    subst (λ m. list_all t (entries_of (held_node (held m))) ≡ true) ((eq_says p n).0 led) (held_all t N p all (held p) (shows p))
+    subst (λ m. list_all t (entries_of (held_node (held m))) ≡ true) (eqb-true p n led) (held_all t N p all (held p) (shows p))
 leaf_whole (suc l) held N p n t shows all led =
     any_held (list_all t (entries_of (held_node (held n))) ≡ true) (suc l) N p (items l N) t (λ c. leads_below l held c n) (λ c below led. leaf_whole l held N c n t shows below led) all (held p) (shows p) led
 
 -- a root that isn't held has no entries
 root_leaf : (held : HeldPages) (N : Nodes) (root n : ℕ) (t : Entry → Bool) → AreShown held N → list_all t (items (level_of (N root)) N root) ≡ true → (o : Option (List ℕ)) → held root ≡ o
     → leads_below (level_of (held_node o)) held root n ≡ true → list_all t (entries_of (held_node (held n))) ≡ true
-root_leaf held N root n t shows all None is led = subst (λ m. list_all t (entries_of (held_node (held m))) ≡ true) ((eq_says root n).0 led) (ap (λ o. list_all t (entries_of (held_node o))) is)
+root_leaf held N root n t shows all None is led = subst (λ m. list_all t (entries_of (held_node (held m))) ≡ true) (eqb-true root n led) (ap (λ o. list_all t (entries_of (held_node o))) is)
 root_leaf held N root n t shows all (Some bytes) is led =
     leaf_whole (level_of (N root)) held N root n t shows all (subst (λ l. leads_below l held root n ≡ true) (ap level_of (sym (shows root bytes is))) led)
 

@@ -2,6 +2,7 @@
 use Rattle.std.proofs.Common.{◌≡◌, ℕ, zero, suc, ◌≤◌, true, false, List, [], Option, Some, None, IsSome, refl, ap, sym, ◌∙◌, subst, true≢false}
 use Rattle.std.specs.Prelude.{Result, Ok, Err}
 use Rattle.std.specs.FinMap.Entries.{find}
+use Rattle.std.proofs.lemmas.Bool.{or_left, or_right, eq-eqb}
 use Rattle.sb_forms.specs.Pages.{Pages}
 use Rattle.sb_ctx.specs.View.{View, page_of, with_page, dropped, stored}
 use Rattle.sb_node.specs.Entries.{Entry, key_cmp}
@@ -18,8 +19,7 @@ use Rattle.sb_btree.specs.declared.removal.Taken.TheVariants.{Lacks as Absent, D
 use Rattle.sb_btree.specs.declared.walk.Stop.{Stop}
 use Rattle.sb_btree.specs.declared.walk.Stop.TheVariants as stop
 use Rattle.sb_btree.specs.declared.walk.Walk.TheVariants.{Ready}
-use Rattle.sb_btree.proofs.Descending.{or_left, or_right}
-use Rattle.sb_btree.proofs.Reading.{eq_says, read_root}
+use Rattle.sb_btree.proofs.Reading.{read_root}
 use Rattle.sb_btree.proofs.Roots.{at_root, stored_shows, no_root_gives}
 use Rattle.sb_btree.proofs.Grown.{root_place}
 use Rattle.sb_btree.proofs.Inserted.{same_needs}
@@ -34,8 +34,8 @@ use Rattle.sb_ctx.proofs.ViewLaws.{stored-same, stored-other}
 use Rattle.sb_btree.proofs.Lowering.{root_so, root_empty, root_lowered, root_grown}
 
 pub removal_way_first : (l : ℕ) (N : Nodes) (key : List ℕ) (p : ℕ) → has p (removal_way l N key p) ≡ true
-removal_way_first zero N key p = or_left _ _ ((eq_says p p).1 refl)
-removal_way_first (suc l) N key p = or_left _ _ ((eq_says p p).1 refl)
+removal_way_first zero N key p = or_left _ _ (eq-eqb p p refl)
+removal_way_first (suc l) N key p = or_left _ _ (eq-eqb p p refl)
 
 pub removal_root_way : (T U : Type 0) (c : View) (root l : ℕ) (key : List ℕ) (s : Stop) → IsRootPage (page_of c root) l → OverNodes c l root (λ N. Needs {T = T} (λ n. has n (removal_way l N key root)) (as_walk (Err s)))
     → OnTree c root (λ P. Needs {T = U} (is_on_removal_way root P key) (as_walk (Err s)))
@@ -123,7 +123,7 @@ module _ (old : View) (root l : ℕ) (key : List ℕ) (page : IsRootPage (page_o
             let at = at_root old P root l es page read in
             let level : suc m ≡ level_of (nodes (stored old P) root) = sym down ∙ at.level_is in
             subst (λ k. has x (removal_way k (nodes (stored old P)) key root) ≡ true) level
-            (or_right _ _ (or_left _ _ ((eq_says x (beside_in key (nodes (stored old P) root))).1 (h.0 ∙ (single_takes P es read).0))))
+            (or_right _ _ (or_left _ _ (eq-eqb x (beside_in key (nodes (stored old P) root)) (h.0 ∙ (single_takes P es read).0))))
         by stop.Fresh h = tt
         by (stop.Broken x) h = tt
         by stop.NoMemory h = tt

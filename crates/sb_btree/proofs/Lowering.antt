@@ -1,6 +1,7 @@
 -- A removal from a whole tree.
-use Rattle.std.proofs.Common.{◌≡◌, ℕ, suc, ◌≤◌, Bool, true, false, List, [], ◌∷◌, ◌++◌, length, map, Option, Some, None, IsSome, refl, ap, sym, ◌∙◌, subst, inl, inr, ◌⊎◌, arith, true≢false}
+use Rattle.std.proofs.Common.{◌≡◌, ℕ, suc, ◌≤◌, true, List, [], ◌∷◌, ◌++◌, length, map, Option, Some, None, IsSome, refl, ap, sym, ◌∙◌, subst, inl, inr, ◌⊎◌, arith}
 use Rattle.std.proofs.lemmas.List.{append-nil}
+use Rattle.std.proofs.lemmas.Bool.{both_ways, cases_eq}
 use Rattle.sb_forms.specs.Pages.{Pages, zeros}
 use Rattle.sb_ctx.specs.View.{View, page_of, with_page, dropped, stored}
 use Rattle.sb_ctx.proofs.ViewLaws.{page_of-same, page_of-other, stored-page, stored-same, stored-other}
@@ -19,7 +20,7 @@ use Rattle.sb_btree.proofs.Writing.{write_one}
 use Rattle.sb_btree.proofs.Growing.{tree_level}
 use Rattle.sb_btree.proofs.Halved.{free_node, free_page_of}
 use Rattle.sb_btree.proofs.Grown.{within_all}
-use Rattle.sb_btree.proofs.Shrinking.{is_or_not, same_or_not, but, but_either, but_says, gone_node, unmet, own_met, reused, moved_first}
+use Rattle.sb_btree.proofs.Shrinking.{is_or_not, but, but_either, but_says, gone_node, unmet, own_met, reused, moved_first}
 
 -- the tree at the root, and where the pages went
 module _ (old new : View) (P : Pages) (root l l' : ℕ) (want : List Entry) (fresh : List ℕ) (level : l ≡ level_of (nodes (stored old P) root)) (free : WereFree old fresh)
@@ -42,9 +43,6 @@ module _ (old new : View) (P : Pages) (root l l' : ℕ) (want : List Entry) (fre
   is_new : (n : ℕ) → Has n (met l' (nodes (stored new P)) root) → has n (tree_met root (stored new P)) ≡ true
   is_new n h = is_has n (tree_met root (stored new P)) (subst (λ k. Has n (met k (nodes (stored new P)) root)) (sym level_now) h)
 
-  no : (b : Bool) → b ≡ false → b ≡ true → ⊥
-  no b f t = true≢false (sym t ∙ f)
-
   pub shrank : (read_tree root (stored new P) ≡ Some want) × Shrank old root (stored old P) (stored new P)
   shrank = (
     (reads_trees (stored new P) root).0 (record {
@@ -57,10 +55,10 @@ module _ (old new : View) (P : Pages) (root l l' : ℕ) (want : List Entry) (fre
       to = λ n h. elim (to n (inl (old_is n h))) [ inl m ↦ inl (is_new n m) | inr g ↦ inr g ];
       keeps = λ n h k. elim (is_or_not n fresh) [
         | inl f ↦ elim (to n (inr f)) [
-          | inl m ↦ absurd (no _ k (is_new n m))
+          | inl m ↦ absurd (both_ways _ k (is_new n m))
           | inr g ↦ g ∙ sym (stored-page old P n [] (free_page_of old n (free n f)))
         ]
-        | inr absent ↦ keeps n (λ o. no _ h (is_old n o)) absent (λ m. no _ k (is_new n m))
+        | inr absent ↦ keeps n (λ o. both_ways _ h (is_old n o)) absent (λ m. both_ways _ k (is_new n m))
       ];
     },
   )
@@ -85,7 +83,7 @@ root_empty old mid new P root l want level held s w =
     (λ x ne. ap (λ (c : View). stored c P x) w.changed ∙ stored-other mid P root x w.bytes (λ e. ne (sym e)) ∙ sym (stored-other mid P root x [] (λ e. ne (sym e)))) in
     shrank old new P root l 0 want s.fresh level s.were_free (subst IsLeaf (sym here) (refl, refl, tt)) (omega arith) ((λ h. h), tt) (ap entries_of here ∙ s.became.entries)
     (λ x h. elim h [ inl e ↦ inl (subst (λ y. Has y (met l (nodes (stored old P)) root)) (sym e) (own_met l (nodes (stored old P)) root)) | inr z ↦ absurd z ])
-    (λ x h. elim (s.became.to x h) [ inl m ↦ absurd m | inr g ↦ elim (same_or_not x root) [ inl e ↦ inl (inl e) | inr ne ↦ inr (others x ne ∙ s.are_gone x g) ] ])
+    (λ x h. elim (s.became.to x h) [ inl m ↦ absurd m | inr g ↦ elim (cases_eq x root) [ inl e ↦ inl (inl e) | inr ne ↦ inr (others x ne ∙ s.are_gone x g) ] ])
     (λ x o f m. others x (λ e. m (inl e)) ∙ s.became.keeps x o f)
 
 -- the root takes the content of the only child
@@ -112,7 +110,7 @@ root_lowered old mid new P root m g want level low held s t =
       were_free = s.were_free;
       are_gone = λ x h. elim h [
         | inl e ↦ ap (stored new P) e ∙ freed
-        | inr k ↦ elim (same_or_not x g) [ inl e ↦ ap (stored new P) e ∙ freed | inr ne ↦ (let u = but_says root x s.freed k in others x u.1 ne ∙ s.are_gone x u.0) ]
+        | inr k ↦ elim (cases_eq x g) [ inl e ↦ ap (stored new P) e ∙ freed | inr ne ↦ (let u = but_says root x s.freed k in others x u.1 ne ∙ s.are_gone x u.0) ]
       ];
       became = b;
     })

@@ -3,6 +3,8 @@ use Rattle.std.proofs.Common.{◌≡◌, ℕ, suc, ◌≤◌, Bool, true, false,
 use Rattle.std.proofs.lemmas.List.{append-nil, map-append}
 use Rattle.std.specs.List.{AllByRecursion}
 use Rattle.std.specs.FinMap.Entries.{put}
+use Rattle.std.proofs.lemmas.Bool.{cases_eq}
+use Rattle.sb_value.proofs.Truths.{some_none}
 use Rattle.sb_bytes.specs.Field.{number_at}
 use Rattle.sb_forms.specs.Pages.{Pages}
 use Rattle.sb_ctx.proofs.ViewLaws.{stored-page, stored-same, stored-other, dropped-with_page}
@@ -26,7 +28,7 @@ use Rattle.sb_btree.proofs.Putting.{put_less, put_more}
 use Rattle.sb_btree.proofs.Splitting.{strictly}
 use Rattle.sb_btree.proofs.Halved.{free_node, apart_free}
 use Rattle.sb_btree.proofs.Edits.{held_still}
-use Rattle.sb_btree.proofs.Shrinking.{own_met, same_or_not}
+use Rattle.sb_btree.proofs.Shrinking.{own_met}
 use Rattle.sb_btree.proofs.Taking.{without_within}
 use Rattle.sb_btree.proofs.Takes.{stored_alike, held_other}
 use Rattle.sb_btree.proofs.Entered.{PutPages, put_pages, put_between, put_page}
@@ -132,7 +134,7 @@ module _ (m : ℕ) (old before mid : View) (P : Pages) (c b g : ℕ) (in_front :
             let same : held_at before r ≡ held_at took.mid r = sym (took.alike r ne) in
             let away : c ≡ r → ⊥ = (λ e. apart_free before P c r gone (node_stored before P c gone child_is) (same ∙ f) e) in
             (held_other before c r [] away ∙ same ∙ f, stored-other mid P c r [] away))
-            (λ x ne same. elim (same_or_not c x) [
+            (λ x ne same. elim (cases_eq c x) [
               | inl e ↦ subst (λ y. stored (with_page c [] mid) P y ≡ stored (with_page c [] before) P y) e (stored-same mid P c [] (held_still before mid c given held) ∙ sym (stored-same before P c [] held))
               | inr away ↦ stored-other mid P c x [] away ∙ same ∙ stored_alike took.mid before P x (took.alike x ne) ∙ sym (stored-other before P c x [] away)
             ]),
@@ -143,12 +145,6 @@ beside_was : (m : ℕ) (old before : View) (P : Pages) (c b : ℕ) (other : Node
     → (c ≡ b → ⊥) → (Has b pages → ⊥) → (nodes (stored old P) b ≡ None → ⊥) → held_node (page_of before b) ≡ Some other → nodes (stored old P) b ≡ Some other
 beside_was m old before P c b other pages start high now want s apart unmet was is =
     ap node_of (sym (s.became.keeps b unmet (λ f. was (free_node old P b (s.were_free b f))))) ∙ ap node_of (stored-other before P c b [] apart) ∙ node_stored before P b other is
-
-some_none : {A : Type 0} {x : A} (o : Option A) → o ≡ Some x → o ≡ None → ⊥
-some_none o a b = none_some (sym a ∙ b)
-  where
-    none_some : {A : Type 0} {x : A} → Some x ≡ None → ⊥
-    none_some e = cc
 
 -- ---- the first one takes the second one's last child
 pub merged_behind : (m : ℕ) (old before mid : View) (P : Pages) (first second : Child) (high : Option (List ℕ)) (key : List ℕ) (g : ℕ) (put_is : Put) (other gone : Node)
@@ -199,7 +195,7 @@ merged_behind m old before mid P first second high key g put_is other gone order
     let w = pair_within (suc m) N high first second order in
     put_page m old (with_page c [] before) (with_page c [] mid) P b first.0 high high (Some first.0) (first.0, other.head.a) (map child_of other.entries ++ (second.0, g) ∷ []) (items (suc m) N b ++ W) olds (over (met (suc m) N) (first ∷ second ∷ []))
     (λ x h. subst (Has x) (sym all) (inr h)) (λ x h. subst (Has x) all h) (subst (Has b) (sym all) (inl refl)) apart'.0 was
-    (some_none (nodes (stored (with_page c [] before) P) b) (ap node_of (stored-other before P c b [] away) ∙ node_stored before P b other other_is)) (dropped-with_page before c [] ∙ given)
+    (λ none. some_none other (sym (ap node_of (stored-other before P c b [] away) ∙ node_stored before P b other other_is) ∙ none)) (dropped-with_page before c [] ∙ given)
     s' (within_append first.0 high (items (suc m) N b) W w.0 (without_within key first.0 high (items (suc m) N c) w.1)) other second.0 p.0 inner (p.1, short) list put_is p.3
 
 -- ---- the second one takes the first one's last child in front
@@ -257,5 +253,5 @@ merged_front m old before mid P first second high key g put_is other gone order 
       | inr a ↦ elim (subst (Has x) (append-nil (met (suc m) N b) ∙ met_is) a) [ inl e ↦ inl e | inr d ↦ inr (has_right x (met (suc m) N c) (over (met m N) ys) d) ]
     ])
     (has_right b (met (suc m) N c) (met (suc m) N b ++ []) mine) (λ h. elim (has_either b (met (suc m) N c) (over (met m N) ys) h) [ inl a ↦ split.each b a mine | inr a ↦ below.0 a ]) was
-    (some_none (nodes (stored (with_page c [] before) P) b) (ap node_of (stored-other before P c b [] away) ∙ node_stored before P b other other_is)) (dropped-with_page before c [] ∙ given)
+    (λ none. some_none other (sym (ap node_of (stored-other before P c b [] away) ∙ node_stored before P b other other_is) ∙ none)) (dropped-with_page before c [] ∙ given)
     s' (within_append first.0 high W (items (suc m) N b) (without_within key first.0 high (items (suc m) N c) w.0) w.1) (taker true g other) second.0 p.0 (inner.0, inner.1, inner.2) (p.1, short) list put_is p.3

@@ -1,5 +1,5 @@
 -- Keys in order, and lists of entries of which one part alone can have a key.
-use Rattle.std.proofs.Common.{◌≡◌, ℕ, Bool, true, false, cond, List, [], ◌∷◌, ◌++◌, Some, None, refl, ap, sym, ◌∙◌, subst}
+use Rattle.std.proofs.Common.{◌≡◌, ℕ, true, false, cond, List, [], ◌∷◌, ◌++◌, Some, None, refl, ap, sym, ◌∙◌, subst}
 use Rattle.std.specs.declared.cmp.Ordering.{Ordering}
 use Rattle.std.specs.declared.cmp.Ordering.TheVariants.{Less, Equal, Greater}
 use Rattle.std.specs.Ordering.{is_lt, is_eq, eq_by_cmp, ordering_reverse}
@@ -7,6 +7,7 @@ use Rattle.std.specs.List.{AllByRecursion}
 use Rattle.std.proofs.lemmas.Cmp.{nat_list_cmp_total}
 use Rattle.std.specs.FinMap.{slice_cmp-IsAntisymmetric, nat_cmp-IsAntisymmetric}
 use Rattle.std.specs.FinMap.Entries.{find}
+use Rattle.std.proofs.lemmas.Bool.{false_from_ne_true}
 use Rattle.sb_node.specs.Entries.{Entry, key_cmp, is_below}
 
 pub same_key : (x y : List ℕ) → key_cmp x y ≡ Equal → x ≡ y
@@ -57,13 +58,9 @@ below-upto x y z p q =
 pub below-greater : (x y : List ℕ) → is_below x y ≡ true → key_cmp y x ≡ Greater
 below-greater x y p = nat_list_cmp_total.antisymm y x ∙ ap ordering_reverse (below-less x y p)
 
-pub tested : (b : Bool) → (b ≡ true → ⊥) → b ≡ false
-tested true f = absurd (f refl)
-tested false f = refl
-
 -- x ≥ z where x ≥ y and y ≥ z
 pub above-trans : (x y z : List ℕ) → is_below x y ≡ false → is_below y z ≡ false → is_below x z ≡ false
-above-trans x y z p q = tested (is_below x z) (λ e. let f = upto-below y x z p e in cc)
+above-trans x y z p q = false_from_ne_true (is_below x z) (λ e. let f = upto-below y x z p e in cc)
 
 pub above-first : (x : List ℕ) → is_below x [] ≡ false
 unfolding is_below

@@ -8,7 +8,8 @@ use Rattle.sb_forms.specs.Tree.{child_of, over, IsWithin, AreChildren, child_for
 use Rattle.sb_btree.specs.Held.{passed, nth_child}
 use Rattle.sb_btree.specs.Ways.{is_behind}
 use Rattle.std.proofs.lemmas.Bool.Decides.{nat_tests}
-use Rattle.sb_btree.proofs.Order.{below-upto, below-trans, above-trans, tested}
+use Rattle.std.proofs.lemmas.Bool.{false_from_ne_true}
+use Rattle.sb_btree.proofs.Order.{below-upto, below-trans, above-trans}
 use Rattle.sb_btree.proofs.Children.{children_above}
 use Rattle.sb_btree.proofs.Placing.{nth_first}
 use Rattle.sb_btree.proofs.Reading.{unders}
@@ -45,7 +46,7 @@ all_behind None e (x ∷ es) is all = refl
 all_behind (Some key) e (x ∷ es) is all = ap (λ b. cond b (Some x) (first (is_behind (Some key)) es)) (below-upto key e.0 x.0 is all.0)
 
 not_above : (key x e : List ℕ) → is_below key e ≡ false → is_below x e ≡ true → is_below key x ≡ false
-not_above key x e not up = tested (is_below key x) (λ is. let s = below-trans key x e is up in cc)
+not_above key x e not up = false_from_ne_true (is_below key x) (λ is. let s = below-trans key x e is up in cc)
 
 -- none is behind a key that their upper bound is not behind
 none_behind : (after : Option (List ℕ)) (e : Entry) (low : List ℕ) (es : List Entry) → is_behind after e ≡ false → IsWithin low (Some e.0) es → first (is_behind after) es ≡ None

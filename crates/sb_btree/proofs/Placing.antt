@@ -1,10 +1,10 @@
 -- The place of a key among the entries of a page.
 use Rattle.std.proofs.Common.{◌≡◌, ℕ, zero, suc, ◌+◌, ◌<◌, ◌≤◌, Bool, true, false, cond, ◌&&◌, List, [], ◌∷◌, length, Some, refl, ap, sym, ◌∙◌, subst, arith, T}
-use Rattle.std.specs.Prelude.{Ok, Err, slice_get, nat_eq}
+use Rattle.std.specs.Prelude.{Ok, Err, slice_get}
 use Rattle.std.specs.FinMap.Entries.{find, is_sorted, below_all}
 use Rattle.std.specs.Ordering.{is_eq, is_lt}
 use Rattle.std.specs.declared.cmp.Ordering.TheVariants.{Less, Equal, Greater}
-use Rattle.std.proofs.lemmas.Bool.Decides.{nat_tests}
+use Rattle.std.proofs.lemmas.Bool.{and_parts, and_right, false_from_ne_true, ne_eqb}
 use Rattle.sb_bytes.specs.Field.{number_at}
 use Rattle.sb_node.specs.Entries.{Entry, key_cmp, is_below, place_of}
 use Rattle.sb_node.specs.Page.{has_form, node_in}
@@ -13,7 +13,7 @@ use Rattle.sb_node.proofs.Runs.{head_count}
 use Rattle.sb_node.proofs.Sizes.{count_is, head_counts, T_from, first, second, T_to, is_less}
 use Rattle.sb_btree.specs.Held.{passed, nth_child}
 use Rattle.sb_forms.specs.Read.{all_by, is_bound, is_upto}
-use Rattle.sb_btree.proofs.Order.{same_key, less-below, tested}
+use Rattle.sb_btree.proofs.Order.{same_key, less-below}
 
 not_below_greater : (key x : List ℕ) → key_cmp key x ≡ Greater → is_below key x ≡ false
 unfolding is_below
@@ -125,19 +125,8 @@ pub all_by_fails : (t : Entry → Bool) (es : List Entry) (j : ℕ) (e : Entry) 
 all_by_fails t [] j e at fails = absurd (cc)
 all_by_fails t (x ∷ es) zero e at fails =
     let s : x ≡ e = cc in
-    tested (all_by t (x ∷ es)) (λ all. let here = all_first (t x) (all_by t es) all in let same = ap t s in cc)
-  where
-    all_first : (a b : Bool) → (a && b) ≡ true → a ≡ true
-    all_first true b e = refl
-    all_first false b e = absurd (cc)
-all_by_fails t (x ∷ es) (suc j) e at fails = no_rest (t x) (all_by t es) (all_by_fails t es j e at fails)
-  where
-    no_rest : (a b : Bool) → b ≡ false → (a && b) ≡ false
-    no_rest true b e = e
-    no_rest false b e = refl
+    false_from_ne_true (all_by t (x ∷ es)) (λ all. let here = (and_parts (t x) (all_by t es) all).0 in let same = ap t s in cc)
+all_by_fails t (x ∷ es) (suc j) e at fails = and_right (t x) (all_by t es) (all_by_fails t es j e at fails)
 
 pub no_child : (es : List Entry) (j : ℕ) (e : Entry) → slice_get es j ≡ Some e → (length e.1 ≡ 4 → ⊥) → all_by is_bound es ≡ false
-no_child es j e at long = all_by_fails is_bound es j e at (ap (λ b. b && is_upto (length e.0) 602) (other (length e.1) long))
-  where
-    other : (n : ℕ) → (n ≡ 4 → ⊥) → nat_eq n 4 ≡ false
-    other n h = grind (arith, nat_tests)
+no_child es j e at long = all_by_fails is_bound es j e at (ap (λ b. b && is_upto (length e.0) 602) (ne_eqb (length e.1) 4 long))

@@ -8,7 +8,7 @@ use Rattle.std.proofs.lemmas.Map.Text.{is_eq-slice_cmp}
 use Rattle.std.specs.declared.cmp.Ordering.{Ordering}
 use Rattle.std.specs.declared.cmp.Ordering.TheVariants.{Less, Equal, Greater}
 use Rattle.std.specs.Ordering.{is_eq}
-use Rattle.std.proofs.lemmas.Bool.{and_parts}
+use Rattle.std.proofs.lemmas.Bool.{and_parts, false_from_ne_true}
 use Rattle.std.proofs.lemmas.List.Sums.{sum_by-cons}
 use Rattle.sb_ctx.specs.View.{View}
 use Rattle.sb_node.specs.Entries.{Entry, key_cmp, place_of, size_of, sizes, without}
@@ -24,7 +24,7 @@ use Rattle.sb_btree.specs.declared.insertion.Put.TheVariants.{Kept, Done, Split}
 use Rattle.sb_btree.specs.declared.walk.Stop.{Stop}
 use Rattle.sb_btree.specs.declared.walk.Stop.TheVariants as stop
 use Rattle.sb_btree.proofs.Cutting.{cut_entries, found_there}
-use Rattle.sb_btree.proofs.Order.{same_key, tested}
+use Rattle.sb_btree.proofs.Order.{same_key}
 use Rattle.sb_btree.proofs.Reading.{all_says}
 use Rattle.sb_btree.proofs.Without.{apart_less, apart_more, same_bytes, without_every, without_later}
 
@@ -93,7 +93,7 @@ module _ (old new : View) (l page : ℕ) (bytes key value : List ℕ) (i : ℕ) 
 
   was_no_page : is_page l (Some (with_entries (without i (node_in bytes).entries) (node_in bytes))) ≡ false → is_page l (Some (node_in bytes)) ≡ false
   was_no_page wrong =
-      tested (is_page l (Some (node_in bytes))) (λ is.
+      false_from_ne_true (is_page l (Some (node_in bytes))) (λ is.
       let both = and_parts (is_of_level l (node_in bytes).head) (all_by (cond (nat_eq l 0) is_small is_bound) (node_in bytes).entries) is in
       true≢false (sym ((λ t. both.0 t && all_without (cond (nat_eq l 0) is_small is_bound) i (node_in bytes).entries both.1 t)) ∙ wrong))
 

@@ -1,6 +1,7 @@
 -- From a walk over nodes to one over the pages of an instance.
 use Rattle.std.proofs.Common.{◌≡◌, ℕ, Bool, true, cond, List, Option, Some, None, IsSome, refl, ap, sym, ◌∙◌, subst, true≢false}
 use Rattle.std.specs.Prelude.{nat_eq, Err}
+use Rattle.std.proofs.lemmas.Bool.{eq-eqb}
 use Rattle.sb_forms.specs.Pages.{Pages}
 use Rattle.sb_ctx.specs.View.{View, HeldPages, page_of, stored}
 use Rattle.sb_ctx.proofs.ViewLaws.{stored-page}
@@ -15,7 +16,7 @@ use Rattle.sb_btree.specs.declared.walk.Stop.{Stop}
 use Rattle.sb_btree.specs.declared.walk.Stop.TheVariants as stop
 use Rattle.sb_btree.specs.declared.walk.Walk.{Walk}
 use Rattle.sb_btree.specs.declared.walk.Walk.TheVariants.{Ready, Need, Fresh, Broken, NoMemory}
-use Rattle.sb_btree.proofs.Reading.{eq_says, read_root}
+use Rattle.sb_btree.proofs.Reading.{read_root}
 use Rattle.sb_btree.proofs.Whole.{root_whole}
 
 -- the nodes of the stored pages have those that are held
@@ -70,7 +71,7 @@ pub no_root_breaks : (T : Type 0) (held : HeldPages) (root : ℕ) (s : Stop) →
 no_root_breaks T held root (stop.Need n) lacks = tt
 no_root_breaks T held root stop.Fresh lacks = tt
 no_root_breaks T held root (stop.Broken n) lacks =
-    ap (λ t. cond t (nat_eq root n) (breaks_below (level_of (held_node (held root))) held root n)) lacks.1 ∙ (eq_says root n).1 (sym lacks.0)
+    ap (λ t. cond t (nat_eq root n) (breaks_below (level_of (held_node (held root))) held root n)) lacks.1 ∙ eq-eqb root n (sym lacks.0)
 no_root_breaks T held root stop.NoMemory lacks = tt
 
 no_root : (c : View) (P : Pages) (root : ℕ) (es : List Entry) → is_no_root (page_of c root) ≡ true → read_tree root (stored c P) ≡ Some es → ⊥

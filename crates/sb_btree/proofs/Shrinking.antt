@@ -2,6 +2,7 @@
 use Rattle.std.proofs.Common.{◌≡◌, ℕ, suc, ◌<◌, true, false, cond, List, [], ◌∷◌, ◌++◌, length, Option, Some, None, refl, ap, sym, ◌∙◌, subst, inl, inr, ◌⊎◌, true≢false}
 use Rattle.std.specs.Prelude.{nat_eq}
 use Rattle.std.proofs.lemmas.List.{append-nil}
+use Rattle.std.proofs.lemmas.Bool.{cases_eq, eqb-true, eq-eqb}
 use Rattle.sb_forms.specs.Pages.{Pages}
 use Rattle.sb_ctx.specs.View.{View, dropped, stored}
 use Rattle.sb_node.specs.Entries.{Entry}
@@ -11,7 +12,6 @@ use Rattle.sb_forms.specs.Read.{has}
 use Rattle.sb_btree.specs.Became.{Became}
 use Rattle.sb_btree.specs.Inserts.{IsFree, WereFree}
 use Rattle.sb_btree.specs.Removes.{Shrinks}
-use Rattle.sb_btree.proofs.Reading.{eq_says}
 use Rattle.sb_btree.proofs.Members.{has_left, has_right, has_is, is_has}
 use Rattle.sb_btree.proofs.Frames.{all_same, same_children, same_over_items, same_over_met, some_child, met_node}
 use Rattle.sb_btree.proofs.Writing.{write_one, write_two, goes_between}
@@ -28,12 +28,6 @@ is_or_not x xs = elim (has x xs) as (λ b. has x xs ≡ b → Has x xs ⊎ (Has 
   | false ↦ λ e. inr (λ h. true≢false (sym (is_has x xs h) ∙ e))
 ] refl
 
-pub same_or_not : (x y : ℕ) → (x ≡ y) ⊎ (x ≡ y → ⊥)
-same_or_not x y = elim (nat_eq x y) as (λ b. nat_eq x y ≡ b → (x ≡ y) ⊎ (x ≡ y → ⊥)) [
-  | true ↦ λ e. inl ((eq_says x y).0 e)
-  | false ↦ λ e. inr (λ h. true≢false (sym ((eq_says x y).1 h) ∙ e))
-] refl
-
 -- a list without one page
 pub but : ℕ → List ℕ → List ℕ
 but r [] = []
@@ -44,7 +38,7 @@ unfolding but
 but_either r x [] h = absurd h
 but_either r x (y ∷ xs) h =
     elim (nat_eq y r) as (λ b. nat_eq y r ≡ b → (x ≡ r) ⊎ Has x (cond b (but r xs) (y ∷ but r xs))) [
-      | true ↦ λ e. elim h [ inl s ↦ inl (s ∙ (eq_says y r).0 e) | inr g ↦ but_either r x xs g ]
+      | true ↦ λ e. elim h [ inl s ↦ inl (s ∙ eqb-true y r e) | inr g ↦ but_either r x xs g ]
       | false ↦ λ e. elim h [ inl s ↦ inr (inl s) | inr g ↦ elim (but_either r x xs g) [ inl s ↦ inl s | inr k ↦ inr (inr k) ] ]
     ] refl
 
@@ -55,7 +49,7 @@ but_says r x (y ∷ xs) h =
     elim (nat_eq y r) as (λ b. nat_eq y r ≡ b → Has x (cond b (but r xs) (y ∷ but r xs)) → Has x (y ∷ xs) × (x ≡ r → ⊥)) [
       | true ↦ λ e g. let rest = but_says r x xs g in (inr rest.0, rest.1)
       | false ↦ λ e g. elim g [
-        | inl s ↦ (inl s, λ is. true≢false (sym ((eq_says y r).1 (sym s ∙ is)) ∙ e))
+        | inl s ↦ (inl s, λ is. true≢false (sym (eq-eqb y r (sym s ∙ is)) ∙ e))
         | inr k ↦ (let rest = but_says r x xs k in (inr rest.0, rest.1))
       ]
     ] refl h
@@ -74,23 +68,6 @@ unmet l N high ks x order none h = some_child l N x (λ q t g. met_node l N q x 
 
 pub own_met : (l : ℕ) (N : Nodes) (p : ℕ) → Has p (met l N p)
 own_met l N p = subst (Has p) (sym (met_first l N p)) (inl refl)
-
--- ---- the same of other pages
--- pages that aren't met change, or those that are given back
-pub became_so : (l : ℕ) (P R Q : Pages) (old : List ℕ) (start high : Option (List ℕ)) (now : List Child) (want : List Entry) (fresh freed : List ℕ) → Became l P R old start high now want fresh freed
-    → ((x : ℕ) → Has x (over (met l (nodes R)) now) → Q x ≡ R x) → ((x : ℕ) → (Has x old → ⊥) → (Has x fresh → ⊥) → Q x ≡ R x) → Became l P Q old start high now want fresh freed
-became_so l P R Q old start high now want fresh freed b same others =
-    let kids = all_same l (nodes R) (nodes Q) now (λ x h. ap node_of (same x h)) in
-    let pages = same_over_met l (nodes R) (nodes Q) now kids in
-    record {
-      in_order = same_children l (nodes R) (nodes Q) high now kids b.in_order;
-      starts = b.starts;
-      entries = same_over_items l (nodes R) (nodes Q) now kids ∙ b.entries;
-      apart = subst Apart (sym pages) b.apart;
-      from = λ x h. b.from x (subst (Has x) pages h);
-      to = λ x h. elim (b.to x h) [ inl m ↦ inl (subst (Has x) (sym pages) m) | inr g ↦ inr g ];
-      keeps = λ x o f. others x o f ∙ b.keeps x o f;
-    }
 
 pub became_freed : (l : ℕ) (P Q : Pages) (old : List ℕ) (start high : Option (List ℕ)) (now : List Child) (want : List Entry) (fresh freed freed' : List ℕ) → Became l P Q old start high now want fresh freed
     → ((x : ℕ) → Has x freed → Has x (over (met l (nodes Q)) now) ⊎ Has x freed') → Became l P Q old start high now want fresh freed'
@@ -194,7 +171,7 @@ page_none m old mid new P q low high top start k want olds olds' more split mine
       fresh = s.fresh;
       freed = q ∷ s.freed;
       were_free = s.were_free;
-      are_gone = λ x f. elim f [ inl e ↦ ap (stored new P) e ∙ gone | inr g ↦ elim (same_or_not x q) [ inl e ↦ ap (stored new P) e ∙ gone | inr ne ↦ writes x ne ∙ s.are_gone x g ] ];
+      are_gone = λ x f. elim f [ inl e ↦ ap (stored new P) e ∙ gone | inr g ↦ elim (cases_eq x q) [ inl e ↦ ap (stored new P) e ∙ gone | inr ne ↦ writes x ne ∙ s.are_gone x g ] ];
       became = record {
         in_order = (child, w, goes_between low high (items m (nodes (stored new P)) k.1) (tree_some m (nodes (stored new P)) k.1 child.0 child.1) w, tt);
         starts = upto_self (Some low);

@@ -1,7 +1,7 @@
 -- Each end of a removal, for all pages in which the key's place is in a tree: at a leaf, and over a child that stayed, is emptied or became two.
 use Rattle.std.proofs.Common.{◌≡◌, ℕ, suc, ◌+◌, ◌-◌, ◌<◌, ◌≤◌, List, [], ◌∷◌, ◌++◌, length, map, Option, Some, None, IsSome, refl, ap, sym, ◌∙◌, subst, inl, inr, arith, true≢false, option_map, ◌==◌, ne_eqb}
 use Rattle.std.specs.Prelude.{Result, Ok, Err}
-use Rattle.std.proofs.lemmas.List.{length-map}
+use Rattle.std.proofs.lemmas.List.{length-map, nil_from_length}
 use Rattle.std.specs.FinMap.Entries.{find, put}
 use Rattle.sb_ctx.specs.View.{HeldPage}
 use Rattle.sb_forms.specs.Pages.{Pages}
@@ -9,6 +9,7 @@ use Rattle.sb_ctx.specs.View.{View, held_at, page_of, with_page, dropped, stored
 use Rattle.sb_ctx.proofs.HeldLaws.{page_in-bytes_put}
 use Rattle.sb_ctx.specs.Held.{with_bytes}
 use Rattle.std.proofs.lemmas.Bool.{cond-false}
+use Rattle.sb_value.proofs.Truths.{some_none}
 use Rattle.sb_ctx.proofs.ViewLaws.{page_of-same, stored-same, stored-other, stored_by}
 use Rattle.sb_node.specs.Entries.{key_cmp, without}
 use Rattle.sb_node.specs.Page.{Node, node_of, with_entries}
@@ -29,7 +30,7 @@ use Rattle.sb_btree.proofs.Descending.{inner_page}
 use Rattle.sb_btree.proofs.Reading.{all_says, bound_says}
 use Rattle.sb_btree.proofs.Inserting.{one_leaf}
 use Rattle.sb_btree.proofs.Splitting.{head_of, kids_grown}
-use Rattle.sb_btree.proofs.Without.{no_items, without_all}
+use Rattle.sb_btree.proofs.Without.{without_all}
 use Rattle.sb_btree.proofs.Shrinking.{own_met}
 use Rattle.sb_btree.proofs.Taking.{PlacedAt, kids, choice, items_is, is_inner, apart, was, find_is, whole_kid, parent_one, parent_none, without_within, into, out_of, within}
 use Rattle.sb_btree.proofs.Entered.{put_pages, put_short, put_page, put_between}
@@ -135,10 +136,7 @@ module _ (l : ℕ) (old : View) (P : Pages) (page : ℕ) (key low : List ℕ) (h
   still mid now s = ap node_of (s.became.keeps page (apart l old P page key low high n at place).0 (λ f. was l old P page key low high n at place (free_node old P page (s.were_free page f)))) ∙ at
 
   pub has_node : (mid : View) (now : List Child) → Whole mid now → nodes (stored mid P) page ≡ None → ⊥
-  has_node mid now s none = some_none (sym (still mid now s) ∙ none)
-    where
-      some_none : Some n ≡ None → ⊥
-      some_none e = cc
+  has_node mid now s none = some_none n (sym (still mid now s) ∙ none)
 
   pub found : IsSome (find key_cmp key (items l (nodes (stored old P)) at_kid.kid.1)) → IsSome (find key_cmp key (items (suc l) (nodes (stored old P)) page))
   found h = subst (λ o. IsSome o) (sym (find_is l old P page key low high n at place)) h
@@ -174,7 +172,7 @@ module _ (l : ℕ) (old : View) (P : Pages) (page : ℕ) (key low : List ℕ) (h
   drop_takes mid next k ks Empty s list count held has h = absurd h
   drop_takes mid next k ks (Single g) s list count held has h =
       let n' = without_child (passed (Some key) n.entries) n in
-      let none : ks ≡ [] = no_items ks (omega (arith, count, h.0)) in
+      let none : ks ≡ [] = nil_from_length ks (omega (arith, count, h.0)) in
       let same : g ≡ k.1 = h.1 ∙ ap (λ (c : Child). c.1) (head_of _ _ _ _ list) in
       let there = wrote_held mid next page n' held h.2 in
       let lone = parent_none l old P page key low high n at place mid (with_page page [] next) k (subst (λ xs. Whole mid (k ∷ xs)) none s)

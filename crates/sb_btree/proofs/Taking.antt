@@ -3,13 +3,12 @@ use Rattle.std.proofs.Common.{◌≡◌, ℕ, suc, ◌<◌, true, false, cond, L
 use Rattle.std.proofs.lemmas.List.{append-nil}
 use Rattle.std.specs.FinMap.Entries.{find}
 use Rattle.sb_forms.specs.Pages.{Pages}
-use Rattle.sb_ctx.specs.View.{View, dropped, stored}
+use Rattle.sb_ctx.specs.View.{View, stored}
 use Rattle.sb_node.specs.Entries.{Entry, key_cmp, is_below}
 use Rattle.sb_node.specs.Page.{Node}
 use Rattle.sb_forms.specs.Tree.{nodes, Child, child_of, children_of, over, items, met, IsUnder, IsWithin, next_low, AreChildren, IsInner, IsChild, Has, Apart, child_in}
 use Rattle.sb_btree.specs.Became.{Became, IsPlace}
 use Rattle.sb_btree.specs.Held.{passed, nth_child}
-use Rattle.sb_btree.specs.Inserts.{IsFree}
 use Rattle.sb_btree.specs.Removes.{Shrinks, entries_without}
 use Rattle.sb_btree.proofs.Order.{AllLess, AllMore, above-first}
 use Rattle.sb_btree.proofs.Children.{over-append, next-append, AreChildren-left, AreChildren-right, children_below, less_before, more_after, tree_step}
@@ -18,7 +17,7 @@ use Rattle.sb_btree.proofs.Became.{splice}
 use Rattle.sb_btree.proofs.Passing.{child_passed}
 use Rattle.sb_btree.proofs.Halved.{free_node}
 use Rattle.sb_btree.proofs.Without.{without_at, without_all}
-use Rattle.sb_btree.proofs.Shrinking.{page_one, page_two, page_none}
+use Rattle.sb_btree.proofs.Shrinking.{page_one, page_none}
 
 -- the child in which a key stands, at its place among its neighbours
 pub record PlacedAt (key : List ℕ) (k : Child) (es : List Entry) (i : ℕ) : Type 0 where
@@ -159,18 +158,6 @@ module _ (l : ℕ) (old : View) (P : Pages) (page : ℕ) (key low : List ℕ) (h
       subst (λ es. Shrinks old new (suc l) P (met (suc l) (nodes (stored old P)) page) (Some low) high ((low, page) ∷ []) (entries_without key es)) (sym items_is)
       (page_one l old mid new P page low high None (Some []) k ks (entries_without key (over (items l (nodes (stored old P))) kids)) (over (met l (nodes (stored old P))) kids) (met (suc l) (nodes (stored old P)) page)
       into out_of here apart.0 was there s writes (subst (IsInner (suc l)) (sym is) inner) (ap children_of is ∙ list) some within)
-
-  -- the page is split over two
-  pub parent_two : (mid new : View) (r : ℕ) (k j : Child) (ks js : List Child) (n₁ n₂ : Node) → Shrinks old mid l P (over (met l (nodes (stored old P))) kids) (Some []) None ((k ∷ ks) ++ (j ∷ js)) (entries_without key (over (items l (nodes (stored old P))) kids))
-      → (nodes (stored mid P) page ≡ None → ⊥) → dropped mid ≡ dropped old → IsFree mid r
-      → ((x : ℕ) → (x ≡ page → ⊥) → (x ≡ r → ⊥) → stored new P x ≡ stored mid P x)
-      → nodes (stored new P) page ≡ Some n₁ → IsInner (suc l) (Some n₁) → ([], n₁.head.a) ∷ map child_of n₁.entries ≡ ([], k.1) ∷ ks → 0 < length ks
-      → nodes (stored new P) r ≡ Some n₂ → IsInner (suc l) (Some n₂) → ([], n₂.head.a) ∷ map child_of n₂.entries ≡ ([], j.1) ∷ js → 0 < length js
-      → Shrinks old new (suc l) P (met (suc l) (nodes (stored old P)) page) (Some low) high ((low, page) ∷ (j.0, r) ∷ []) (entries_without key (items (suc l) (nodes (stored old P)) page))
-  parent_two mid new r k j ks js n₁ n₂ s there given free writes is₁ inner₁ list₁ some₁ is₂ inner₂ list₂ some₂ =
-      subst (λ es. Shrinks old new (suc l) P (met (suc l) (nodes (stored old P)) page) (Some low) high ((low, page) ∷ (j.0, r) ∷ []) (entries_without key es)) (sym items_is)
-      (page_two l old mid new P page r low high None (Some []) k j ks js (entries_without key (over (items l (nodes (stored old P))) kids)) (over (met l (nodes (stored old P))) kids) (met (suc l) (nodes (stored old P)) page)
-      into out_of here apart.0 was there given free s writes (subst (IsInner (suc l)) (sym is₁) inner₁) (ap children_of is₁ ∙ list₁) some₁ (subst (IsInner (suc l)) (sym is₂) inner₂) (ap children_of is₂ ∙ list₂) some₂ within)
 
   -- one child is left, and the page is given back
   pub parent_none : (mid new : View) (k : Child) → Shrinks old mid l P (over (met l (nodes (stored old P))) kids) (Some []) None (k ∷ []) (entries_without key (over (items l (nodes (stored old P))) kids))

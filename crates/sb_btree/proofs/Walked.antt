@@ -5,6 +5,7 @@ use Rattle.sb_ctx.specs.View.{View, page_of, dropped, stored}
 use Rattle.sb_node.specs.declared.head.Head.{Head}
 use Rattle.sb_node.specs.Entries.{key_cmp}
 use Rattle.std.specs.FinMap.Entries.{is_sorted}
+use Rattle.std.proofs.lemmas.Bool.{or_right}
 use Rattle.sb_node.specs.Page.{node_in}
 use Rattle.sb_node.proofs.Edited.{node_of-form}
 use Rattle.sb_node.proofs.Sizes.{head_counts, T_from}
@@ -22,7 +23,7 @@ use Rattle.sb_btree.specs.declared.walk.Stop.{Stop}
 use Rattle.sb_btree.specs.declared.walk.Stop.TheVariants as stop
 use Rattle.sb_btree.specs.declared.walk.Walk.{Walk}
 use Rattle.sb_btree.specs.declared.walk.Walk.TheVariants.{Ready, Need, Fresh, Broken, NoMemory}
-use Rattle.sb_btree.proofs.Descending.{or_right, tree_amiss, entries_lead, find_step, shown}
+use Rattle.sb_btree.proofs.Descending.{tree_amiss, entries_lead, find_step, shown}
 use Rattle.sb_btree.proofs.Edits.{level_of_head}
 use Rattle.sb_btree.proofs.Halved.{held_some}
 use Rattle.sb_btree.proofs.Passing.{child_passed}

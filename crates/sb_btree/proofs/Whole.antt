@@ -1,7 +1,7 @@
 -- No page of a tree is amiss, and its ways are short.
 use Rattle.std.proofs.Common.{◌≡◌, ℕ, zero, suc, ◌≤◌, Bool, true, false, cond, ◌&&◌, List, [], ◌∷◌, ◌++◌, length, map, Option, Some, None, refl, ap, sym, ◌∙◌, subst, inl, inr, arith}
-use Rattle.std.specs.Prelude.{nat_eq, nat_lt, ◌||◌}
-use Rattle.std.proofs.lemmas.Bool.Decides.{nat_tests}
+use Rattle.std.specs.Prelude.{nat_eq, nat_lt}
+use Rattle.std.proofs.lemmas.Bool.{and_right, or_from, le-ltb}
 use Rattle.sb_ctx.specs.View.{HeldPages}
 use Rattle.sb_node.specs.Entries.{Entry, is_below}
 use Rattle.sb_node.specs.Page.{Node, node_of}
@@ -17,21 +17,13 @@ use Rattle.sb_btree.proofs.Descending.{tree_amiss}
 use Rattle.sb_btree.proofs.Members.{has_left, has_right, has_is, is_has}
 use Rattle.sb_btree.proofs.Reading.{read_root}
 
-pub and_no : (a b : Bool) → b ≡ false → (a && b) ≡ false
-and_no true b e = e
-and_no false b e = refl
-
-neither : (a b : Bool) → a ≡ false → b ≡ false → (a || b) ≡ false
-neither true b e f = absurd (cc)
-neither false b e f = f
-
 -- some of the nodes are held
 abbrev pub AreShown : HeldPages → Nodes → Type 0
 AreShown held N = (n : ℕ) (bytes : List ℕ) → held n ≡ Some bytes → N n ≡ node_of bytes
 
 any_child : (IsSo : ℕ → Type 0) (f : ℕ → List Entry) (t : ℕ → Bool) → ((c : ℕ) → IsSo c → t c ≡ false) → (high : Option (List ℕ)) (ks : List Child) → AreChildren IsSo f high ks → any_by (λ (child : Child). t child.1) ks ≡ false
 any_child IsSo f t never high [] h = refl
-any_child IsSo f t never high (k ∷ ks) h = neither (t k.1) (any_by (λ (child : Child). t child.1) ks) (never k.1 h.0) (any_child IsSo f t never high ks h.3)
+any_child IsSo f t never high (k ∷ ks) h = or_from (t k.1) (any_by (λ (child : Child). t child.1) ks) (never k.1 h.0) (any_child IsSo f t never high ks h.3)
 
 any_at : (l : ℕ) (N : Nodes) (t : ℕ → Bool) → ((c : ℕ) → IsChild l N c → t c ≡ false) → (o : Option Node) → AreChildren (IsChild l N) (items l N) None (children_of o) → any_by (λ (child : Child). t child.1) (children_at (suc l) o) ≡ false
 any_at l N t never None h = refl
@@ -47,17 +39,17 @@ any_held l N p t never tree None shows = refl
 any_held l N p t never tree (Some bytes) shows = any_at l N t never (node_of bytes) (subst (λ o. AreChildren (IsChild l N) (items l N) None (children_of o)) (shows bytes refl) tree.2)
 
 pub whole_below : (l : ℕ) (held : HeldPages) (N : Nodes) (p n : ℕ) → AreShown held N → IsTree l N p → breaks_below l held p n ≡ false
-whole_below zero held N p n shows tree = and_no (nat_eq p n) (is_amiss 0 (held p)) (tree_amiss 0 (held p) N p (shows p) tree)
+whole_below zero held N p n shows tree = and_right (nat_eq p n) (is_amiss 0 (held p)) (tree_amiss 0 (held p) N p (shows p) tree)
 whole_below (suc l) held N p n shows tree =
-    neither (nat_eq p n && is_amiss (suc l) (held p)) _
-    (and_no (nat_eq p n) (is_amiss (suc l) (held p)) (tree_amiss (suc l) (held p) N p (shows p) tree))
+    or_from (nat_eq p n && is_amiss (suc l) (held p)) _
+    (and_right (nat_eq p n) (is_amiss (suc l) (held p)) (tree_amiss (suc l) (held p) N p (shows p) tree))
     (any_held l N p (λ c. breaks_below l held c n) (λ c h. whole_below l held N c n shows h.0) tree (held p) (shows p))
 
 -- a page that isn't held breaks nothing
 unheld_whole : (l : ℕ) (held : HeldPages) (p n : ℕ) → held p ≡ None → breaks_below l held p n ≡ false
-unheld_whole zero held p n none = and_no (nat_eq p n) (is_amiss 0 (held p)) (ap (is_amiss 0) none)
+unheld_whole zero held p n none = and_right (nat_eq p n) (is_amiss 0 (held p)) (ap (is_amiss 0) none)
 unheld_whole (suc l) held p n none =
-    neither (nat_eq p n && is_amiss (suc l) (held p)) _ (and_no (nat_eq p n) (is_amiss (suc l) (held p)) (ap (is_amiss (suc l)) none))
+    or_from (nat_eq p n && is_amiss (suc l) (held p)) _ (and_right (nat_eq p n) (is_amiss (suc l) (held p)) (ap (is_amiss (suc l)) none))
     (ap (λ o. any_by (λ (child : Child). breaks_below l held child.1 n) (children_at (suc l) (held_node o))) none)
 
 -- ---- the root
@@ -67,10 +59,7 @@ some_node (suc l) N p t none = subst (IsInner (suc l)) none t.0
 
 shallow : (o : Option Node) → (o ≡ None → ⊥) → level_of o ≤ 16 → elim o as (λ x. Bool) [ None ↦ true | Some n ↦ nat_lt 16 n.head.level ] ≡ false
 shallow None some low = absurd (some refl)
-shallow (Some n) some low = below n.head.level low
-  where
-    below : (l : ℕ) → l ≤ 16 → nat_lt 16 l ≡ false
-    below l h = grind (arith, nat_tests)
+shallow (Some n) some low = le-ltb 16 n.head.level low
 
 pub root_whole : (N : Nodes) (root : ℕ) (held : Option (List ℕ)) → IsRoot N root → ((bytes : List ℕ) → held ≡ Some bytes → N root ≡ node_of bytes) → is_no_root held ≡ false
 root_whole N root None r shows = refl

@@ -19,10 +19,6 @@ use Rattle.sb_btree.proofs.Order.{AllLess, AllMore, same_key}
 use Rattle.sb_btree.proofs.Splitting.{tail_of, head_of}
 use Rattle.sb_btree.proofs.Inserting.{IsAt}
 
-pub no_items : {A : Type 0} (xs : List A) → length xs ≡ 0 → xs ≡ []
-no_items [] e = refl
-no_items (x ∷ xs) e = absurd (omega (arith, e))
-
 -- which keys stay
 abbrev stays : List ℕ → Entry → Bool
 stays key e = not (bytes_eq e.0 key)

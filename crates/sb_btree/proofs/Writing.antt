@@ -2,12 +2,13 @@
 use Rattle.std.proofs.Common.{◌≡◌, ℕ, suc, ◌<◌, true, false, List, [], ◌∷◌, ◌++◌, length, Option, Some, None, ap, sym, ◌∙◌, subst, inl, inr, ◌⊎◌, arith}
 use Rattle.std.specs.List.{AllByRecursion}
 use Rattle.std.proofs.lemmas.List.{append-nil}
+use Rattle.std.proofs.lemmas.Bool.{false_from_ne_true}
 use Rattle.sb_forms.specs.Pages.{Pages}
 use Rattle.sb_node.specs.Entries.{Entry, is_below}
 use Rattle.sb_node.specs.Page.{node_of}
 use Rattle.sb_forms.specs.Tree.{nodes, Child, children_of, over, items, met, IsWithin, GoesTo, IsInner, IsChild, Has, Apart}
 use Rattle.sb_btree.specs.Became.{Became}
-use Rattle.sb_btree.proofs.Order.{below-trans, upto-below, tested}
+use Rattle.sb_btree.proofs.Order.{below-trans, upto-below}
 use Rattle.sb_btree.proofs.Children.{over-append, AreChildren-left, AreChildren-right, children_above, children_below}
 use Rattle.sb_btree.proofs.Frames.{apart-both, both-apart, Same, all_same, same_children, same_over_items, same_over_met}
 use Rattle.sb_btree.proofs.Members.{has_left, has_right, has_either}
@@ -17,7 +18,7 @@ use Rattle.sb_btree.proofs.Became.{made, not_below_self, upto_self, within_left,
 -- ---- bounds that follow, since no child is empty
 
 pub below_not : (x y : List ℕ) → is_below x y ≡ true → is_below y x ≡ false
-below_not x y p = tested (is_below y x) (λ e. let a = below-trans x y x p e in let b = not_below_self x in cc)
+below_not x y p = false_from_ne_true (is_below y x) (λ e. let a = below-trans x y x p e in let b = not_below_self x in cc)
 
 pub goes_between : (low : List ℕ) (high : Option (List ℕ)) (es : List Entry) → 0 < length es → IsWithin low high es → GoesTo low high
 goes_between low high [] some h = absurd (omega arith)

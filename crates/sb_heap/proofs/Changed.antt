@@ -1,11 +1,10 @@
 -- What a delete and an insert leave.
-use Rattle.std.proofs.Common.{◌≡◌, ◌≢◌, ℕ, ◌+◌, ◌-◌, ◌<◌, ◌≤◌, ◌==◌, nat_le, Bool, true, false, true≢false, cond, not, List, [], ◌∷◌, length, Option, Some, None, IsSome, is_some, is_none, option_map, refl, ap, sym, ◌∙◌, subst, arith, inl, inr, ◌⊎◌, eq-eqb}
+use Rattle.std.proofs.Common.{◌≡◌, ◌≢◌, ℕ, ◌+◌, ◌-◌, ◌<◌, ◌≤◌, ◌==◌, Bool, true, false, true≢false, cond, not, List, [], ◌∷◌, length, Option, Some, None, IsSome, is_some, is_none, option_map, refl, ap, sym, ◌∙◌, subst, arith, inl, inr, ◌⊎◌, eq-eqb}
 use Rattle.std.specs.Prelude.{nat_eq, Ok}
 use Rattle.std.specs.List.{list_all}
 use Rattle.std.specs.Ordering.{is_eq}
 use Rattle.std.specs.FinMap.Entries.{put, find}
-use Rattle.std.proofs.lemmas.Bool.{and_parts, and_from}
-use Rattle.std.proofs.lemmas.Bool.Decides.{nat_tests}
+use Rattle.std.proofs.lemmas.Bool.{and_parts, and_from, eqb-true, le-leb}
 use Rattle.std.proofs.lemmas.List.Sums.{sum_by-cons}
 use Rattle.sb_value.specs.declared.schema.Column.{Column}
 use Rattle.sb_codec.specs.Tuples.{tuple_spelling}
@@ -38,7 +37,6 @@ use Rattle.sb_heap.specs.Answered.{IsPartedInto}
 use Rattle.sb_heap.specs.declared.insertion.Spot.{Spot}
 use Rattle.sb_heap.specs.declared.list.Turn.{Turn}
 use Rattle.sb_heap.specs.declared.list.Turn.TheVariants.{Joins, Leaves}
-use Rattle.sb_heap.proofs.Lists.{nat_same}
 use Rattle.sb_heap.proofs.Slots.{cut_entries, entry_within, length-without, entries_without, all_without, found_at, put_some, tie}
 use Rattle.sb_heap.proofs.Standing.{Heap, room_at}
 use Rattle.sb_heap.proofs.Rows.{rows_in}
@@ -111,14 +109,11 @@ Changes-cut inst old new key page slot bytes head i clean a some r = record {
   spends = λ ctx P part rows before. record { path = tt; room = tt; edits = within_cost inst (call.Delete key) old new (deleting inst key) clean (r.made.given ∙ clean) (omega (arith, r.made.edits)) ctx P part rows };
 }
   where
-    no_length : {A : Type 0} (xs : List A) → xs ≡ [] → length xs ≡ 0
-    no_length xs is = ap length is
-
     one_only : without i (node_in bytes).entries ≡ [] → head.count ≡ 1
     one_only none =
         let within = entry_within bytes slot i a.held.form a.place in
         let counted : head.count ≡ length (node_in bytes).entries = ap (λ (h : Head). h.count) a.held.head_is ∙ (head_counts bytes a.held.form).count in
-        omega (arith, counted, length-without i (node_in bytes).entries (subst (λ n. i < n) (head_counts bytes a.held.form).count within), no_length (without i (node_in bytes).entries) none)
+        omega (arith, counted, length-without i (node_in bytes).entries (subst (λ n. i < n) (head_counts bytes a.held.form).count within), ap length none)
 
 -- the page goes with its only row
 pub Changes-dropped : (inst : Instance) (old new : View) (key : Key) (page : ℕ) (slot bytes : List ℕ) (head : Head) (i : ℕ) → dropped old ≡ old → IsAtPlace old key page slot bytes head i → page ≢ inst.root → head.count ≡ 1
@@ -146,11 +141,8 @@ Changes-dropped inst old new key page slot bytes head i clean a other count r = 
   spends = λ ctx P part rows before. record { path = tt; room = tt; edits = within_cost inst (call.Delete key) old new (deleting inst key) clean (r.made.given ∙ clean) (omega (arith, r.made.edits)) ctx P part rows };
 }
   where
-    le_test : (a : ℕ) → a ≤ 1006 → nat_le 1006 (4072 - a) ≡ true
-    le_test a less = grind (arith, nat_tests, less)
-
     one_roomy : (schema : List Column) (x : Node) → list_all (is_record schema) x.entries ≡ true → length x.entries ≡ 1 → x.head.used ≡ sizes x.entries → has_room x ≡ true
-    one_roomy schema x records one used = le_test x.head.used (by x.entries records one used)
+    one_roomy schema x records one used = let low = by x.entries records one used in le-leb 1006 (4072 - x.head.used) (omega (arith, low))
       where
         by : (es : List Entry) → list_all (is_record schema) es ≡ true → length es ≡ 1 → x.head.used ≡ sizes es → x.head.used ≤ 1006
         by [] records one used = absurd (omega (arith, one))
@@ -158,7 +150,7 @@ Changes-dropped inst old new key page slot bytes head i clean a other count r = 
             let parts = and_parts (is_record schema e) true records in
             let both = and_parts (nat_eq (length e.0) 2) (is_row_in schema e.1) parts.0 in
             let size : sizes (e ∷ []) ≡ size_of e + sizes [] = sum_by-cons size_of e [] in
-            omega (arith, used, size, nat_same (length e.0) 2 both.0, short_row schema e.1 both.1)
+            omega (arith, used, size, eqb-true (length e.0) 2 both.0, short_row schema e.1 both.1)
         by (e ∷ d ∷ es) records one used = absurd (omega (arith, one))
 
     none_left : (es : List Entry) (value : List ℕ) → length es ≡ 1 → find key_cmp slot es ≡ Some value → entries_without slot es ≡ []

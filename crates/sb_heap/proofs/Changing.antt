@@ -1,8 +1,8 @@
 -- What the changes of the box answer.
-use Rattle.std.proofs.Common.{◌≡◌, ◌≢◌, ℕ, ◌+◌, ◌<◌, ◌≤◌, ◌==◌, Bool, true, false, true≢false, cond, not, ◌&&◌, List, [], ◌∷◌, ◌++◌, length, Option, Some, None, IsSome, is_some, option_map, refl, ap, sym, ◌∙◌, subst, arith, inl, inr, ◌⊎◌}
+use Rattle.std.proofs.Common.{◌≡◌, ◌≢◌, ℕ, ◌+◌, ◌<◌, ◌≤◌, Bool, true, false, true≢false, cond, not, ◌&&◌, List, [], ◌∷◌, ◌++◌, length, Option, Some, None, IsSome, is_some, option_map, refl, ap, sym, ◌∙◌, subst, arith, inl, inr, ◌⊎◌}
 use Rattle.std.specs.Prelude.{nat_eq, nat_lt, ◌||◌, Err}
 use Rattle.std.specs.FinMap.Entries.{find}
-use Rattle.std.proofs.lemmas.Bool.{and_from, ltb-true, ltb-false}
+use Rattle.std.proofs.lemmas.Bool.{and_from, ltb-true, ltb-false, eqb-true, ne_eqb, eq-eqb}
 use Rattle.sb_bytes.specs.Field.{number_at}
 use Rattle.sb_value.specs.declared.schema.Column.{Column}
 use Rattle.sb_relation.specs.Db.{Key, Row, Rows, row_at}
@@ -29,7 +29,7 @@ use Rattle.sb_heap.specs.Spots.{ReplaceStops, SpotStops, TurnStops, spot_pages}
 use Rattle.sb_heap.specs.Answered.{IsPartedInto, question_of}
 use Rattle.sb_heap.specs.declared.stop.Stop.{Stop}
 use Rattle.sb_heap.specs.declared.stop.Stop.TheVariants as stop
-use Rattle.sb_heap.proofs.Lists.{nat_same, nat_other, has_here, has_later, has_back, has_front, linked_parts}
+use Rattle.sb_heap.proofs.Lists.{has_here, has_later, has_back, has_front, linked_parts}
 use Rattle.sb_heap.proofs.Slots.{none_at}
 use Rattle.sb_heap.proofs.Rows.{rows_past, other_length}
 use Rattle.sb_heap.proofs.Formed.{Formed, core, formed, bare_node}
@@ -52,7 +52,7 @@ has_of : (n m : ℕ) (ms : List ℕ) → has n (m ∷ ms) ≡ true → (n ≡ m)
 has_of n m ms is = by (nat_eq n m) refl is
   where
     by : (b : Bool) → nat_eq n m ≡ b → (b || has n ms) ≡ true → (n ≡ m) ⊎ (has n ms ≡ true)
-    by true same e = inl (nat_same n m same)
+    by true same e = inl (eqb-true n m same)
     by false other e = inr e
 
 first_held : (old : View) (P : Pages) (root n : ℕ) → dropped old ≡ old → HoldsPart old P → n ≡ first_of (held_node (page_of old root)) → n ≢ 0 → n ≡ first_of (nodes P root)
@@ -73,13 +73,10 @@ in_front : (root : ℕ) (P : Pages) (n : ℕ) → n ≡ first_of (nodes P root) 
 in_front root P n is = has_later n root (first_of (nodes P root) ∷ after_of (nodes P (first_of (nodes P root))) ∷ []) (ap (λ m. has n (m ∷ after_of (nodes P (first_of (nodes P root))) ∷ [])) (sym is) ∙ has_here n (after_of (nodes P (first_of (nodes P root))) ∷ []))
 
 pub path_from : (n : ℕ) (pages : List ℕ) → n ≢ 0 → has n pages ≡ true → (not (nat_eq n 0) && has n pages) ≡ true
-path_from n pages some had = and_from (not (nat_eq n 0)) (has n pages) (ap not (nat_other n 0 some)) had
+path_from n pages some had = and_from (not (nat_eq n 0)) (has n pages) (ap not (ne_eqb n 0 some)) had
 
 pub own_page_is : (key : Key) (page : ℕ) (slot : List ℕ) → IsPartedInto key page slot → key_page key ≡ page ∷ []
-own_page_is key page slot parts = ap (λ b. cond b (number_at 4 key 0 ∷ []) []) (six (length key) parts.six) ∙ ap (λ m. m ∷ []) (sym parts.page_is)
-  where
-    six : (l : ℕ) → l ≡ 6 → (l == 6) ≡ true
-    six l is = ap (λ m. m == 6) is
+own_page_is key page slot parts = ap (λ b. cond b (number_at 4 key 0 ∷ []) []) (eq-eqb (length key) 6 parts.six) ∙ ap (λ m. m ∷ []) (sym parts.page_is)
 
 -- the pages of a delete or of an update
 abbrev change_pages : ℕ → Pages → Key → List ℕ

@@ -2,9 +2,10 @@
 use Rattle.std.proofs.Common.{◌≡◌, ◌≢◌, ℕ, zero, suc, ◌+◌, ◌<◌, ◌≤◌, ◌==◌, Bool, true, false, true≢false, cond, not, ◌&&◌, List, [], ◌∷◌, ◌++◌, length, filter, Option, Some, None, IsSome, is_some, refl, ap, sym, ◌∙◌, subst, arith, eqb-true, ne_eqb}
 use Rattle.std.specs.Prelude.{nat_eq, nat_lt, ◌||◌}
 use Rattle.std.specs.List.{AllByRecursion, IsDistinct, list_all, list_any, flat_map, range_with_len}
-use Rattle.std.proofs.lemmas.Bool.{and_parts, and_from, ltb-true, ltb-false, not-true}
-use Rattle.std.proofs.lemmas.Option.{same_Some}
+use Rattle.std.proofs.lemmas.Bool.{and_parts, and_from, ltb-true, ltb-false, not-true, eq-eqb, not-false}
+use Rattle.std.proofs.lemmas.Option.{cond_some}
 use Rattle.std.proofs.lemmas.Map.Steps.{length-le_from_distinct_below}
+use Rattle.std.proofs.lemmas.List.{nil_from_length}
 use Rattle.sb_value.specs.declared.schema.Column.{Column}
 use Rattle.sb_relation.specs.Db.{Rows}
 use Rattle.sb_relation.specs.Fits.{is_empty}
@@ -13,7 +14,7 @@ use Rattle.sb_forms.specs.Pages.{Pages, ArePages, page_numbers}
 use Rattle.sb_forms.specs.Tree.{Nodes, nodes, entries_of, level_of}
 use Rattle.sb_forms.specs.Read.{has, is_apart}
 use Rattle.sb_forms.specs.HeapPages.{has_room, is_record, is_heap_page, first_of, after_of, first_page, list_from, room_list, are_linked, are_listed, is_room_list, is_page_of, is_heap, heap_rows, rows_on}
-use Rattle.sb_heap.proofs.Lists.{nat_same, nat_equal, nat_other, has_here, has_later, apart_first, has_not, linked_parts, not_had}
+use Rattle.sb_heap.proofs.Lists.{has_here, has_later, apart_first, has_not, linked_parts}
 use Rattle.sb_heap.proofs.Standing.{Heap, kind_of, room_at}
 use Rattle.sb_heap.proofs.Rows.{rows_in}
 
@@ -23,7 +24,7 @@ each_passes q [] n all is = absurd (true≢false (sym is))
 each_passes q (x ∷ xs) n all is =
     let parts = and_parts (q x) (list_all q xs) all in
     elim (nat_eq n x) as (λ b. nat_eq n x ≡ b → (b || has n xs) ≡ true → q n ≡ true) [
-      | true ↦ λ same e. subst (λ m. q m ≡ true) (sym (nat_same n x same)) parts.0
+      | true ↦ λ same e. subst (λ m. q m ≡ true) (sym (eqb-true n x same)) parts.0
       | false ↦ λ other e. each_passes q xs n parts.1 e
     ] refl is
 
@@ -38,7 +39,7 @@ has_kept p low (suc len) n is = by (filter p (range_with_len (low + 1) len)) (λ
   where
     by : (F : List ℕ) → (has n F ≡ true → (low ≤ n) × (n < low + suc len) × (p n ≡ true)) → (b : Bool) → p low ≡ b → has n (cond b (low ∷ F) F) ≡ true → (low ≤ n) × (n < low + suc len) × (p n ≡ true)
     by F rest true passes e = elim (nat_eq n low) as (λ b. nat_eq n low ≡ b → (b || has n F) ≡ true → (low ≤ n) × (n < low + suc len) × (p n ≡ true)) [
-      | true ↦ λ same e. let s = nat_same n low same in (omega (arith, s), omega (arith, s), ap p s ∙ passes)
+      | true ↦ λ same e. let s = eqb-true n low same in (omega (arith, s), omega (arith, s), ap p s ∙ passes)
       | false ↦ λ other e. rest e
     ] refl e
     by F rest false fails e = rest e
@@ -46,16 +47,13 @@ has_kept p low (suc len) n is = by (filter p (range_with_len (low + 1) len)) (λ
 kept_has : (p : ℕ → Bool) (low len n : ℕ) → low ≤ n → n < low + len → p n ≡ true → has n (filter p (range_with_len low len)) ≡ true
 kept_has p low zero n from to passes = absurd (omega (arith, from, to))
 kept_has p low (suc len) n from to passes =
-    by (filter p (range_with_len (low + 1) len)) (λ other. kept_has p (low + 1) len n (next low n from other) (omega (arith, to)) passes) (nat_eq n low) refl (p low) refl
+    by (filter p (range_with_len (low + 1) len)) (λ other. kept_has p (low + 1) len n (omega (arith, from, other)) (omega (arith, to)) passes) (nat_eq n low) refl (p low) refl
   where
-    next : (a b : ℕ) → a ≤ b → b ≢ a → a + 1 ≤ b
-    next a b from other = omega arith
-
     by : (F : List ℕ) → (n ≢ low → has n F ≡ true) → (t : Bool) → nat_eq n low ≡ t → (b : Bool) → p low ≡ b → has n (cond b (low ∷ F) F) ≡ true
     by F later true same true is = ap (λ t. t || has n F) same
-    by F later true same false is = absurd (true≢false (sym passes ∙ ap p (nat_same n low same) ∙ is))
-    by F later false other true is = has_later n low F (later (λ e. true≢false (sym (nat_equal n low e) ∙ other)))
-    by F later false other false is = later (λ e. true≢false (sym (nat_equal n low e) ∙ other))
+    by F later true same false is = absurd (true≢false (sym passes ∙ ap p (eqb-true n low same) ∙ is))
+    by F later false other true is = has_later n low F (later (λ e. true≢false (sym (eq-eqb n low e) ∙ other)))
+    by F later false other false is = later (λ e. true≢false (sym (eq-eqb n low e) ∙ other))
 
 pub page_had : (P : Pages) (n : ℕ) → has n (page_numbers P) ≡ true → (n < 65536) × (is_empty (P n) ≡ false)
 unfolding page_numbers
@@ -87,7 +85,7 @@ some_bytes P n is = by (is_empty (P n)) refl
 -- ---- the list by its links
 first_from : (most : ℕ) (N : Nodes) (p : ℕ) → first_page (list_from (suc most) N p) ≡ p
 first_from most N p = elim (nat_eq p 0) as (λ b. nat_eq p 0 ≡ b → first_page (cond b [] (p ∷ list_from most N (after_of (N p)))) ≡ p) [
-  | true ↦ λ none. sym (nat_same p 0 none)
+  | true ↦ λ none. sym (eqb-true p 0 none)
   | false ↦ λ some. refl
 ] refl
 
@@ -101,7 +99,7 @@ list_is zero N p (n ∷ ns) linked some few = absurd (omega (arith, few))
 list_is (suc most) N p [] linked some few = refl
 list_is (suc most) N p (n ∷ ns) linked some few =
     let parts = linked_parts N p n ns linked in
-    ap (λ b. cond b [] (n ∷ list_from most N (after_of (N n)))) (nat_other n 0 (some n (has_here n ns)))
+    ap (λ b. cond b [] (n ∷ list_from most N (after_of (N n)))) (ne_eqb n 0 (some n (has_here n ns)))
     ∙ ap (λ (l : List ℕ). n ∷ l) (ap (list_from most N) parts.after ∙ list_is most N n ns parts.rest (λ m had. some m (has_later m n ns had)) (omega (arith, few)))
 
 -- numbers that stand apart below a bound are no more than it
@@ -117,7 +115,7 @@ distinct (x ∷ xs) apart = let parts = apart_first x xs apart in (none_same x x
 any_has : (q : ℕ) (xs : List ℕ) → list_any (λ x. q == x) xs ≡ true → has q xs ≡ true
 any_has q [] is = absurd (true≢false (sym is))
 any_has q (x ∷ xs) is = elim (q == x) as (λ t. (q == x) ≡ t → (t || list_any (λ x. q == x) xs) ≡ true → has q (x ∷ xs) ≡ true) [
-  | true ↦ λ same e. ap (λ b. b || has q xs) (nat_equal q x (eqb-true q x same))
+  | true ↦ λ same e. ap (λ b. b || has q xs) (eq-eqb q x (eqb-true q x same))
   | false ↦ λ other e. has_later q x xs (any_has q xs e)
 ] refl is
 
@@ -141,18 +139,10 @@ rows_kept f p (x ∷ xs) none = elim (p x) as (λ b. p x ≡ b → flat_map f (c
 
 pub all_rows : (P : Pages) → flat_map (rows_on (nodes P)) (page_numbers P) ≡ rows_in (nodes P) 0 65536
 unfolding page_numbers
-all_rows P = rows_kept (rows_on (nodes P)) (λ n. not (is_empty (P n))) (range_with_len 0 65536) (λ n none. ap (λ (o : Option Node). none_on n o) (bare_node (P n) (no_bytes (P n) (un_not (is_empty (P n)) none))))
+all_rows P = rows_kept (rows_on (nodes P)) (λ n. not (is_empty (P n))) (range_with_len 0 65536) (λ n none. ap (λ (o : Option Node). none_on n o) (bare_node (P n) (no_bytes (P n) (not-false (is_empty (P n)) none))))
   where
     none_on : ℕ → Option Node → Rows
     none_on n o = rows_on (λ m. o) n
-
-    un_not : (b : Bool) → not b ≡ false → b ≡ true
-    un_not true e = refl
-    un_not false e = absurd (true≢false e)
-
-some_of : {X : Type 0} (t : Bool) (x y : X) → cond t (Some x) None ≡ Some y → (t ≡ true) × (x ≡ y)
-some_of true x y is = (refl, same_Some x y is)
-some_of false x y is = absurd (cc)
 
 -- what is so of a page that is one of the heap
 pub record IsPage (root : ℕ) (schema : List Column) (n : ℕ) (o : Option Node) : Type 0 where
@@ -167,7 +157,7 @@ page_is : (root : ℕ) (schema : List Column) (N : Nodes) (n : ℕ) → is_page_
 page_is root schema N n is =
     let two = and_parts (not (nat_eq n 0) && is_heap_page schema (N n)) (cond (nat_eq n root) true (not (nat_eq (length (entries_of (N n))) 0))) is in
     let one = and_parts (not (nat_eq n 0)) (is_heap_page schema (N n)) two.0 in
-    by (N n) (λ e. true≢false (sym (nat_equal n 0 e) ∙ not_had (nat_eq n 0) one.0)) one.1 two.1
+    by (N n) (λ e. true≢false (sym (eq-eqb n 0 e) ∙ not-true (nat_eq n 0) one.0)) one.1 two.1
   where
     by : (o : Option Node) → n ≢ 0 → is_heap_page schema o ≡ true → cond (nat_eq n root) true (not (nat_eq (length (entries_of o)) 0)) ≡ true → IsPage root schema n o
     by None some heap rows = absurd (true≢false (sym heap))
@@ -177,47 +167,37 @@ page_is root schema N n is =
         record {
           some = some;
           there = refl;
-          kind = nat_same x.head.kind 1 a.0;
-          level = nat_same x.head.level (cond (has_room x) 1 0) a.1;
+          kind = eqb-true x.head.kind 1 a.0;
+          level = eqb-true x.head.level (cond (has_room x) 1 0) a.1;
           records = b.1;
-          rows = λ other none. true≢false (sym (nat_equal (length x.entries) 0 (ap length none)) ∙ not_had (nat_eq (length x.entries) 0) (sym (ap (λ t. cond t true (not (nat_eq (length x.entries) 0))) (nat_other n root other)) ∙ rows));
+          rows = λ other none. true≢false (sym (eq-eqb (length x.entries) 0 (ap length none)) ∙ not-true (nat_eq (length x.entries) 0) (sym (ap (λ t. cond t true (not (nat_eq (length x.entries) 0))) (ne_eqb n root other)) ∙ rows));
         }
 
 is_page : (root : ℕ) (schema : List Column) (N : Nodes) (n : ℕ) → IsPage root schema n (N n) → is_page_of root schema N n ≡ true
 is_page root schema N n p =
     and_from (not (nat_eq n 0) && is_heap_page schema (N n)) (cond (nat_eq n root) true (not (nat_eq (length (entries_of (N n))) 0)))
-    (and_from (not (nat_eq n 0)) (is_heap_page schema (N n)) (ap not (nat_other n 0 p.some)) (heap_page (N n) p)) (rows_test (nat_eq n root) refl)
+    (and_from (not (nat_eq n 0)) (is_heap_page schema (N n)) (ap not (ne_eqb n 0 p.some)) (heap_page (N n) p)) (rows_test (nat_eq n root) refl)
   where
     heap_page : (o : Option Node) → IsPage root schema n o → is_heap_page schema o ≡ true
     heap_page None q = absurd (true≢false (sym q.there))
     heap_page (Some x) q =
         and_from (nat_eq x.head.kind 1 && nat_eq x.head.level (cond (has_room x) 1 0)) (list_all (is_record schema) x.entries)
-        (and_from (nat_eq x.head.kind 1) (nat_eq x.head.level (cond (has_room x) 1 0)) (nat_equal x.head.kind 1 q.kind) (nat_equal x.head.level (cond (has_room x) 1 0) q.level)) q.records
-
-    no_items : (l : ℕ) (es : ℕ) → l ≡ es → l ≡ es
-    no_items l es e = e
+        (and_from (nat_eq x.head.kind 1) (nat_eq x.head.level (cond (has_room x) 1 0)) (eq-eqb x.head.kind 1 q.kind) (eq-eqb x.head.level (cond (has_room x) 1 0) q.level)) q.records
 
     rows_test : (b : Bool) → nat_eq n root ≡ b → cond b true (not (nat_eq (length (entries_of (N n))) 0)) ≡ true
     rows_test true same = refl
-    rows_test false other = ap not (nat_other (length (entries_of (N n))) 0 (λ e. p.rows (λ s. true≢false (sym (nat_equal n root s) ∙ other)) (no_entries e)))
-      where
-        no_entries : length (entries_of (N n)) ≡ 0 → entries_of (N n) ≡ []
-        no_entries e = none (entries_of (N n)) e
-          where
-            none : {A : Type 0} (xs : List A) → length xs ≡ 0 → xs ≡ []
-            none [] e = refl
-            none (x ∷ xs) e = absurd (omega (arith, e))
+    rows_test false other = ap not (ne_eqb (length (entries_of (N n))) 0 (λ e. p.rows (λ s. true≢false (sym (eq-eqb n root s) ∙ other)) (nil_from_length (entries_of (N n)) e)))
 
 -- on the list where it has room
 listed_is : (b r l : Bool) (level : ℕ) → level ≡ cond r 1 0 → nat_eq level 1 ≡ b → cond b l (not l) ≡ true → l ≡ r
 listed_is true true l level is same e = e
-listed_is true false l level is same e = absurd (omega (arith, is, nat_same level 1 same))
-listed_is false true l level is same e = absurd (true≢false (sym (nat_equal level 1 is) ∙ same))
-listed_is false false l level is same e = not_had l e
+listed_is true false l level is same e = absurd (omega (arith, is, eqb-true level 1 same))
+listed_is false true l level is same e = absurd (true≢false (sym (eq-eqb level 1 is) ∙ same))
+listed_is false false l level is same e = not-true l e
 
 is_listed : (r : Bool) (level : ℕ) (l : Bool) → level ≡ cond r 1 0 → l ≡ r → cond (nat_eq level 1) l (not l) ≡ true
-is_listed true level l is same = ap (λ b. cond b l (not l)) (nat_equal level 1 is) ∙ same
-is_listed false level l is same = ap (λ b. cond b l (not l)) (nat_other level 1 (λ e. one_zero (sym e ∙ is))) ∙ ap not same
+is_listed true level l is same = ap (λ b. cond b l (not l)) (eq-eqb level 1 is) ∙ same
+is_listed false level l is same = ap (λ b. cond b l (not l)) (ne_eqb level 1 (λ e. one_zero (sym e ∙ is))) ∙ ap not same
   where
     one_zero : ◌≡◌ {A = ℕ} 1 0 → ⊥
     one_zero e = omega (arith, e)
@@ -236,7 +216,7 @@ pub record Core (root : ℕ) (schema : List Column) (P : Pages) (rows : Rows) : 
 
 pub core : (root : ℕ) (schema : List Column) (P : Pages) (rows : Rows) → heap_rows root schema P ≡ Some rows → Core root schema P rows
 core root schema P rows is =
-    let some = some_of (is_heap root schema P) (flat_map (rows_on (nodes P)) (page_numbers P)) rows is in
+    let some = cond_some (is_heap root schema P) (flat_map (rows_on (nodes P)) (page_numbers P)) rows is in
     let list = room_list (nodes P) root in
     let b = and_parts (has root (page_numbers P) && list_all (is_page_of root schema (nodes P)) (page_numbers P)) (is_room_list P list) some.0 in
     let a = and_parts (has root (page_numbers P)) (list_all (is_page_of root schema (nodes P)) (page_numbers P)) b.0 in

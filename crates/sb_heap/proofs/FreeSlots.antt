@@ -1,12 +1,12 @@
 -- A slot that the entries of a page haven't.
-use Rattle.std.proofs.Common.{◌≡◌, ◌≢◌, ℕ, ◌+◌, ◌<◌, ◌≤◌, Bool, true, false, true≢false, cond, List, [], ◌∷◌, length, Some, None, refl, ap, sym, ◌∙◌, arith, inl, inr, ◌⊎◌, ◌==◌, eqb-true, eq-eqb}
+use Rattle.std.proofs.Common.{◌≡◌, ℕ, ◌+◌, ◌<◌, ◌≤◌, Bool, true, false, cond, List, [], ◌∷◌, length, Some, None, refl, ap, sym, ◌∙◌, arith, inl, inr, ◌⊎◌, ◌==◌, eqb-true}
 use Rattle.std.specs.Int.{bytes_high_first}
 use Rattle.std.specs.Str.{bytes_eq}
 use Rattle.std.specs.Cmp.{nat_cmp_is}
 use Rattle.std.specs.Ordering.{is_eq, is_lt, ordering_then, ordering_reverse}
 use Rattle.std.specs.declared.cmp.Ordering.TheVariants.{Less, Equal}
 use Rattle.std.specs.FinMap.Entries.{is_sorted, below_all, find}
-use Rattle.std.proofs.lemmas.Bool.{and_parts}
+use Rattle.std.proofs.lemmas.Bool.{and_parts, eqb-false}
 use Rattle.std.proofs.lemmas.Cmp.{nat_list_cmp_total}
 use Rattle.sb_bytes.proofs.Fronts.{slice_cmp-fronts}
 use Rattle.sb_value.specs.Equal.{bytes_same}
@@ -73,7 +73,4 @@ free_none s (e ∷ es) sorted few =
           where
             above : (b : Bool) → (s == t) ≡ b → is_eq (key_cmp (slot_of t) e.0) ≡ false
             above true same = ap (λ m. is_eq (key_cmp (slot_of m) e.0)) (sym (eqb-true s t same)) ∙ tie (slot_of s) e.0 ∙ other
-            above false apart_is = apart (slot_of t) e.0 (nat_list_cmp_total.trans e.0 (slot_of s) (slot_of t) less (slots_rise s t (next s t from (λ q. true≢false (sym (eq-eqb s t q) ∙ apart_is))) low))
-              where
-                next : (a b : ℕ) → a ≤ b → a ≢ b → a < b
-                next a b from other = omega arith
+            above false apart_is = apart (slot_of t) e.0 (nat_list_cmp_total.trans e.0 (slot_of s) (slot_of t) less (slots_rise s t (omega (arith, from, eqb-false s t apart_is)) low))

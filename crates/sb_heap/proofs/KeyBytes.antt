@@ -1,7 +1,7 @@
 -- Record keys and their bytes.
 use Rattle.std.proofs.Common.{◌≡◌, ℕ, zero, suc, ◌+◌, ◌-◌, ◌^◌, ◌<◌, ◌≤◌, min, List, [], ◌∷◌, ◌++◌, length, take, drop, get_or, refl, ap, sym, ◌∙◌, arith, length-append, length-drop}
 use Rattle.std.specs.Int.{bytes_high_first}
-use Rattle.std.proofs.lemmas.List.{get_or-take, get_or_past}
+use Rattle.std.proofs.lemmas.List.{get_or-take, get_or_past, take-append-drop, take_all}
 use Rattle.sb_bytes.specs.Field.{number_at}
 use Rattle.sb_bytes.proofs.Digits.{AreDigits, bytes_high_first-big_from}
 use Rattle.sb_node.proofs.Numbers.{number_at-same}
@@ -17,25 +17,14 @@ front_bytes : (bytes : List ℕ) → 4 ≤ length bytes → AreDigits bytes → 
 unfolding number_at
 front_bytes bytes long digits = bytes_high_first-big_from 4 bytes long digits
 
-split : (n : ℕ) (xs : List ℕ) → take n xs ++ drop n xs ≡ xs
-split zero xs = refl
-split (suc n) [] = refl
-split (suc n) (x ∷ xs) = ap (λ (l : List ℕ). x ∷ l) (split n xs)
-
-all_taken : (n : ℕ) (xs : List ℕ) → n ≡ length xs → take n xs ≡ xs
-all_taken zero [] is = refl
-all_taken zero (x ∷ xs) is = absurd (omega (arith, is))
-all_taken (suc n) [] is = refl
-all_taken (suc n) (x ∷ xs) is = ap (λ (l : List ℕ). x ∷ l) (all_taken n xs (omega (arith, is)))
-
 pub parted : (bytes : List ℕ) (page : ℕ) → ((i : ℕ) → get_or bytes i 0 < 256) → length bytes ≡ 6 → page ≡ number_at 4 bytes 0 → page < 2 ^ 32 → IsPartedInto bytes page (take (length bytes - 4) (drop 4 bytes))
 parted bytes page each six is low =
-    let behind : take (length bytes - 4) (drop 4 bytes) ≡ drop 4 bytes = all_taken (length bytes - 4) (drop 4 bytes) (omega (arith, length-drop 4 bytes)) in
+    let behind : take (length bytes - 4) (drop 4 bytes) ≡ drop 4 bytes = take_all (length bytes - 4) (drop 4 bytes) (omega (arith, length-drop 4 bytes)) in
     record {
       six = six;
       page_is = is;
       page_low = low;
-      key_is = sym (split 4 bytes) ∙ (λ i. (sym (front_bytes bytes (omega (arith, six)) (digits_from bytes each)) ∙ ap (bytes_high_first 4) (sym is)) i ++ sym behind i);
+      key_is = sym (take-append-drop 4 bytes) ∙ (λ i. (sym (front_bytes bytes (omega (arith, six)) (digits_from bytes each)) ∙ ap (bytes_high_first 4) (sym is)) i ++ sym behind i);
       slot_long = ap length behind ∙ omega (arith, length-drop 4 bytes, six);
     }
 

@@ -1,63 +1,33 @@
 -- The list of the pages with room, once a page joins or leaves it.
-use Rattle.std.proofs.Common.{◌≡◌, ◌≢◌, ℕ, ◌==◌, Bool, true, false, true≢false, cond, not, ◌&&◌, List, [], ◌∷◌, ◌++◌, Option, Some, None, IsSome, option_map, refl, sym, ap, subst, ◌∙◌, arith, eq-eqb, ne_eqb}
+use Rattle.std.proofs.Common.{◌≡◌, ◌≢◌, ℕ, ◌==◌, Bool, true, false, true≢false, cond, not, ◌&&◌, List, [], ◌∷◌, ◌++◌, Option, Some, None, IsSome, option_map, refl, sym, ap, subst, ◌∙◌, eq-eqb, ne_eqb}
 use Rattle.std.specs.Prelude.{nat_eq, ◌||◌}
-use Rattle.std.proofs.lemmas.Bool.{and_parts, and_from}
-use Rattle.std.proofs.lemmas.Bool.Decides.{nat_tests}
+use Rattle.std.proofs.lemmas.Bool.{and_parts, and_from, eqb-true, not-true, or_left, or_right, or_parts}
 use Rattle.sb_node.specs.Page.{Node}
 use Rattle.sb_forms.specs.Tree.{Nodes}
 use Rattle.sb_forms.specs.Read.{has, is_apart}
 use Rattle.sb_forms.specs.HeapPages.{first_of, after_of, before_of, first_page, are_linked}
 use Rattle.sb_heap.specs.Links.{with_node, if_page, joined, left, linked_before, placed, with_after, with_before, with_first}
 
--- ---- numbers
-pub nat_same : (a b : ℕ) → nat_eq a b ≡ true → a ≡ b
-nat_same a b e = grind (arith, nat_tests)
-
-pub nat_equal : (a b : ℕ) → a ≡ b → nat_eq a b ≡ true
-nat_equal a b e = grind (arith, nat_tests)
-
-pub nat_other : (a b : ℕ) → a ≢ b → nat_eq a b ≡ false
-nat_other a b e = grind (arith, nat_tests)
-
 -- ---- numbers in lists
-or_right : (a b : Bool) → b ≡ true → (a || b) ≡ true
-or_right true b e = refl
-or_right false b e = e
-
-or_left : (a b : Bool) → a ≡ true → (a || b) ≡ true
-or_left true b e = refl
-or_left false b e = absurd (true≢false (sym e))
-
 pub has_here : (n : ℕ) (ns : List ℕ) → has n (n ∷ ns) ≡ true
-has_here n ns = or_left (nat_eq n n) (has n ns) (nat_equal n n refl)
+has_here n ns = or_left (nat_eq n n) (has n ns) (eq-eqb n n refl)
 
 pub has_later : (n m : ℕ) (ns : List ℕ) → has n ns ≡ true → has n (m ∷ ns) ≡ true
 has_later n m ns is = or_right (nat_eq n m) (has n ns) is
 
-or_false : (a b : Bool) → (a || b) ≡ false → (a ≡ false) × (b ≡ false)
-or_false true b e = absurd (true≢false e)
-or_false false b e = (refl, e)
-
 pub has_not : (n m : ℕ) (ns : List ℕ) → has n (m ∷ ns) ≡ false → (n ≢ m) × (has n ns ≡ false)
 has_not n m ns is =
-    let parts = or_false (nat_eq n m) (has n ns) is in
-    (λ same. true≢false (sym (nat_equal n m same) ∙ parts.0), parts.1)
-
-pub has_one : (n m : ℕ) (ns : List ℕ) → has n (m ∷ ns) ≡ true → n ≢ m → has n ns ≡ true
-has_one n m ns is other = sym (ap (λ b. b || has n ns) (nat_other n m other)) ∙ is
+    let parts = or_parts (nat_eq n m) (has n ns) is in
+    (λ same. true≢false (sym (eq-eqb n m same) ∙ parts.0), parts.1)
 
 -- a number that is in one list and not in another
 pub differ : (n m : ℕ) (ns : List ℕ) → has n ns ≡ true → has m ns ≡ false → n ≢ m
 differ n m ns is not_there same = true≢false (sym is ∙ ap (λ k. has k ns) same ∙ not_there)
 
-pub not_had : (b : Bool) → not b ≡ true → b ≡ false
-not_had true e = absurd (true≢false (sym e))
-not_had false e = refl
-
 pub apart_first : (n : ℕ) (ns : List ℕ) → is_apart (n ∷ ns) ≡ true → (has n ns ≡ false) × (is_apart ns ≡ true)
 apart_first n ns is =
     let parts = and_parts (not (has n ns)) (is_apart ns) is in
-    (not_had (has n ns) parts.0, parts.1)
+    (not-true (has n ns) parts.0, parts.1)
 
 pub apart_more : (n : ℕ) (ns : List ℕ) → has n ns ≡ false → is_apart ns ≡ true → is_apart (n ∷ ns) ≡ true
 apart_more n ns none is = and_from (not (has n ns)) (is_apart ns) (ap not none) is
@@ -135,12 +105,12 @@ pub linked_parts : (N : Nodes) (p n : ℕ) (ns : List ℕ) → are_linked N p (n
 linked_parts N p n ns is =
     let two = and_parts (nat_eq (before_of (N n)) p && nat_eq (after_of (N n)) (first_page ns)) (are_linked N n ns) is in
     let one = and_parts (nat_eq (before_of (N n)) p) (nat_eq (after_of (N n)) (first_page ns)) two.0 in
-    record { before = nat_same (before_of (N n)) p one.0; after = nat_same (after_of (N n)) (first_page ns) one.1; rest = two.1 }
+    record { before = eqb-true (before_of (N n)) p one.0; after = eqb-true (after_of (N n)) (first_page ns) one.1; rest = two.1 }
 
 pub linked_from : (N : Nodes) (p n : ℕ) (ns : List ℕ) → before_of (N n) ≡ p → after_of (N n) ≡ first_page ns → are_linked N n ns ≡ true → are_linked N p (n ∷ ns) ≡ true
 linked_from N p n ns before after rest =
     and_from (nat_eq (before_of (N n)) p && nat_eq (after_of (N n)) (first_page ns)) (are_linked N n ns)
-    (and_from (nat_eq (before_of (N n)) p) (nat_eq (after_of (N n)) (first_page ns)) (nat_equal (before_of (N n)) p before) (nat_equal (after_of (N n)) (first_page ns) after)) rest
+    (and_from (nat_eq (before_of (N n)) p) (nat_eq (after_of (N n)) (first_page ns)) (eq-eqb (before_of (N n)) p before) (eq-eqb (after_of (N n)) (first_page ns) after)) rest
 
 -- ---- a page that joins
 module _ (root page first : ℕ) (N : Nodes) (x : Node) (there : N page ≡ Some x) where
@@ -344,7 +314,7 @@ pub record Within (n : ℕ) (list : List ℕ) : Type 0 where
 pub within_list : (n : ℕ) (list : List ℕ) → has n list ≡ true → Within n list
 within_list n [] is = absurd (true≢false (sym is))
 within_list n (m ∷ ms) is = elim (nat_eq n m) as (λ b. nat_eq n m ≡ b → Within n (m ∷ ms)) [
-  | true ↦ λ same. record { front = []; back = ms; is = ap (λ k. k ∷ ms) (sym (nat_same n m same)) }
+  | true ↦ λ same. record { front = []; back = ms; is = ap (λ k. k ∷ ms) (sym (eqb-true n m same)) }
   | false ↦ λ other.
       let w = within_list n ms (sym (ap (λ b. b || has n ms) other) ∙ is) in
       record { front = m ∷ w.front; back = w.back; is = ap (λ (l : List ℕ). m ∷ l) w.is }
@@ -357,7 +327,7 @@ linked_at N p n (x ∷ xs) ys linked = linked_at N x n xs ys (linked_parts N p x
 
 -- the others of the list
 pub has_others : (m n : ℕ) (xs ys : List ℕ) → m ≢ n → has m (xs ++ n ∷ ys) ≡ has m (xs ++ ys)
-has_others m n [] ys other = ap (λ b. b || has m ys) (nat_other m n other)
+has_others m n [] ys other = ap (λ b. b || has m ys) (ne_eqb m n other)
 has_others m n (x ∷ xs) ys other = ap (λ b. nat_eq m x || b) (has_others m n xs ys other)
 
 pub apart_without : (n : ℕ) (xs ys : List ℕ) → is_apart (xs ++ n ∷ ys) ≡ true → (is_apart (xs ++ ys) ≡ true) × (has n (xs ++ ys) ≡ false)
@@ -366,4 +336,4 @@ apart_without n (x ∷ xs) ys apart =
     let parts = apart_first x (xs ++ n ∷ ys) apart in
     let more = apart_without n xs ys parts.1 in
     let other : n ≢ x = differ n x (xs ++ n ∷ ys) (has_back n xs (n ∷ ys) (has_here n ys)) parts.0 in
-    (apart_more x (xs ++ ys) (sym (has_others x n xs ys (λ same. other (sym same))) ∙ parts.0) more.0, ap (λ b. b || has n (xs ++ ys)) (nat_other n x other) ∙ more.1)
+    (apart_more x (xs ++ ys) (sym (has_others x n xs ys (λ same. other (sym same))) ∙ parts.0) more.0, ap (λ b. b || has n (xs ++ ys)) (ne_eqb n x other) ∙ more.1)

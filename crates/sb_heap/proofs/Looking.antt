@@ -1,11 +1,11 @@
 -- What the reading calls of the box answer.
-use Rattle.std.proofs.Common.{◌≡◌, ◌≢◌, ℕ, zero, suc, ◌+◌, ◌<◌, Bool, true, false, true≢false, cond, not, ◌&&◌, List, [], ◌∷◌, length, Option, Some, None, IsSome, option_map, refl, ap, sym, ◌∙◌, subst, arith}
-use Rattle.std.specs.Prelude.{nat_eq, nat_le, nat_lt, ◌||◌, Ok, Err, slice_get}
+use Rattle.std.proofs.Common.{◌≡◌, ◌≢◌, ℕ, zero, suc, ◌+◌, ◌<◌, Bool, true, false, cond, not, ◌&&◌, List, [], ◌∷◌, length, Option, Some, None, IsSome, option_map, refl, ap, sym, ◌∙◌, subst, arith}
+use Rattle.std.specs.Prelude.{nat_eq, nat_le, nat_lt, Ok, Err, slice_get}
 use Rattle.std.specs.List.{list_all}
 use Rattle.std.specs.Ordering.{is_eq}
 use Rattle.std.specs.declared.cmp.Ordering.TheVariants.{Less, Equal, Greater}
 use Rattle.std.specs.FinMap.Entries.{find}
-use Rattle.std.proofs.lemmas.Bool.{and_parts, and_from, lt-ltb}
+use Rattle.std.proofs.lemmas.Bool.{and_parts, and_from, lt-ltb, or_left}
 use Rattle.std.proofs.lemmas.Option.{same_Some}
 use Rattle.sb_value.specs.declared.schema.Column.{Column}
 use Rattle.sb_relation.specs.Db.{Key, Row, row_at}
@@ -82,10 +82,6 @@ breaks_own inst old page bytes head some low held amiss =
     breaks_by inst.schema inst.root page old some amiss
     (or_left (has_bytes (page_of old page) && nat_lt page 65536) (is_linked inst.root (page_of old) page) (and_from (has_bytes (page_of old page)) (nat_lt page 65536) (ap has_bytes held.held_is ∙ form_bytes bytes held.form) (lt-ltb page 65536 low)))
   where
-    or_left : (a b : Bool) → a ≡ true → (a || b) ≡ true
-    or_left true b e = refl
-    or_left false b e = absurd (true≢false (sym e))
-
     form_bytes : (bytes : List ℕ) → has_form bytes ≡ true → has_bytes (Some bytes) ≡ true
     form_bytes [] form = absurd (omega (arith, form_size [] form))
     form_bytes (b ∷ bytes) form = refl

@@ -3,7 +3,7 @@ use Rattle.std.proofs.Common.{◌≡◌, ◌≢◌, ℕ, zero, suc, ◌+◌, ◌
 use Rattle.std.specs.Prelude.{nat_eq, ◌||◌}
 use Rattle.std.specs.List.{AllByRecursion, list_all, list_any, range_with_len}
 use Rattle.std.specs.FinMap.Entries.{is_sorted}
-use Rattle.std.proofs.lemmas.Bool.{and_parts, ltb-true}
+use Rattle.std.proofs.lemmas.Bool.{and_parts, ltb-true, eqb-true, eq-eqb, not-true, or_cases}
 use Rattle.std.proofs.lemmas.List.Elements.{All-from_recursion}
 use Rattle.std.proofs.lemmas.List.Sums.{sum_by-cons}
 use Rattle.sb_value.specs.declared.schema.Column.{Column}
@@ -25,7 +25,7 @@ use Rattle.sb_ctx.specs.View.{HeldPages, AreSomeOf}
 use Rattle.sb_ctx.specs.Laws.{IsMethod}
 use Rattle.sb_heap.specs.Broken.{held_node, is_amiss, has_bytes, names, is_named, is_linked, breaks}
 use Rattle.sb_heap.specs.Heap.{heap_method}
-use Rattle.sb_heap.proofs.Lists.{nat_same, nat_equal, has_front, has_back, has_here, has_later, within_list, linked_at, last_of, last_in, not_had}
+use Rattle.sb_heap.proofs.Lists.{has_front, has_back, has_here, has_later, within_list, linked_at, last_of, last_in}
 use Rattle.sb_heap.proofs.Standing.{room_at}
 use Rattle.sb_heap.proofs.Rows.{rows_in, rows_of, rows_rising, rows_few, rows_each, pages_but}
 use Rattle.sb_heap.proofs.Formed.{Core, Formed, IsPage, core, formed, page_had, had_page, some_bytes}
@@ -64,7 +64,7 @@ good_rows schema n [] all = tt
 good_rows schema n (e ∷ es) all =
     let parts = and_parts (is_record schema e) (list_all (is_record schema) es) all in
     let both = and_parts (nat_eq (length e.0) 2) (is_row_in schema e.1) parts.0 in
-    ((key_short n e.0 (nat_same (length e.0) 2 both.0), (row_of_bytes schema e.1 both.1).is_row, key_six n e.0 (nat_same (length e.0) 2 both.0)), good_rows schema n es parts.1)
+    ((key_short n e.0 (eqb-true (length e.0) 2 both.0), (row_of_bytes schema e.1 both.1).is_row, key_six n e.0 (eqb-true (length e.0) 2 both.0)), good_rows schema n es parts.1)
 
 pub core_rows : (root : ℕ) (schema : List Column) (P : Pages) (rows : Rows) → Core root schema P rows → (n : ℕ) → n < 65536 → AllByRecursion (IsGood schema) (rows_on (nodes P) n)
 core_rows root schema P rows c n low = by (nodes P n) refl
@@ -104,7 +104,7 @@ are_rows root schema P rows c =
 pub formed_few : (root : ℕ) (schema : List Column) (P : Pages) (rows : Rows) → Formed root schema P rows → page_count P ≤ length rows + 1
 unfolding page_numbers
 formed_few root schema P rows f =
-    subst (λ (l : Rows). page_count P ≤ length l + 1) (sym f.same) (pages_but (nodes P) root (λ n. not (is_empty (P n))) 0 65536 (λ n other is. some n other (not_had (is_empty (P n)) is)))
+    subst (λ (l : Rows). page_count P ≤ length l + 1) (sym f.same) (pages_but (nodes P) root (λ n. not (is_empty (P n))) 0 65536 (λ n other is. some n other (not-true (is_empty (P n)) is)))
   where
     there : (n : ℕ) → is_empty (P n) ≡ false → IsSome (nodes P n)
     there n some = by (nodes P n) refl
@@ -132,19 +132,12 @@ pub any_from : (t : ℕ → Bool) (low len m : ℕ) → low ≤ m → m < low + 
 any_from t low zero m from to is = absurd (omega (arith, from, to))
 any_from t low (suc len) m from to is = elim (t low) as (λ b. t low ≡ b → (b || list_any t (range_with_len (low + 1) len)) ≡ true) [
   | true ↦ λ here. refl
-  | false ↦ λ other. any_from t (low + 1) len m (next low m from (λ e. true≢false (sym is ∙ ap t (sym e) ∙ other))) (omega (arith, to)) is
+  | false ↦ λ other. any_from t (low + 1) len m (let apart : low ≢ m = λ e. true≢false (sym is ∙ ap t (sym e) ∙ other) in omega (arith, from, apart)) (omega (arith, to)) is
 ] refl
-  where
-    next : (a b : ℕ) → a ≤ b → a ≢ b → a + 1 ≤ b
-    next a b from other = omega arith
-
-or_either : (a b : Bool) → (a || b) ≡ true → (a ≡ true) ⊎ (b ≡ true)
-or_either true b e = inl refl
-or_either false b e = inr e
 
 heap_page : (root : ℕ) (schema : List Column) (n : ℕ) (o : Option Node) → IsPage root schema n o → is_heap_page schema o ≡ true
 heap_page root schema n None p = absurd (true≢false (sym p.there))
-heap_page root schema n (Some x) p = λ i. nat_equal x.head.kind 1 p.kind i && nat_equal x.head.level (cond (has_room x) 1 0) p.level i && p.records i
+heap_page root schema n (Some x) p = λ i. eq-eqb x.head.kind 1 p.kind i && eq-eqb x.head.level (cond (has_room x) 1 0) p.level i && p.records i
 
 module _ (root : ℕ) (schema : List Column) (P : Pages) (rows : Rows) (c : Core root schema P rows) where
   first_in : (list : List ℕ) (n : ℕ) → first_page list ≡ n → n ≢ 0 → has n list ≡ true
@@ -170,18 +163,18 @@ module _ (root : ℕ) (schema : List Column) (P : Pages) (rows : Rows) (c : Core
 
   names_in : (m n : ℕ) (o : Option Node) → nodes P m ≡ o → n ≢ 0 → m < 65536 → names root m o n ≡ true → has n c.list ≡ true
   names_in m n None there other low is = absurd (true≢false (sym is))
-  names_in m n (Some x) there other low is = elim (or_either (nat_eq m root && nat_eq x.head.c n) (nat_eq x.head.level 1 && (nat_eq x.head.a n || nat_eq x.head.b n)) is) [
+  names_in m n (Some x) there other low is = elim (or_cases (nat_eq m root && nat_eq x.head.c n) (nat_eq x.head.level 1 && (nat_eq x.head.a n || nat_eq x.head.b n)) is) [
     | inl first ↦
         let parts = and_parts (nat_eq m root) (nat_eq x.head.c n) first in
-        let root_is : nodes P root ≡ Some x = ap (nodes P) (sym (nat_same m root parts.0)) ∙ there in
-        first_in c.list n (sym c.first ∙ ap first_of root_is ∙ nat_same x.head.c n parts.1) other
+        let root_is : nodes P root ≡ Some x = ap (nodes P) (sym (eqb-true m root parts.0)) ∙ there in
+        first_in c.list n (sym c.first ∙ ap first_of root_is ∙ eqb-true x.head.c n parts.1) other
     | inr beside ↦
         let parts = and_parts (nat_eq x.head.level 1) (nat_eq x.head.a n || nat_eq x.head.b n) beside in
         let had = had_page P m low (some_bytes P m (ap is_some there)) in
-        let room = room_true (room_at (nodes P m)) (level_of (nodes P m)) (c.page m had).level (ap level_of there ∙ nat_same x.head.level 1 parts.0) in
-        beside_in m n (c.rooms m had ∙ room) other (elim (or_either (nat_eq x.head.a n) (nat_eq x.head.b n) parts.1) [
-          | inl a ↦ inl (ap after_of there ∙ nat_same x.head.a n a)
-          | inr b ↦ inr (ap before_of there ∙ nat_same x.head.b n b)
+        let room = room_true (room_at (nodes P m)) (level_of (nodes P m)) (c.page m had).level (ap level_of there ∙ eqb-true x.head.level 1 parts.0) in
+        beside_in m n (c.rooms m had ∙ room) other (elim (or_cases (nat_eq x.head.a n) (nat_eq x.head.b n) parts.1) [
+          | inl a ↦ inl (ap after_of there ∙ eqb-true x.head.a n a)
+          | inr b ↦ inr (ap before_of there ∙ eqb-true x.head.b n b)
         ])
   ]
 
@@ -199,20 +192,20 @@ module _ (root : ℕ) (schema : List Column) (P : Pages) (rows : Rows) (c : Core
   not_amiss : (n : ℕ) (o : Option (List ℕ)) → ((bytes : List ℕ) → o ≡ Some bytes → P n ≡ bytes) → has n (page_numbers P) ≡ true → is_amiss schema o ≡ true → ⊥
   not_amiss n None part had is = true≢false (sym is)
   not_amiss n (Some bytes) part had is =
-      true≢false (sym (heap_page root schema n (nodes P n) (c.page n had)) ∙ ap (λ (b : List ℕ). is_heap_page schema (node_of b)) (part bytes refl) ∙ not_had (is_heap_page schema (node_of bytes)) is)
+      true≢false (sym (heap_page root schema n (nodes P n) (c.page n had)) ∙ ap (λ (b : List ℕ). is_heap_page schema (node_of b)) (part bytes refl) ∙ not-true (is_heap_page schema (node_of bytes)) is)
 
   bytes_had : (n : ℕ) (o : Option (List ℕ)) → ((bytes : List ℕ) → o ≡ Some bytes → P n ≡ bytes) → n < 65536 → has_bytes o ≡ true → has n (page_numbers P) ≡ true
   bytes_had n None part low is = absurd (true≢false (sym is))
-  bytes_had n (Some bytes) part low is = had_page P n low (ap is_empty (part bytes refl) ∙ not_had (is_empty bytes) is)
+  bytes_had n (Some bytes) part low is = had_page P n low (ap is_empty (part bytes refl) ∙ not-true (is_empty bytes) is)
 
   pub whole : (held : HeldPages) (n : ℕ) → AreSomeOf held P → breaks schema root held n ≡ false
   whole held n some = by (breaks schema root held n) refl
     where
       had : n ≢ 0 → (has_bytes (held n) && nat_lt n 65536 || is_linked root held n) ≡ true → has n (page_numbers P) ≡ true
-      had other is = elim (or_either (has_bytes (held n) && nat_lt n 65536) (is_linked root held n) is) [
+      had other is = elim (or_cases (has_bytes (held n) && nat_lt n 65536) (is_linked root held n) is) [
         | inl here ↦ let parts = and_parts (has_bytes (held n)) (nat_lt n 65536) here in bytes_had n (held n) (some n) (ltb-true n 65536 parts.1) parts.0
-        | inr linked ↦ elim (or_either (nat_eq n root) (is_named root held n) linked) [
-          | inl same ↦ ap (λ m. has m (page_numbers P)) (nat_same n root same) ∙ c.rooted
+        | inr linked ↦ elim (or_cases (nat_eq n root) (is_named root held n) linked) [
+          | inl same ↦ ap (λ m. has m (page_numbers P)) (eqb-true n root same) ∙ c.rooted
           | inr named ↦ c.within n (named_in n held some other named)
         ]
       ]
@@ -222,7 +215,7 @@ module _ (root : ℕ) (schema : List Column) (P : Pages) (rows : Rows) (c : Core
       by true is =
           let two = and_parts (not (nat_eq n 0) && is_amiss schema (held n)) (has_bytes (held n) && nat_lt n 65536 || is_linked root held n) is in
           let one = and_parts (not (nat_eq n 0)) (is_amiss schema (held n)) two.0 in
-          absurd (not_amiss n (held n) (some n) (had (λ e. true≢false (sym (nat_equal n 0 e) ∙ not_had (nat_eq n 0) one.0)) two.1) one.1)
+          absurd (not_amiss n (held n) (some n) (had (λ e. true≢false (sym (eq-eqb n 0 e) ∙ not-true (nat_eq n 0) one.0)) two.1) one.1)
 
 pub IsMethod-heap_method : IsMethod heap_method
 IsMethod-heap_method = record {

@@ -2,7 +2,7 @@
 use Rattle.std.proofs.Common.{◌≡◌, ◌≢◌, ℕ, ◌+◌, ◌*◌, ◌<◌, ◌≤◌, ◌==◌, max, Bool, true, false, true≢false, cond, not, ◌&&◌, List, [], ◌∷◌, length, filter, Option, Some, None, IsSome, option_map, refl, ap, sym, ◌∙◌, subst, arith, inl, inr, ◌⊎◌}
 use Rattle.std.specs.Prelude.{nat_eq, nat_lt, ◌||◌}
 use Rattle.std.specs.List.{find as first}
-use Rattle.std.proofs.lemmas.Bool.{and_from, lt-ltb}
+use Rattle.std.proofs.lemmas.Bool.{and_from, lt-ltb, ne_eqb, or_left, or_right}
 use Rattle.std.proofs.lemmas.List.{length-map}
 use Rattle.std.proofs.lemmas.Option.{same_Some}
 use Rattle.sb_value.specs.declared.schema.Column.{Column}
@@ -37,7 +37,6 @@ use Rattle.sb_heap.specs.declared.list.Turn.{Turn}
 use Rattle.sb_heap.specs.declared.list.Turn.TheVariants.{Stays, Joins, Leaves}
 use Rattle.sb_heap.specs.declared.stop.Stop.{Stop}
 use Rattle.sb_heap.specs.declared.stop.Stop.TheVariants as stop
-use Rattle.sb_heap.proofs.Lists.{nat_other}
 use Rattle.sb_heap.proofs.Standing.{Heap}
 use Rattle.sb_heap.proofs.Rows.{rows_in}
 use Rattle.sb_heap.proofs.Formed.{Formed, formed, rows_from}
@@ -176,18 +175,10 @@ pub Changes-memory : (inst : Instance) (c : MethodCall) (old : View) → IsChang
 Changes-memory inst c old is clean = Changes-stop inst c old old stop.NoMemory is clean clean (omega arith) tt
 
 -- ---- pages that are lacking
-or_right : (a b : Bool) → b ≡ true → (a || b) ≡ true
-or_right true b e = refl
-or_right false b e = e
-
-or_left : (a b : Bool) → a ≡ true → (a || b) ≡ true
-or_left true b e = refl
-or_left false b e = absurd (true≢false (sym e))
-
 pub breaks_by : (schema : List Column) (root n : ℕ) (c : View) → n ≢ 0 → is_amiss schema (page_of c n) ≡ true → (has_bytes (page_of c n) && nat_lt n 65536 || is_linked root (page_of c) n) ≡ true → breaks schema root (page_of c) n ≡ true
 breaks_by schema root n c some amiss why =
     and_from (not (nat_eq n 0) && is_amiss schema (page_of c n)) (has_bytes (page_of c n) && nat_lt n 65536 || is_linked root (page_of c) n)
-    (and_from (not (nat_eq n 0)) (is_amiss schema (page_of c n)) (ap not (nat_other n 0 some)) amiss) why
+    (and_from (not (nat_eq n 0)) (is_amiss schema (page_of c n)) (ap not (ne_eqb n 0 some)) amiss) why
 
 pub Stopped-own : (inst : Instance) (c : MethodCall) (old : View) (page : ℕ) (s : Stop) → IsAsked inst c old page → OwnAmiss old page s → Stopped inst c old old s
 Stopped-own inst c old page stop.NoMemory asked own = tt

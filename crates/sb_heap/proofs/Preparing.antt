@@ -2,7 +2,7 @@
 use Rattle.std.proofs.Common.{◌≡◌, ◌≢◌, ℕ, ◌+◌, ◌<◌, ◌==◌, zero, suc, Bool, true, false, true≢false, cond, not, ◌&&◌, List, [], ◌∷◌, length, Some, None, IsSome, is_some, refl, ap, sym, ◌∙◌, subst, arith, inl, inr, eq-eqb, ne_eqb}
 use Rattle.std.specs.Prelude.{nat_eq, nat_lt, ◌||◌, Result, Ok, Err}
 use Rattle.std.specs.List.{list_all}
-use Rattle.std.proofs.lemmas.Bool.{and_from}
+use Rattle.std.proofs.lemmas.Bool.{and_from, eqb-true, or_right}
 use Rattle.std.proofs.lemmas.List.{length-replicate}
 use Rattle.sb_value.specs.declared.schema.Column.{Column}
 use Rattle.sb_node.specs.Page.{has_form, node_in, node_of}
@@ -24,7 +24,7 @@ use Rattle.sb_heap.specs.Prepared.{IsPrepared, Prepares, new_root}
 use Rattle.sb_heap.specs.Answered.{prepare_move}
 use Rattle.sb_heap.specs.declared.stop.Stop.{Stop}
 use Rattle.sb_heap.specs.declared.stop.Stop.TheVariants as stop
-use Rattle.sb_heap.proofs.Lists.{linked_from, has_here, nat_equal, nat_other, nat_same}
+use Rattle.sb_heap.proofs.Lists.{linked_from, has_here}
 use Rattle.sb_heap.proofs.Standing.{Heap, kind_of, room_at, by_page, put_same}
 use Rattle.sb_heap.proofs.Rows.{rows_in, rows_frame}
 use Rattle.sb_heap.proofs.Formed.{bare_node, rows_from}
@@ -64,7 +64,7 @@ root_heap root schema low =
     one n had = by (nat_eq n root) refl had
       where
         by : (b : Bool) → nat_eq n root ≡ b → (b || false) ≡ true → n ≡ root
-        by true same e = nat_same n root same
+        by true same e = eqb-true n root same
         by false other e = absurd (true≢false (sym e))
 
 no_rows : (low len : ℕ) → rows_in (λ n. None) low len ≡ []
@@ -123,7 +123,7 @@ Changes-prepared inst old new (Err (stop.Need n)) clean is = record {
   ends = tt;
   answers = λ P part. tt;
   spends = λ ctx P part rows before. record {
-    path = and_from (not (nat_eq n 0)) (has n (inst.root ∷ [])) (ap not (nat_other n 0 (λ z. is.2 (sym is.1 ∙ z)))) (ap (λ m. has m (inst.root ∷ [])) is.1 ∙ has_here inst.root []);
+    path = and_from (not (nat_eq n 0)) (has n (inst.root ∷ [])) (ap not (ne_eqb n 0 (λ z. is.2 (sym is.1 ∙ z)))) (ap (λ m. has m (inst.root ∷ [])) is.1 ∙ has_here inst.root []);
     room = tt;
     edits = omega (arith, ap edits_of is.0, edits_before old new P (ap dropped is.0 ∙ clean) clean ctx part);
   };
@@ -147,12 +147,8 @@ Changes-prepared inst old new (Err (stop.Broken n)) clean is = record {
     amiss : is_amiss inst.schema (page_of old inst.root) ≡ true
     amiss = ap (is_amiss inst.schema) is.4 ∙ ap not (formless is.3 is.5)
 
-    or_true : (a b : Bool) → b ≡ true → (a || b) ≡ true
-    or_true true b e = refl
-    or_true false b e = e
-
     root_breaks : breaks inst.schema inst.root (page_of old) inst.root ≡ true
     root_breaks =
         and_from (not (nat_eq inst.root 0) && is_amiss inst.schema (page_of old inst.root)) (has_bytes (page_of old inst.root) && nat_lt inst.root 65536 || is_linked inst.root (page_of old) inst.root)
-        (and_from (not (nat_eq inst.root 0)) (is_amiss inst.schema (page_of old inst.root)) (ap not (nat_other inst.root 0 is.2)) amiss)
-        (or_true (has_bytes (page_of old inst.root) && nat_lt inst.root 65536) (is_linked inst.root (page_of old) inst.root) (ap (λ b. b || is_named inst.root (page_of old) inst.root) (nat_equal inst.root inst.root refl)))
+        (and_from (not (nat_eq inst.root 0)) (is_amiss inst.schema (page_of old inst.root)) (ap not (ne_eqb inst.root 0 is.2)) amiss)
+        (or_right (has_bytes (page_of old inst.root) && nat_lt inst.root 65536) (is_linked inst.root (page_of old) inst.root) (ap (λ b. b || is_named inst.root (page_of old) inst.root) (eq-eqb inst.root inst.root refl)))

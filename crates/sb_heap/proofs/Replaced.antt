@@ -3,7 +3,7 @@ use Rattle.std.proofs.Common.{◌≡◌, ◌≢◌, ℕ, ◌+◌, ◌-◌, ◌<�
 use Rattle.std.specs.Prelude.{nat_eq, ◌||◌}
 use Rattle.std.specs.Str.{bytes_eq}
 use Rattle.std.specs.FinMap.Entries.{put, find}
-use Rattle.std.proofs.lemmas.Bool.{and_from}
+use Rattle.std.proofs.lemmas.Bool.{and_from, or_right}
 use Rattle.std.proofs.lemmas.Bool.Decides.{nat_tests}
 use Rattle.sb_codec.specs.Tuples.{tuple_spelling}
 use Rattle.sb_relation.specs.Db.{Key, Row, Rows, row_at, with_row, without_row}
@@ -183,10 +183,6 @@ Changes-moved inst tuple row old new key now page slot bytes head i clean may ro
 
     few : (s : ℕ) → s ≡ 0 → 4072 < s + 1006 → ⊥
     few s is more = omega (arith, is, more)
-
-    or_right : (a b : Bool) → b ≡ true → (a || b) ≡ true
-    or_right true b e = refl
-    or_right false b e = e
 
     two_levels : (x z : Node) → Some x ≡ Some z → x.head.level ≡ 1 → z.head.level ≡ 0 → ⊥
     two_levels x z same one none = omega (arith, ap (λ (n : Node). n.head.level) (same_Some x z same), one, none)

@@ -7,7 +7,7 @@ use Rattle.std.specs.declared.cmp.Ordering.{Ordering}
 use Rattle.std.specs.declared.cmp.Ordering.TheVariants.{Less, Equal, Greater}
 use Rattle.std.specs.Ordering.{is_eq, is_lt, nat_cmp, ordering_then, eq_by_cmp}
 use Rattle.std.specs.Cmp.{nat_cmp_is}
-use Rattle.std.proofs.lemmas.Bool.{and_parts, and_from}
+use Rattle.std.proofs.lemmas.Bool.{and_parts, and_from, eqb-false}
 use Rattle.std.proofs.lemmas.List.{length-map}
 use Rattle.std.proofs.lemmas.List.Elements.{filter-append}
 use Rattle.sb_bytes.proofs.Fronts.{slice_cmp-fronts}
@@ -149,9 +149,6 @@ pub rows_frame : (N M : Nodes) (low len : ℕ) → ((n : ℕ) → low ≤ n → 
 rows_frame N M low zero same = refl
 rows_frame N M low (suc len) same = λ i. rows_of low (same low (omega arith) (omega arith) i) ++ rows_frame N M (low + 1) len (λ n from to. same n (omega (arith, from)) (omega (arith, to))) i
 
-next : (a b : ℕ) → a ≤ b → a ≢ b → a + 1 ≤ b
-next a b from other = omega arith
-
 pub rows_find : (N : Nodes) (low len p : ℕ) (slot : List ℕ) → low ≤ p → p < low + len → low + len ≤ 65536 → row_at (rows_in N low len) (record_key p slot) ≡ option_map row_in (find key_cmp slot (entries_of (N p)))
 rows_find N low zero p slot from to high = absurd (omega (arith, from, to))
 rows_find N low (suc len) p slot from to high = elim (low == p) as (λ b. (low == p) ≡ b → row_at (rows_on N low ++ rows_in N (low + 1) len) (record_key p slot) ≡ option_map row_in (find key_cmp slot (entries_of (N p)))) [
@@ -159,7 +156,7 @@ rows_find N low (suc len) p slot from to high = elim (low == p) as (λ b. (low =
       find_more (record_key p slot) (rows_on N low) (rows_in N (low + 1) len) (in_more N (low + 1) len p slot (omega (arith, e)) (omega (arith, high)))
       ∙ ap (λ m. row_at (rows_on N m) (record_key p slot)) e ∙ page_find p slot (entries_of (N p)) (omega (arith, to, high))
   | false ↦ λ differs.
-      let more = next low p from (λ e. true≢false (sym (eq-eqb low p e) ∙ differs)) in
+      let more : low + 1 ≤ p = omega (arith, from, eqb-false low p differs) in
       find_less (record_key p slot) (rows_on N low) (rows_in N (low + 1) len) (page_less low p slot (entries_of (N low)) (omega (arith, more)) (omega (arith, to, high)))
       ∙ rows_find N (low + 1) len p slot more (omega (arith, to)) (omega (arith, high))
 ] refl
@@ -174,8 +171,8 @@ rows_put N M low (suc len) p slot value from to high same here = elim (low == p)
       ∙ ap (λ (l : Rows). l ++ rows_in N (low + 1) len) (ap (rows_of p) here ∙ sym (page_put p slot value (entries_of (N p)) (omega (arith, to, high))) ∙ ap (λ m. with_row (rows_on N m) (record_key p slot) (row_in value)) (sym e))
       ∙ sym (put_more (record_key p slot) (row_in value) (rows_on N low) (rows_in N (low + 1) len) (in_more N (low + 1) len p slot (omega (arith, e)) (omega (arith, high))))
   | false ↦ λ differs.
-      let other : low ≢ p = λ e. true≢false (sym (eq-eqb low p e) ∙ differs) in
-      let more = next low p from other in
+      let other : low ≢ p = eqb-false low p differs in
+      let more : low + 1 ≤ p = omega (arith, from, other) in
       (λ i. rows_of low (same low other i) ++ rows_put N M (low + 1) len p slot value more (omega (arith, to)) (omega (arith, high)) same here i)
       ∙ sym (put_less (record_key p slot) (row_in value) (rows_on N low) (rows_in N (low + 1) len) (page_less low p slot (entries_of (N low)) (omega (arith, more)) (omega (arith, to, high))))
 ] refl
@@ -191,8 +188,8 @@ rows_without N M low (suc len) p slot from to high same here = elim (low == p) a
       ++ sym (kept_more (record_key p slot) (rows_in N (low + 1) len) (in_more N (low + 1) len p slot (omega (arith, e)) (omega (arith, high)))) i)
       ∙ sym (where_append (record_key p slot) (rows_on N low) (rows_in N (low + 1) len))
   | false ↦ λ differs.
-      let other : low ≢ p = λ e. true≢false (sym (eq-eqb low p e) ∙ differs) in
-      let more = next low p from other in
+      let other : low ≢ p = eqb-false low p differs in
+      let more : low + 1 ≤ p = omega (arith, from, other) in
       (λ i. rows_of low (same low other i) ++ rows_without N M (low + 1) len p slot more (omega (arith, to)) (omega (arith, high)) same here i)
       ∙ ap (λ (l : Rows). l ++ without_row (rows_in N (low + 1) len) (record_key p slot)) (sym (kept_less (record_key p slot) (rows_on N low) (page_less low p slot (entries_of (N low)) (omega (arith, more)) (omega (arith, to, high)))))
       ∙ sym (where_append (record_key p slot) (rows_on N low) (rows_in N (low + 1) len))

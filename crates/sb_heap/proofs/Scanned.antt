@@ -1,9 +1,9 @@
 -- What a scan answers.
-use Rattle.std.proofs.Common.{◌≡◌, ◌≢◌, ℕ, zero, suc, ◌+◌, ◌-◌, ◌^◌, ◌<◌, ◌≤◌, ◌==◌, Bool, true, false, true≢false, cond, not, List, [], ◌∷◌, ◌++◌, length, filter, take, Option, Some, None, is_some, option_map, refl, ap, sym, ◌∙◌, subst, arith, eqb-true, eq-eqb, All, inl, inr, ◌⊎◌}
+use Rattle.std.proofs.Common.{◌≡◌, ◌≢◌, ℕ, zero, suc, ◌+◌, ◌-◌, ◌^◌, ◌<◌, ◌≤◌, ◌==◌, Bool, true, false, true≢false, cond, not, List, [], ◌∷◌, ◌++◌, length, filter, take, Option, Some, None, is_some, option_map, refl, ap, sym, ◌∙◌, subst, arith, eqb-true, All, inl, inr, ◌⊎◌}
 use Rattle.std.specs.Prelude.{nat_lt, nat_le}
 use Rattle.std.specs.List.{find as first, range_with_len}
 use Rattle.std.specs.Option.{option_eq}
-use Rattle.std.proofs.lemmas.Bool.{lt-ltb, ltb-true, ltb-false}
+use Rattle.std.proofs.lemmas.Bool.{lt-ltb, ltb-true, ltb-false, eqb-false}
 use Rattle.std.proofs.lemmas.List.Elements.{All-head, All-tail}
 use Rattle.std.proofs.lemmas.Option.{same_Some}
 use Rattle.sb_value.specs.declared.schema.Column.{Column}
@@ -117,9 +117,6 @@ pub record Past (N : Nodes) (low : Option Key) (at : Option ℕ) : Type 0 where
 abbrev pub IsPast : Instance → View → Option Key → Option ℕ → Type 0
 IsPast inst old low at = (P : Pages) → HoldsPart old P → (rows : Rows) → heap_rows inst.root inst.schema P ≡ Some rows → Past (nodes P) low at
 
-next_number : (a b : ℕ) → a ≤ b → a ≢ b → a < b
-next_number a b from other = omega (arith, from, other)
-
 pub past_low : (inst : Instance) (old : View) (low : Option Key) (at : Option ℕ) → dropped old ≡ old → IsPassedLow old low at → IsPast inst old low at
 past_low inst old None at clean passed P part rows holds = record {
   none = λ n is. absurd (true≢false (sym (ap (λ o. is_behind o n) passed) ∙ is));
@@ -132,7 +129,7 @@ past_low inst old (Some low) at clean (q, at_is, l, passed) P part rows holds = 
   where
     none : (n : ℕ) → nat_lt q n ≡ false → (b : Bool) → (n == q) ≡ b → row_above (Some low) (rows_on (nodes P) n) ≡ None
     none n is true same = ap (λ m. row_above (Some low) (rows_on (nodes P) m)) (eqb-true n q same) ∙ row_passed inst old P rows q (Some low) clean part holds passed
-    none n is false differs = page_scan n (Some low) (entries_of (nodes P n)) ∙ ap (option_map (as_row n)) (page_below low q n (entries_of (nodes P n)) l (next_number n q (ltb-false q n is) (λ e. true≢false (sym (eq-eqb n q e) ∙ differs))))
+    none n is false differs = page_scan n (Some low) (entries_of (nodes P n)) ∙ ap (option_map (as_row n)) (page_below low q n (entries_of (nodes P n)) l (omega (arith, ltb-false q n is, eqb-false n q differs)))
 
 -- on a page behind it the first row is the first one above the low key
 same_first : (P : Pages) (low : Option Key) (at : Option ℕ) (n : ℕ) → Past (nodes P) low at → IsAbove at n → n < 65536 → row_above low (rows_on (nodes P) n) ≡ row_above None (rows_on (nodes P) n)
@@ -159,7 +156,7 @@ past_next inst old low at next clean past is passed P part rows holds =
     none far behind n less true same =
         ap (λ m. row_above low (rows_on (nodes P) m)) (eqb-true n next same) ∙ same_first P low at next far behind.0 (low_number P next part.are_pages behind.1) ∙ row_passed inst old P rows next None clean part holds passed
     none far behind n less false differs =
-        let before = next_number n next (ltb-false next n less) (λ e. true≢false (sym (eq-eqb n next e) ∙ differs)) in
+        let before : n < next = omega (arith, ltb-false next n less, eqb-false n next differs) in
         between P low at n far (λ above. behind.2 n above before)
 
 -- ---- the ends
@@ -207,10 +204,6 @@ Looks-found-low inst old low q key row clean l s = found_row inst old (Some low)
     (λ n from to. page_scan n (Some low) (entries_of (nodes P n)) ∙ ap (option_map (as_row n)) (page_below low q n (entries_of (nodes P n)) l to))
     (row_scanned old P inst.schema q (Some low) key row clean part s))
 
--- ---- calls that have no end yet
-pub Looks-after : (inst : Instance) (old : View) (low : Option Key) (at n : Option ℕ) → n ≡ at → next_of old at ≡ None → Looks heap_method inst (call.Next low) old old (move.After n)
-Looks-after inst old low at n same is = record { same = refl; reads = tt; asks = ap (next_of old) same ∙ is; broken = tt; ends = tt; answers = λ P part. tt; path = λ P part rows holds. tt }
-
 -- ---- the pages that are asked for
 pub asked_low : (inst : Instance) (old : View) (low : Key) (q : ℕ) → IsLowPage low q → q ≢ 0 → IsAsked inst (call.Next (Some low)) old q
 asked_low inst old low q l some P part rows holds = path_from q (low_page low ∷ next_pages (Some low) P) some (ap (λ m. has m (low_page low ∷ next_pages (Some low) P)) l.page_is ∙ has_here (low_page low) (next_pages (Some low) P))
@@ -228,7 +221,7 @@ both_from p q from (suc len) n more less has_p has_q none = elim (from == n) as 
       ap (λ b. filter q (cond b (from ∷ filter p (range_with_len (from + 1) len)) (filter p (range_with_len (from + 1) len)))) (ap p e ∙ has_p)
       ∙ ap (λ b. cond b (from ∷ filter q (filter p (range_with_len (from + 1) len))) (filter q (filter p (range_with_len (from + 1) len)))) (ap q e ∙ has_q)
       ∙ (λ i. e i ∷ filter q (filter p (range_with_len (e i + 1) (left from len n e i))))
-  | false ↦ λ differs. let after = next_number from n more (λ e. true≢false (sym (eq-eqb from n e) ∙ differs)) in
+  | false ↦ λ differs. let after : from < n = omega (arith, more, eqb-false from n differs) in
       skip (p from) refl after ∙ both_from p q (from + 1) len n (omega (arith, after)) (omega (arith, less)) has_p has_q (λ m over under. none m (omega (arith, over)) under)
       ∙ ap (λ k. n ∷ filter q (filter p (range_with_len (n + 1) k))) (shifted from len n)
 ] refl

@@ -1,5 +1,5 @@
 -- The first row above a key, page by page.
-use Rattle.std.proofs.Common.{◌≡◌, ◌≢◌, ℕ, zero, suc, ◌+◌, ◌^◌, ◌<◌, ◌≤◌, ◌==◌, Bool, true, false, true≢false, cond, not, ◌&&◌, List, [], ◌∷◌, ◌++◌, length, take, Option, Some, None, option_map, refl, ap, sym, ◌∙◌, subst, arith, eqb-true, eq-eqb, replicate}
+use Rattle.std.proofs.Common.{◌≡◌, ◌≢◌, ℕ, zero, suc, ◌+◌, ◌^◌, ◌<◌, ◌≤◌, ◌==◌, Bool, true, false, true≢false, cond, not, ◌&&◌, List, [], ◌∷◌, ◌++◌, length, take, Option, Some, None, option_map, refl, ap, sym, ◌∙◌, subst, arith, eqb-true, replicate}
 use Rattle.std.specs.Prelude.{nat_eq}
 use Rattle.std.specs.Int.{bytes_high_first}
 use Rattle.std.specs.List.{find as first, list_all}
@@ -7,7 +7,7 @@ use Rattle.std.specs.Ordering.{is_eq, is_lt, nat_cmp, ordering_then}
 use Rattle.std.specs.Cmp.{nat_cmp_is}
 use Rattle.std.specs.declared.cmp.Ordering.{Ordering}
 use Rattle.std.specs.declared.cmp.Ordering.TheVariants.{Less, Equal, Greater}
-use Rattle.std.proofs.lemmas.Bool.{and_parts}
+use Rattle.std.proofs.lemmas.Bool.{and_parts, eqb-false}
 use Rattle.std.proofs.lemmas.Option.{same_Some}
 use Rattle.sb_bytes.proofs.Fronts.{slice_cmp-fronts}
 use Rattle.sb_value.specs.declared.schema.Column.{Column}
@@ -25,7 +25,6 @@ use Rattle.sb_ctx.specs.MethodAnswers.{is_above, row_above}
 use Rattle.sb_heap.specs.Answered.{IsLowPage}
 use Rattle.sb_heap.specs.Broken.{is_amiss}
 use Rattle.sb_heap.specs.Scans.{first_above}
-use Rattle.sb_heap.proofs.Lists.{nat_same}
 use Rattle.sb_heap.proofs.Rows.{as_row, rows_of, rows_in}
 
 -- ---- the first of some that passes
@@ -61,7 +60,7 @@ misspelled_record schema e none is =
     none (row_in e.1) row.is_row row.value_is
 
 pub long_record : (schema : List Column) (e : Entry) → length e.0 ≢ 2 → is_record schema e ≡ true → ⊥
-long_record schema e other is = other (nat_same (length e.0) 2 (and_parts (nat_eq (length e.0) 2) (is_row_in schema e.1) is).0)
+long_record schema e other is = other (eqb-true (length e.0) 2 (and_parts (nat_eq (length e.0) 2) (is_row_in schema e.1) is).0)
 
 -- ---- the rows of one page
 pub page_scan : (n : ℕ) (low : Option Key) (es : List Entry) → row_above low (rows_of n es) ≡ option_map (as_row n) (first_above n low es)
@@ -140,9 +139,6 @@ scan_back p (y ∷ xs) ys is = elim (p y) as (λ b. cond b (Some y) (first p xs)
   | false ↦ λ e. scan_back p xs ys e
 ] is
 
-next : (a b : ℕ) → a ≤ b → a ≢ b → a + 1 ≤ b
-next a b from other = omega arith
-
 module _ (N : Nodes) (low : Option Key) where
   pub scan_none : (from len : ℕ) → ((n : ℕ) → from ≤ n → n < from + len → row_above low (rows_on N n) ≡ None) → row_above low (rows_in N from len) ≡ None
   scan_none from zero none = refl
@@ -155,7 +151,7 @@ module _ (N : Nodes) (low : Option Key) where
   scan_found from (suc len) p r more less none here = elim (from == p) as (λ b. (from == p) ≡ b → row_above low (rows_on N from ++ rows_in N (from + 1) len) ≡ Some r) [
     | true ↦ λ same. scan_front (λ row. is_above low row.0) (rows_on N from) (rows_in N (from + 1) len) r (ap (λ n. row_above low (rows_on N n)) (eqb-true from p same) ∙ here)
     | false ↦ λ differs.
-        let after = next from p more (λ e. true≢false (sym (eq-eqb from p e) ∙ differs)) in
+        let after : from + 1 ≤ p = omega (arith, more, eqb-false from p differs) in
         scan_back (λ row. is_above low row.0) (rows_on N from) (rows_in N (from + 1) len) (none from (omega arith) (omega (arith, after)))
         ∙ scan_found (from + 1) len p r after (omega (arith, less)) (λ n m l. none n (omega (arith, m)) l) here
   ] refl

@@ -3,7 +3,7 @@ use Rattle.std.proofs.Common.{◌≡◌, ◌≢◌, ℕ, ◌+◌, ◌-◌, ◌<�
 use Rattle.std.specs.Prelude.{nat_eq, nat_lt, Result, Ok, Err}
 use Rattle.std.specs.Int.{bytes_high_first}
 use Rattle.std.specs.FinMap.Entries.{find}
-use Rattle.std.proofs.lemmas.Bool.{and_parts, ltb-true}
+use Rattle.std.proofs.lemmas.Bool.{and_parts, ltb-true, eq-eqb, not-true}
 use Rattle.std.proofs.lemmas.List.{length-replicate}
 use Rattle.sb_forms.specs.Pages.{zeros}
 use Rattle.sb_forms.specs.HeapPages.{first_of}
@@ -18,7 +18,7 @@ use Rattle.sb_ctx.proofs.ViewLaws.{IsFree, IsFree-free_page, dropped-with_page, 
 use Rattle.sb_heap.specs.Broken.{held_node}
 use Rattle.sb_forms.specs.Read.{has}
 use Rattle.sb_forms.specs.HeapPages.{after_of, before_of}
-use Rattle.sb_heap.specs.Held.{Amiss, HasFirst, IsHeadAt, IsHeapPage, LacksOne, turn_pages}
+use Rattle.sb_heap.specs.Held.{Amiss, HasFirst, IsHeapPage, LacksOne}
 use Rattle.sb_heap.specs.Links.{IsReadyFor, IsTurn, Made, StayReady, is_ready, put_node}
 use Rattle.sb_heap.specs.Prepared.{Prepares, new_root}
 use Rattle.sb_heap.specs.Spots.{IsSpot, SpotStops, spot_pages, with_row_in}
@@ -26,8 +26,8 @@ use Rattle.sb_heap.specs.declared.insertion.Spot.{Spot}
 use Rattle.sb_heap.specs.declared.list.Turn.TheVariants.{Joins}
 use Rattle.sb_heap.specs.declared.stop.Stop.{Stop}
 use Rattle.sb_heap.specs.declared.stop.Stop.TheVariants as stop
-use Rattle.sb_heap.proofs.Lists.{has_here, has_later, nat_equal, not_had}
-use Rattle.sb_heap.proofs.Linking.{head_there, linked_first, root_node}
+use Rattle.sb_heap.proofs.Lists.{has_here, has_later}
+use Rattle.sb_heap.proofs.Linking.{linked_first, root_node}
 use Rattle.sb_heap.proofs.Weights.{edits-taken, some_zeros}
 
 -- ---- a fresh page that is taken
@@ -82,7 +82,7 @@ new_root_is root cleared bytes empty is = is ∙ ap (with_head (record { kind = 
 pub page_number : (n : ℕ) → (not (nat_eq n 0) && nat_lt n 65536) ≡ true → (n ≢ 0) × (n < 65536)
 page_number n is =
     let parts = and_parts (not (nat_eq n 0)) (nat_lt n 65536) is in
-    (λ e. true≢false (sym (nat_equal n 0 e) ∙ not_had (nat_eq n 0) parts.0), ltb-true n 65536 parts.1)
+    (λ e. true≢false (sym (eq-eqb n 0 e) ∙ not-true (nat_eq n 0) parts.0), ltb-true n 65536 parts.1)
 
 pub prepares : (old new : View) (root : ℕ) (bytes : List ℕ) (outcome : Result (Unit {0}) Stop) → (root ≢ 0) × (root < 65536) → room_of old root ≡ 4096 → has_form bytes ≡ true → node_in bytes ≡ new_root root → Made (put_node root (node_of bytes)) 1 old new outcome → Prepares old new root outcome
 prepares old new root bytes (Ok done) low long form is a = record {
@@ -110,26 +110,6 @@ listed_lacks c root page s held low some amiss = by s amiss (page, in_pages, rec
     by stop.Fresh amiss l = absurd amiss
     by (stop.After low) amiss l = absurd amiss
     by stop.NoMemory amiss l = tt
-
--- the pages of a turn of the first page are among those that are looked at
-pub turn_stops : (c : View) (root page : ℕ) (head : Head) (s : Stop) → HasFirst c root page → IsHeadAt c page head → LacksOne c root (turn_pages c root head) s → SpotStops c c root s
-turn_stops c root page head s held at l = by s (l.0, in_pages l.0 l.1, l.2)
-  where
-    x : (x : Node) × (held_node (page_of c page) ≡ Some x) × (x.head ≡ head)
-    x = head_there (held_node (page_of c page)) head at
-
-    here : held_node (page_of c (first_of (held_node (page_of c root)))) ≡ Some x.0
-    here = ap (λ n. held_node (page_of c n)) held.first_is ∙ x.1
-
-    in_pages : (n : ℕ) → has n (turn_pages c root head) ≡ true → has n (spot_pages c root) ≡ true
-    in_pages n had = ap (λ (ns : List ℕ). has n (root ∷ first_of (held_node (page_of c root)) ∷ ns)) (λ i. (ap after_of here ∙ ap (λ (h : Head). h.a) x.2) i ∷ (ap before_of here ∙ ap (λ (h : Head). h.b) x.2) i ∷ []) ∙ had
-
-    by : (s : Stop) → LacksOne c root (spot_pages c root) s → SpotStops c c root s
-    by (stop.Need n) l = (refl, l)
-    by (stop.Broken n) l = (refl, l)
-    by stop.Fresh l = absurd l.2.amiss
-    by (stop.After low) l = absurd l.2.amiss
-    by stop.NoMemory l = tt
 
 pub listed_spot_is : (c : View) (root : ℕ) (row was : List ℕ) (head : Head) (room : ℕ) (spot : Spot) → HasFirst c root spot.page → spot.page ≢ 0 → IsHeapPage (page_of c spot.page) was head → head.level ≡ 1 → has_form spot.bytes.items ≡ true
     → find key_cmp spot.slot (node_in was).entries ≡ None → node_in spot.bytes.items ≡ with_row_in spot.slot row (node_in was) → length spot.slot ≡ 2 → room ≡ 4072 - (node_in spot.bytes.items).head.used

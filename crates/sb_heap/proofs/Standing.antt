@@ -11,7 +11,7 @@ use Rattle.sb_forms.specs.HeapPages.{has_room, is_record, first_of, after_of, be
 use Rattle.sb_heap.specs.Links.{with_node, put_node, if_page, joined, left, turned, linked_before, placed, with_before, with_first, IsTurn}
 use Rattle.sb_heap.specs.declared.list.Turn.{Turn}
 use Rattle.sb_heap.specs.declared.list.Turn.TheVariants.{Stays, Joins, Leaves}
-use Rattle.sb_heap.proofs.Lists.{nat_equal, nat_other, nat_same, has_here, has_others, differ, apart_more, apart_without, keeps, keeps_if, kept_linked, node_same, node_other, unlinked_kept, unlinked_left, joined_links, left_unlinks, left_first, unlinked, within_list, linked_at, linked_frame, last_of}
+use Rattle.sb_heap.proofs.Lists.{has_here, has_others, differ, apart_more, apart_without, keeps, keeps_if, kept_linked, node_same, node_other, unlinked_kept, unlinked_left, joined_links, left_unlinks, left_first, unlinked, within_list, linked_at, linked_frame, last_of}
 
 -- ---- what of a node isn't of the list
 abbrev pub kind_of : Option Node → ℕ
@@ -122,12 +122,12 @@ module _ (root page first : ℕ) (N : Nodes) (list : List ℕ) (s : IsSome (N ro
         (join_level page ∙ ap level_of (node_same page page (placed 1 first) N refl) ∙ level_placed 1 first (N page) there ∙ ap (λ b. cond b 1 0) (sym (has_here page list)))
     | false ↦ λ differs.
         let other : page ≢ n = λ e. true≢false (sym (eq-eqb page n e) ∙ differs) in
-        join_level n ∙ ap level_of (node_other page n (placed 1 first) N other) ∙ l.level n (join_some n is) ∙ ap (λ b. cond (b || has n list) 1 0) (sym (nat_other n page (λ e. other (sym e))))
+        join_level n ∙ ap level_of (node_other page n (placed 1 first) N other) ∙ l.level n (join_some n is) ∙ ap (λ b. cond (b || has n list) 1 0) (sym (ne_eqb n page (λ e. other (sym e))))
   ] refl
 
   join_within : (n : ℕ) → has n (page ∷ list) ≡ true → IsSome (M n) × (n ≢ 0)
   join_within n is = elim (nat_eq n page) as (λ b. nat_eq n page ≡ b → IsSome (M n) × (n ≢ 0)) [
-    | true ↦ λ same. let e = nat_same n page same in (some_join n (subst (λ m. IsSome (N m)) (sym e) there), λ z. some (sym e ∙ z))
+    | true ↦ λ same. let e = eqb-true n page same in (some_join n (subst (λ m. IsSome (N m)) (sym e) there), λ z. some (sym e ∙ z))
     | false ↦ λ other. let w = l.within n (sym (ap (λ b. b || has n list) other) ∙ is) in (some_join n w.0, w.1)
   ] refl
 
@@ -196,8 +196,8 @@ module _ (root page before after : ℕ) (N : Nodes) (xs ys : List ℕ) (s : IsSo
 
 -- ---- the turn of a page whose entries have changed
 pub level_says : (b : Bool) (l : ℕ) → l ≡ cond b 1 0 → nat_eq l 1 ≡ b
-level_says true l is = nat_equal l 1 is
-level_says false l is = nat_other l 1 (λ e. one_zero (sym e ∙ is))
+level_says true l is = eq-eqb l 1 is
+level_says false l is = ne_eqb l 1 (λ e. one_zero (sym e ∙ is))
   where
     one_zero : ◌≡◌ {A = ℕ} 1 0 → ⊥
     one_zero e = omega (arith, e)
@@ -249,7 +249,7 @@ turns root schema page (Joins first) N list a f =
       heap = record {
         stands = Stands-alike root schema N (joined root page first N) alike a.stands;
         listed = Listed-joined root page first N list a.stands.root_some a.there (f.turn_is.2 ∙ f.first_is ∙ a.listed.first) (a.stands.low page a.there).0 none a.listed;
-        rooms = at_page page N (joined root page first N) (page ∷ list) alike.some alike.room (sym f.room_is ∙ f.turn_is.1 ∙ sym (has_here page list)) (λ n is other. a.rooms n is other ∙ ap (λ b. b || has n list) (sym (nat_other n page other)));
+        rooms = at_page page N (joined root page first N) (page ∷ list) alike.some alike.room (sym f.room_is ∙ f.turn_is.1 ∙ sym (has_here page list)) (λ n is other. a.rooms n is other ∙ ap (λ b. b || has n list) (sym (ne_eqb n page other)));
       };
     }
 turns root schema page (Leaves before after) N list a f =

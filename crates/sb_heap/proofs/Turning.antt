@@ -1,10 +1,9 @@
 -- A heap with a row more on a page, one less, or another one.
-use Rattle.std.proofs.Common.{◌≡◌, ◌≢◌, ℕ, ◌+◌, ◌-◌, ◌<◌, ◌≤◌, Bool, true, false, true≢false, List, [], ◌∷◌, ◌++◌, length, Option, Some, None, IsSome, is_some, option_map, refl, ap, sym, ◌∙◌, subst, arith}
-use Rattle.std.specs.Prelude.{nat_eq, nat_le, ◌||◌}
+use Rattle.std.proofs.Common.{◌≡◌, ◌≢◌, ℕ, ◌+◌, ◌-◌, ◌<◌, ◌≤◌, true, true≢false, List, [], ◌∷◌, ◌++◌, length, Option, Some, None, IsSome, is_some, option_map, refl, ap, sym, ◌∙◌, subst, arith}
+use Rattle.std.specs.Prelude.{nat_eq, nat_le}
 use Rattle.std.specs.List.{list_all}
 use Rattle.std.specs.FinMap.Entries.{put, find}
-use Rattle.std.proofs.lemmas.Bool.{and_from, ltb-false}
-use Rattle.std.proofs.lemmas.Bool.Decides.{nat_tests}
+use Rattle.std.proofs.lemmas.Bool.{and_from, ltb-false, eq-eqb, or_parts, le-leb}
 use Rattle.std.proofs.lemmas.List.Sums.{sum_by-cons}
 use Rattle.sb_value.specs.declared.schema.Column.{Column}
 use Rattle.sb_relation.specs.Db.{with_row, without_row, row_at}
@@ -20,7 +19,7 @@ use Rattle.sb_heap.specs.Links.{put_node, turned, left, IsTurn}
 use Rattle.sb_heap.specs.Spots.{with_row_in}
 use Rattle.sb_heap.specs.declared.list.Turn.{Turn}
 use Rattle.sb_heap.specs.declared.list.Turn.TheVariants.{Joins, Leaves}
-use Rattle.sb_heap.proofs.Lists.{nat_equal, has_others, within_list, linked_at, apart_without}
+use Rattle.sb_heap.proofs.Lists.{has_others, within_list, linked_at, apart_without}
 use Rattle.sb_heap.proofs.Slots.{same_key, all_put, entries_without}
 use Rattle.sb_heap.proofs.Standing.{Heap, Listed, kind_of, room_at, turns, Stands-put, Listed-put, Listed-fresh, Stands-alike, Heap-without, Alike-turned, put_same, put_other, by_page, Listed-left, level_says}
 use Rattle.sb_heap.proofs.Rows.{rows_in, rows_put, rows_without, rows_find}
@@ -80,14 +79,10 @@ changes root schema N list page x es turn h c =
 pub short_row : (schema : List Column) (bytes : List ℕ) → is_row_in schema bytes ≡ true → length bytes ≤ 1000
 short_row schema bytes is =
     let r = row_of_bytes schema bytes is in
-    omega (arith, ap length r.value_is, ltb-false 1000 (length (tuple_spelling (row_in bytes))) (or_right _ _ r.is_row.short))
-  where
-    or_right : (a b : Bool) → (a || b) ≡ false → b ≡ false
-    or_right true b e = absurd (true≢false e)
-    or_right false b e = e
+    omega (arith, ap length r.value_is, ltb-false 1000 (length (tuple_spelling (row_in bytes))) (or_parts _ _ r.is_row.short).1)
 
 pub is_record_from : (schema : List Column) (slot row : List ℕ) → length slot ≡ 2 → is_row_in schema row ≡ true → is_record schema (slot, row) ≡ true
-is_record_from schema slot row two is = and_from (nat_eq (length slot) 2) (is_row_in schema row) (nat_equal (length slot) 2 two) is
+is_record_from schema slot row two is = and_from (nat_eq (length slot) 2) (is_row_in schema row) (eq-eqb (length slot) 2 two) is
 
 pub put_records : (schema : List Column) (slot row : List ℕ) (es : List Entry) → length slot ≡ 2 → is_row_in schema row ≡ true → list_all (is_record schema) es ≡ true → list_all (is_record schema) (put key_cmp slot row es) ≡ true
 put_records schema slot row es two is all =
@@ -131,18 +126,15 @@ fresh_page root schema N list page slot row h none low first two is =
     small : sizes ((slot, row) ∷ []) ≤ 1006
     small = omega (arith, size, two, short_row schema row is)
 
-    le_test : (a : ℕ) → a ≤ 1006 → nat_le 1006 (4072 - a) ≡ true
-    le_test a less = grind (arith, nat_tests, less)
-
     roomy : nat_le 1006 (4072 - sizes ((slot, row) ∷ [])) ≡ true
-    roomy = le_test (sizes ((slot, row) ∷ [])) small
+    roomy = le-leb 1006 (4072 - sizes ((slot, row) ∷ [])) (omega (arith, small))
 
 -- ---- a page that goes with its only row
 pub dropped_page : (root : ℕ) (schema : List Column) (N : Nodes) (list : List ℕ) (page : ℕ) (x : Node) → Heap root schema N list → N page ≡ Some x → page ≢ root → x.head.level ≡ 1
     → Becomes root schema N (put_node page None (turned root page (Leaves x.head.b x.head.a) N)) page []
 dropped_page root schema N list page x h there other level =
     let some = some_there (N page) x there in
-    let had : has page list ≡ true = sym (level_says (has page list) (level_of (N page)) (h.listed.level page some)) ∙ ap (λ l. nat_eq l 1) (ap level_of there) ∙ nat_equal x.head.level 1 level in
+    let had : has page list ≡ true = sym (level_says (has page list) (level_of (N page)) (h.listed.level page some)) ∙ ap (λ l. nat_eq l 1) (ap level_of there) ∙ eq-eqb x.head.level 1 level in
     let w = within_list page list had in
     let l : Listed root N (w.front ++ page ∷ w.back) = subst (Listed root N) w.is h.listed in
     let links = linked_at N 0 page w.front w.back l.linked in

@@ -9,7 +9,7 @@ use Rattle.sb_node.specs.declared.head.Head.{Head}
 use Rattle.sb_node.specs.Page.{Node, has_form, node_in, node_of, with_head, Becomes}
 use Rattle.sb_node.proofs.Edited.{node_of-form}
 use Rattle.sb_node.proofs.Runs.{form_size}
-use Rattle.sb_ctx.specs.View.{View, page_of, room_of, spliced, with_page, stored, dropped, edits_of}
+use Rattle.sb_ctx.specs.View.{View, page_of, room_of, spliced, with_page, stored}
 use Rattle.sb_ctx.proofs.ViewLaws.{dropped-with_page, page_of-with_page, room_of-page, stored-page, stored-with_page}
 use Rattle.sb_heap.specs.Broken.{held_node}
 use Rattle.sb_heap.specs.Held.{IsHeadAt}
@@ -99,15 +99,6 @@ Made-written c new n bytes room form is =
       memory = tt;
     })
 
-pub Made-idle : (F : Nodes → Nodes) (most : ℕ) (old new : View) → new ≡ old → Made F most old new (Err stop.NoMemory)
-Made-idle F most old new same = record {
-  given = ap dropped same;
-  edits = omega (arith, ap edits_of same);
-  bare = λ P n none. inr (ap (λ (c : View). stored c P n) same);
-  makes = tt;
-  memory = refl;
-}
-
 -- a page that is given back
 pub Made-freed : (c new : View) (n : ℕ) → is_ready (page_of c n) ≡ true → new ≡ with_page n [] c → Made (put_node n None) 1 c new (Ok tt)
 Made-freed c new n ready is =
@@ -183,9 +174,6 @@ Made-none most c = record {
   makes = λ P. refl;
   memory = tt;
 }
-
-pub StayReady-then : (old mid new : View) → StayReady old mid → StayReady mid new → StayReady old new
-StayReady-then old mid new a b n is = b n (a n is)
 
 pub Made-three : (F G H : Nodes → Nodes) (old one two new : View) (outcome : Result (Unit {0}) Stop) → Made F 1 old one (Ok tt) → Made G 1 one two (Ok tt) → Made H 1 two new outcome
     → Made (λ N. H (G (F N))) 3 old new outcome

@@ -1,8 +1,8 @@
 -- A tree of rows stays one: a new one, one with an entry more.
-use Rattle.std.proofs.Common.{◌≡◌, ℕ, ◌<◌, ◌≤◌, ◌==◌, Bool, true, false, cond, not, List, [], ◌∷◌, Some, refl, ap, sym, ◌∙◌, subst, arith, eqb-true, eq-eqb, true≢false, inl, inr}
+use Rattle.std.proofs.Common.{◌≡◌, ℕ, ◌<◌, ◌≤◌, ◌==◌, true, false, cond, not, List, [], ◌∷◌, Some, refl, ap, sym, ◌∙◌, subst, arith, eqb-true, true≢false, inl, inr}
 use Rattle.std.specs.FinMap.Entries.{put}
 use Rattle.std.specs.Str.{bytes_eq}
-use Rattle.std.proofs.lemmas.Bool.Decides.{nat_tests}
+use Rattle.std.proofs.lemmas.Bool.{true_from_ne_false, eqb-false, ne_eqb}
 use Rattle.sb_value.specs.declared.schema.Column.{Column}
 use Rattle.sb_relation.specs.Db.{Name}
 use Rattle.sb_relation.specs.Fits.{is_empty}
@@ -24,17 +24,13 @@ use Rattle.sb_treemethod.proofs.TreeRows.{TreeOf}
 pub free_low : (c : View) (P : Pages) (n : ℕ) → HoldsPart c P → IsFree c n → n < 65536
 free_low c P n part free = part.fresh n fresh_page free refl
 
-tested : (b : Bool) → (b ≡ false → ⊥) → b ≡ true
-tested true other = refl
-tested false other = absurd (other refl)
-
 -- ---- an entry more
 pub TreeOf-grown : (root : ℕ) (schema : List Column) (names : List Name) (c : View) (R P Q : Pages) (es : List Entry) (key value : List ℕ) → HoldsPart c R → TreeOf root schema names P es → is_row_entry schema names (key, value) ≡ true
     → read_tree root Q ≡ Some (put key_cmp key value es) → Grew c root P Q → TreeOf root schema names Q (put key_cmp key value es)
 TreeOf-grown root schema names c R P Q es key value part t entry reads grew = record {
   tree = reads;
   entries = all-put (is_row_entry schema names) key value es (λ k same. subst (λ (x : List ℕ). is_row_entry schema names (x, value) ≡ true) (same_key key k same) entry) entry t.entries;
-  all = λ n some. tested (has n (tree_met root Q)) (λ none. true≢false (sym (grew.to n (t.all n (ap is_empty (sym (grew.keeps n none)) ∙ some))) ∙ none));
+  all = λ n some. true_from_ne_false (has n (tree_met root Q)) (λ none. true≢false (sym (grew.to n (t.all n (ap is_empty (sym (grew.keeps n none)) ∙ some))) ∙ none));
   low = λ n is. elim (grew.from n is) [ inl old ↦ t.low n old | inr free ↦ free_low c R n part free ];
 }
 
@@ -44,7 +40,7 @@ pub TreeOf-shrunk : (root : ℕ) (schema : List Column) (names : List Name) (c :
 TreeOf-shrunk root schema names c R P Q es key part t reads shrank = record {
   tree = reads;
   entries = all-where (is_row_entry schema names) (λ k. not (bytes_eq k key)) es t.entries;
-  all = λ n some. tested (has n (tree_met root Q)) (λ none. is_met n some none);
+  all = λ n some. true_from_ne_false (has n (tree_met root Q)) (λ none. is_met n some none);
   low = λ n is. elim (shrank.from n is) [ inl old ↦ t.low n old | inr free ↦ free_low c R n part free ];
 }
   where
@@ -85,16 +81,10 @@ TreeOf-prepared root schema names P Q low new leaf other =
       entries = refl;
       all = λ n some. elim (root == n) as (λ b. (root == n) ≡ b → has n (tree_met root Q) ≡ true) [
         | true ↦ λ same. ap (has n) one.met_is ∙ (has_says n (root ∷ [])).1 (inl (sym (eqb-true root n same)))
-        | false ↦ λ differs. absurd (true≢false (sym (ap is_empty (other n (apart n differs) ∙ new n) ∙ none n differs) ∙ some))
+        | false ↦ λ differs. absurd (true≢false (sym (ap is_empty (other n (eqb-false root n differs) ∙ new n) ∙ none n differs) ∙ some))
       ] refl;
       low = λ n is. elim ((has_says n (root ∷ [])).0 (ap (has n) (sym one.met_is) ∙ is)) [ inl same ↦ subst (λ m. m < 65536) (sym same) low | inr none ↦ absurd none ];
     }
   where
-    apart : (n : ℕ) → (root == n) ≡ false → root ≡ n → ⊥
-    apart n differs same = true≢false (sym (eq-eqb root n same) ∙ differs)
-
-    turned : (a b : ℕ) → (a == b) ≡ false → (b == a) ≡ false
-    turned a b differs = grind (arith, nat_tests, differs)
-
     none : (n : ℕ) → (root == n) ≡ false → is_empty (new_pages root n) ≡ true
-    none n differs = ap (λ b. is_empty (cond b zeros [])) (turned root n differs)
+    none n differs = ap (λ b. is_empty (cond b zeros [])) (ne_eqb n root (λ same. eqb-false root n differs (sym same)))

@@ -1,7 +1,7 @@
 -- Rows as entries of a tree.
-use Rattle.std.proofs.Common.{◌≡◌, ℕ, Bool, true, false, ◌&&◌, List, None, refl, ap, sym, ◌∙◌, true≢false}
+use Rattle.std.proofs.Common.{◌≡◌, ℕ, true, false, ◌&&◌, List, None, ap, sym, ◌∙◌, true≢false}
 use Rattle.std.specs.Str.{bytes_eq}
-use Rattle.std.proofs.lemmas.Bool.{and_parts}
+use Rattle.std.proofs.lemmas.Bool.{and_parts, false_from_ne_true}
 use Rattle.sb_value.specs.declared.schema.Column.{Column}
 use Rattle.sb_value.specs.Code.{ordered_code}
 use Rattle.sb_value.specs.Equal.{bytes_same}
@@ -47,18 +47,14 @@ entry_of_row schema key row e is key_is value_is short =
     && (bytes_same (ordered_code (values_in schema (row_in e.1) key)) e.0).1 (sym (key_is ∙ ap (λ (r : Row). ordered_code (values_in schema r key)) (sym read))) i && short i
 
 -- ---- an entry that is none
-fails : (b : Bool) → (b ≡ true → ⊥) → b ≡ false
-fails true not = absurd (not refl)
-fails false not = refl
-
 -- its value spells no row
 pub misspelled_entry : (schema : List Column) (key : List Name) (e : Entry) → IsRowFrom schema e.1 None → is_row_entry schema key e ≡ false
-misspelled_entry schema key e none = fails (is_row_entry schema key e) (λ is. let row = row_entry schema key e is in none (row_in e.1) row.is_row row.value_is)
+misspelled_entry schema key e none = false_from_ne_true (is_row_entry schema key e) (λ is. let row = row_entry schema key e is in none (row_in e.1) row.is_row row.value_is)
 
 -- its row has another key
 pub misplaced_entry : (schema : List Column) (key : List Name) (row : Row) (e : Entry) → IsRow schema row → e.1 ≡ tuple_spelling row → bytes_eq (ordered_code (values_in schema row key)) e.0 ≡ false → is_row_entry schema key e ≡ false
 misplaced_entry schema key row e is value_is other =
-    fails (is_row_entry schema key e)
+    false_from_ne_true (is_row_entry schema key e)
     (λ is_entry.
     let same = (row_entry schema key e is_entry).key_is ∙ ap (λ (r : Row). ordered_code (values_in schema r key)) (row_read row e.1 is value_is) in
     true≢false (sym ((bytes_same (ordered_code (values_in schema row key)) e.0).1 (sym same)) ∙ other))

@@ -1,9 +1,9 @@
 -- What the box answers is what the rows say.
-use Rattle.std.proofs.Common.{◌≡◌, ℕ, arith, Bool, true, false, not, ◌&&◌, ◌||◌, List, Option, Some, None, IsSome, option_map, refl, ap, sym, ◌∙◌, subst, true≢false}
+use Rattle.std.proofs.Common.{◌≡◌, ℕ, arith, Bool, true, false, not, List, Option, Some, None, IsSome, option_map, refl, ap, sym, ◌∙◌, subst, true≢false}
 use Rattle.std.specs.List.{list_all}
 use Rattle.std.specs.List.{find as first}
 use Rattle.std.specs.FinMap.Entries.{find}
-use Rattle.std.proofs.lemmas.Bool.{and_from}
+use Rattle.std.proofs.lemmas.Bool.{and_from, or_left, or_right}
 use Rattle.std.proofs.lemmas.Option.{same_Some}
 use Rattle.sb_relation.specs.Db.{Key, Row, Rows, row_at}
 use Rattle.sb_relation.specs.Keys.{is_record_key}
@@ -57,14 +57,6 @@ given_now c clean = λ i n. by n (held_at c n) refl i
     by : (n : ℕ) (o : Option HeldPage) → held_at c n ≡ o → option_map (λ (h : HeldPage). h.given) o ≡ option_map (λ (h : HeldPage). h.now) o
     by n None there = refl
     by n (Some h) there = ap Some (sym (as_it_was c n h clean there))
-
-or_left : (a b : Bool) → a ≡ true → (a || b) ≡ true
-or_left true b e = refl
-or_left false b e = absurd (true≢false (sym e))
-
-or_right : (a b : Bool) → b ≡ true → (a || b) ≡ true
-or_right true b e = refl
-or_right false b e = e
 
 may_given : (inst : Instance) (old : View) (n : ℕ) → dropped old ≡ old → tree_method.may_break inst (page_of old) n ≡ true → tree_method.may_break inst (given_at old) n ≡ true
 may_given inst old n clean is = ap (λ (h : HeldPages). tree_method.may_break inst h n) (given_now old clean) ∙ is

@@ -1,9 +1,8 @@
 -- What is answered when a row is added, and when an instance is made.
-use Rattle.std.proofs.Common.{◌≡◌, ◌≢◌, ℕ, ◌+◌, ◌<◌, ◌≤◌, nat_lt, nat_le, length, Bool, true, false, cond, not, ◌&&◌, ◌||◌, List, [], Option, Some, None, IsSome, is_some, option_map, is_none, refl, ap, sym, ◌∙◌, subst, arith, true≢false, eq-eqb}
+use Rattle.std.proofs.Common.{◌≡◌, ◌≢◌, ℕ, ◌+◌, ◌<◌, ◌≤◌, nat_lt, length, Bool, true, false, cond, not, ◌&&◌, List, [], Option, Some, None, IsSome, is_some, option_map, is_none, refl, ap, sym, ◌∙◌, subst, arith, true≢false, eq-eqb}
 use Rattle.std.specs.List.{list_all}
 use Rattle.std.specs.FinMap.Entries.{find, put}
-use Rattle.std.proofs.lemmas.Bool.{ltb-true, ltb-false}
-use Rattle.std.proofs.lemmas.Bool.Decides.{nat_tests}
+use Rattle.std.proofs.lemmas.Bool.{ltb-true, ltb-false, or_from, le-leb}
 use Rattle.sb_relation.specs.Db.{Key, Row, Rows, row_at, with_row}
 use Rattle.sb_relation.specs.Keys.{NewKeys, Just, Taken, Coded, is_free, new_keys, is_record_key}
 use Rattle.sb_node.specs.Entries.{Entry, key_cmp}
@@ -30,7 +29,6 @@ use Rattle.sb_btree.specs.declared.walk.Walk.{Walk}
 use Rattle.sb_btree.specs.declared.walk.Walk.TheVariants as walk
 use Rattle.sb_btree.proofs.Edits.{held_still}
 use Rattle.sb_btree.proofs.Leaves.{leaves_are_whole}
-use Rattle.sb_btree.proofs.Reading.{eq_says}
 use Rattle.sb_btree.proofs.Spending.{trees_are_small}
 use Rattle.sb_btree.proofs.Whole.{trees_are_whole}
 use Rattle.sb_treemethod.specs.TreeMethod.{tree_method, has_stray, IsEntryOf}
@@ -45,10 +43,6 @@ use Rattle.sb_treemethod.proofs.MethodLaws.{changes, Changes-question}
 use Rattle.sb_treemethod.proofs.Within.{AskedBy, Bounds, Within, as_many, reads_still, within}
 
 -- ---- the law of the box
-neither : (a b : Bool) → a ≡ false → b ≡ false → (a || b) ≡ false
-neither true b e f = absurd (true≢false e)
-neither false b e f = f
-
 no_stray : (inst : Instance) (P : Pages) (es : List Entry) → read_tree inst.root P ≡ Some es → list_all (is_row_entry inst.schema inst.key) es ≡ true → (held : HeldPages) (n : ℕ) → AreSomeOf held P → has_stray inst held n ≡ false
 no_stray inst P es read all held n some =
     elim (leads_to inst.root held n) as (λ b. leads_to inst.root held n ≡ b → (b && not (list_all (is_row_entry inst.schema inst.key) (entries_of (held_node (held n))))) ≡ false) [
@@ -68,7 +62,7 @@ IsMethod-tree_method = record {
         bound = λ pages.
             let t = tree_of inst.root inst.schema inst.key P rows pages f in
             omega (arith, pages_few inst.root P t.all, trees_are_small P inst.root f.es f.tree, as_many inst.root inst P rows f);
-        whole = λ held n some. neither (breaks inst.root held n) (has_stray inst held n) (trees_are_whole P inst.root f.es f.tree held n some) (no_stray inst P f.es f.tree f.entries held n some);
+        whole = λ held n some. or_from (breaks inst.root held n) (has_stray inst held n) (trees_are_whole P inst.root f.es f.tree held n some) (no_stray inst P f.es f.tree f.entries held n some);
       };
 }
 
@@ -96,10 +90,7 @@ some_under (Some value) is = refl
 
 -- ---- the entry of a row that the relation may hold
 pub short_key : (inst : Instance) (row : Row) (key value : List ℕ) → MayHold tree_method inst row → IsEntryOf inst row key value → is_record_key key ≡ true
-short_key inst row key value may entry = ap is_record_key entry.key_is ∙ short (length (code_of inst row)) (may.code refl)
-  where
-    short : (n : ℕ) → nat_lt 200 n ≡ false → nat_le n 200 ≡ true
-    short n near = grind (arith, nat_tests, near)
+short_key inst row key value may entry = ap is_record_key entry.key_is ∙ le-leb (length (code_of inst row)) 200 (ltb-false 200 (length (code_of inst row)) (may.code refl))
 
 pub row_is_entry : (inst : Instance) (row : Row) (key value : List ℕ) → MayHold tree_method inst row → IsEntryOf inst row key value → is_row_entry inst.schema inst.key (key, value) ≡ true
 row_is_entry inst row key value may entry = entry_of_row inst.schema inst.key row (key, value) may.is_row entry.key_is entry.value_is (short_key inst row key value may entry)
@@ -206,7 +197,7 @@ made_within inst old new w clean given is few ctx P part rows before = record {
   where
     path : (w : Walk (Unit {0})) → Prepares old new inst.root w → IsOnPath tree_method inst call.Prepare P (prepare_move w)
     path (walk.Ready end) is = tt
-    path (walk.Need n) is = (eq_says n inst.root).1 is.0
+    path (walk.Need n) is = eq-eqb n inst.root is.0
     path walk.Fresh is = tt
     path (walk.Broken n) is = tt
     path walk.NoMemory is = tt

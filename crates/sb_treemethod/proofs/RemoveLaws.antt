@@ -19,7 +19,7 @@ use Rattle.sb_btree.specs.Walks.{Breaks}
 use Rattle.sb_btree.specs.declared.walk.Walk.{Walk}
 use Rattle.sb_btree.specs.declared.walk.Walk.TheVariants as walk
 use Rattle.sb_treemethod.specs.TreeMethod.{tree_method}
-use Rattle.sb_treemethod.specs.Answered.{lack_move, remove_move}
+use Rattle.sb_treemethod.specs.Answered.{remove_move}
 use Rattle.sb_treemethod.proofs.RowsOf.{without_row-rows_of}
 use Rattle.sb_treemethod.proofs.TreeRows.{Formed, formed, tree_of, rows_from}
 use Rattle.sb_treemethod.proofs.Changing.{TreeOf-shrunk}
@@ -66,14 +66,6 @@ Changes-none inst key old new clean given removes spends =
     let none = removes P f.es (reads_still inst old P f.es clean part f.tree) in
     subst (λ (o : Option Row). Deleted tree_method inst key o rows (stored new P) NoRecord) (sym (none_there inst P rows key f none.0)) (rows_still inst old new P rows clean part none.1 holds))
     spends
-
-pub asked_lack : (w : Walk Bool) → AskedBy w (lack_move w)
-asked_lack (walk.Ready true) = tt
-asked_lack (walk.Ready false) = tt
-asked_lack (walk.Need n) = refl
-asked_lack walk.Fresh = refl
-asked_lack (walk.Broken n) = tt
-asked_lack walk.NoMemory = tt
 
 asked_remove : (w : Walk Bool) → AskedBy w (remove_move w)
 asked_remove (walk.Ready true) = tt

@@ -1,13 +1,11 @@
 -- Rows as those of entries: one by its key, one more, one less.
-use Rattle.std.proofs.Common.{◌≡◌, ℕ, Bool, true, false, cond, not, ◌&&◌, List, [], ◌∷◌, Option, Some, None, option_map, refl, ap, sym, ◌∙◌, subst}
+use Rattle.std.proofs.Common.{◌≡◌, ℕ, Bool, true, false, cond, not, ◌&&◌, List, [], ◌∷◌, Option, Some, None, option_map, refl, ap, ◌∙◌}
 use Rattle.std.specs.List.{list_all, find as first}
 use Rattle.std.specs.Ordering.{is_lt, is_eq}
 use Rattle.std.specs.Str.{bytes_eq}
-use Rattle.std.specs.declared.cmp.Ordering.{Ordering}
 use Rattle.std.specs.declared.cmp.Ordering.TheVariants.{Less, Equal, Greater}
 use Rattle.std.specs.FinMap.Entries.{put, find, where_key, by_order, is_sorted, below_all}
 use Rattle.std.proofs.lemmas.Bool.{and_parts, and_from}
-use Rattle.std.proofs.lemmas.Option.{same_Some}
 use Rattle.sb_value.specs.Order.{bytes_cmp}
 use Rattle.sb_relation.specs.Db.{Key, Row, Rows, row_at, with_row, without_row}
 use Rattle.sb_node.specs.Entries.{Entry, key_cmp, is_below}
@@ -15,7 +13,6 @@ use Rattle.sb_forms.specs.Stored.{row_in}
 use Rattle.sb_forms.specs.TreePages.{rows_of}
 use Rattle.sb_ctx.specs.MethodAnswers.{is_above, row_above}
 use Rattle.sb_btree.specs.Ways.{is_behind}
-use Rattle.sb_btree.proofs.Order.{same_key}
 
 -- ---- a row by its key
 pub row_at-rows_of : (key : Key) (es : List Entry) → row_at (rows_of es) key ≡ option_map row_in (find key_cmp key es)
@@ -90,27 +87,3 @@ all-where p keep (e ∷ es) all =
       | true ↦ and_from (p e) (list_all p (where_key key_cmp keep es)) parts.0 (all-where p keep es parts.1)
       | false ↦ all-where p keep es parts.1
     ]
-
--- an entry that is found passes
-pub first-passes : (p t : Entry → Bool) (es : List Entry) (e : Entry) → list_all p es ≡ true → first t es ≡ Some e → p e ≡ true
-first-passes p t [] e all is = absurd (cc)
-first-passes p t (x ∷ es) e all is =
-    let parts = and_parts (p x) (list_all p es) all in
-    elim (t x) as (λ b. cond b (Some x) (first t es) ≡ Some e → p e ≡ true) [
-      | true ↦ λ found. subst (λ y. p y ≡ true) (same_Some x e found) parts.0
-      | false ↦ λ found. first-passes p t es e parts.1 found
-    ] is
-
-pub find-passes : (p : Entry → Bool) (key value : List ℕ) (es : List Entry) → list_all p es ≡ true → find key_cmp key es ≡ Some value → p (key, value) ≡ true
-find-passes p key value [] all is = absurd (cc)
-find-passes p key value (x ∷ es) all is =
-    let parts = and_parts (p x) (list_all p es) all in
-    elim (is_eq (key_cmp key x.0)) as (λ b. is_eq (key_cmp key x.0) ≡ b → cond b (Some x.1) (find key_cmp key es) ≡ Some value → p (key, value) ≡ true) [
-      | true ↦ λ tied found. subst (λ (y : Entry). p y ≡ true) (λ i. (sym (same_key key x.0 (equal (key_cmp key x.0) tied)) i, same_Some x.1 value found i)) parts.0
-      | false ↦ λ other found. find-passes p key value es parts.1 found
-    ] refl is
-  where
-    equal : (o : Ordering) → is_eq o ≡ true → o ≡ Equal
-    equal Less e = cc
-    equal Equal e = refl
-    equal Greater e = cc

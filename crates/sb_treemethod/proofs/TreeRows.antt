@@ -1,9 +1,9 @@
 -- Pages that are a tree of rows.
-use Rattle.std.proofs.Common.{◌≡◌, ◌≢◌, ℕ, zero, suc, ◌+◌, ◌^◌, ◌<◌, ◌≤◌, ◌==◌, nat_lt, Bool, true, false, cond, not, ◌&&◌, List, [], ◌∷◌, length, filter, All, Option, Some, None, T, refl, ap, sym, ◌∙◌, subst, arith, eqb-true, eq-eqb, true≢false, inl, inr}
+use Rattle.std.proofs.Common.{◌≡◌, ◌≢◌, ℕ, zero, suc, ◌+◌, ◌^◌, ◌<◌, ◌≤◌, ◌==◌, nat_lt, Bool, true, false, cond, not, ◌&&◌, List, [], ◌∷◌, length, filter, All, Option, Some, None, T, refl, ap, sym, ◌∙◌, subst, arith, eqb-true, true≢false, inl, inr}
 use Rattle.std.specs.List.{list_all, range_with_len}
 use Rattle.std.specs.FinMap.Entries.{is_sorted}
-use Rattle.std.proofs.lemmas.Bool.{and_parts, and_from, ltb-true, lt-ltb, ltb-false, not-true}
-use Rattle.std.proofs.lemmas.Option.{same_Some}
+use Rattle.std.proofs.lemmas.Bool.{and_parts, and_from, ltb-true, lt-ltb, ltb-false, not-true, eqb-false}
+use Rattle.std.proofs.lemmas.Option.{cond_some}
 use Rattle.std.proofs.lemmas.List.{length-map}
 use Rattle.std.proofs.lemmas.List.Elements.{All-nil, All-cons}
 use Rattle.sb_value.specs.declared.schema.Column.{Column}
@@ -49,9 +49,6 @@ one_in p q low (suc len) n from to passes all =
     F : List ℕ
     F = filter p (range_with_len (low + 1) len)
 
-    next : (a b : ℕ) → a ≤ b → a ≢ b → a + 1 ≤ b
-    next a b from other = omega arith
-
     rest_of : (b : Bool) → list_all q (cond b (low ∷ F) F) ≡ true → list_all q F ≡ true
     rest_of true all = (and_parts (q low) (list_all q F) all).1
     rest_of false all = all
@@ -59,7 +56,7 @@ one_in p q low (suc len) n from to passes all =
     by : (t : Bool) → low == n ≡ t → (b : Bool) → p low ≡ b → list_all q (cond b (low ∷ F) F) ≡ true → (low + 1 ≤ n → list_all q F ≡ true → q n ≡ true) → q n ≡ true
     by true same true is all more = subst (λ m. q m ≡ true) (eqb-true low n same) (and_parts (q low) (list_all q F) all).0
     by true same false is all more = absurd (true≢false (sym passes ∙ ap p (sym (eqb-true low n same)) ∙ is))
-    by false other b is all more = more (next low n from (λ e. true≢false (sym (eq-eqb low n e) ∙ other))) (rest_of b all)
+    by false other b is all more = more (omega (arith, from, eqb-false low n other)) (rest_of b all)
 
 all_kept : (p q : ℕ → Bool) (xs : List ℕ) → ((x : ℕ) → p x ≡ true → q x ≡ true) → list_all q (filter p xs) ≡ true
 all_kept p q [] gives = refl
@@ -85,17 +82,13 @@ pub record Formed (root : ℕ) (schema : List Column) (key : List Name) (P : Pag
   pub low : (n : ℕ) → has n (tree_met root P) ≡ true → n < 65536
   pub same : rows ≡ rows_of es
 
-some_of : {X : Type 0} (t : Bool) (x y : X) → cond t (Some x) None ≡ Some y → (t ≡ true) × (x ≡ y)
-some_of true x y is = (refl, same_Some x y is)
-some_of false x y is = cc
-
 pub formed : (root : ℕ) (schema : List Column) (key : List Name) (P : Pages) (rows : Rows) → tree_rows root schema key P ≡ Some rows → Formed root schema key P rows
 formed root schema key P rows is = by (read_tree root P) refl is
   where
     by : (o : Option (List Entry)) → read_tree root P ≡ o → if_rows schema key (is_all root P) o ≡ Some rows → Formed root schema key P rows
     by None none e = absurd (cc)
     by (Some es) there e =
-        let some = some_of (is_all root P && list_all (is_row_entry schema key) es) (rows_of es) rows e in
+        let some = cond_some (is_all root P && list_all (is_row_entry schema key) es) (rows_of es) rows e in
         let parts = and_parts (is_all root P) (list_all (is_row_entry schema key) es) some.0 in
         let pages = and_parts (list_all (λ n. has n (tree_met root P)) (page_numbers P)) (list_all (λ n. nat_lt n 65536) (tree_met root P)) parts.0 in
         record {

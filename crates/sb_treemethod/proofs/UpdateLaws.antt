@@ -8,6 +8,7 @@ use Rattle.sb_value.specs.Equal.{bytes_same}
 use Rattle.std.specs.Str.{bytes_eq}
 use Rattle.std.proofs.lemmas.Cmp.{nat_list_cmp_total}
 use Rattle.std.proofs.lemmas.Map.Text.{is_eq-slice_cmp}
+use Rattle.sb_value.proofs.Truths.{or_true}
 use Rattle.sb_fold.specs.Costs.{digits, tree_cost}
 use Rattle.sb_relation.specs.Db.{Key, Row, Rows, row_at, with_row, without_row}
 use Rattle.sb_relation.specs.Keys.{is_free}
@@ -62,10 +63,6 @@ other_key key code q other is =
         is_tie Greater is = absurd (true≢false (sym is))
 
 -- ---- rows
-or_true : (b : Bool) → (b || true) ≡ true
-or_true true = refl
-or_true false = refl
-
 turned : (a b : Key) → bytes_eq a b ≡ false → bytes_eq b a ≡ false
 turned a b other = elim (bytes_eq b a) as (λ t. bytes_eq b a ≡ t → t ≡ false) [
   | true ↦ λ same. absurd (true≢false (sym ((bytes_same a b).1 (sym ((bytes_same b a).0 same))) ∙ other))
