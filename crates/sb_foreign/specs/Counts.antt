@@ -7,7 +7,7 @@ use Rattle.sb_forms.specs.Pages.{Pages, page_count}
 use Rattle.sb_ctx.specs.declared.instance.Instance.{Instance}
 use Rattle.sb_ctx.specs.declared.moves.Move.{Move}
 use Rattle.sb_ctx.specs.declared.moves.Move.TheVariants.{Done, Need, Broken, NoMemory}
-use Rattle.sb_ctx.specs.Attachment.{Attachment}
+use Rattle.sb_ctx.specs.Attachment.{Attachment, plain_attachment}
 use Rattle.sb_ctx.specs.View.{View, page_of, spliced, with_page}
 use Rattle.sb_foreign.specs.declared.count.Step.{Step}
 use Rattle.sb_foreign.specs.declared.count.Step.TheVariants.{Up, Down}
@@ -43,9 +43,7 @@ count_rules = record {
 
 -- one page, of which a call edits at most that one, and asks for no other
 abbrev pub count : Attachment
-count = record {
-  rules = count_rules;
-  content = counted_in;
+count = record (plain_attachment count_rules counted_in) {
   may_break = λ inst held n. (n == inst.root) && has_no_count (held n);
   bound = λ content. 1;
   cost = λ c before after. 1;
