@@ -1,1 +1,2 @@
 mod KeepsLemmas
+mod OneHalf

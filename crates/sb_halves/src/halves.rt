@@ -1,15 +1,20 @@
 //! Transactions over both halves.
 
-ghost use Rattle.std.specs.Prelude.{◌≡◌, ◌+◌, ◌≤◌, [], false, cond, ℕ, Some, length, take, OnOk, OnErr, IfOk, IfErr};
+ghost use Rattle.std.specs.Prelude.{◌≡◌, ◌+◌, ◌<◌, ◌≤◌, [], true, false, cond, ℕ, Some, length, take, OnOk, OnErr, IfOk, IfErr};
+ghost use Rattle.sb_ctx.specs.View.{nothing};
 ghost use Rattle.sb_disk.specs.Moments.{LeavesOnly};
 ghost use Rattle.sb_drive.specs.Slots.{Slots};
-ghost use Rattle.sb_drive.specs.Spaces.{UnlessDown, Wanted};
+ghost use Rattle.sb_drive.specs.Spaces.{IsFull, IsStoreFault, Leaves, UnlessDown, Wanted};
+ghost use Rattle.sb_drive.specs.declared.turns.Ask.TheVariants.{Fresh};
+ghost use Rattle.sb_halves.specs.Both.{both, HasPagesIn, total_in, KeepsOther, KeepsSavepoints, WorksIn};
 ghost use Rattle.sb_images.specs.Images.{IsOldOrNew};
 ghost use Rattle.sb_journal.specs.State.{used_of};
 ghost use Rattle.sb_txn.specs.Book.{ActiveTransaction, transaction_with, standing_of};
 ghost use Rattle.sb_txn.specs.Clauses.{AsksNothing, Begins, Grows, CommitAsksNothing, IsReady, LeavesWanted};
 ghost use Rattle.sb_txn.specs.Parts.{parts};
 ghost use Rattle.sb_memory.specs.Contents.{stack};
+ghost use Rattle.sb_owners.specs.Instances.{HasCome, HasNone, without_owner};
+ghost use Rattle.sb_space.specs.Instances.{IsNewInstance};
 ghost use Rattle.sb_space.specs.Table.{slots_in, table_len};
 ghost use Rattle.sb_space.specs.Transactions.{AreFormed, KeepsSpace, WasAt};
 ghost use Rattle.sb_space.specs.Works.{HasPages, MeansDown, Serves};
@@ -17,7 +22,9 @@ ghost use Rattle.sb_space.specs.Works.{HasPages, MeansDown, Serves};
 use sb_disk::Disk;
 use sb_drive::SpaceFault;
 use sb_memory::{Memory, MemoryMark};
-use sb_space::Space;
+use sb_owners::Owners;
+use sb_space::{Durable, Space};
+use std::alloc::Global;
 
 /// An active transaction, the only one of its halves. It is spent by `commit` or `abort`.
 #[derive(Drop)]
@@ -201,5 +208,75 @@ impl Halves {
         ensures volatile { self.new.volatile ≡ self.old.volatile }
     {
         self.durable.checkpoint(disk)
+    }
+
+    /// Makes an instance in a half: its owner and its root, a page of zeros. Each half has numbers of its own for owners and pages.
+    pub fn new_instance<D: Disk>(
+        &mut self,
+        alloc: Global,
+        disk: &mut D,
+        tx: &Tx,
+        durable: bool,
+    ) -> Result<(u16, u32), SpaceFault>
+        requires ready { Serves tx.now.durable.store.number (parts D.told D.len disk.old self.old.durable.store) }
+
+        ensures made { IfOk result (λ made. (want : Wanted) (s : Slots) → HasPagesIn D.told D.len durable want s (both disk.old self.old)
+            → HasCome (HasPagesIn D.told D.len durable) want s made.0 made.1 (both disk.new self.new)) }
+        ensures high { IfOk result (λ made. 2 < made.0) }
+        ensures below { durable ≡ true → IfOk result (λ made. made.1 < self.old.durable.store.pool.geometry.pages) }
+        ensures least { durable ≡ true → IfOk result (λ made. (want : Wanted) (s : Slots)
+            → HasPages want s (parts D.told D.len disk.old self.old.durable.store)
+            → IsNewInstance want s self.old.durable.store.pool.geometry.pages made.0 made.1 (parts D.told D.len disk.new self.new.durable.store)) }
+        ensures same { UnlessDown result ((want : Wanted) (s : Slots) → HasPagesIn D.told D.len durable want s (both disk.old self.old)
+            → OnErr result (HasPagesIn D.told D.len durable want s (both disk.new self.new))) }
+        ensures full { IfErr result (λ e. (want : Wanted) (s : Slots) → HasPagesIn D.told D.len durable want s (both disk.old self.old)
+            → IsFull durable (total_in durable (both disk.old self.old)) s nothing Fresh e) }
+
+        ensures serves { Serves tx.now.durable.store.number (parts D.told D.len disk.new self.new.durable.store) }
+        ensures works { WorksIn D.told D.len D.faults tx.now.durable.store.number durable 2 (both disk.old self.old) (both disk.new self.new) result }
+        ensures any_moment { LeavesWanted (parts D.told D.len disk.old self.old.durable.store) (parts D.told D.len disk.new self.new.durable.store) }
+        ensures savepoints { KeepsSavepoints D.told D.len tx.now.durable.store.number (both disk.old self.old) (both disk.new self.new) }
+        ensures other { KeepsOther durable (both disk.old self.old) (both disk.new self.new) }
+    {
+        if durable {
+            let mut pages = Durable::new(&mut self.durable.store, disk, &tx.durable.store);
+            pages.new_instance(alloc)
+        } else {
+            Owners::new_instance(&mut self.volatile, alloc)
+        }
+    }
+
+    /// Makes every page of the owner in a half nobody's. Refused over the durable half, it may have freed some: going back gives them back.
+    pub fn free_owner<D: Disk>(
+        &mut self,
+        alloc: Global,
+        disk: &mut D,
+        tx: &Tx,
+        owner: u16,
+        durable: bool,
+    ) -> Result<(), SpaceFault>
+        requires ready { Serves tx.now.durable.store.number (parts D.told D.len disk.old self.old.durable.store) }
+        requires owner { 1 < owner }
+
+        ensures pages { UnlessDown result ((want : Wanted) (s : Slots) → HasPagesIn D.told D.len durable want s (both disk.old self.old)
+            → Leaves (HasPagesIn D.told D.len durable) owner want s (both disk.new self.new) (λ after. OnOk result (HasNone after))) }
+        ensures freed { durable ≡ true → OnOk result ((want : Wanted) (s : Slots)
+            → HasPages want s (parts D.told D.len disk.old self.old.durable.store)
+            → HasPages want (without_owner owner s) (parts D.told D.len disk.new self.new.durable.store)) }
+        ensures err { IfErr result IsStoreFault }
+
+        ensures serves { Serves tx.now.durable.store.number (parts D.told D.len disk.new self.new.durable.store) }
+        ensures works { WorksIn D.told D.len D.faults tx.now.durable.store.number durable (table_len self.old.durable.store.pool.geometry.pages)
+            (both disk.old self.old) (both disk.new self.new) result }
+        ensures any_moment { LeavesWanted (parts D.told D.len disk.old self.old.durable.store) (parts D.told D.len disk.new self.new.durable.store) }
+        ensures savepoints { KeepsSavepoints D.told D.len tx.now.durable.store.number (both disk.old self.old) (both disk.new self.new) }
+        ensures other { KeepsOther durable (both disk.old self.old) (both disk.new self.new) }
+    {
+        if durable {
+            let mut pages = Durable::new(&mut self.durable.store, disk, &tx.durable.store);
+            pages.free_owner(owner)
+        } else {
+            Owners::free_owner(&mut self.volatile, alloc, owner)
+        }
     }
 }

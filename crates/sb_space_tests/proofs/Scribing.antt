@@ -1,6 +1,6 @@
 -- Instances of the boxes that take turns.
 use Rattle.std.proofs.Common.{◌≡◌, ℕ, ◌+◌, ◌≤◌, true, false, ◌==◌, nat_lt, [], Some, refl, sym, ◌∙◌, arith}
-use Rattle.std.proofs.lemmas.Bool.{cond-false, ne_eqb}
+use Rattle.std.proofs.lemmas.Bool.{cond-false}
 use Rattle.std.proofs.lemmas.Bool.Decides.{nat_tests}
 use Rattle.sb_relation.specs.Fits.{method_fits}
 use Rattle.sb_relation.specs.Foreign.{MethodRules}

@@ -11,6 +11,7 @@ ghost use Rattle.sb_space_tests.specs.Turns.{IsAtRest};
 ghost use Rattle.sb_txn.specs.Parts.{parts};
 
 mod filling;
+mod halves;
 mod numbers;
 mod scribe;
 
@@ -141,7 +142,7 @@ fn tell_first<D: Disk>(
     ensures ready { Serves tx.now.store.number (parts D.told D.len disk.new space.new.store) }
     ensures changes { KeepsChanges tx.now.store.number space.old.store.book space.new.store.book }
 {
-    let inst = instance(alloc, 0)?;
+    let inst = instance(alloc, 0, FIRST.1)?;
     let mut pages = Durable::new(&mut space.store, disk, &tx.store);
     drive(alloc, &mut pages, &Scribe {}, &inst, order)
 }
@@ -158,7 +159,7 @@ fn tell_second<D: Disk>(
     ensures ready { Serves tx.now.store.number (parts D.told D.len disk.new space.new.store) }
     ensures changes { KeepsChanges tx.now.store.number space.old.store.book space.new.store.book }
 {
-    let inst = instance(alloc, 1)?;
+    let inst = instance(alloc, 1, FIRST.1 + 1)?;
     let mut pages = Durable::new(&mut space.store, disk, &tx.store);
     drive(alloc, &mut pages, &Clerk {}, &inst, order)
 }
@@ -419,14 +420,14 @@ fn each_box_has_its_own_pages(rt: HostRuntime) -> Result<(), Fail> {
     Ok(())
 }
 
-/// Whether these bytes have so many commits, or one more.
-fn is_kept(alloc: Global, image: &[u8], commits: u32) -> Result<bool, AllocError> {
+/// Whether these bytes have so many commits, or one more, where this is what is seen behind each.
+fn is_kept(alloc: Global, image: &[u8], commits: u32, states: &[Seen]) -> Result<bool, AllocError> {
     let mut disk = MemDisk::from_image(alloc, image)?;
     let Some(found) = seen_in(alloc, &mut disk) else {
         return Ok(false);
     };
     Ok(
-        COMMITS
+        states
             .iter()
             .skip(commits as usize)
             .take(2)
@@ -434,19 +435,30 @@ fn is_kept(alloc: Global, image: &[u8], commits: u32) -> Result<bool, AllocError
     )
 }
 
-/// Whether a run that stops at this call leaves what was acknowledged, in the bytes that were stored and in those that were synced. One that stops before
-/// the store is opened has acknowledged nothing.
-fn survives(alloc: Global, image: &[u8], call: u64, torn: u32) -> Result<bool, AllocError> {
-    let mut disk = MemDisk::from_image(alloc, image)?;
-    disk.stop_at(call, torn);
-    let commits = match ran(alloc, &mut disk) {
+/// Whether a run that was stopped left what was acknowledged, in the bytes that were stored and in those that were synced. One that stopped before the store
+/// was opened has acknowledged nothing.
+fn is_left(
+    alloc: Global,
+    disk: &MemDisk,
+    ran: Option<(u32, bool)>,
+    states: &[Seen],
+) -> Result<bool, AllocError> {
+    let commits = match ran {
         Some((_, true)) => return Ok(false),
         Some((commits, false)) => commits,
         None => 0,
     };
-    let stored = is_kept(alloc, disk.image()?.as_slice(), commits)?;
-    let synced = is_kept(alloc, disk.synced()?.as_slice(), commits)?;
+    let stored = is_kept(alloc, disk.image()?.as_slice(), commits, states)?;
+    let synced = is_kept(alloc, disk.synced()?.as_slice(), commits, states)?;
     Ok(stored && synced)
+}
+
+/// The same of a run that stops at this call.
+fn survives(alloc: Global, image: &[u8], call: u64, torn: u32) -> Result<bool, AllocError> {
+    let mut disk = MemDisk::from_image(alloc, image)?;
+    disk.stop_at(call, torn);
+    let ran = ran(alloc, &mut disk);
+    is_left(alloc, &disk, ran, &COMMITS)
 }
 
 #[test]

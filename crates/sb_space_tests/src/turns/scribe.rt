@@ -224,14 +224,13 @@ fn ask(ctx: &mut Ctx, n: u32, byte: u8) -> Move
 }
 
 /// An instance of the box with this number: 0 of the first, 1 of the second.
-pub(crate) fn instance(alloc: Global, number: u8) -> Result<Instance, AllocError>
+pub(crate) fn instance(alloc: Global, number: u8, root: u32) -> Result<Instance, AllocError>
     ensures { IfOk result (IsScribes number) }
 {
-    let (owner, root) = FIRST;
     Ok(Instance {
         relation: Str::from_string(String::from_str(alloc, "r")?),
-        owner: owner + u16::from(number),
-        root: root + u32::from(number),
+        owner: FIRST.0 + u16::from(number),
+        root,
         durable: true,
         code: 1000 + u16::from(number),
         desc: Bytes::new(alloc),

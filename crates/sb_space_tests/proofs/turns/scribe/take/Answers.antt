@@ -1,4 +1,4 @@
-use Rattle.std.proofs.Common.{List, ℕ, IsSome, [], ◌∷◌, ap, ◌∙◌, rules}
+use Rattle.std.proofs.Common.{IsSome, [], ◌∷◌, ap, ◌∙◌, rules}
 use Rattle.sb_forms.specs.Pages.{zeros}
 use Rattle.sb_ctx.specs.View.{page_of, spliced, dropped}
 use Rattle.sb_ctx.proofs.ViewLaws.{dropped-with_page}

@@ -1,6 +1,6 @@
-use Rattle.std.proofs.Common.{List, ℕ, IsSome, [], ◌∷◌, ◌∙◌, rules}
+use Rattle.std.proofs.Common.{IsSome, [], ◌∷◌, ◌∙◌, rules}
 use Rattle.sb_ctx.specs.View.{page_of, spliced}
-use Rattle.sb_memory.proofs.TestLemmas.{given-edit, is_some-given}
+use Rattle.sb_memory.proofs.TestLemmas.{given-edit}
 use Rattle.sb_space_tests.proofs.turns.scribe.write.Goals as goal
 
 pub returns-in-Ok-clause-given : goal.returns-in-Ok-clause-given
