@@ -15,8 +15,12 @@ use Rattle.sb_kernel.specs.declared.ending.Ending.{Ending}
 use Rattle.sb_kernel.specs.Crashes.{HoldsDatabase}
 use Rattle.sb_kernel.specs.Ending.{status_of}
 use Rattle.sb_kernel.specs.Runs.{HasPlayedOut, PlaysOut}
-use Rattle.sb_kernel.specs.Serving.{HasEndedSo, HasServed}
+use Rattle.sb_kernel.specs.Serving.{AnswersItems, HasEndedSo, HasServed}
 use Rattle.sb_kernel.specs.World.{At, World, at}
+use Rattle.sb_lawful_plays.proofs.Databases.{nothing-over as nothing-lawful}
+use Rattle.sb_lawful_plays.proofs.Playing.{runs-lawful}
+use Rattle.sb_sound_plays.proofs.Databases.{nothing-over as nothing-sound}
+use Rattle.sb_sound_plays.proofs.Playing.{runs-sound}
 use Rattle.sb_words.specs.declared.words.Words.{Words}
 use Rattle.starburst.specs.declared.report.Report.{Report}
 use Rattle.starburst.specs.Run.{HasPlayedFrom, OnMounted, PlaysFrom, Run, RunsMounted, RunsOn, Seen, Tells, seen, tells}
@@ -25,10 +29,11 @@ use Rattle.starburst.proofs.EarlyLemmas.{early-along, holds-opened}
 
 -- ---- what was played
 played-from : {D : Type 0} (d : Tells D) (m boxes : Meanings) (named : List Named) (IsEarly : List ℕ → Type 0) (db : Db) (mounted first now : D)
-    (items : List Item) (replies : List Reply) (starts : List ℕ) → HasLive m named boxes → LeavesOnly (d.told mounted) (d.told first) IsEarly
+    (ending : Ending) (taken : List ℕ) (items : List Item) (replies : List Reply) (starts : List ℕ) → AnswersItems ending taken items
+    → HasLive m named boxes → LeavesOnly (d.told mounted) (d.told first) IsEarly
     → ((image : List ℕ) → HoldsDatabase m image db → IsEarly image) → HasPlayedOut d.told d.faults m first (opened boxes db) items replies starts now
     → HasPlayedFrom d m named IsEarly db mounted now items replies starts
-played-from d m boxes named IsEarly db mounted first now items replies starts live early holds played = record {
+played-from d m boxes named IsEarly db mounted first now ending taken items replies starts answers live early holds played = record {
   boxes = boxes;
   live = live;
   first = first;
@@ -36,27 +41,32 @@ played-from d m boxes named IsEarly db mounted first now items replies starts li
       (λ none t image from left. holds image
       (holds-opened m boxes db (d.told now) played.until _ items played.states starts played.leaves played.last none t image from left));
   played = played;
+  lawful = λ lawful. runs-lawful d.told d.faults m boxes db ending taken first items replies starts now lawful answers played;
+  sound = λ sound. runs-sound d.told d.faults m boxes db ending taken first items replies starts now sound answers played;
 }
 
-plays-from : {B D : Type 0} (w : World B D) (m : Meanings) (words : Words) (create : Bool) (mounted : D) (items : List Item) (replies : List Reply) (first now : At B D)
-    → HasStarted w m words create mounted first.disk first.session → PlaysOut w m items replies first now
+plays-from : {B D : Type 0} (w : World B D) (m : Meanings) (words : Words) (create : Bool) (mounted : D) (ending : Ending) (taken : List ℕ) (items : List Item) (replies : List Reply)
+    (first now : At B D) → AnswersItems ending taken items → HasStarted w m words create mounted first.disk first.session → PlaysOut w m items replies first now
     → PlaysFrom (tells w.told w.len w.faults) m words create mounted now.disk now.starts items replies
 unfolding played-from
-plays-from w m words false mounted items replies first now started plays = λ g want db stored single.
+plays-from w m words false mounted ending taken items replies first now answers started plays = λ g want db stored single.
     let start = started g want db stored in
     played-from (tells w.told w.len w.faults) m (w.meanings first.session.boxes) _ (λ image. HoldsDatabase m image db) db mounted first.disk now.disk
-    items replies now.starts start.live start.early (λ image holds. holds) (plays (opened (w.meanings first.session.boxes) db) start.now single)
-plays-from w m words true mounted items replies first now started plays = λ told settled single.
-    let start = started told settled in (
-      played-from (tells w.told w.len w.faults) m (w.meanings first.session.boxes) [] (λ image. IsNoStore image ⊎ HoldsDatabase m image []) [] mounted
-          first.disk now.disk items replies now.starts start.0.live start.0.early (λ image holds. inr holds)
-          (plays (opened (w.meanings first.session.boxes) []) start.0.now single),
+    ending taken items replies now.starts answers start.live start.early (λ image holds. holds) (plays (opened (w.meanings first.session.boxes) db) start.now single)
+plays-from w m words true mounted ending taken items replies first now answers started plays = λ told settled single.
+    let start = started told settled in
+    let from = played-from (tells w.told w.len w.faults) m (w.meanings first.session.boxes) [] (λ image. IsNoStore image ⊎ HoldsDatabase m image []) []
+    mounted first.disk now.disk ending taken items replies now.starts answers start.0.live start.0.early (λ image holds. inr holds)
+    (plays (opened (w.meanings first.session.boxes) []) start.0.now single) in (
+      from,
       start.1,
+      record { lawful = from.lawful (nothing-lawful m); sound = from.sound (nothing-sound m) },
     )
 
 -- what is known of the items and their replies, by what was known
 known-by : (most : ℕ) (left left_now held held_now : Option (List ℕ)) (ending : Ending) (starts : List ℕ)
-    (IsKnown Follows : List Item → List Reply → Type 0) → ((items : List Item) (replies : List Reply) → IsKnown items replies → Follows items replies)
+    (IsKnown Follows : List Item → List Reply → Type 0)
+    → ((taken : List ℕ) (items : List Item) (replies : List Reply) → AnswersItems ending taken items → IsKnown items replies → Follows items replies)
     → HasEndedSo most left left_now held held_now ending starts IsKnown → HasEndedSo most left left_now held held_now ending starts Follows
 known-by most left left_now held held_now ending starts IsKnown Follows leads ended = record {
   taken = ended.taken;
@@ -71,7 +81,7 @@ known-by most left left_now held held_now ending starts IsKnown Follows leads en
   within = ended.within;
   writes = ended.writes;
   in_time = ended.in_time;
-  known = leads ended.items ended.replies ended.known;
+  known = leads ended.taken ended.items ended.replies ended.answers ended.known;
 }
 
 -- ---- what was run
@@ -84,7 +94,8 @@ runs_mounted w m words most left left_now held held_now mounted first now x endi
   status = status;
   ended = known-by most left left_now held held_now ending report.starts _
       (PlaysFrom (tells w.told w.len w.faults) m words words.create mounted now report.starts)
-      (λ items replies plays. plays-from w m words words.create mounted items replies (at first x held []) (at now x held_now report.starts) started plays)
+      (λ taken items replies answers plays.
+      plays-from w m words words.create mounted ending taken items replies (at first x held []) (at now x held_now report.starts) answers started plays)
       served;
 })
 

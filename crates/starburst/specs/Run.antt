@@ -27,6 +27,8 @@ use Rattle.sb_kernel.specs.Crashes.{HoldsDatabase, next_start}
 use Rattle.sb_kernel.specs.Ending.{status_of}
 use Rattle.sb_kernel.specs.Runs.{HasPlayedOut}
 use Rattle.sb_kernel.specs.Serving.{HasEndedSo}
+use Rattle.sb_lawful_plays.specs.Laws.{IsLawfulOver, IsLawfulPlay}
+use Rattle.sb_sound_plays.specs.Laws.{IsSoundOver, IsSoundPlay}
 use Rattle.sb_words.specs.declared.words.Words.{Words}
 use Rattle.sb_words.specs.Words.{IsRead, IsRefused}
 use Rattle.starburst.specs.declared.report.Report.{Report}
@@ -52,7 +54,8 @@ tells told len faults = record { told = told; len = len; faults = faults }
 
 -- ---- runs that begin
 -- The items had these replies in a play from the database, with those of the boxes live that were, and the named ones. From the mount until the
--- first item began, a crash left what is said of early images.
+-- first item began, a crash left what is said of early images. Over a lawful database all states of the play are lawful, and so is each database that a
+-- crash leaves of it; over one whose rules hold they hold.
 pub record HasPlayedFrom {D : Type 0} (d : Tells D) (m : Meanings) (named : List Named) (IsEarly : List ℕ → Type 0) (db : Db) (mounted now : D)
     (items : List Item) (replies : List Reply) (starts : List ℕ) : Type 0 where
   pub boxes : Meanings
@@ -61,6 +64,14 @@ pub record HasPlayedFrom {D : Type 0} (d : Tells D) (m : Meanings) (named : List
   pub early : (t : ℕ) (image : List ℕ) → moment (d.told mounted) ≤ t → t < next_start starts (suc (moment (d.told now)))
       → MayLeave (d.told now) t image → IsEarly image
   pub played : HasPlayedOut d.told d.faults m first (opened boxes db) items replies starts now
+  pub lawful : IsLawfulOver m db → IsLawfulPlay m (d.told now) starts played.until played.states
+  pub sound : IsSoundOver m db → IsSoundPlay m (d.told now) starts played.until played.states
+
+-- So it is without a premise over a new store, whose database is empty.
+pub record KeepsRules {D : Type 0} (d : Tells D) (m : Meanings) (named : List Named) (IsEarly : List ℕ → Type 0) (mounted now : D) (items : List Item)
+    (replies : List Reply) (starts : List ℕ) (from : HasPlayedFrom d m named IsEarly [] mounted now items replies starts) : Type 0 where
+  pub lawful : IsLawfulPlay m (d.told now) starts from.played.until from.played.states
+  pub sound : IsSoundPlay m (d.told now) starts from.played.until from.played.states
 
 -- Over contents that stand for a database the play is from it, and early images hold it. A disk without a store comes to hold a new one of the sizes
 -- that the words ask for, whose database is empty.
@@ -70,8 +81,9 @@ PlaysFrom d m words false mounted now starts items replies =
     → HasPlayedFrom d m (named_in stored.committed.kept) (λ image. HoldsDatabase m image db) db mounted now items replies starts
 PlaysFrom d m words true mounted now starts items replies =
     is_some (d.told mounted) ≡ true → IsSettled (d.told mounted) → AreSingle (all_live m)
-    → (played : HasPlayedFrom d m [] (λ image. IsNoStore image ⊎ HoldsDatabase m image []) [] mounted now items replies starts)
-    × MakesStore words (d.told mounted) (d.told played.first)
+    → (from : HasPlayedFrom d m [] (λ image. IsNoStore image ⊎ HoldsDatabase m image []) [] mounted now items replies starts)
+    × MakesStore words (d.told mounted) (d.told from.first)
+    × KeepsRules d m [] (λ image. IsNoStore image ⊎ HoldsDatabase m image []) mounted now items replies starts from
 
 -- a store was opened, or made and opened, and items were answered until the run ended
 pub record HasRun {D : Type 0} (d : Tells D) (m : Meanings) (words : Words) (most : ℕ) (old new : Seen) (mounted now : D) (report : Report) : Type 0 where
