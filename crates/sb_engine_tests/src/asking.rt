@@ -1,22 +1,23 @@
 //! What no clause says: that finds and verdicts come while memory lasts, over a catalogue whose entry is bytes by hand.
 
-ghost use Rattle.std.specs.Prelude.{◌≡◌, ◌≤◌, true, All, IfOk};
+ghost use Rattle.std.specs.Prelude.{◌≡◌, true, All};
 ghost use Rattle.sb_foreign.specs.Examples.{MayBeHeld};
 ghost use Rattle.sb_foreign.specs.Strips.{is_numbers};
 ghost use Rattle.sb_registry.specs.Live.{IsLive, IsLiveRule};
+ghost use Rattle.sb_opened.specs.Opened.{IsOpen};
 
+use crate::stores::{catalogue, enter, registry, text};
 use sb_asking::{Verdict, ask_rule, find_keys};
-use sb_ctx::{Attachment, Ctx, Instance, StorageMethod};
-use sb_drive::{Ask, PageSpace, SpaceFault};
+use sb_ctx::{Attachment, Instance};
 use sb_foreign::{Once, Strip};
-use sb_map::{Place, make, put};
+use sb_map::Place;
 use sb_memory::Memory;
-use sb_opened::open_relation;
-use sb_registry::{Boxes, Extensions, Registry};
+use sb_opened::{OpenRelation, open_relation};
+use sb_registry::{Boxes, Registry};
 use sb_relation::Change;
 use sb_rows::{insert_row, prepare_rows};
-use sb_value::{Column, Kind, Names, RecKey, Schema, Str, Tuple, Value};
-use std::alloc::{AllocError, Global};
+use sb_value::{Column, Kind, Names, RecKey, Schema, Tuple, Value};
+use std::alloc::Global;
 use std::process::Abort;
 use std::test::*;
 
@@ -40,19 +41,15 @@ const FINDS: [(&'static str, &'static str, u8, usize); 5] = [
 /// The number of a row that has come, and whether it is admitted.
 const COMES: [(u8, bool); 2] = [(7, true), (5, false)];
 
-fn text(alloc: Global, text: &str) -> Result<Str, AllocError> {
-    Ok(Str::from_string(String::from_str(alloc, text)?))
-}
-
 /// One name.
-fn names(alloc: Global, name: &str) -> Result<Names, AllocError> {
-    Ok(Names::from_vec(vec![in alloc; text(alloc, name)?]?))
+fn names(rt: &impl Abort, alloc: Global, name: &str) -> Names {
+    Names::from_vec(vec![in alloc; text(rt, alloc, name)].expect(rt, "memory"))
 }
 
-fn row(alloc: Global, number: u8) -> Result<Tuple, AllocError>
-    ensures { IfOk result MayBeHeld }
+fn row(rt: &impl Abort, alloc: Global, number: u8) -> Tuple
+    ensures { MayBeHeld result }
 {
-    Ok(Tuple::from_vec(vec![in alloc; Value::Int(i64::from(number))]?))
+    Tuple::from_vec(vec![in alloc; Value::Int(i64::from(number))].expect(rt, "memory"))
 }
 
 fn is_numbers(schema: &Schema) -> bool
@@ -68,71 +65,77 @@ fn is_numbers(schema: &Schema) -> bool
 }
 
 /// A catalogue with the relation `r`, and the page of its rows.
-fn store(rt: &impl Abort, memory: &mut Memory, alloc: Global) -> Result<Place, SpaceFault>
-    ensures { IfOk result (λ place. place.owner ≡ 2) }
+fn store(rt: &impl Abort, memory: &mut Memory, alloc: Global) -> Place
+    ensures { result.owner ≡ 2 }
 {
-    let mut ctx = Ctx::new(alloc);
-    memory.answer(2, &mut ctx, Ask::Fresh)?;
-    let root = ctx.fresh().ok_or(SpaceFault::Fault)?;
-    memory.store(alloc, 2, &ctx)?;
-    let (owner, first) = memory.new_instance(&[])?;
-    assert!(rt; owner == 3 && first == 1 && RELATION.len() <= 1000);
-    let place = Place { owner: 2, root };
-    make(memory, alloc, place)?;
-    put(memory, alloc, place, b"r", RELATION)?;
-    Ok(place)
+    let place = catalogue(rt, memory, alloc);
+    let (owner, first) = memory.new_instance(&[]).expect(rt, "memory");
+    assert!(rt; owner == 3 && first == 1);
+    enter(rt, memory, alloc, place, b"r", RELATION);
+    place
 }
 
-/// Fills the table with the rows. False where it isn't one of numbers.
-fn fill(
-    memory: &mut Memory,
-    alloc: Global,
-    registry: &Registry,
-    table: &Instance,
-) -> Result<bool, SpaceFault>
+/// Fills the table with the rows.
+fn fill(rt: &impl Abort, memory: &mut Memory, alloc: Global, registry: &Registry, table: &Instance)
     requires { IsLive (⟦<Registry as Boxes>⟧.meanings registry.now) table.now }
 {
-    if table.code != 1000 || !is_numbers(&table.schema) {
-        return Ok(false);
+    assert!(rt; table.code == 1000 && is_numbers(&table.schema));
+    prepare_rows(memory, alloc, registry, table).expect(rt, "pages");
+    for number in NUMBERS.iter() {
+        let row = row(rt, alloc, *number);
+        drop(insert_row(memory, alloc, registry, table, row).expect(rt, "a row"));
     }
-    prepare_rows(memory, alloc, registry, table)?;
-    for number in NUMBERS {
-        let row = row(alloc, number)?;
-        let _placed = insert_row(memory, alloc, registry, table, row)?;
-    }
-    Ok(true)
 }
 
-/// The place of the first find that meets another number of rows.
-fn first_other_find(
+/// Whether so many rows of a relation have the number in a column.
+fn are_found(
+    rt: &impl Abort,
     memory: &mut Memory,
-    alloc: Global,
     registry: &Registry,
     place: Place,
-) -> Result<Option<usize>, SpaceFault>
+    alloc: Global,
+    relation: &str,
+    column: &str,
+    number: u8,
+    rows: usize,
+) -> bool
     requires { place.owner ≡ 2 }
 {
-    for (i, (relation, column, number, rows)) in FINDS.iter().enumerate() {
-        let relation = text(alloc, relation)?;
-        let columns = names(alloc, column)?;
-        let values = row(alloc, *number)?;
-        let keys = find_keys(memory, alloc, registry, place, &relation, &columns, &values)?;
-        if keys.as_slice().len() != *rows {
-            return Ok(Some(i));
-        }
+    let relation = text(rt, alloc, relation);
+    let columns = names(rt, alloc, column);
+    let values = row(rt, alloc, number);
+    let keys = find_keys(memory, alloc, registry, place, &relation, &columns, &values);
+    let keys = keys.expect(rt, "pages");
+    let are_found = keys.as_slice().len() == rows;
+    drop(keys);
+    drop(values);
+    drop(columns);
+    drop(relation);
+    are_found
+}
+
+fn find(rt: &impl Abort, memory: &mut Memory, registry: &Registry, place: Place, alloc: Global)
+    requires { place.owner ≡ 2 }
+{
+    for (relation, column, number, rows) in FINDS.iter() {
+        assert!(rt;
+            are_found(
+                rt, memory, registry, place, alloc, relation, column, *number, *rows
+            )
+        );
     }
-    Ok(None)
 }
 
 /// Whether a row of this number, which has come, is admitted.
 fn is_admitted(
+    rt: &impl Abort,
     memory: &mut Memory,
     alloc: Global,
     registry: &Registry,
     place: Place,
     rule: &Instance,
     number: u8,
-) -> Result<bool, SpaceFault>
+) -> bool
     requires owner { place.owner ≡ 2 }
     requires live { IsLiveRule (⟦<Registry as Boxes>⟧.meanings registry.now) rule.now }
     requires foreign { rule.now.code ≡ 1001 }
@@ -140,68 +143,78 @@ fn is_admitted(
 {
     let change = Change::Insert {
         key: RecKey::from_vec(Vec::new(alloc)),
-        new: row(alloc, number)?,
+        new: row(rt, alloc, number),
     };
-    let verdict = ask_rule(memory, alloc, registry, place, rule, &change)?;
-    Ok(matches!(verdict, Verdict::Admitted { .. }))
+    let verdict = ask_rule(memory, alloc, registry, place, rule, &change);
+    let is_admitted = matches!(&verdict, Ok(Verdict::Admitted { .. }));
+    drop(verdict);
+    drop(change);
+    is_admitted
 }
 
-/// The place of the first row that is judged otherwise by the only rule.
-fn first_other_verdict(
+/// The only rule judges rows.
+fn judge(
+    rt: &impl Abort,
     memory: &mut Memory,
     alloc: Global,
     registry: &Registry,
     place: Place,
     rules: &[Instance],
-) -> Result<Option<usize>, SpaceFault>
+)
     requires owner { place.owner ≡ 2 }
     requires live { All (IsLiveRule (⟦<Registry as Boxes>⟧.meanings registry.now)) rules.now }
 {
     let [rule] = rules else {
-        return Ok(Some(0));
+        panic!(rt; "other rules");
     };
-    if rule.code != 1001 || !is_numbers(&rule.schema) {
-        return Ok(Some(0));
+    assert!(rt; rule.code == 1001 && is_numbers(&rule.schema));
+    for (number, admitted) in COMES.iter() {
+        assert!(rt; is_admitted(rt, memory, alloc, registry, place, rule, *number) == *admitted);
     }
-    for (i, (number, admitted)) in COMES.iter().enumerate() {
-        if is_admitted(memory, alloc, registry, place, rule, *number)? != *admitted {
-            return Ok(Some(i));
-        }
-    }
-    Ok(None)
+}
+
+/// The relation.
+fn opened(
+    rt: &impl Abort,
+    memory: &mut Memory,
+    registry: &Registry,
+    place: Place,
+    alloc: Global,
+) -> OpenRelation
+    requires { place.owner ≡ 2 }
+    ensures { IsOpen (⟦<Registry as Boxes>⟧.meanings registry.now) result }
+{
+    let name = text(rt, alloc, "r");
+    let found = open_relation(memory, alloc, registry, place, &name);
+    drop(name);
+    let Some(opened) = found.expect(rt, "pages") else {
+        panic!(rt; "not there");
+    };
+    opened
 }
 
 #[test]
-fn rows_are_found_and_judged(rt: HostRuntime) -> Result<(), Fail> {
+fn rows_are_found_and_judged(rt: HostRuntime) {
     let alloc = rt.alloc();
-    let mut methods: Vec<Box<dyn StorageMethod>> = Vec::new(alloc);
-    methods.push(Box::new(alloc, Strip {})?)?;
     let mut attachments: Vec<Box<dyn Attachment>> = Vec::new(alloc);
-    attachments.push(Box::new(alloc, Once {})?)?;
-    let taken = Registry::take(Extensions {
-        methods,
-        attachments,
-        spare_methods: Vec::new(alloc),
-        spare_attachments: Vec::new(alloc),
-    });
-    let Ok(registry) = taken else {
-        return Err(Fail::from("not taken"));
-    };
+    let once = Box::new(alloc, Once {}).expect(&rt, "memory");
+    attachments.push(once).expect(&rt, "memory");
+    let strip = Box::new(alloc, Strip {}).expect(&rt, "memory");
+    let registry = registry(&rt, alloc, strip, attachments);
     let mut memory = Memory::new(alloc);
-    let place = store(&rt, &mut memory, alloc)?;
-    let name = text(alloc, "r")?;
-    let Some(opened) = open_relation(&mut memory, alloc, &registry, place, &name)? else {
-        return Err(Fail::from("not there"));
-    };
-    assert!(rt; fill(&mut memory, alloc, &registry, &opened.table)?);
-    assert_eq!(rt;
-        first_other_find(&mut memory, alloc, &registry, place)?,
-        None
+    let place = store(&rt, &mut memory, alloc);
+    let opened = opened(&rt, &mut memory, &registry, place, alloc);
+    fill(&rt, &mut memory, alloc, &registry, &opened.table);
+    find(&rt, &mut memory, &registry, place, alloc);
+    judge(
+        &rt,
+        &mut memory,
+        alloc,
+        &registry,
+        place,
+        opened.rules.as_slice(),
     );
-    let rules = opened.rules.as_slice();
-    assert_eq!(rt;
-        first_other_verdict(&mut memory, alloc, &registry, place, rules)?,
-        None
-    );
-    Ok(())
+    drop(opened);
+    drop(memory);
+    drop(registry);
 }

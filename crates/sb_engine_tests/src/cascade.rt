@@ -8,6 +8,7 @@ use sb_fold::Refusal;
 use sb_rule::{Action, Change, Pairs, Terms};
 use sb_value::{RecKey, Str, Tuple};
 use std::alloc::{AllocError, Global};
+use std::process::Abort;
 use std::test::*;
 
 /// What follows from changes.
@@ -189,55 +190,85 @@ fn told<T>(outcome: &Result<T, Refusal>) -> &'static str {
     }
 }
 
+/// Whether this comes of a change of a row of `a`, with this log.
+fn is_changed(rt: &impl Abort, alloc: Global, rules: Rules, end: &str, log: &str) -> bool {
+    let mut layer = scripted(alloc, rules, 0, false);
+    let wish = Wish::Put(Tuple::from_vec(Vec::new(alloc)));
+    let name = text(alloc, "a").expect(rt, "memory");
+    let outcome = change(&mut layer, alloc, 16, &name, &wish);
+    let is_changed = told(&outcome) == end && layer.log.as_str() == log;
+    drop(outcome);
+    drop(name);
+    drop(wish);
+    drop(layer);
+    is_changed
+}
+
+const FOLLOWS: [(Rules, &str, &str); 4] = [
+    (Rules::None, "made", "a"),
+    (Rules::Tree, "made", "abdc"),
+    (Rules::Endless, "depth", "aaaaaaaaaaaaaaaa"),
+    (Rules::Vetoed, "veto", "a"),
+];
+
 #[test]
-fn what_follows_is_done_in_order(rt: HostRuntime) -> Result<(), Fail> {
-    let alloc = rt.alloc();
-    let rows = [
-        (Rules::None, "made", "a"),
-        (Rules::Tree, "made", "abdc"),
-        (Rules::Endless, "depth", "aaaaaaaaaaaaaaaa"),
-        (Rules::Vetoed, "veto", "a"),
-    ];
-    for (rules, end, log) in rows {
-        let mut layer = scripted(alloc, rules, 0, false);
-        let wish = Wish::Put(Tuple::from_vec(Vec::new(alloc)));
-        let outcome = change(&mut layer, alloc, 16, &text(alloc, "a")?, &wish);
-        assert!(rt; told(&outcome) == end);
-        assert!(rt; layer.log.as_str() == log);
+fn what_follows_is_done_in_order(rt: HostRuntime) {
+    for (number, (rules, end, log)) in FOLLOWS.iter().enumerate() {
+        assert!(rt;
+            is_changed(&rt, rt.alloc(), *rules, end, log),
+            "row {number}"
+        );
     }
-    Ok(())
+}
+
+/// Whether the action changes one row.
+fn changes_one(layer: &mut Script, alloc: Global, action: &Action) -> bool {
+    let made = act(layer, alloc, 16, action);
+    let is_one = matches!(&made, Ok(1));
+    drop(made);
+    is_one
 }
 
 #[test]
-fn an_action_counts_the_rows_that_still_match(rt: HostRuntime) -> Result<(), Fail> {
+fn an_action_counts_the_rows_that_still_match(rt: HostRuntime) {
     let alloc = rt.alloc();
     let mut layer = scripted(alloc, Rules::None, 0, false);
-    let delete = Action::Delete {
-        relation: text(alloc, "d")?,
+    let inserts = insert(alloc, "i").expect(&rt, "memory");
+    assert!(rt; changes_one(&mut layer, alloc, &inserts));
+    let deletes = Action::Delete {
+        relation: text(alloc, "d").expect(&rt, "memory"),
         pairs: Pairs::from_vec(Vec::new(alloc)),
     };
-    let inserted = act(&mut layer, alloc, 16, &insert(alloc, "i")?);
-    assert!(rt; matches!(inserted, Ok(1)));
-    let deleted = act(&mut layer, alloc, 16, &delete);
-    assert!(rt; matches!(deleted, Ok(1)));
+    assert!(rt; changes_one(&mut layer, alloc, &deletes));
     assert!(rt; layer.log.as_str() == "id");
-    Ok(())
+    drop(deletes);
+    drop(inserts);
+    drop(layer);
 }
 
+/// Whether so many actions are done where so many wait, and what comes of it.
+fn is_finished(alloc: Global, waiting: u32, fails: bool, end: &str, done: usize) -> bool {
+    let mut layer = scripted(alloc, Rules::None, waiting, fails);
+    let outcome = finish(&mut layer, alloc);
+    let is_finished = told(&outcome) == end && layer.log.len() == done;
+    drop(outcome);
+    drop(layer);
+    is_finished
+}
+
+const WAITING: [(u32, bool, &str, usize); 4] = [
+    (0, false, "made", 0),
+    (0, true, "veto", 0),
+    (1000, false, "made", 1000),
+    (1001, false, "limit", 1000),
+];
+
 #[test]
-fn a_thousand_actions_may_wait(rt: HostRuntime) -> Result<(), Fail> {
-    let alloc = rt.alloc();
-    let rows = [
-        (0, false, "made", 0),
-        (0, true, "veto", 0),
-        (1000, false, "made", 1000),
-        (1001, false, "limit", 1000),
-    ];
-    for (waiting, fails, end, done) in rows {
-        let mut layer = scripted(alloc, Rules::None, waiting, fails);
-        let outcome = finish(&mut layer, alloc);
-        assert!(rt; told(&outcome) == end);
-        assert!(rt; layer.log.len() == done);
+fn a_thousand_actions_may_wait(rt: HostRuntime) {
+    for (waiting, fails, end, done) in WAITING.iter() {
+        assert!(rt;
+            is_finished(rt.alloc(), *waiting, *fails, end, *done),
+            "{waiting}"
+        );
     }
-    Ok(())
 }

@@ -10,6 +10,7 @@ use sb_pred::{Op, Pred, Term};
 use sb_rule::{Rule, read_rule, write_rule};
 use sb_value::{Bytes, Column, Kind, Names, Schema, Str, Value};
 use std::alloc::{AllocError, Global};
+use std::process::Abort;
 use std::test::*;
 
 fn text(alloc: Global, text: &str) -> Result<Str, AllocError>
@@ -95,31 +96,34 @@ const EMPLOYEES: &[u8] = b"\x00\x02\x00\x03\x00\x00\x00\x02\
     \x00\x15\x00\x01\x06\x01\x06salary\x00\x01\x00\x00\x00\x00\x00\x00\x00\x00";
 
 #[test]
-fn employees_written(rt: HostRuntime) -> Result<(), Fail> {
+fn employees_written(rt: HostRuntime) {
     let alloc = rt.alloc();
-    let descriptor = employees(alloc)?;
-    assert_eq!(rt; write_descriptor(alloc, &descriptor)?.as_slice(), EMPLOYEES);
-    assert_eq!(rt; descriptor_len(&descriptor), EMPLOYEES.len());
-    Ok(())
+    let descriptor = employees(alloc).expect(&rt, "memory");
+    let written = write_descriptor(alloc, &descriptor).expect(&rt, "memory");
+    assert!(rt; written.as_slice() == EMPLOYEES);
+    assert!(rt; descriptor_len(&descriptor) == EMPLOYEES.len());
+    drop(written);
+    drop(descriptor);
 }
 
 /// The bytes are read as a descriptor whose copy is written as them.
 #[tactic(auto, using(sb_catalog::proofs::Storable::IsShortDescriptor_from_storable))]
-fn is_read(alloc: Global, spelling: &[u8]) -> Result<bool, AllocError> {
-    match read_descriptor(alloc, spelling)? {
-        Some(descriptor) => {
-            let copy = descriptor.copy(alloc)?;
-            Ok(write_descriptor(alloc, &copy)?.as_slice() == spelling)
-        }
-        None => Ok(false),
-    }
+fn is_read(rt: &impl Abort, alloc: Global, spelling: &[u8]) -> bool {
+    let found = read_descriptor(alloc, spelling).expect(rt, "memory");
+    let descriptor = found.expect(rt, "a descriptor");
+    let copy = descriptor.copy(alloc).expect(rt, "memory");
+    let written = write_descriptor(alloc, &copy).expect(rt, "memory");
+    drop(copy);
+    drop(descriptor);
+    written.as_slice() == spelling
 }
 
 #[test]
-fn employees_read(rt: HostRuntime) -> Result<(), Fail> {
+fn employees_read(rt: HostRuntime) {
     let alloc = rt.alloc();
-    assert!(rt; is_read(alloc, EMPLOYEES)?);
-    let descriptor = read_descriptor(alloc, EMPLOYEES)?.ok_or("no descriptor")?;
+    assert!(rt; is_read(&rt, alloc, EMPLOYEES));
+    let found = read_descriptor(alloc, EMPLOYEES).expect(&rt, "memory");
+    let descriptor = found.expect(&rt, "a descriptor");
     assert!(rt; descriptor.method == 2 && descriptor.owner == 3 && descriptor.root == 2);
     let [number, word] = descriptor.schema.as_slice() else {
         panic!(rt; "other columns");
@@ -130,7 +134,7 @@ fn employees_read(rt: HostRuntime) -> Result<(), Fail> {
         panic!(rt; "other attachments");
     };
     assert!(rt; attached.code == 5 && attached.name.as_str() == "pos");
-    Ok(())
+    drop(descriptor);
 }
 
 /// Bytes that spell no descriptor: with one byte more, with one less, with a column of kind 3, with an int column of limit 1,
@@ -164,11 +168,12 @@ const NO_DESCRIPTORS: [&[u8]; 5] = [
 ];
 
 #[test]
-fn no_descriptors_read(rt: HostRuntime) -> Result<(), Fail> {
-    for spelling in NO_DESCRIPTORS {
-        assert!(rt; read_descriptor(rt.alloc(), spelling)?.is_none());
+fn no_descriptors_read(rt: HostRuntime) {
+    for spelling in NO_DESCRIPTORS.iter() {
+        let found = read_descriptor(rt.alloc(), spelling).expect(&rt, "memory");
+        assert!(rt; found.is_none());
+        drop(found);
     }
-    Ok(())
 }
 
 /// The attachment's copy has a rule that is written as these bytes.
@@ -177,8 +182,9 @@ fn is_copied(alloc: Global, attached: &Attached, spelling: &[u8]) -> Result<bool
 {
     let copy = attached.copy(alloc)?;
     let mut out = Bytes::new(alloc);
-    write_rule(&copy.rule, &mut out)?;
-    Ok(out.as_slice() == spelling)
+    let is_done = write_rule(&copy.rule, &mut out).is_ok();
+    drop(copy);
+    Ok(is_done && out.as_slice() == spelling)
 }
 
 /// The rule that is read from these bytes is copied.
@@ -193,7 +199,9 @@ fn is_rule_copied(alloc: Global, code: u16, spelling: &[u8]) -> Result<bool, All
                 name,
                 rule,
             };
-            is_copied(alloc, &attached, spelling)
+            let is_copied = is_copied(alloc, &attached, spelling);
+            drop(attached);
+            is_copied
         }
         None => Ok(false),
     }
@@ -221,19 +229,20 @@ const RULES: [(u16, &[u8]); 11] = [
 ];
 
 #[test]
-fn attachments_copied(rt: HostRuntime) -> Result<(), Fail> {
-    for (code, spelling) in RULES {
-        assert!(rt; is_rule_copied(rt.alloc(), code, spelling)?, "at {code}");
+fn attachments_copied(rt: HostRuntime) {
+    for (code, spelling) in RULES.iter() {
+        let copied = is_rule_copied(rt.alloc(), *code, spelling);
+        assert!(rt; matches!(copied, Ok(true)), "at {code}");
     }
-    Ok(())
 }
 
 #[test]
-fn attached_list(rt: HostRuntime) -> Result<(), Fail> {
-    let list = attachments(rt.alloc())?;
+fn attached_list(rt: HostRuntime) {
+    let list = attachments(rt.alloc()).expect(&rt, "memory");
     assert!(rt; list.len() == 1 && !list.is_empty());
-    assert_eq!(rt; list.into_vec().len(), 1);
-    Ok(())
+    let attachments = list.into_vec();
+    assert!(rt; attachments.len() == 1);
+    drop(attachments);
 }
 
 /// A descriptor with no column, known by its method.
@@ -249,43 +258,56 @@ fn bare(alloc: Global, method: u8) -> Descriptor {
 }
 
 /// The name of one byte.
-fn named(alloc: Global, byte: u8) -> Result<Str, Fail> {
-    Ok(Str::from_utf8(alloc, &[byte])?.ok_or("no text")?)
+fn named(rt: &impl Abort, alloc: Global, byte: u8) -> Str {
+    let text = Str::from_utf8(alloc, &[byte]).expect(rt, "memory");
+    text.expect(rt, "a text")
 }
 
-fn put(alloc: Global, cache: &mut Cache, byte: u8, method: u8) -> Result<(), Fail> {
-    cache.put(named(alloc, byte)?, bare(alloc, method))?;
-    Ok(())
+fn put(rt: &impl Abort, alloc: Global, cache: &mut Cache, byte: u8, method: u8) {
+    let name = named(rt, alloc, byte);
+    cache.put(name, bare(alloc, method)).expect(rt, "memory");
 }
 
-fn method_of(alloc: Global, cache: &Cache, byte: u8) -> Result<Option<u16>, Fail> {
-    Ok(cache.peek(&named(alloc, byte)?).map(|d| d.method))
+/// Whether the cache has the name's descriptor, known by its method; or none.
+fn has(rt: &impl Abort, alloc: Global, cache: &Cache, byte: u8, method: Option<u16>) -> bool {
+    let name = named(rt, alloc, byte);
+    let found = match cache.peek(&name) {
+        Some(descriptor) => Some(descriptor.method),
+        None => None,
+    };
+    drop(name);
+    found == method
+}
+
+fn promotes(rt: &impl Abort, alloc: Global, cache: &mut Cache, byte: u8) -> bool {
+    let name = named(rt, alloc, byte);
+    let is_there = cache.promote(&name);
+    drop(name);
+    is_there
 }
 
 #[test]
-fn the_least_recently_used_goes(rt: HostRuntime) -> Result<(), Fail> {
+fn the_least_recently_used_goes(rt: HostRuntime) {
     let alloc = rt.alloc();
-    let mut cache = Cache::new(alloc)?;
+    let mut cache = Cache::new(alloc).expect(&rt, "memory");
     for byte in 0..65 {
-        put(alloc, &mut cache, byte, byte)?;
+        put(&rt, alloc, &mut cache, byte, byte);
     }
-    assert_eq!(rt; method_of(alloc, &cache, 0)?, None);
-    assert_eq!(rt; method_of(alloc, &cache, 1)?, Some(1));
-    assert!(rt; cache.promote(&named(alloc, 1)?) && !cache.promote(&named(alloc, 0)?));
-    put(alloc, &mut cache, 65, 65)?;
-    assert_eq!(rt; method_of(alloc, &cache, 2)?, None);
-    assert_eq!(rt; method_of(alloc, &cache, 1)?, Some(1));
-    Ok(())
+    assert!(rt; has(&rt, alloc, &cache, 0, None) && has(&rt, alloc, &cache, 1, Some(1)));
+    assert!(rt; promotes(&rt, alloc, &mut cache, 1) && !promotes(&rt, alloc, &mut cache, 0));
+    put(&rt, alloc, &mut cache, 65, 65);
+    assert!(rt; has(&rt, alloc, &cache, 2, None) && has(&rt, alloc, &cache, 1, Some(1)));
+    drop(cache);
 }
 
 #[test]
-fn one_descriptor_a_name(rt: HostRuntime) -> Result<(), Fail> {
+fn one_descriptor_a_name(rt: HostRuntime) {
     let alloc = rt.alloc();
-    let mut cache = Cache::new(alloc)?;
-    put(alloc, &mut cache, 1, 1)?;
-    put(alloc, &mut cache, 1, 2)?;
-    assert_eq!(rt; method_of(alloc, &cache, 1)?, Some(2));
+    let mut cache = Cache::new(alloc).expect(&rt, "memory");
+    put(&rt, alloc, &mut cache, 1, 1);
+    put(&rt, alloc, &mut cache, 1, 2);
+    assert!(rt; has(&rt, alloc, &cache, 1, Some(2)));
     cache.empty();
-    assert_eq!(rt; method_of(alloc, &cache, 1)?, None);
-    Ok(())
+    assert!(rt; has(&rt, alloc, &cache, 1, None));
+    drop(cache);
 }

@@ -1,25 +1,25 @@
 //! That work on rows goes on while memory lasts, over pages in memory: the relation `r` of a number has the check `k >= 0` and two
 //! triggers on an insert, one that puts the number into `s` at once and one that puts it into `t` at the commit.
 
-ghost use Rattle.std.specs.Prelude.{◌≡◌, true, [], IfOk};
+ghost use Rattle.std.specs.Prelude.{◌≡◌, true};
 ghost use Rattle.sb_value.specs.Fits.{Fits};
 ghost use Rattle.sb_engine.specs.Working.{IsServing};
 
+use crate::stores::{catalogue, enter, is_done, registry, text, work};
 use sb_cascade::{Wish, change, finish};
-use sb_ctx::{Attachment, Ctx, StorageMethod};
-use sb_deferred::Queue;
-use sb_drive::{Ask, PageSpace, SpaceFault};
-use sb_engine::{Running, Work, open_at, open_named, refusal_of};
+use sb_ctx::Attachment;
+use sb_drive::PageSpace;
+use sb_engine::{Running, open_at, open_named};
 use sb_fold::Refusal;
-use sb_map::{Place, make, put};
+use sb_map::Place;
 use sb_memory::Memory;
 use sb_opened::open_relation;
-use sb_registry::{Boxes, Extensions, Registry};
+use sb_registry::{Boxes, Registry};
 use sb_rows::prepare_rows;
 use sb_rules::{Check, Trigger};
 use sb_treemethod::TreeMethod;
 use sb_value::{RecKey, Schema, Str, Tuple, Value};
-use std::alloc::{AllocError, Global};
+use std::alloc::Global;
 use std::process::Abort;
 use std::test::*;
 
@@ -53,56 +53,38 @@ const BEFORE: [(&'static str, i64, &'static str); 4] = [
 /// The same once what waited was done.
 const AFTER: [(&'static str, i64, &'static str); 2] = [("t", 1, "duplicate"), ("t", 2, "key")];
 
-fn text(alloc: Global, text: &str) -> Result<Str, AllocError> {
-    Ok(Str::from_string(String::from_str(alloc, text)?))
-}
-
-/// An empty catalogue.
-fn catalogue(memory: &mut Memory, alloc: Global) -> Result<Place, SpaceFault>
-    ensures { IfOk result (λ place. place.owner ≡ 2) }
-{
-    let mut ctx = Ctx::new(alloc);
-    memory.answer(2, &mut ctx, Ask::Fresh)?;
-    let root = ctx.fresh().ok_or(SpaceFault::Fault)?;
-    memory.store(alloc, 2, &ctx)?;
-    let place = Place { owner: 2, root };
-    make(memory, alloc, place)?;
-    Ok(place)
-}
-
-/// A catalogue with the relations, which have no rows.
-fn filled(
+/// Makes an empty table of the relation of a name.
+fn prepare(
     rt: &impl Abort,
     memory: &mut Memory,
     alloc: Global,
     registry: &Registry,
-) -> Result<Place, SpaceFault>
-    ensures { IfOk result (λ place. place.owner ≡ 2) }
+    place: Place,
+    name: &str,
+)
+    requires { place.owner ≡ 2 }
 {
-    let place = catalogue(memory, alloc)?;
-    for (name, bytes) in ENTRIES {
-        assert!(rt; name.len() <= 602 && bytes.len() <= 1000);
-        put(memory, alloc, place, name.as_bytes(), bytes)?;
-        let _made = memory.new_instance(&[])?;
-        let name = text(alloc, name)?;
-        if let Some(one) = open_relation(memory, alloc, registry, place, &name)? {
-            prepare_rows(memory, alloc, registry, &one.table)?;
-        }
-    }
-    Ok(place)
+    memory.new_instance(&[]).expect(rt, "memory");
+    let name = text(rt, alloc, name);
+    let found = open_relation(memory, alloc, registry, place, &name);
+    let Some(one) = found.expect(rt, "pages") else {
+        panic!(rt; "not there");
+    };
+    prepare_rows(memory, alloc, registry, &one.table).expect(rt, "pages");
+    drop(one);
+    drop(name);
 }
 
-fn work(alloc: Global) -> Work
-    ensures opened { result.opened.items ≡ [] }
-    ensures done { result.done ≡ 0 }
+/// A catalogue with the relations, which have no rows.
+fn filled(rt: &impl Abort, memory: &mut Memory, alloc: Global, registry: &Registry) -> Place
+    ensures { result.owner ≡ 2 }
 {
-    Work {
-        opened: Vec::new(alloc),
-        queue: Queue::new(alloc),
-        done: 0,
-        gone: Vec::new(alloc),
-        picks: Vec::new(alloc),
+    let place = catalogue(rt, memory, alloc);
+    for (name, bytes) in ENTRIES.iter() {
+        enter(rt, memory, alloc, place, name.as_bytes(), bytes);
+        prepare(rt, memory, alloc, registry, place, name);
     }
+    place
 }
 
 fn word_of(put: &Result<Option<RecKey>, Refusal>) -> &'static str {
@@ -115,111 +97,101 @@ fn word_of(put: &Result<Option<RecKey>, Refusal>) -> &'static str {
     }
 }
 
-/// What comes of putting a number into a relation.
-fn put_number<B: Boxes, S: PageSpace>(
-    running: &mut Running<'_, B, S>,
-    alloc: Global,
-    name: &str,
-    number: i64,
-) -> Result<&'static str, Refusal>
-    requires ready { IsServing S.is_ready B.meanings running.old }
-    ensures ready { IsServing S.is_ready B.meanings running.new }
-{
-    let Ok(name) = text(alloc, name) else {
-        return Err(Refusal::NoMemory);
-    };
-    let Ok(row) = row(alloc, number) else {
-        return Err(Refusal::NoMemory);
-    };
-    open(running, alloc, &name)?;
-    let Some(one) = open_at(&running.work.opened, &name) else {
-        return Ok("none");
-    };
-    if fits(&one.descriptor.schema, &row) {
-        let put = change(running, alloc, 16, &name, &Wish::Put(row));
-        return Ok(word_of(&put));
-    }
-    Ok("no row")
-}
-
 fn fits(schema: &Schema, row: &Tuple) -> bool
     ensures { result ≡ true → Fits schema.now row.now }
 {
     schema.fits(row).is_ok()
 }
 
-fn row(alloc: Global, number: i64) -> Result<Tuple, AllocError> {
-    Ok(Tuple::from_vec(vec![in alloc; Value::Int(number)]?))
+fn row(rt: &impl Abort, alloc: Global, number: i64) -> Tuple {
+    Tuple::from_vec(vec![in alloc; Value::Int(number)].expect(rt, "memory"))
 }
 
 fn open<B: Boxes, S: PageSpace>(
+    rt: &impl Abort,
     running: &mut Running<'_, B, S>,
     alloc: Global,
     name: &Str,
-) -> Result<(), Refusal>
+)
     requires ready { IsServing S.is_ready B.meanings running.old }
     ensures ready { IsServing S.is_ready B.meanings running.new }
 {
-    match open_named(
+    let opened = open_named(
         running.space,
         alloc,
         running.boxes,
         running.place,
         &mut running.work.opened,
         name,
-    ) {
-        Ok(_) => Ok(()),
-        Err(fault) => Err(refusal_of(fault)),
-    }
+    );
+    assert!(rt; opened.is_ok());
 }
 
-/// The first number of these of which another word comes.
-fn first_other<B: Boxes, S: PageSpace>(
+/// What comes of putting a number into a relation.
+fn put_number<B: Boxes, S: PageSpace>(
+    rt: &impl Abort,
+    running: &mut Running<'_, B, S>,
+    alloc: Global,
+    name: &str,
+    number: i64,
+) -> &'static str
+    requires ready { IsServing S.is_ready B.meanings running.old }
+    ensures ready { IsServing S.is_ready B.meanings running.new }
+{
+    let name = text(rt, alloc, name);
+    let row = row(rt, alloc, number);
+    open(rt, running, alloc, &name);
+    let Some(one) = open_at(&running.work.opened, &name) else {
+        panic!(rt; "not open");
+    };
+    if fits(&one.descriptor.schema, &row) {
+        let wish = Wish::Put(row);
+        let put = change(running, alloc, 16, &name, &wish);
+        let word = word_of(&put);
+        drop(put);
+        drop(wish);
+        drop(name);
+        return word;
+    }
+    panic!(rt; "no row of it")
+}
+
+fn put_all<B: Boxes, S: PageSpace>(
+    rt: &impl Abort,
     running: &mut Running<'_, B, S>,
     alloc: Global,
     puts: &[(&'static str, i64, &'static str)],
-) -> Result<Option<i64>, Refusal>
+)
     requires ready { IsServing S.is_ready B.meanings running.old }
     ensures ready { IsServing S.is_ready B.meanings running.new }
 {
     for (name, number, wanted) in puts {
-        if put_number(running, alloc, name, *number)? != *wanted {
-            return Ok(Some(*number));
-        }
+        assert!(rt;
+            put_number(rt, running, alloc, name, *number) == *wanted,
+            "{number}"
+        );
     }
-    Ok(None)
 }
 
 #[test]
-fn rows_are_put_with_what_follows(rt: HostRuntime) -> Result<(), Fail> {
+fn rows_are_put_with_what_follows(rt: HostRuntime) {
     let alloc = rt.alloc();
-    let mut methods: Vec<Box<dyn StorageMethod>> = Vec::new(alloc);
-    methods.push(Box::new(alloc, TreeMethod::new())?)?;
     let mut attachments: Vec<Box<dyn Attachment>> = Vec::new(alloc);
-    attachments.push(Box::new(alloc, Check::new())?)?;
-    attachments.push(Box::new(alloc, Trigger::new())?)?;
-    let taken = Registry::take(Extensions {
-        methods,
-        attachments,
-        spare_methods: Vec::new(alloc),
-        spare_attachments: Vec::new(alloc),
-    });
-    let Ok(registry) = taken else {
-        return Err(Fail::from("not taken"));
-    };
+    let check = Box::new(alloc, Check::new()).expect(&rt, "memory");
+    attachments.push(check).expect(&rt, "memory");
+    let trigger = Box::new(alloc, Trigger::new()).expect(&rt, "memory");
+    attachments.push(trigger).expect(&rt, "memory");
+    let tree = Box::new(alloc, TreeMethod::new()).expect(&rt, "memory");
+    let registry = registry(&rt, alloc, tree, attachments);
     let mut memory = Memory::new(alloc);
-    let place = filled(&rt, &mut memory, alloc, &registry)?;
+    let place = filled(&rt, &mut memory, alloc, &registry);
     let mut work = work(alloc);
     let mut running = Running::new(&registry, &mut memory, &mut work, place);
-    let before = first_other(&mut running, alloc, &BEFORE).map_err(|_| Stopped)?;
-    assert_eq!(rt; before, None);
+    put_all(&rt, &mut running, alloc, &BEFORE);
     assert!(rt; running.work.queue.action(0).is_some());
-    let done = finish(&mut running, alloc);
-    assert!(rt; done.is_ok());
-    let after = first_other(&mut running, alloc, &AFTER).map_err(|_| Stopped)?;
-    assert_eq!(rt; after, None);
-    Ok(())
+    assert!(rt; is_done(finish(&mut running, alloc)));
+    put_all(&rt, &mut running, alloc, &AFTER);
+    drop(work);
+    drop(memory);
+    drop(registry);
 }
-
-#[derive(Debug, Drop)]
-struct Stopped;

@@ -14,6 +14,8 @@ mod opened;
 #[cfg(test)]
 mod reads;
 #[cfg(test)]
+mod stores;
+#[cfg(test)]
 mod tables;
 #[cfg(test)]
 mod trees;

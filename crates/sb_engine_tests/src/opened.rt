@@ -1,16 +1,16 @@
 //! What no clause says: that relations are opened while memory lasts, over a catalogue whose entries are bytes by hand.
 
-ghost use Rattle.std.specs.Prelude.{◌≡◌, IfOk};
+ghost use Rattle.std.specs.Prelude.{◌≡◌};
 
-use sb_ctx::{Attachment, Ctx, StorageMethod};
-use sb_drive::{Ask, PageSpace, SpaceFault};
+use crate::stores::{catalogue, enter, registry, text};
+use sb_ctx::Attachment;
+use sb_drive::SpaceFault;
 use sb_foreign::{Limit, Strip};
-use sb_map::{Place, make, put};
+use sb_map::Place;
 use sb_memory::Memory;
 use sb_opened::{OpenRelation, next_relation, open_relation};
-use sb_registry::{Extensions, Registry};
-use sb_value::Str;
-use std::alloc::{AllocError, Global};
+use sb_registry::Registry;
+use std::alloc::Global;
 use std::process::Abort;
 use std::test::*;
 
@@ -57,35 +57,6 @@ const BEHIND: [(Option<&'static str>, Reply); 4] = [
     (Some("dogs"), Reply::Missing),
 ];
 
-fn text(alloc: Global, text: &str) -> Result<Str, AllocError> {
-    Ok(Str::from_string(String::from_str(alloc, text)?))
-}
-
-/// An empty catalogue.
-fn catalogue(memory: &mut Memory, alloc: Global) -> Result<Place, SpaceFault>
-    ensures { IfOk result (λ place. place.owner ≡ 2) }
-{
-    let mut ctx = Ctx::new(alloc);
-    memory.answer(2, &mut ctx, Ask::Fresh)?;
-    let root = ctx.fresh().ok_or(SpaceFault::Fault)?;
-    memory.store(alloc, 2, &ctx)?;
-    let place = Place { owner: 2, root };
-    make(memory, alloc, place)?;
-    Ok(place)
-}
-
-/// A catalogue with the entries.
-fn filled(rt: &impl Abort, memory: &mut Memory, alloc: Global) -> Result<Place, SpaceFault>
-    ensures { IfOk result (λ place. place.owner ≡ 2) }
-{
-    let place = catalogue(memory, alloc)?;
-    for (name, bytes) in ENTRIES {
-        assert!(rt; name.len() <= 602 && bytes.len() <= 1000);
-        put(memory, alloc, place, name, bytes)?;
-    }
-    Ok(place)
-}
-
 /// Whether this came of it.
 fn came(opened: &Result<Option<OpenRelation>, SpaceFault>, place: Place, wanted: Reply) -> bool {
     match (opened, wanted) {
@@ -98,72 +69,86 @@ fn came(opened: &Result<Option<OpenRelation>, SpaceFault>, place: Place, wanted:
     }
 }
 
-/// The place of the first name of which something else comes.
-fn first_other_name(
+/// Whether this comes of opening the relation of a name.
+fn is_opened(
+    rt: &impl Abort,
     memory: &mut Memory,
-    alloc: Global,
     registry: &Registry,
     place: Place,
-) -> Result<Option<usize>, AllocError>
+    alloc: Global,
+    name: &str,
+    wanted: Reply,
+) -> bool
     requires { place.owner ≡ 2 }
 {
-    for (i, (name, wanted)) in NAMED.iter().enumerate() {
-        let name = text(alloc, name)?;
-        let opened = open_relation(memory, alloc, registry, place, &name);
-        if !came(&opened, place, *wanted) {
-            return Ok(Some(i));
-        }
-    }
-    Ok(None)
+    let name = text(rt, alloc, name);
+    let opened = open_relation(memory, alloc, registry, place, &name);
+    let came = came(&opened, place, wanted);
+    drop(opened);
+    drop(name);
+    came
 }
 
-/// The place of the first name behind which something else comes.
-fn first_other_behind(
+/// Whether this comes of opening the first relation behind a name.
+fn is_behind(
+    rt: &impl Abort,
     memory: &mut Memory,
-    alloc: Global,
     registry: &Registry,
     place: Place,
-) -> Result<Option<usize>, AllocError>
+    alloc: Global,
+    low: Option<&str>,
+    wanted: Reply,
+) -> bool
     requires { place.owner ≡ 2 }
 {
-    for (i, (low, wanted)) in BEHIND.iter().enumerate() {
-        let low = match low {
-            Some(name) => Some(text(alloc, name)?),
-            None => None,
-        };
-        let opened = next_relation(memory, alloc, registry, place, low.as_ref());
-        if !came(&opened, place, *wanted) {
-            return Ok(Some(i));
-        }
+    let low = match low {
+        Some(name) => Some(text(rt, alloc, name)),
+        None => None,
+    };
+    let opened = next_relation(memory, alloc, registry, place, low.as_ref());
+    let came = came(&opened, place, wanted);
+    drop(opened);
+    drop(low);
+    came
+}
+
+/// A catalogue with the entries.
+fn filled(rt: &impl Abort, memory: &mut Memory, alloc: Global) -> Place
+    ensures { result.owner ≡ 2 }
+{
+    let place = catalogue(rt, memory, alloc);
+    for (name, bytes) in ENTRIES.iter() {
+        enter(rt, memory, alloc, place, name, bytes);
     }
-    Ok(None)
+    place
+}
+
+/// Opens the relations one behind the other.
+fn go_on(rt: &impl Abort, memory: &mut Memory, registry: &Registry, place: Place, alloc: Global)
+    requires { place.owner ≡ 2 }
+{
+    for (low, wanted) in BEHIND.iter() {
+        assert!(rt; is_behind(rt, memory, registry, place, alloc, *low, *wanted));
+    }
 }
 
 #[test]
-fn relations_are_opened(rt: HostRuntime) -> Result<(), Fail> {
+fn relations_are_opened(rt: HostRuntime) {
     let alloc = rt.alloc();
-    let mut methods: Vec<Box<dyn StorageMethod>> = Vec::new(alloc);
-    methods.push(Box::new(alloc, Strip {})?)?;
     let mut attachments: Vec<Box<dyn Attachment>> = Vec::new(alloc);
-    attachments.push(Box::new(alloc, Limit {})?)?;
-    let taken = Registry::take(Extensions {
-        methods,
-        attachments,
-        spare_methods: Vec::new(alloc),
-        spare_attachments: Vec::new(alloc),
-    });
-    let Ok(registry) = taken else {
-        return Err(Fail::from("not taken"));
-    };
+    let limit = Box::new(alloc, Limit {}).expect(&rt, "memory");
+    attachments.push(limit).expect(&rt, "memory");
+    let strip = Box::new(alloc, Strip {}).expect(&rt, "memory");
+    let registry = registry(&rt, alloc, strip, attachments);
     let mut memory = Memory::new(alloc);
-    let place = filled(&rt, &mut memory, alloc)?;
-    assert_eq!(rt;
-        first_other_name(&mut memory, alloc, &registry, place)?,
-        None
-    );
-    assert_eq!(rt;
-        first_other_behind(&mut memory, alloc, &registry, place)?,
-        None
-    );
-    Ok(())
+    let place = filled(&rt, &mut memory, alloc);
+    for (number, (name, wanted)) in NAMED.iter().enumerate() {
+        assert!(rt;
+            is_opened(&rt, &mut memory, &registry, place, alloc, name, *wanted),
+            "name {number}"
+        );
+    }
+    go_on(&rt, &mut memory, &registry, place, alloc);
+    drop(memory);
+    drop(registry);
 }

@@ -5,16 +5,18 @@ ghost use Rattle.sb_treemethod.specs.Examples.{IsExample};
 ghost use Rattle.sb_registry.specs.Live.{IsLive};
 ghost use Rattle.sb_rows.specs.Examples.{MayBeTaken};
 
-use sb_ctx::{Ctx, Instance, StorageMethod};
-use sb_drive::{Ask, PageSpace, SpaceFault};
-use sb_map::{Place, make, put};
+use crate::stores::{catalogue, enter, registry};
+use sb_ctx::Instance;
+use sb_drive::SpaceFault;
+use sb_map::Place;
 use sb_memory::Memory;
-use sb_plain::{Command, Reply};
+use sb_plain::Reply;
+use sb_reader::parse_line;
 use sb_reads::read;
-use sb_registry::{Boxes, Extensions, Registry};
+use sb_registry::{Boxes, Registry};
 use sb_rows::{insert_row, prepare_rows};
 use sb_treemethod::TreeMethod;
-use sb_value::{Bytes, Column, Kind, Names, RecKey, Schema, Str, Tuple, Value};
+use sb_value::{Bytes, Column, Kind, Names, Schema, Str, Tuple, Value};
 use std::alloc::{AllocError, Global};
 use std::process::Abort;
 use std::test::*;
@@ -60,93 +62,42 @@ fn row(alloc: Global, number: i64, words: &str) -> Result<Tuple, AllocError>
     Ok(Tuple::from_vec(vec![in alloc; Value::Int(number), words]?))
 }
 
-/// The bytes of the key of a small number.
-fn key(alloc: Global, number: u8) -> Result<RecKey, AllocError> {
-    Ok(RecKey::from_vec(vec![in alloc; 128, 0, 0, 0, 0, 0, 0, number]?))
-}
+/// The stored bytes of the relation's descriptor, whose pages are of owner 3, and their root is page 0.
+const ENTRY: &[u8] = b"\x00\x02\x00\x03\x00\x00\x00\x00\x02\x01k\x01\x00\x01v\x02\x14\x01\x01k\x00";
 
-/// The stored bytes of the relation's descriptor.
-fn descriptor(alloc: Global, inst: &Instance) -> Result<Vec<u8>, AllocError> {
-    let mut bytes = Vec::new(alloc);
-    bytes.extend_from_slice(&[0, 2])?;
-    bytes.extend_from_slice(&inst.owner.to_be_bytes())?;
-    bytes.extend_from_slice(&inst.root.to_be_bytes())?;
-    bytes.extend_from_slice(b"\x02\x01k\x01\x00\x01v\x02\x14\x01\x01k\x00")?;
-    Ok(bytes)
-}
-
-/// An empty catalogue.
-fn catalogue(memory: &mut Memory, alloc: Global) -> Result<Place, SpaceFault>
-    ensures { IfOk result (λ place. place.owner ≡ 2) }
+/// The relation, and a catalogue with its entry.
+fn made(rt: &impl Abort, memory: &mut Memory, alloc: Global) -> (Instance, Place)
+    ensures example { IsExample result.0 }
+    ensures owner { result.1.owner ≡ 2 }
 {
-    let mut ctx = Ctx::new(alloc);
-    memory.answer(2, &mut ctx, Ask::Fresh)?;
-    let root = ctx.fresh().ok_or(SpaceFault::Fault)?;
-    memory.store(alloc, 2, &ctx)?;
-    let place = Place { owner: 2, root };
-    make(memory, alloc, place)?;
-    Ok(place)
+    let (owner, root) = memory.new_instance(&[1, 2]).expect(rt, "memory");
+    assert!(rt; owner == 3 && root == 0);
+    let place = catalogue(rt, memory, alloc);
+    enter(rt, memory, alloc, place, b"r", ENTRY);
+    (instance(alloc, 3, 0).expect(rt, "memory"), place)
 }
 
-/// A store with the relation, which has the rows 1 to 3.
-fn filled(
-    rt: &impl Abort,
-    memory: &mut Memory,
-    alloc: Global,
-    registry: &Registry,
-    inst: &Instance,
-) -> Result<Place, SpaceFault>
+/// Puts the rows 1 to 3 into the relation.
+fn fill(rt: &impl Abort, memory: &mut Memory, alloc: Global, registry: &Registry, inst: &Instance)
     requires example { IsExample inst.now }
     requires live { IsLive (⟦<Registry as Boxes>⟧.meanings registry.now) inst.now }
-    ensures { IfOk result (λ place. place.owner ≡ 2) }
 {
-    let place = catalogue(memory, alloc)?;
-    let bytes = descriptor(alloc, inst)?;
-    assert!(rt; bytes.len() <= 1000);
-    put(memory, alloc, place, b"r", &bytes)?;
-    prepare_rows(memory, alloc, registry, inst)?;
+    prepare_rows(memory, alloc, registry, inst).expect(rt, "pages");
     for number in 1..4 {
-        let new = row(alloc, number, "a")?;
-        insert_row(memory, alloc, registry, inst, new)?;
+        let new = row(alloc, number, "a").expect(rt, "memory");
+        drop(insert_row(memory, alloc, registry, inst, new).expect(rt, "a row"));
     }
-    Ok(place)
 }
 
-/// A command by a word, and how many rows or lines it answers; 9 where it answers otherwise.
-const COMMANDS: [(&'static str, usize); 6] = [
-    ("get 2", 1),
-    ("get 4", 9),
-    ("scan limit 2", 2),
-    ("scan after 2", 1),
+/// Commands, and how many rows or lines each answers; 9 where it answers otherwise.
+const COMMANDS: [(&str, usize); 6] = [
+    ("get r @8000000000000002", 1),
+    ("get r @8000000000000004", 9),
+    ("scan r limit 2", 2),
+    ("scan r after @8000000000000002", 1),
     ("tables", 1),
     ("checkpoint", 9),
 ];
-
-fn command(alloc: Global, word: &str) -> Result<Command, AllocError> {
-    let relation = text(alloc, "r")?;
-    match word {
-        "get 2" => Ok(Command::Get {
-            relation,
-            at: key(alloc, 2)?,
-        }),
-        "get 4" => Ok(Command::Get {
-            relation,
-            at: key(alloc, 4)?,
-        }),
-        "scan limit 2" => Ok(Command::Scan {
-            relation,
-            after: None,
-            limit: Some(2),
-        }),
-        "scan after 2" => Ok(Command::Scan {
-            relation,
-            after: Some(key(alloc, 2)?),
-            limit: None,
-        }),
-        "tables" => Ok(Command::Tables),
-        _ => Ok(Command::Checkpoint),
-    }
-}
 
 fn count(reply: &Result<Option<Reply>, SpaceFault>) -> usize {
     match reply {
@@ -156,45 +107,40 @@ fn count(reply: &Result<Option<Reply>, SpaceFault>) -> usize {
     }
 }
 
-/// The place of the first command that answers otherwise.
-fn first_other(
+fn count_of(
+    rt: &impl Abort,
     memory: &mut Memory,
     alloc: Global,
     registry: &Registry,
     place: Place,
-) -> Result<Option<usize>, AllocError>
+    line: &str,
+) -> usize
     requires { place.owner ≡ 2 }
 {
-    for (i, (word, wanted)) in COMMANDS.iter().enumerate() {
-        let asked = command(alloc, word)?;
-        if count(&read(memory, alloc, registry, place, &asked)) != *wanted {
-            return Ok(Some(i));
-        }
-    }
-    Ok(None)
+    let command = parse_line(alloc, line.as_bytes()).expect(rt, "a command");
+    let answer = read(memory, alloc, registry, place, &command);
+    let count = count(&answer);
+    drop(answer);
+    drop(command);
+    count
 }
 
 #[test]
-fn commands_are_answered(rt: HostRuntime) -> Result<(), Fail> {
+fn commands_are_answered(rt: HostRuntime) {
     let alloc = rt.alloc();
-    let mut methods: Vec<Box<dyn StorageMethod>> = Vec::new(alloc);
-    methods.push(Box::new(alloc, TreeMethod::new())?)?;
-    let taken = Registry::take(Extensions {
-        methods,
-        attachments: Vec::new(alloc),
-        spare_methods: Vec::new(alloc),
-        spare_attachments: Vec::new(alloc),
-    });
-    let Ok(registry) = taken else {
-        return Err(Fail::from("not taken"));
-    };
+    let tree = Box::new(alloc, TreeMethod::new()).expect(&rt, "memory");
+    let registry = registry(&rt, alloc, tree, Vec::new(alloc));
     let mut memory = Memory::new(alloc);
-    let (owner, root) = memory.new_instance(&[1, 2])?;
-    let inst = instance(alloc, owner, root)?;
-    if !registry.keeps(&inst) {
-        return Err(Fail::from("not live"));
+    let (inst, place) = made(&rt, &mut memory, alloc);
+    assert!(rt; registry.keeps(&inst));
+    fill(&rt, &mut memory, alloc, &registry, &inst);
+    for (number, (line, wanted)) in COMMANDS.iter().enumerate() {
+        assert!(rt;
+            count_of(&rt, &mut memory, alloc, &registry, place, line) == *wanted,
+            "line {number}"
+        );
     }
-    let place = filled(&rt, &mut memory, alloc, &registry, &inst)?;
-    assert_eq!(rt; first_other(&mut memory, alloc, &registry, place)?, None);
-    Ok(())
+    drop(memory);
+    drop(inst);
+    drop(registry);
 }

@@ -10,6 +10,7 @@ use sb_ctx::{Ctx, Instance, Move, StorageMethod};
 use sb_treemethod::TreeMethod;
 use sb_value::{Bytes, Column, Kind, Names, RecKey, Schema, Str, Tuple, Value};
 use std::alloc::{AllocError, Global};
+use std::process::Abort;
 use std::test::*;
 
 fn text(alloc: Global, text: &str) -> Result<Str, AllocError>
@@ -159,21 +160,27 @@ fn answered(
     requires inst { IsExample inst.now }
     requires row { MayBeHeld row.now }
 {
-    answer_of(&made(&TreeMethod::new(), alloc, ctx, inst, call, key, row))
+    let made = made(&TreeMethod::new(), alloc, ctx, inst, call, key, row);
+    let answer = answer_of(&made);
+    drop(made);
+    answer
 }
 
 /// A call, the number of its key, that of its row, and the answer.
 type Step = (Call, u8, i64, Answer);
 
 /// Whether the step is answered so.
-fn is_so(alloc: Global, ctx: &mut Ctx, inst: &Instance, step: &Step) -> Result<bool, AllocError>
+fn is_so(rt: &impl Abort, alloc: Global, ctx: &mut Ctx, inst: &Instance, step: &Step) -> bool
     requires clean { IsClean ctx.old }
     requires inst { IsExample inst.now }
 {
     let (call, old, number, wanted) = *step;
-    let key = key(alloc, old)?;
-    let row = row(alloc, number, "a")?;
-    Ok(answered(alloc, ctx, inst, call, &key, &row) == wanted)
+    let key = key(alloc, old).expect(rt, "memory");
+    let row = row(alloc, number, "a").expect(rt, "memory");
+    let answer = answered(alloc, ctx, inst, call, &key, &row);
+    drop(row);
+    drop(key);
+    answer == wanted
 }
 
 /// Whether it is a box of code 2 that lasts, and fits the instance.
@@ -181,24 +188,25 @@ fn is_tree<M: StorageMethod>(method: &M, inst: &Instance) -> bool {
     method.code() == 2 && method.durable() && method.fits(&inst.schema, &inst.key)
 }
 
-/// The page as the steps leave it, where each of them is answered so.
-fn played(
-    alloc: Global,
-    inst: &Instance,
-    page: Ctx,
-    steps: &[Step],
-) -> Result<Option<Ctx>, AllocError>
+/// The page as the step leaves it, which is answered so.
+fn stepped(rt: &impl Abort, alloc: Global, inst: &Instance, page: Ctx, step: &Step) -> Ctx
+    requires { IsExample inst.now }
+{
+    let mut ctx = again(alloc, &page).expect(rt, "memory");
+    drop(page);
+    assert!(rt; is_so(rt, alloc, &mut ctx, inst, step));
+    ctx
+}
+
+/// The page as the steps leave it, each of which is answered so.
+fn played(rt: &impl Abort, alloc: Global, inst: &Instance, page: Ctx, steps: &[Step]) -> Ctx
     requires { IsExample inst.now }
 {
     let mut page = page;
     for step in steps {
-        let mut ctx = again(alloc, &page)?;
-        if !is_so(alloc, &mut ctx, inst, step)? {
-            return Ok(None);
-        }
-        page = ctx;
+        page = stepped(rt, alloc, inst, page, step);
     }
-    Ok(Some(page))
+    page
 }
 
 /// A new tree with the rows 7, 2 and 9.
@@ -210,18 +218,13 @@ const THREE: [Step; 4] = [
 ];
 
 /// Each step is answered so, after these.
-fn is_played_on(alloc: Global, inst: &Instance, steps: &[Step]) -> Result<bool, AllocError>
-    requires { IsExample inst.now }
-{
-    match played(alloc, inst, given(alloc, &[0; 4096])?, &THREE)? {
-        Some(page) => Ok(played(alloc, inst, page, steps)?.is_some()),
-        None => Ok(false),
-    }
-}
-
-fn is_played(alloc: Global, steps: &[Step]) -> Result<bool, AllocError> {
-    let inst = instance(alloc)?;
-    Ok(is_tree(&TreeMethod::new(), &inst) && is_played_on(alloc, &inst, steps)?)
+fn play(rt: &impl Abort, alloc: Global, steps: &[Step]) {
+    let inst = instance(alloc).expect(rt, "memory");
+    assert!(rt; is_tree(&TreeMethod::new(), &inst));
+    let page = given(alloc, &[0; 4096]).expect(rt, "memory");
+    let page = played(rt, alloc, &inst, page, &THREE);
+    drop(played(rt, alloc, &inst, page, steps));
+    drop(inst);
 }
 
 /// Rows stand in the order of their keys, and each key once. A row is deleted, and replaced under its key.
@@ -243,9 +246,8 @@ const KEPT: [Step; 14] = [
 ];
 
 #[test]
-fn a_tree_is_kept(rt: HostRuntime) -> Result<(), Fail> {
-    assert!(rt; is_played(rt.alloc(), &KEPT)?);
-    Ok(())
+fn a_tree_is_kept(rt: HostRuntime) {
+    play(&rt, rt.alloc(), &KEPT);
 }
 
 /// A row moves to another key.
@@ -256,9 +258,8 @@ const MOVED: [Step; 3] = [
 ];
 
 #[test]
-fn a_row_moves(rt: HostRuntime) -> Result<(), Fail> {
-    assert!(rt; is_played(rt.alloc(), &MOVED)?);
-    Ok(())
+fn a_row_moves(rt: HostRuntime) {
+    play(&rt, rt.alloc(), &MOVED);
 }
 
 /// Over the pages 4 and 5, which has the keys from 20 on.
@@ -333,28 +334,24 @@ const OVER_DAMAGE: [Step; 11] = [
     (Call::Update, 2, 8, Answer::Broken(5)),
 ];
 
-/// How many of the steps, from the first one on, are answered so, each over that tree.
-fn over_damage(alloc: Global, inst: &Instance, steps: &[Step]) -> Result<usize, AllocError>
+/// Whether the step is answered so over that tree.
+fn is_so_over_damage(rt: &impl Abort, alloc: Global, inst: &Instance, step: &Step) -> bool
     requires { IsExample inst.now }
 {
-    let mut count = 0usize;
-    for step in steps {
-        let mut ctx = damaged(alloc)?;
-        if !is_so(alloc, &mut ctx, inst, step)? {
-            break;
-        }
-        count = count.saturating_add(1);
-    }
-    Ok(count)
-}
-
-fn named(alloc: Global) -> Result<usize, AllocError> {
-    let inst = instance(alloc)?;
-    over_damage(alloc, &inst, &OVER_DAMAGE)
+    let mut ctx = damaged(alloc).expect(rt, "memory");
+    let is_so = is_so(rt, alloc, &mut ctx, inst, step);
+    drop(ctx);
+    is_so
 }
 
 #[test]
-fn damage_is_named(rt: HostRuntime) -> Result<(), Fail> {
-    assert_eq!(rt; named(rt.alloc())?, 11);
-    Ok(())
+fn damage_is_named(rt: HostRuntime) {
+    let inst = instance(rt.alloc()).expect(&rt, "memory");
+    for (number, step) in OVER_DAMAGE.iter().enumerate() {
+        assert!(rt;
+            is_so_over_damage(&rt, rt.alloc(), &inst, step),
+            "step {number}"
+        );
+    }
+    drop(inst);
 }

@@ -197,14 +197,16 @@ fn is_printed(alloc: Global, line: &str, text: &str) -> bool {
         return false;
     };
     let mut out = Bytes::new(alloc);
-    print_command(&command, &mut out).is_ok() && out.as_slice() == text.as_bytes()
+    let is_done = print_command(&command, &mut out).is_ok();
+    drop(command);
+    is_done && out.as_slice() == text.as_bytes()
 }
 
 #[test]
 fn commands_printed(rt: HostRuntime) {
-    for (line, text) in COMMANDS {
-        assert!(rt; is_printed(rt.alloc(), line, text), "at {line}");
-        assert!(rt; is_printed(rt.alloc(), text, text), "at {text}");
+    for (number, (line, text)) in COMMANDS.iter().enumerate() {
+        assert!(rt; is_printed(rt.alloc(), line, text), "line {number}");
+        assert!(rt; is_printed(rt.alloc(), text, text), "text {number}");
     }
     text_is_a_line();
 }
@@ -218,31 +220,35 @@ fn is_answered(alloc: Global, reply: &Reply, text: &str) -> bool {
     matches!(out.as_slice(), [b'>', printed @ ..] if printed == text.as_bytes())
 }
 
+// An owned value that goes by a call of `drop` is far cheaper to prove than one that goes at its scope's end.
+
+fn is_replied(alloc: Global, reply: Reply, text: &str) -> bool {
+    let is_answered = is_answered(alloc, &reply, text);
+    drop(reply);
+    is_answered
+}
+
+fn is_refused(alloc: Global, refusal: Refusal, text: &str) -> bool {
+    is_replied(alloc, Reply::Refused(refusal), text)
+}
+
 #[test]
 fn plain_refusals_answered(rt: HostRuntime) {
-    let rows = [
-        (Refusal::Syntax { column: 4097 }, "! syntax 4097\n"),
-        (Refusal::Down, "! down\n"),
-        (Refusal::State, "! state\n"),
-        (
-            Refusal::NoExtension { code: 65535 },
-            "! noextension 65535\n",
-        ),
-        (Refusal::Mistyped, "! type\n"),
-        (Refusal::Mixed, "! mixed\n"),
-        (Refusal::Limit, "! limit\n"),
-        (Refusal::Depth, "! depth\n"),
-        (Refusal::DeferLimit, "! deferlimit\n"),
-        (Refusal::Damaged { page: 0 }, "! damaged 0\n"),
-        (Refusal::Fault, "! fault\n"),
-        (Refusal::NoMemory, "! nomemory\n"),
-    ];
-    for (refusal, text) in rows {
-        assert!(rt;
-            is_answered(rt.alloc(), &Reply::Refused(refusal), text),
-            "at {text}"
-        );
-    }
+    let alloc = rt.alloc();
+    let syntax = Refusal::Syntax { column: 4097 };
+    assert!(rt; is_refused(alloc, syntax, "! syntax 4097\n"));
+    assert!(rt; is_refused(alloc, Refusal::Down, "! down\n"));
+    assert!(rt; is_refused(alloc, Refusal::State, "! state\n"));
+    let no_extension = Refusal::NoExtension { code: 65535 };
+    assert!(rt; is_refused(alloc, no_extension, "! noextension 65535\n"));
+    assert!(rt; is_refused(alloc, Refusal::Mistyped, "! type\n"));
+    assert!(rt; is_refused(alloc, Refusal::Mixed, "! mixed\n"));
+    assert!(rt; is_refused(alloc, Refusal::Limit, "! limit\n"));
+    assert!(rt; is_refused(alloc, Refusal::Depth, "! depth\n"));
+    assert!(rt; is_refused(alloc, Refusal::DeferLimit, "! deferlimit\n"));
+    assert!(rt; is_refused(alloc, Refusal::Damaged { page: 0 }, "! damaged 0\n"));
+    assert!(rt; is_refused(alloc, Refusal::Fault, "! fault\n"));
+    assert!(rt; is_refused(alloc, Refusal::NoMemory, "! nomemory\n"));
 }
 
 fn name_of(rt: &impl Abort, alloc: Global, text: &str) -> Str {
@@ -252,178 +258,143 @@ fn name_of(rt: &impl Abort, alloc: Global, text: &str) -> Str {
 #[test]
 fn named_refusals_answered(rt: HostRuntime) {
     let alloc = rt.alloc();
-    let rows = [
-        (
-            Refusal::NoRelation {
-                name: name_of(&rt, alloc, "q"),
-            },
-            "! norelation q\n",
-        ),
-        (
-            Refusal::Exists {
-                name: name_of(&rt, alloc, "pos"),
-            },
-            "! exists pos\n",
-        ),
-        (
-            Refusal::NoName {
-                name: name_of(&rt, alloc, "j"),
-            },
-            "! noname j\n",
-        ),
-        (
-            Refusal::InUse {
-                relation: name_of(&rt, alloc, "r"),
-                name: name_of(&rt, alloc, "-"),
-            },
-            "! inuse r -\n",
-        ),
-        (
-            Refusal::TooLong {
-                relation: name_of(&rt, alloc, "r"),
-            },
-            "! toolong r\n",
-        ),
-        (
-            Refusal::NoRecord {
-                relation: name_of(&rt, alloc, "r"),
-            },
-            "! norecord r\n",
-        ),
-        (
-            Refusal::Duplicate {
-                relation: name_of(&rt, alloc, "r"),
-            },
-            "! duplicate r\n",
-        ),
-        (
-            Refusal::Veto {
-                relation: name_of(&rt, alloc, "r"),
-                name: name_of(&rt, alloc, "pos"),
-            },
-            "! veto r pos\n",
-        ),
-        (
-            Refusal::Range {
-                relation: name_of(&rt, alloc, "r"),
-            },
-            "! range r\n",
-        ),
-    ];
-    for (refusal, text) in rows {
-        assert!(rt;
-            is_answered(rt.alloc(), &Reply::Refused(refusal), text),
-            "at {text}"
-        );
-    }
+    let name = name_of(&rt, alloc, "q");
+    assert!(rt; is_refused(alloc, Refusal::NoRelation { name }, "! norelation q\n"));
+    let name = name_of(&rt, alloc, "pos");
+    assert!(rt; is_refused(alloc, Refusal::Exists { name }, "! exists pos\n"));
+    let name = name_of(&rt, alloc, "j");
+    assert!(rt; is_refused(alloc, Refusal::NoName { name }, "! noname j\n"));
+}
+
+#[test]
+fn refusals_by_relations_answered(rt: HostRuntime) {
+    let alloc = rt.alloc();
+    let relation = name_of(&rt, alloc, "r");
+    assert!(rt; is_refused(alloc, Refusal::TooLong { relation }, "! toolong r\n"));
+    let relation = name_of(&rt, alloc, "r");
+    assert!(rt; is_refused(alloc, Refusal::NoRecord { relation }, "! norecord r\n"));
+    let relation = name_of(&rt, alloc, "r");
+    assert!(rt; is_refused(alloc, Refusal::Duplicate { relation }, "! duplicate r\n"));
+    let relation = name_of(&rt, alloc, "r");
+    assert!(rt; is_refused(alloc, Refusal::Range { relation }, "! range r\n"));
+}
+
+#[test]
+fn refusals_by_users_answered(rt: HostRuntime) {
+    let alloc = rt.alloc();
+    let relation = name_of(&rt, alloc, "r");
+    let name = name_of(&rt, alloc, "-");
+    assert!(rt; is_refused(alloc, Refusal::InUse { relation, name }, "! inuse r -\n"));
+    let relation = name_of(&rt, alloc, "r");
+    let name = name_of(&rt, alloc, "pos");
+    assert!(rt; is_refused(alloc, Refusal::Veto { relation, name }, "! veto r pos\n"));
+}
+
+fn is_without_room(alloc: Global, room: Room, text: &str) -> bool {
+    is_refused(alloc, Refusal::Room(room), text)
 }
 
 #[test]
 fn rooms_answered(rt: HostRuntime) {
-    let rows = [
-        (Room::Data { used: 1, total: 2 }, "! room data 1 2\n"),
-        (
-            Room::Temp {
-                used: 16384,
-                total: 16384,
-            },
-            "! room temp 16384 16384\n",
-        ),
-        (
-            Room::Log {
-                used: 3,
-                need: 4,
-                total: 5,
-            },
-            "! room log 3 4 5\n",
-        ),
-        (
-            Room::Gates {
-                used: 65535,
-                total: 65536,
-            },
-            "! room gates 65535 65536\n",
-        ),
-    ];
-    for (room, text) in rows {
-        let reply = Reply::Refused(Refusal::Room(room));
-        assert!(rt; is_answered(rt.alloc(), &reply, text), "at {text}");
-    }
+    let alloc = rt.alloc();
+    let data = Room::Data { used: 1, total: 2 };
+    assert!(rt; is_without_room(alloc, data, "! room data 1 2\n"));
+    let temp = Room::Temp {
+        used: 16384,
+        total: 16384,
+    };
+    assert!(rt; is_without_room(alloc, temp, "! room temp 16384 16384\n"));
+    let log = Room::Log {
+        used: 3,
+        need: 4,
+        total: 5,
+    };
+    assert!(rt; is_without_room(alloc, log, "! room log 3 4 5\n"));
+    let gates = Room::Gates {
+        used: 65535,
+        total: 65536,
+    };
+    assert!(rt; is_without_room(alloc, gates, "! room gates 65535 65536\n"));
 }
 
 fn key_of(rt: &impl Abort, alloc: Global, byte: u8) -> RecKey {
     RecKey::from_vec(vec![in alloc; byte].expect(rt, "memory"))
 }
 
-fn image_of(entries: Vec<(RecKey, RecKey)>, sums: Vec<i128>) -> Image {
-    Image {
-        entries: Entries::from_vec(entries),
-        sums: Sums::from_vec(sums),
+/// A reply with a key, and the keys that were picked.
+fn done(rt: &impl Abort, alloc: Global) -> Reply {
+    let picks = vec![in alloc; key_of(rt, alloc, 0xff), key_of(rt, alloc, 0)].expect(rt, "memory");
+    Reply::Done {
+        key: Some(key_of(rt, alloc, 0x0a)),
+        picks: Picks::from_vec(picks),
+    }
+}
+
+fn nothing_done(alloc: Global) -> Reply {
+    Reply::Done {
+        key: None,
+        picks: Picks::new(alloc),
+    }
+}
+
+fn counted(rt: &impl Abort, alloc: Global) -> Reply {
+    let picks = vec![in alloc; key_of(rt, alloc, 0xab)].expect(rt, "memory");
+    Reply::Count {
+        count: 12,
+        picks: Picks::from_vec(picks),
     }
 }
 
 #[test]
-fn replies_answered(rt: HostRuntime) {
+fn doings_answered(rt: HostRuntime) {
     let alloc = rt.alloc();
-    let two = vec![in alloc; key_of(&rt, alloc, 0xff), key_of(&rt, alloc, 0)].expect(&rt, "memory");
-    let one = vec![in alloc; key_of(&rt, alloc, 0xab)].expect(&rt, "memory");
-    let quoted = Value::Text(name_of(&rt, alloc, "it's"));
-    let values = vec![in alloc; Value::Int(-5), quoted].expect(&rt, "memory");
-    let row = (key_of(&rt, alloc, 1), Tuple::from_vec(values));
-    let pair = (key_of(&rt, alloc, 1), key_of(&rt, alloc, 2));
-    let entries = vec![in alloc; pair].expect(&rt, "memory");
-    let sums = vec![in alloc; 3, -4, 0].expect(&rt, "memory");
-    let lines = vec![in alloc; name_of(&rt, alloc, "dept"), name_of(&rt, alloc, "emp")].expect(
-        &rt, "memory",
-    );
-    let rows = [
-        (
-            Reply::Done {
-                key: Some(key_of(&rt, alloc, 0x0a)),
-                picks: Picks::from_vec(two),
-            },
-            "ok @0a +@ff +@00\n",
-        ),
-        (
-            Reply::Done {
-                key: None,
-                picks: Picks::new(alloc),
-            },
-            "ok\n",
-        ),
-        (
-            Reply::Count {
-                count: 12,
-                picks: Picks::from_vec(one),
-            },
-            "ok 12 +@ab\n",
-        ),
-        (
-            Reply::Rows {
-                rows: Rows::from_vec(vec![in alloc; row].expect(&rt, "memory")),
-            },
-            "@01 (-5, 'it''s')\nok 1\n",
-        ),
-        (
-            Reply::Entries {
-                image: image_of(entries, Vec::new(alloc)),
-            },
-            "@01 @02\nok 1\n",
-        ),
-        (
-            Reply::Entries {
-                image: image_of(Vec::new(alloc), sums),
-            },
-            "sum 3 -4 0\nok 0\n",
-        ),
-        (
-            Reply::Lines {
-                lines: Names::from_vec(lines),
-            },
-            "dept\nemp\nok 2\n",
-        ),
-    ];
-    for (reply, text) in rows {
-        assert!(rt; is_answered(alloc, &reply, text), "at {text}");
+    assert!(rt; is_replied(alloc, done(&rt, alloc), "ok @0a +@ff +@00\n"));
+    assert!(rt; is_replied(alloc, nothing_done(alloc), "ok\n"));
+    assert!(rt; is_replied(alloc, counted(&rt, alloc), "ok 12 +@ab\n"));
+}
+
+/// One row of a number and a text.
+fn one_row(rt: &impl Abort, alloc: Global) -> Reply {
+    let quoted = Value::Text(name_of(rt, alloc, "it's"));
+    let values = vec![in alloc; Value::Int(-5), quoted].expect(rt, "memory");
+    let row = (key_of(rt, alloc, 1), Tuple::from_vec(values));
+    Reply::Rows {
+        rows: Rows::from_vec(vec![in alloc; row].expect(rt, "memory")),
     }
+}
+
+fn entries_of(entries: Vec<(RecKey, RecKey)>, sums: Vec<i128>) -> Reply {
+    Reply::Entries {
+        image: Image {
+            entries: Entries::from_vec(entries),
+            sums: Sums::from_vec(sums),
+        },
+    }
+}
+
+fn one_entry(rt: &impl Abort, alloc: Global) -> Reply {
+    let pair = (key_of(rt, alloc, 1), key_of(rt, alloc, 2));
+    entries_of(vec![in alloc; pair].expect(rt, "memory"), Vec::new(alloc))
+}
+
+fn three_sums(rt: &impl Abort, alloc: Global) -> Reply {
+    let sums = vec![in alloc; 3, -4, 0].expect(rt, "memory");
+    entries_of(Vec::new(alloc), sums)
+}
+
+fn two_lines(rt: &impl Abort, alloc: Global) -> Reply {
+    let first = name_of(rt, alloc, "dept");
+    let lines = vec![in alloc; first, name_of(rt, alloc, "emp")].expect(rt, "memory");
+    Reply::Lines {
+        lines: Names::from_vec(lines),
+    }
+}
+
+#[test]
+fn lists_answered(rt: HostRuntime) {
+    let alloc = rt.alloc();
+    assert!(rt; is_replied(alloc, one_row(&rt, alloc), "@01 (-5, 'it''s')\nok 1\n"));
+    assert!(rt; is_replied(alloc, one_entry(&rt, alloc), "@01 @02\nok 1\n"));
+    assert!(rt; is_replied(alloc, three_sums(&rt, alloc), "sum 3 -4 0\nok 0\n"));
+    assert!(rt; is_replied(alloc, two_lines(&rt, alloc), "dept\nemp\nok 2\n"));
 }

@@ -4,7 +4,8 @@ use sb_reader::{Fault, LineFault, one_command, one_item, parse_line, read_comman
 use sb_rule::{Action, Rule};
 use sb_tokens::{Row, scan};
 use sb_value::{Tuple, Value};
-use std::alloc::{AllocError, Global};
+use std::alloc::Global;
+use std::process::Abort;
 
 /// Whether rows are deleted where two columns have values.
 fn is_by_two_pairs(action: &Action) -> bool {
@@ -68,12 +69,15 @@ fn command_name(command: &Command) -> &'static str {
     }
 }
 
-/// The column at which a line is bad, and 0 for a command, with its name.
-fn seen(alloc: Global, line: &[u8]) -> (Option<u32>, &'static str) {
+/// Whether the line spells the command of this name.
+fn is_named(alloc: Global, line: &[u8], name: &str) -> bool {
     match parse_line(alloc, line) {
-        Ok(command) => (Some(0), command_name(&command)),
-        Err(LineFault::Syntax { column }) => (Some(column), "fault"),
-        Err(LineFault::NoMemory) => (None, "no memory"),
+        Ok(command) => {
+            let is_named = command_name(&command) == name;
+            drop(command);
+            is_named
+        }
+        Err(_) => false,
     }
 }
 
@@ -89,46 +93,39 @@ const COMMANDS: [(&[u8], &str); 5] = [
     (b"get r @00Ff", "get at 00ff"),
 ];
 
-/// The first line of another command.
-fn other_command<'a>(alloc: Global, lines: &'a [(&'a [u8], &'a str)]) -> Option<&'a [u8]> {
-    for (line, name) in lines {
-        if seen(alloc, line).1 != *name {
-            return Some(*line);
-        }
-    }
-    None
-}
-
-fn other_of_all(alloc: Global) -> Option<&'static [u8]> {
-    other_command(alloc, &COMMANDS)
-}
-
 #[test]
 fn commands_read(rt: HostRuntime) {
-    assert_eq!(rt; other_of_all(rt.alloc()), None);
+    for (number, (line, name)) in COMMANDS.iter().enumerate() {
+        assert!(rt; is_named(rt.alloc(), line, name), "line {number}");
+    }
     one_command();
     one_item();
 }
 
-/// The row of a short line.
-fn row_of(alloc: Global, line: &[u8]) -> Option<Row> {
-    if line.len() > 100 {
-        return None;
-    }
-    scan(alloc, line).ok()
-}
-
-/// How many tokens a fault leaves.
-fn left(alloc: Global, row: &Row) -> Option<usize> {
+fn leaves_tokens(alloc: Global, row: &Row, count: usize) -> bool {
     match read_command(alloc, &row.tokens) {
-        Err(Fault::Misfit(rest)) => Some(rest.len()),
-        _ => None,
+        Ok(command) => {
+            drop(command);
+            false
+        }
+        Err(Fault::Misfit(rest)) => rest.len() == count,
+        Err(Fault::NoMemory) => false,
     }
 }
 
-fn left_of(alloc: Global, line: &[u8]) -> Option<usize> {
-    let row = row_of(alloc, line)?;
-    left(alloc, &row)
+/// Whether the fault of a short line leaves so many tokens.
+fn leaves(alloc: Global, line: &[u8], count: usize) -> bool {
+    if line.len() > 100 {
+        return false;
+    }
+    match scan(alloc, line) {
+        Ok(row) => {
+            let leaves = leaves_tokens(alloc, &row, count);
+            drop(row);
+            leaves
+        }
+        Err(_) => false,
+    }
 }
 
 /// Lines with the tokens that their faults leave.
@@ -139,32 +136,30 @@ const MISFITS: [(&[u8], usize); 4] = [
     (b"create r using heap (a text(255), b int(1))", 4),
 ];
 
-/// The first line whose fault leaves other tokens.
-fn other_misfit<'a>(alloc: Global, lines: &'a [(&'a [u8], usize)]) -> Option<&'a [u8]> {
-    for (line, count) in lines {
-        if left_of(alloc, line) != Some(*count) {
-            return Some(*line);
-        }
-    }
-    None
-}
-
 #[test]
 fn misfits_found(rt: HostRuntime) {
-    assert_eq!(rt; other_misfit(rt.alloc(), &MISFITS), None);
+    for (line, count) in MISFITS.iter() {
+        assert!(rt; leaves(rt.alloc(), line, *count), "{count}");
+    }
 }
 
-/// A word and blanks, of so many bytes in all.
-fn padded(alloc: Global, word: &[u8], len: usize) -> Result<Vec<u8>, AllocError> {
-    let mut line = Vec::new(alloc);
-    line.extend_from_slice(word)?;
-    line.resize(len, b' ')?;
-    Ok(line)
+/// Whether the line is bad at this column; at 0: it is a command.
+fn is_bad_at(alloc: Global, line: &[u8], wanted: u32) -> bool {
+    match parse_line(alloc, line) {
+        Ok(command) => {
+            drop(command);
+            wanted == 0
+        }
+        Err(LineFault::Syntax { column }) => wanted == column,
+        Err(LineFault::NoMemory) => false,
+    }
 }
 
-fn padded_column(alloc: Global, word: &[u8], len: usize) -> Option<u32> {
-    let line = padded(alloc, word, len).ok()?;
-    seen(alloc, &line).0
+/// The same of a word with blanks, of so many bytes in all.
+fn is_padded_bad_at(rt: &impl Abort, alloc: Global, word: &[u8], len: usize, wanted: u32) -> bool {
+    let mut line = Vec::from_slice(alloc, word).expect(rt, "memory");
+    line.resize(len, b' ').expect(rt, "memory");
+    is_bad_at(alloc, &line, wanted)
 }
 
 /// Words, the bytes of their lines with blanks, and where these are bad.
@@ -177,33 +172,19 @@ const LONG: [(&[u8], usize, u32); 6] = [
     (b"x", 5000, 4097),
 ];
 
-/// The length of the first line that is not bad at its column.
-fn wrong_length(alloc: Global, lines: &[(&[u8], usize, u32)]) -> Option<usize> {
-    for (word, len, column) in lines {
-        if padded_column(alloc, word, *len) != Some(*column) {
-            return Some(*len);
-        }
-    }
-    None
-}
-
 #[test]
 fn faults_of_long_lines(rt: HostRuntime) {
-    assert_eq!(rt; wrong_length(rt.alloc(), &LONG), None);
-}
-
-/// The first line that is not bad at its column.
-fn wrong_line<'a>(alloc: Global, lines: &'a [(&'a [u8], u32)]) -> Option<&'a [u8]> {
-    for (line, column) in lines {
-        if seen(alloc, line).0 != Some(*column) {
-            return Some(*line);
-        }
+    for (word, len, column) in LONG.iter() {
+        assert!(rt;
+            is_padded_bad_at(&rt, rt.alloc(), word, *len, *column),
+            "{len}"
+        );
     }
-    None
 }
 
-/// Lines of transactions and of registrations, with the columns at which they are bad.
-const CONTROL: [(&[u8], u32); 36] = [
+/// Lines, with the columns at which they are bad; 0 for a command.
+const LINES: [(&[u8], u32); 152] = [
+    // Lines of transactions and of registrations.
     (b"", 1),
     (b"  ", 3),
     (b"begin", 0),
@@ -240,10 +221,7 @@ const CONTROL: [(&[u8], u32); 36] = [
     (b"entries", 8),
     (b"begin x #", 7),
     (b"scan ?", 6),
-];
-
-/// Lines that make and drop relations, with the columns at which they are bad.
-const DEFINITIONS: [(&[u8], u32); 27] = [
+    // Lines that make and drop relations.
     (b"create", 7),
     (b"create tree using heap (k int)", 8),
     (b"create r heap", 10),
@@ -274,10 +252,7 @@ const DEFINITIONS: [(&[u8], u32); 27] = [
     (b"drop r s #", 8),
     (b"drop aaaaaaaaaabbbbbbbbbbcccccccccc12", 0),
     (b"drop aaaaaaaaaabbbbbbbbbbcccccccccc123", 6),
-];
-
-/// Lines that attach, with the columns at which they are bad.
-const ATTACHMENTS: [(&[u8], u32); 35] = [
+    // Lines that attach.
     (b"attach", 7),
     (b"attach index i on r (a)", 8),
     (b"attach check check on r always", 14),
@@ -346,10 +321,7 @@ const ATTACHMENTS: [(&[u8], u32); 35] = [
     (b"attach code 999 x on r desc @", 13),
     (b"attach code 65536 x on r desc @", 13),
     (b"attach code 65535 x on r desc", 30),
-];
-
-/// Lines that change rows, with the columns at which they are bad.
-const CHANGES: [(&[u8], u32); 32] = [
+    // Lines that change rows.
     (b"insert", 7),
     (b"insert r (1)", 10),
     (b"insert r values (1, 'x', -2)", 0),
@@ -394,10 +366,7 @@ const CHANGES: [(&[u8], u32); 32] = [
     (b"add r a by 5", 0),
     (b"add r a = 5", 9),
     (b"add r a by 5 where b < 1", 22),
-];
-
-/// Lines that read, with the columns at which they are bad.
-const READS: [(&[u8], u32); 22] = [
+    // Lines that read.
     (b"get r @", 0),
     (b"get r", 6),
     (b"get t @abc", 10),
@@ -422,32 +391,9 @@ const READS: [(&[u8], u32); 22] = [
     (b"range i on r from (1) from (9)", 23),
 ];
 
-fn wrong_control(alloc: Global) -> Option<&'static [u8]> {
-    wrong_line(alloc, &CONTROL)
-}
-
-fn wrong_definitions(alloc: Global) -> Option<&'static [u8]> {
-    wrong_line(alloc, &DEFINITIONS)
-}
-
-fn wrong_attachments(alloc: Global) -> Option<&'static [u8]> {
-    wrong_line(alloc, &ATTACHMENTS)
-}
-
-fn wrong_changes(alloc: Global) -> Option<&'static [u8]> {
-    wrong_line(alloc, &CHANGES)
-}
-
-fn wrong_reads(alloc: Global) -> Option<&'static [u8]> {
-    wrong_line(alloc, &READS)
-}
-
 #[test]
 fn faults_of_lines(rt: HostRuntime) {
-    let alloc = rt.alloc();
-    assert_eq!(rt; wrong_control(alloc), None);
-    assert_eq!(rt; wrong_definitions(alloc), None);
-    assert_eq!(rt; wrong_attachments(alloc), None);
-    assert_eq!(rt; wrong_changes(alloc), None);
-    assert_eq!(rt; wrong_reads(alloc), None);
+    for (number, (line, column)) in LINES.iter().enumerate() {
+        assert!(rt; is_bad_at(rt.alloc(), line, *column), "line {number}");
+    }
 }

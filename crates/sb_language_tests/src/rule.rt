@@ -1,97 +1,102 @@
-ghost use Rattle.std.specs.Prelude.{◌≤◌, IfOk, length};
+ghost use Rattle.std.specs.Prelude.{◌≤◌, length};
 ghost use Rattle.sb_pred.specs.Spelling.{IsShortPred, IsShortTerm};
 ghost use Rattle.sb_rule.specs.Spelling.{IsShortName, IsShortList, IsShortPair, IsShortAction, IsShortRule};
 
 use sb_pred::{Op, Pred, Term};
 use sb_rule::{Action, Change, Event, Mode, Pairs, Rule, Side, Terms, bind, read_rule, write_rule};
 use sb_value::{Bytes, Column, Kind, Names, RecKey, Schema, Str, Tuple, Value};
-use std::alloc::{AllocError, Global};
+use std::alloc::Global;
+use std::process::Abort;
 use std::test::*;
 
-fn text(alloc: Global, text: &str) -> Result<Str, AllocError>
+fn text(rt: &impl Abort, alloc: Global, text: &str) -> Str
     requires { length text.now ≤ 255 }
-    ensures { IfOk result IsShortName }
+    ensures { IsShortName result }
 {
-    Ok(Str::from_string(String::from_str(alloc, text)?))
+    Str::from_string(String::from_str(alloc, text).expect(rt, "memory"))
 }
 
 /// The rule is written as these bytes.
-fn is_written(alloc: Global, rule: &Rule, spelling: &[u8]) -> Result<bool, AllocError>
-    requires { IsShortRule rule.now }
+fn is_written(rt: &impl Abort, alloc: Global, rule: Rule, spelling: &[u8]) -> bool
+    requires { IsShortRule rule }
 {
     let mut out = Bytes::new(alloc);
-    write_rule(rule, &mut out)?;
-    Ok(out.as_slice() == spelling)
+    write_rule(&rule, &mut out).expect(rt, "memory");
+    drop(rule);
+    out.as_slice() == spelling
 }
 
 /// `salary >= 0`
-fn paid(alloc: Global) -> Result<Pred, AllocError>
-    ensures { IfOk result IsShortPred }
+fn paid(rt: &impl Abort, alloc: Global) -> Pred
+    ensures { IsShortPred result }
 {
-    let salary = Term::New(text(alloc, "salary")?);
-    Ok(Pred::cmp(Op::Ge, salary, Term::Const(Value::Int(0))))
+    let salary = Term::New(text(rt, alloc, "salary"));
+    Pred::cmp(Op::Ge, salary, Term::Const(Value::Int(0)))
 }
 
 const CHECK: &[u8] = b"\x00\x01\x06\x01\x06salary\x00\x01\x00\x00\x00\x00\x00\x00\x00\x00";
 
-fn is_check_written(alloc: Global) -> Result<bool, AllocError> {
-    let rule = Rule::Check {
-        pred: paid(alloc)?,
-        deferred: false,
-    };
-    is_written(alloc, &rule, CHECK)
-}
-
-fn one_name(alloc: Global) -> Result<Names, AllocError>
-    ensures { IfOk result (IsShortList IsShortName) }
+fn check(rt: &impl Abort, alloc: Global) -> Rule
+    ensures { IsShortRule result }
 {
-    let name = text(alloc, "a")?;
-    Ok(Names::from_vec(vec![in alloc; name]?))
+    Rule::Check {
+        pred: paid(rt, alloc),
+        deferred: false,
+    }
 }
 
-fn is_index_written(alloc: Global) -> Result<bool, AllocError> {
-    let rule = Rule::TreeIndex {
-        columns: one_name(alloc)?,
+fn one_name(rt: &impl Abort, alloc: Global) -> Names
+    ensures { IsShortList IsShortName result }
+{
+    let name = text(rt, alloc, "a");
+    Names::from_vec(vec![in alloc; name].expect(rt, "memory"))
+}
+
+fn index(rt: &impl Abort, alloc: Global) -> Rule
+    ensures { IsShortRule result }
+{
+    Rule::TreeIndex {
+        columns: one_name(rt, alloc),
         unique: true,
-    };
-    is_written(alloc, &rule, b"\x01\x01\x01a")
+    }
 }
 
 /// The column `k` with the column `n` of the old row.
-fn one_pair(alloc: Global) -> Result<Pairs, AllocError>
-    ensures { IfOk result (IsShortList IsShortPair) }
+fn one_pair(rt: &impl Abort, alloc: Global) -> Pairs
+    ensures { IsShortList IsShortPair result }
 {
-    let column = text(alloc, "k")?;
-    let term = Term::Old(text(alloc, "n")?);
-    Ok(Pairs::from_vec(vec![in alloc; (column, term)]?))
+    let column = text(rt, alloc, "k");
+    let term = Term::Old(text(rt, alloc, "n"));
+    Pairs::from_vec(vec![in alloc; (column, term)].expect(rt, "memory"))
 }
 
-fn deletion(alloc: Global) -> Result<Action, AllocError>
-    ensures { IfOk result IsShortAction }
+fn deletion(rt: &impl Abort, alloc: Global) -> Action
+    ensures { IsShortAction result }
 {
-    let relation = text(alloc, "r")?;
-    let pairs = one_pair(alloc)?;
-    Ok(Action::Delete { relation, pairs })
+    let relation = text(rt, alloc, "r");
+    let pairs = one_pair(rt, alloc);
+    Action::Delete { relation, pairs }
 }
 
 const DELETION: &[u8] = b"\x02\x00\x00\x02\x01r\x01\x01k\x02\x01n";
 
-fn is_deletion_written(alloc: Global) -> Result<bool, AllocError> {
-    let rule = Rule::Trigger {
+fn trigger(rt: &impl Abort, alloc: Global) -> Rule
+    ensures { IsShortRule result }
+{
+    Rule::Trigger {
         event: Event::Delete,
         pred: Pred::always(),
-        action: deletion(alloc)?,
+        action: deletion(rt, alloc),
         deferred: false,
-    };
-    is_written(alloc, &rule, DELETION)
+    }
 }
 
 #[test]
-fn rules_written(rt: HostRuntime) -> Result<(), Fail> {
-    assert!(rt; is_check_written(rt.alloc())?);
-    assert!(rt; is_index_written(rt.alloc())?);
-    assert!(rt; is_deletion_written(rt.alloc())?);
-    Ok(())
+fn rules_written(rt: HostRuntime) {
+    let alloc = rt.alloc();
+    assert!(rt; is_written(&rt, alloc, check(&rt, alloc), CHECK));
+    assert!(rt; is_written(&rt, alloc, index(&rt, alloc), b"\x01\x01\x01a"));
+    assert!(rt; is_written(&rt, alloc, trigger(&rt, alloc), DELETION));
 }
 
 /// A hash index on the columns `dept` and `id`.
@@ -120,6 +125,9 @@ const ADDITION: &[u8] =
 const LONGEST: &[u8] = b"\x00\
     \x04\x04\x04\x04\x04\x04\x04\x04\x04\x04\x04\x04\x04\x04\x04\x04\
     \x04\x04\x04\x04\x04\x04\x04\x04\x04\x04\x04\x04\x04\x04\x04\x00";
+
+/// `(always and always) or always`: the left side of the `or` is compound.
+const EITHER: &[u8] = b"\x00\x03\x02\x00\x00\x00";
 
 /// One node more than 32.
 const TOO_LONG: &[u8] = b"\x00\
@@ -268,28 +276,24 @@ fn rule_name(rule: &Rule) -> &'static str {
     }
 }
 
-/// The rule's name, where it is written as these bytes.
-fn name_written(alloc: Global, rule: &Rule, spelling: &[u8]) -> Result<&'static str, AllocError>
-    requires { IsShortRule rule.now }
-{
-    if is_written(alloc, rule, spelling)? {
-        Ok(rule_name(rule))
-    } else {
-        Ok("other bytes")
-    }
-}
-
 /// The name of the rule of this code that the bytes are read as, and that is written as them.
 #[tactic(auto, using(sb_rule::proofs::StorableRules::IsShortRule_from_storable))]
-fn name_read(alloc: Global, code: u16, spelling: &[u8]) -> Result<&'static str, AllocError> {
-    match read_rule(alloc, code, spelling)? {
-        Some(rule) => name_written(alloc, &rule, spelling),
-        None => Ok("none"),
+fn name_read(rt: &impl Abort, alloc: Global, code: u16, spelling: &[u8]) -> &'static str {
+    match read_rule(alloc, code, spelling).expect(rt, "memory") {
+        Some(rule) => {
+            let name = rule_name(&rule);
+            if is_written(rt, alloc, rule, spelling) {
+                name
+            } else {
+                "other bytes"
+            }
+        }
+        None => "none",
     }
 }
 
 /// Codes with bytes, and the name of the rule that they spell.
-const RULES: [(u16, &[u8], &str); 29] = [
+const RULES: [(u16, &[u8], &str); 30] = [
     (1, b"\x01\x01\x01a", "tree index"),
     (2, HASH_INDEX, "hash index"),
     (2, b"\x00", "other hash index"),
@@ -297,6 +301,7 @@ const RULES: [(u16, &[u8], &str); 29] = [
     (4, STATS, "statistics"),
     (5, CHECK, "check"),
     (5, LONGEST, "check"),
+    (5, EITHER, "check"),
     (6, REFERS, "reference"),
     (7, DELETION, "deletion"),
     (7, INSERTION, "insertion"),
@@ -321,122 +326,133 @@ const RULES: [(u16, &[u8], &str); 29] = [
     (999, b"", "none"),
 ];
 
-/// How many rows, from the first one on, have the name that is read.
-fn read(alloc: Global, rows: &[(u16, &[u8], &str)]) -> Result<usize, AllocError> {
-    let mut count = 0usize;
-    for (code, spelling, name) in rows {
-        if name_read(alloc, *code, spelling)? != *name {
-            break;
-        }
-        count = count.saturating_add(1);
-    }
-    Ok(count)
-}
-
 #[test]
-fn rules_read(rt: HostRuntime) -> Result<(), Fail> {
-    assert_eq!(rt; read(rt.alloc(), &RULES)?, 29);
-    Ok(())
+fn rules_read(rt: HostRuntime) {
+    for (number, (code, spelling, name)) in RULES.iter().enumerate() {
+        assert!(rt;
+            name_read(&rt, rt.alloc(), *code, spelling) == *name,
+            "at {number}"
+        );
+    }
 }
 
-fn key(alloc: Global, byte: u8) -> Result<RecKey, AllocError> {
-    Ok(RecKey::from_vec(vec![in alloc; byte]?))
+fn key(rt: &impl Abort, alloc: Global, byte: u8) -> RecKey {
+    RecKey::from_vec(vec![in alloc; byte].expect(rt, "memory"))
 }
 
-fn row(alloc: Global, number: i64) -> Result<Tuple, AllocError> {
-    Ok(Tuple::from_vec(vec![in alloc; Value::Int(number)]?))
+fn row(rt: &impl Abort, alloc: Global, number: i64) -> Tuple {
+    Tuple::from_vec(vec![in alloc; Value::Int(number)].expect(rt, "memory"))
 }
 
-fn schema(alloc: Global) -> Result<Schema, AllocError> {
-    let name = text(alloc, "n")?;
-    let kind = Kind::Int;
-    Ok(Schema::from_vec(vec![in alloc;
-        Column {
-            name,
-            kind,
-            limit: 0
-        },
-    ]?))
+fn schema(rt: &impl Abort, alloc: Global) -> Schema {
+    let number = Column {
+        name: text(rt, alloc, "n"),
+        kind: Kind::Int,
+        limit: 0,
+    };
+    Schema::from_vec(vec![in alloc; number].expect(rt, "memory"))
 }
 
 /// An update of the column `n` from 7 to 9.
-fn update(alloc: Global) -> Result<Change, AllocError> {
-    Ok(Change::Update {
-        from: key(alloc, 1)?,
-        old: row(alloc, 7)?,
-        to: key(alloc, 2)?,
-        new: row(alloc, 9)?,
-    })
+fn update(rt: &impl Abort, alloc: Global) -> Change {
+    Change::Update {
+        from: key(rt, alloc, 1),
+        old: row(rt, alloc, 7),
+        to: key(rt, alloc, 2),
+        new: row(rt, alloc, 9),
+    }
 }
 
 /// The column `n` of the old row and of the new one.
-fn two_terms(alloc: Global) -> Result<Terms, AllocError> {
-    let old = Term::Old(text(alloc, "n")?);
-    let new = Term::New(text(alloc, "n")?);
-    Ok(Terms::from_vec(vec![in alloc; old, new]?))
+fn two_terms(rt: &impl Abort, alloc: Global) -> Terms {
+    let old = Term::Old(text(rt, alloc, "n"));
+    let new = Term::New(text(rt, alloc, "n"));
+    Terms::from_vec(vec![in alloc; old, new].expect(rt, "memory"))
 }
 
-fn insertion(alloc: Global) -> Result<Action, AllocError> {
-    let relation = text(alloc, "r")?;
-    let terms = two_terms(alloc)?;
-    Ok(Action::Insert { relation, terms })
+fn insertion(rt: &impl Abort, alloc: Global) -> Action {
+    Action::Insert {
+        relation: text(rt, alloc, "r"),
+        terms: two_terms(rt, alloc),
+    }
 }
 
-/// What the action is bound to by this change of a row of the column `n`.
-fn bound(alloc: Global, action: &Action, change: &Change) -> Result<Action, AllocError> {
-    let schema = schema(alloc)?;
-    bind(alloc, action, &schema, change)
+/// Sets the column `n` to that of the new row, where `k` is `n` of the old row.
+fn setting(rt: &impl Abort, alloc: Global) -> Action {
+    Action::Set {
+        relation: text(rt, alloc, "r"),
+        column: text(rt, alloc, "n"),
+        term: Term::New(text(rt, alloc, "n")),
+        pairs: one_pair(rt, alloc),
+    }
 }
 
-fn bound_insertion(alloc: Global, change: &Change) -> Result<Action, AllocError> {
-    let action = insertion(alloc)?;
-    bound(alloc, &action, change)
+/// The one pair has the 7 of the old row.
+fn is_paired(pairs: &Pairs) -> bool {
+    matches!(pairs.as_slice(), [(_, Term::Const(Value::Int(7)))])
 }
 
-/// The action inserts the row of 7 and 9.
+/// The action inserts the row of 7 and 9, deletes the rows with 7, or sets them to 9.
 fn is_bound(action: &Action) -> bool {
     match action {
         Action::Insert { terms, .. } => matches!(
             terms.as_slice(),
             [Term::Const(Value::Int(7)), Term::Const(Value::Int(9))]
         ),
-        _ => false,
+        Action::Delete { pairs, .. } => is_paired(pairs),
+        Action::Set { term, pairs, .. } => {
+            matches!(term, Term::Const(Value::Int(9))) && is_paired(pairs)
+        }
+        Action::Add { .. } => false,
     }
 }
 
-fn is_insertion_bound(alloc: Global, change: &Change) -> Result<bool, AllocError> {
-    let action = bound_insertion(alloc, change)?;
-    Ok(is_bound(&action))
-}
-
-fn are_terms_bound(alloc: Global) -> Result<bool, AllocError> {
-    let change = update(alloc)?;
-    is_insertion_bound(alloc, &change)
-}
-
-#[test]
-fn terms_bound(rt: HostRuntime) -> Result<(), Fail> {
-    assert!(rt; are_terms_bound(rt.alloc())?);
-    Ok(())
-}
-
-/// The terms are so many, as a list and as a vector.
-fn are_terms(alloc: Global, count: usize) -> Result<bool, AllocError> {
-    let terms = two_terms(alloc)?;
-    let are_listed = terms.len() == count && !terms.is_empty();
-    Ok(are_listed && terms.into_vec().len() == count)
-}
-
-/// The pairs are so many, as a list and as a vector.
-fn are_pairs(alloc: Global, count: usize) -> Result<bool, AllocError> {
-    let pairs = one_pair(alloc)?;
-    let are_listed = pairs.len() == count && !pairs.is_empty();
-    Ok(are_listed && pairs.into_vec().len() == count)
+/// The action is bound to the update.
+fn binds(rt: &impl Abort, alloc: Global, action: Action) -> bool {
+    let schema = schema(rt, alloc);
+    let change = update(rt, alloc);
+    let bound = bind(alloc, &action, &schema, &change).expect(rt, "memory");
+    let is = is_bound(&bound);
+    drop(bound);
+    drop(change);
+    drop(schema);
+    drop(action);
+    is
 }
 
 #[test]
-fn lists(rt: HostRuntime) -> Result<(), Fail> {
-    assert!(rt; are_terms(rt.alloc(), 2)?);
-    assert!(rt; are_pairs(rt.alloc(), 1)?);
-    Ok(())
+fn terms_bound(rt: HostRuntime) {
+    let alloc = rt.alloc();
+    assert!(rt; binds(&rt, alloc, insertion(&rt, alloc)));
+    assert!(rt; binds(&rt, alloc, deletion(&rt, alloc)));
+    assert!(rt; binds(&rt, alloc, setting(&rt, alloc)));
+}
+
+/// The check of this spelling is copied, and the copy is written as it was.
+#[tactic(auto, using(sb_rule::proofs::StorableRules::IsShortRule_from_storable))]
+fn is_copied(rt: &impl Abort, alloc: Global, spelling: &[u8]) -> bool {
+    match read_rule(alloc, 5, spelling).expect(rt, "memory") {
+        Some(rule) => {
+            let copy = rule.copy(alloc).expect(rt, "memory");
+            drop(rule);
+            is_written(rt, alloc, copy, spelling)
+        }
+        None => false,
+    }
+}
+
+#[test]
+fn checks_copied(rt: HostRuntime) {
+    assert!(rt; is_copied(&rt, rt.alloc(), EITHER));
+    assert!(rt; is_copied(&rt, rt.alloc(), CHECK));
+}
+
+#[test]
+fn lists(rt: HostRuntime) {
+    let terms = two_terms(&rt, rt.alloc());
+    assert!(rt; terms.len() == 2 && !terms.is_empty());
+    assert!(rt; terms.into_vec().len() == 2);
+    let pairs = one_pair(&rt, rt.alloc());
+    assert!(rt; pairs.len() == 1 && !pairs.is_empty());
+    assert!(rt; pairs.into_vec().len() == 1);
 }

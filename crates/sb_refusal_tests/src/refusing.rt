@@ -3,186 +3,99 @@
 ghost use Rattle.std.specs.Prelude.{[], refl};
 ghost use Rattle.sb_plain.specs.State.{State};
 
-use sb_catalog::{Attached, AttachedList, Descriptor};
+use sb_catalog::{Descriptor, read_descriptor};
 use sb_fold::Refusal;
 use sb_plain::Command;
-use sb_pred::{Op, Pred, Term};
+use sb_reader::parse_line;
 use sb_refusals::{Catalogue, refuse};
-use sb_rule::{Action, Event, Mode, Pairs, Rule, Side, Terms};
-use sb_value::{Bytes, Column, Kind, Names, Schema, Str, Tuple, Value};
+use sb_value::{Bytes, Names, Schema, Str};
 use std::alloc::{AllocError, Global};
 use std::test::*;
 
-fn name(alloc: Global, text: &str) -> Result<Str, AllocError> {
+/// `h`, a heap of `(c int)` whose attachment `f` refers to `r`.
+const HEAP: &[u8] = b"\x00\x01\x00\x03\x00\x00\x00\x02\x01\x01c\x01\x00\x00\
+    \x01\x00\x06\x00\x00\x00\x00\x00\x00\x01f\x00\x0b\x00\x00\x00\x01\x01c\x01r\x01\x01a";
+
+/// `r`, a tree of `(a int, b text(10)) key (a)` with the tree index `i` on `a`, the hash index `j` on `b`, and the mirror of the reference.
+const KEYED: &[u8] = b"\x00\x02\x00\x03\x00\x00\x00\x02\x02\x01a\x01\x00\x01b\x02\x0a\x01\x01a\
+    \x03\x00\x01\x00\x00\x00\x00\x00\x00\x01i\x00\x04\x00\x01\x01a\
+    \x00\x02\x00\x00\x00\x00\x00\x00\x01j\x00\x03\x01\x01b\
+    \x00\x06\x00\x00\x00\x00\x00\x00\x03h.f\x00\x0b\x01\x00\x00\x01\x01a\x01h\x01\x01c";
+
+/// `t`, a relation of `(c int)` that ends with the run.
+const TEMPORARY: &[u8] = b"\x00\x03\x00\x03\x00\x00\x00\x02\x01\x01c\x01\x00\x00\x00";
+
+/// A heap of `(c int)`, up to the number of its attachments.
+const INDEXED: &[u8] = b"\x00\x01\x00\x03\x00\x00\x00\x02\x01\x01c\x01\x00\x00";
+
+/// A tree index on `c`: 15 bytes beside its name of one byte, and beside one of 250.
+const SHORT: &[u8] = b"\x00\x01\x00\x00\x00\x00\x00\x00\x01k\x00\x04\x00\x01\x01c";
+
+const LONG: &[u8] = b"\x00\x01\x00\x00\x00\x00\x00\x00\xfa\
+    kkkkkkkkkkkkkkkkkkkkkkkkkkkkkkkkkkkkkkkkkkkkkkkkkkkkkkkkkkkkkkkkkkkkkkkkkkkkkkkkkkkkkkkkkkkkkkkkkkkk\
+    kkkkkkkkkkkkkkkkkkkkkkkkkkkkkkkkkkkkkkkkkkkkkkkkkkkkkkkkkkkkkkkkkkkkkkkkkkkkkkkkkkkkkkkkkkkkkkkkkkkk\
+    kkkkkkkkkkkkkkkkkkkkkkkkkkkkkkkkkkkkkkkkkkkkkkkkkk\
+    \x00\x04\x00\x01\x01c";
+
+/// A heap with so many indexes of these bytes.
+fn indexed(alloc: Global, count: u8, index: &[u8]) -> Result<Option<Descriptor>, AllocError> {
+    let mut bytes = Vec::new(alloc);
+    bytes.extend_from_slice(INDEXED)?;
+    bytes.push(count)?;
+    for _ in 0..count {
+        bytes.extend_from_slice(index)?;
+    }
+    read_descriptor(alloc, &bytes)
+}
+
+/// The relations: `w` has 1,870 bytes, and `x` 16 attachments.
+fn described(alloc: Global, text: &str) -> Result<Option<Descriptor>, AllocError> {
+    match text {
+        "h" => read_descriptor(alloc, HEAP),
+        "r" => read_descriptor(alloc, KEYED),
+        "t" => read_descriptor(alloc, TEMPORARY),
+        "w" => indexed(alloc, 7, LONG),
+        "x" => indexed(alloc, 16, SHORT),
+        _ => Ok(None),
+    }
+}
+
+/// The first name behind this one.
+fn next_name(after: &str) -> &'static str {
+    match after {
+        "" => "h",
+        "h" => "r",
+        "r" => "t",
+        "t" => "w",
+        "w" => "x",
+        _ => "",
+    }
+}
+
+fn next_of(alloc: Global, after: &str) -> Result<Option<(Str, Descriptor)>, AllocError> {
+    let name = next_name(after);
+    match described(alloc, name)? {
+        Some(descriptor) => Ok(Some((text(alloc, name)?, descriptor))),
+        None => Ok(None),
+    }
+}
+
+fn text(alloc: Global, text: &str) -> Result<Str, AllocError> {
     Ok(Str::from_string(String::from_str(alloc, text)?))
 }
 
-fn names(alloc: Global, texts: &[&str]) -> Result<Names, AllocError> {
-    let mut names = Vec::new(alloc);
-    for text in texts {
-        names.push(name(alloc, text)?)?;
-    }
-    Ok(Names::from_vec(names))
-}
-
-fn number(alloc: Global, text: &str) -> Result<Column, AllocError> {
-    Ok(Column {
-        name: name(alloc, text)?,
-        kind: Kind::Int,
-        limit: 0,
-    })
-}
-
-/// Number columns of these names.
-fn numbers(alloc: Global, texts: &[&str]) -> Result<Schema, AllocError> {
-    let mut columns = Vec::new(alloc);
-    for text in texts {
-        columns.push(number(alloc, text)?)?;
-    }
-    Ok(Schema::from_vec(columns))
-}
-
-/// A number column and a text column of at most 10 bytes.
-fn number_and_text(alloc: Global) -> Result<Schema, AllocError> {
-    let text = Column {
-        name: name(alloc, "b")?,
-        kind: Kind::Text,
-        limit: 10,
-    };
-    Ok(Schema::from_vec(vec![in alloc; number(alloc, "a")?, text]?))
-}
-
-fn tree(alloc: Global, columns: &[&str]) -> Result<Rule, AllocError> {
-    Ok(Rule::TreeIndex {
-        columns: names(alloc, columns)?,
-        unique: false,
-    })
-}
-
-fn hash(alloc: Global, columns: &[&str]) -> Result<Rule, AllocError> {
-    Ok(Rule::HashIndex {
-        columns: names(alloc, columns)?,
-    })
-}
-
-fn refers(
-    alloc: Global,
-    side: Side,
-    columns: &[&str],
-    other: &str,
-    others: &[&str],
-) -> Result<Rule, AllocError> {
-    Ok(Rule::Refers {
-        side,
-        columns: names(alloc, columns)?,
-        other: name(alloc, other)?,
-        others: names(alloc, others)?,
-        mode: Mode::Restrict,
-        deferred: false,
-    })
-}
-
-fn join(alloc: Global, columns: &[&str], other: &str, others: &[&str]) -> Result<Rule, AllocError> {
-    Ok(Rule::JoinIndex {
-        side: Side::Main,
-        columns: names(alloc, columns)?,
-        other: name(alloc, other)?,
-        others: names(alloc, others)?,
-    })
-}
-
-fn attached(alloc: Global, code: u16, text: &str, rule: Rule) -> Result<Attached, AllocError> {
-    Ok(Attached {
-        code,
-        owner: 0,
-        root: 0,
-        name: name(alloc, text)?,
-        rule,
-    })
-}
-
-fn described(method: u16, schema: Schema, key: Names, attachments: Vec<Attached>) -> Descriptor {
-    Descriptor {
-        method,
-        owner: 3,
-        root: 2,
-        schema,
-        key,
-        attachments: AttachedList::from_vec(attachments),
-    }
-}
-
-/// `h`, a heap of `(c int)` that refers to `r`.
-fn heap(alloc: Global) -> Result<Descriptor, AllocError> {
-    let rule = refers(alloc, Side::Main, &["c"], "r", &["a"])?;
-    let attachments = vec![in alloc; attached(alloc, 6, "f", rule)?]?;
-    Ok(described(1, numbers(alloc, &["c"])?, names(alloc, &[])?, attachments))
-}
-
-/// `r`, a tree of `(a int, b text(10)) key (a)` with two indexes and the mirror of the reference.
-fn keyed(alloc: Global) -> Result<Descriptor, AllocError> {
-    let mut attachments = Vec::new(alloc);
-    attachments.push(attached(alloc, 1, "i", tree(alloc, &["a"])?)?)?;
-    attachments.push(attached(alloc, 2, "j", hash(alloc, &["b"])?)?)?;
-    let mirror = refers(alloc, Side::Mirror, &["a"], "h", &["c"])?;
-    attachments.push(attached(alloc, 6, "h.f", mirror)?)?;
-    Ok(described(
-        2,
-        number_and_text(alloc)?,
-        names(alloc, &["a"])?,
-        attachments,
-    ))
-}
-
-/// `t`, a relation of `(c int)` that ends with the run.
-fn temporary(alloc: Global) -> Result<Descriptor, AllocError> {
-    Ok(described(
-        3,
-        numbers(alloc, &["c"])?,
-        names(alloc, &[])?,
-        Vec::new(alloc),
-    ))
-}
-
-fn long_name(alloc: Global, len: usize) -> Result<Str, AllocError> {
-    let mut text = String::new(alloc);
-    for _ in 0..len {
-        text.push('k')?;
-    }
-    Ok(Str::from_string(text))
-}
-
-/// A heap of `(c int)` with so many indexes, whose names have so many bytes: 15 bytes, and 15 more for each index beside its name.
-fn indexed(alloc: Global, count: usize, len: usize) -> Result<Descriptor, AllocError> {
-    let mut attachments = Vec::new(alloc);
-    for _ in 0..count {
-        let label = long_name(alloc, len)?;
-        attachments.push(attached(alloc, 1, label.as_str(), tree(alloc, &["c"])?)?)?;
-    }
-    Ok(described(1, numbers(alloc, &["c"])?, names(alloc, &[])?, attachments))
-}
-
-/// The relations `h`, `r`, `t`, `w` of 1,870 bytes and `x` with 16 attachments, in the order of their names. There is a savepoint `p`. All of our own
-/// methods and attachments are live but stats, which is spare.
-#[derive(Drop)]
-struct Five {
-    down: bool,
-    inside: bool,
-    waiting: bool,
-    points: usize,
-}
-
-impl Five {
-    fn find(&self, alloc: Global, text: &str) -> Result<Option<Descriptor>, AllocError> {
-        match text {
-            "h" => Ok(Some(heap(alloc)?)),
-            "r" => Ok(Some(keyed(alloc)?)),
-            "t" => Ok(Some(temporary(alloc)?)),
-            "w" => Ok(Some(indexed(alloc, 7, 250)?)),
-            "x" => Ok(Some(indexed(alloc, 16, 1)?)),
-            _ => Ok(None),
-        }
-    }
+/// The five relations, in the order of their names, and how the run stands. There is a savepoint `p`. All of our own methods and attachments are live
+/// but stats, which is spare.
+#[derive(Clone, Copy)]
+enum Five {
+    /// Outside a transaction.
+    Idle,
+    /// Behind a fault.
+    Down,
+    /// Inside a transaction with so many savepoints.
+    Open(usize),
+    /// Inside a transaction with actions that wait.
+    Waiting,
 }
 
 impl Catalogue for Five {
@@ -199,7 +112,7 @@ impl Catalogue for Five {
     ghost fails = { λ r a b. Unit {0} };
 
     fn descriptor(&mut self, alloc: Global, name: &Str) -> Result<Option<Descriptor>, Refusal> {
-        match self.find(alloc, name.as_str()) {
+        match described(alloc, name.as_str()) {
             Ok(found) => Ok(found),
             Err(_) => Err(Refusal::NoMemory),
         }
@@ -210,6 +123,10 @@ impl Catalogue for Five {
         alloc: Global,
         after: Option<&Str>,
     ) -> Result<Option<(Str, Descriptor)>, Refusal> {
+        let after = match after {
+            Some(name) => name.as_str(),
+            None => "",
+        };
         match next_of(alloc, after) {
             Ok(found) => Ok(found),
             Err(_) => Err(Refusal::NoMemory),
@@ -217,19 +134,22 @@ impl Catalogue for Five {
     }
 
     fn is_down(&self) -> bool {
-        self.down
+        matches!(self, Five::Down)
     }
 
     fn is_inside(&self) -> bool {
-        self.inside
+        matches!(self, Five::Open(_) | Five::Waiting)
     }
 
     fn has_waiting(&self) -> bool {
-        self.waiting
+        matches!(self, Five::Waiting)
     }
 
     fn points(&self) -> usize {
-        self.points
+        match self {
+            Five::Open(points) => *points,
+            _ => 0,
+        }
     }
 
     fn has_point(&self, name: &Str) -> bool {
@@ -271,375 +191,189 @@ impl Catalogue for Five {
     ghost few = { λ s a h. absurd h };
 }
 
-fn next_of(alloc: Global, after: Option<&Str>) -> Result<Option<(Str, Descriptor)>, AllocError> {
-    let Some(after) = after else {
-        return Ok(Some((name(alloc, "h")?, heap(alloc)?)));
-    };
-    match after.as_str() {
-        "h" => Ok(Some((name(alloc, "r")?, keyed(alloc)?))),
-        "r" => Ok(Some((name(alloc, "t")?, temporary(alloc)?))),
-        "t" => Ok(Some((name(alloc, "w")?, indexed(alloc, 7, 250)?))),
-        "w" => Ok(Some((name(alloc, "x")?, indexed(alloc, 16, 1)?))),
-        _ => Ok(None),
+fn is_said(text: &str, word: &str, name: &Str) -> bool {
+    match text.strip_prefix(word) {
+        Some(rest) => rest == name.as_str(),
+        None => false,
     }
 }
 
-/// The refusal as it is printed, without its mark; or `ok`.
-fn printed(alloc: Global, refusal: Option<Refusal>) -> Result<String, AllocError> {
+fn is_coded(text: &str, code: u16) -> bool {
+    match text.strip_prefix("noextension ") {
+        Some(rest) => matches!(rest.parse::<u16>(), Ok(number) if number == code),
+        None => false,
+    }
+}
+
+fn is_used(text: &str, relation: &Str, name: &Str) -> bool {
+    match text.split_once(' ') {
+        Some((word, rest)) => word == "inuse" && is_by(rest, relation, name),
+        None => false,
+    }
+}
+
+fn is_by(text: &str, relation: &Str, name: &Str) -> bool {
+    match text.split_once(' ') {
+        Some((user, by)) => user == relation.as_str() && by == name.as_str(),
+        None => false,
+    }
+}
+
+/// Whether this is the refusal as it is printed, without its mark.
+fn is_so(refusal: &Refusal, text: &str) -> bool {
     match refusal {
-        None => String::from_str(alloc, "ok"),
-        Some(Refusal::Down) => String::from_str(alloc, "down"),
-        Some(Refusal::State) => String::from_str(alloc, "state"),
-        Some(Refusal::NoRelation { name }) => format!(in alloc; "norelation {}", name.as_str()),
-        Some(Refusal::Exists { name }) => format!(in alloc; "exists {}", name.as_str()),
-        Some(Refusal::NoName { name }) => format!(in alloc; "noname {}", name.as_str()),
-        Some(Refusal::NoExtension { code }) => format!(in alloc; "noextension {code}"),
-        Some(Refusal::InUse { relation, name }) => {
-            format!(in alloc; "inuse {} {}", relation.as_str(), name.as_str())
+        Refusal::Down => text == "down",
+        Refusal::State => text == "state",
+        Refusal::NoRelation { name } => is_said(text, "norelation ", name),
+        Refusal::Exists { name } => is_said(text, "exists ", name),
+        Refusal::NoName { name } => is_said(text, "noname ", name),
+        Refusal::NoExtension { code } => is_coded(text, *code),
+        Refusal::InUse { relation, name } => is_used(text, relation, name),
+        Refusal::Mistyped => text == "mistyped",
+        Refusal::Mixed => text == "mixed",
+        Refusal::Limit => text == "limit",
+        _ => false,
+    }
+}
+
+/// Whether this comes of the command: a refusal, or `ok`.
+fn comes(five: Five, alloc: Global, command: &Command, answer: &str) -> bool {
+    let mut five = five;
+    match refuse(&mut five, alloc, command) {
+        Ok(Some(refusal)) => {
+            let is_so = is_so(&refusal, answer);
+            drop(refusal);
+            is_so
         }
-        Some(Refusal::Mistyped) => String::from_str(alloc, "mistyped"),
-        Some(Refusal::Mixed) => String::from_str(alloc, "mixed"),
-        Some(Refusal::Limit) => String::from_str(alloc, "limit"),
-        Some(_) => String::from_str(alloc, "another"),
+        Ok(None) => answer == "ok",
+        Err(refusal) => {
+            drop(refusal);
+            false
+        }
     }
 }
 
-/// Outside a transaction.
-fn idle() -> Five {
-    Five {
-        down: false,
-        inside: false,
-        waiting: false,
-        points: 0,
+/// Whether this comes of the command that the line spells.
+fn is_answered(alloc: Global, five: Five, line: &str, answer: &str) -> bool {
+    match parse_line(alloc, line.as_bytes()) {
+        Ok(command) => {
+            let comes = comes(five, alloc, &command, answer);
+            drop(command);
+            comes
+        }
+        Err(_) => false,
     }
 }
 
-/// Behind a fault.
-fn down() -> Five {
-    Five {
-        down: true,
-        inside: false,
-        waiting: false,
-        points: 0,
+/// Commands, and what comes of them. The check has 33 nodes. The mirror of a reference takes 24 bytes beside the attachment's name, so there is room for 6
+/// in `w`.
+const ROWS: [(Five, &str, &str); 41] = [
+    (Five::Down, "commit", "down"),
+    (Five::Down, "scan q", "down"),
+    (Five::Waiting, "drop q", "state"),
+    (Five::Open(0), "begin", "state"),
+    (Five::Idle, "commit", "state"),
+    (Five::Idle, "tables", "ok"),
+    (Five::Idle, "scan q", "norelation q"),
+    (Five::Idle, "scan r", "ok"),
+    (
+        Five::Idle,
+        "attach refers i on r (a) to z (a) restrict",
+        "norelation z",
+    ),
+    (
+        Five::Idle,
+        "create r using tree (z int, z int) key (z)",
+        "exists r",
+    ),
+    (
+        Five::Idle,
+        "create q using tree (x int, y int, y int, x int) key (z)",
+        "exists y",
+    ),
+    (Five::Idle, "attach treeindex i on r (z)", "exists i"),
+    (Five::Open(1), "savepoint p", "exists p"),
+    (
+        Five::Idle,
+        "create q using method 1009 (x int) key (z)",
+        "noname z",
+    ),
+    (Five::Idle, "delete r where z = 1", "noname z"),
+    (Five::Idle, "delete r where a = 1", "ok"),
+    (Five::Idle, "lookup k on r (1)", "noname k"),
+    (
+        Five::Idle,
+        "create q using method 1009 (x int) key (x)",
+        "noextension 1009",
+    ),
+    (
+        Five::Idle,
+        "attach stats s on r (a) low 0 width 1",
+        "noextension 4",
+    ),
+    (Five::Idle, "register method 2", "noextension 2"),
+    (Five::Idle, "drop r", "inuse h f"),
+    (Five::Idle, "drop h", "ok"),
+    (Five::Idle, "retire method 2", "inuse r -"),
+    (Five::Idle, "retire attachment 2", "inuse r j"),
+    (Five::Idle, "retire attachment 7", "ok"),
+    (Five::Idle, "create q using tree (x int)", "mistyped"),
+    (Five::Idle, "insert r values (1)", "mistyped"),
+    (Five::Idle, "lookup i on r (1)", "ok"),
+    (Five::Idle, "lookup j on r (1)", "mistyped"),
+    (
+        Five::Idle,
+        "attach trigger g on h after delete when always do insert h values (new.c)",
+        "mistyped",
+    ),
+    (
+        Five::Idle,
+        "attach trigger g on h after insert when always do insert h values (new.c)",
+        "ok",
+    ),
+    (
+        Five::Idle,
+        "attach refers g on t (c) to r (a) restrict",
+        "mixed",
+    ),
+    (
+        Five::Idle,
+        "attach joinindex g on r (a) with r (a)",
+        "mixed",
+    ),
+    (Five::Idle, "attach joinindex g on r (a) with h (c)", "ok"),
+    (Five::Open(64), "savepoint s", "limit"),
+    (Five::Open(63), "savepoint s", "ok"),
+    (
+        Five::Idle,
+        "attach check g on r always and always and always and always and always and always and always and always and always and \
+        always and always and always and always and always and always and always and always",
+        "limit",
+    ),
+    (Five::Idle, "attach treeindex g on x (c)", "limit"),
+    (
+        Five::Idle,
+        "attach refers kkkkkk on r (a) to w (c) restrict",
+        "ok",
+    ),
+    (
+        Five::Idle,
+        "attach refers kkkkkkk on r (a) to w (c) restrict",
+        "limit",
+    ),
+    (
+        Five::Idle,
+        "attach refers g on r (a) to x (c) restrict",
+        "limit",
+    ),
+];
+
+#[test]
+fn the_first_refusal_is_told(rt: HostRuntime) {
+    for (number, (five, line, answer)) in ROWS.iter().enumerate() {
+        assert!(rt;
+            is_answered(rt.alloc(), *five, line, answer),
+            "row {number}"
+        );
     }
-}
-
-/// Inside a transaction with so many savepoints.
-fn open(points: usize) -> Five {
-    Five {
-        down: false,
-        inside: true,
-        waiting: false,
-        points,
-    }
-}
-
-fn answer(mut catalogue: Five, alloc: Global, command: Command) -> Result<String, Fail> {
-    match refuse(&mut catalogue, alloc, &command) {
-        Ok(refusal) => Ok(printed(alloc, refusal)?),
-        Err(_) => Ok(String::from_str(alloc, "free")?),
-    }
-}
-
-fn create(
-    alloc: Global,
-    relation: &str,
-    method: u16,
-    columns: &[&str],
-    key: &[&str],
-) -> Result<Command, AllocError> {
-    Ok(Command::Create {
-        relation: name(alloc, relation)?,
-        method,
-        schema: numbers(alloc, columns)?,
-        key: names(alloc, key)?,
-    })
-}
-
-fn drops(alloc: Global, relation: &str) -> Result<Command, AllocError> {
-    Ok(Command::Drop {
-        relation: name(alloc, relation)?,
-    })
-}
-
-fn attach(alloc: Global, relation: &str, label: &str, rule: Rule) -> Result<Command, AllocError> {
-    Ok(Command::Attach {
-        relation: name(alloc, relation)?,
-        name: name(alloc, label)?,
-        rule,
-    })
-}
-
-fn scan(alloc: Global, relation: &str) -> Result<Command, AllocError> {
-    Ok(Command::Scan {
-        relation: name(alloc, relation)?,
-        after: None,
-        limit: None,
-    })
-}
-
-fn savepoint(alloc: Global, label: &str) -> Result<Command, AllocError> {
-    Ok(Command::Savepoint {
-        name: name(alloc, label)?,
-    })
-}
-
-/// Deletes the rows of `r` that have 1 in the column.
-fn delete(alloc: Global, column: &str) -> Result<Action, AllocError> {
-    let pair = (name(alloc, column)?, Term::Const(Value::Int(1)));
-    Ok(Action::Delete {
-        relation: name(alloc, "r")?,
-        pairs: Pairs::from_vec(vec![in alloc; pair]?),
-    })
-}
-
-fn insert(alloc: Global, values: Vec<Value>) -> Result<Command, AllocError> {
-    Ok(Command::Insert {
-        relation: name(alloc, "r")?,
-        values: Tuple::from_vec(values),
-    })
-}
-
-fn lookup(alloc: Global, label: &str, number: i64) -> Result<Command, AllocError> {
-    Ok(Command::Lookup {
-        relation: name(alloc, "r")?,
-        name: name(alloc, label)?,
-        values: Tuple::from_vec(vec![in alloc; Value::Int(number)]?),
-    })
-}
-
-/// A trigger that inserts the new row's `c` into `h`.
-fn copying(alloc: Global, event: Event) -> Result<Rule, AllocError> {
-    let term = Term::New(name(alloc, "c")?);
-    let action = Action::Insert {
-        relation: name(alloc, "h")?,
-        terms: Terms::from_vec(vec![in alloc; term]?),
-    };
-    Ok(Rule::Trigger {
-        event,
-        pred: Pred::always(),
-        action,
-        deferred: false,
-    })
-}
-
-/// A check of 1 node, and 2 more for each `and`.
-fn check(alloc: Global, ands: usize) -> Result<Rule, AllocError> {
-    let mut pred = Pred::always();
-    for _ in 0..ands {
-        pred = Pred::and(alloc, pred, Pred::always())?;
-    }
-    Ok(Rule::Check {
-        pred,
-        deferred: false,
-    })
-}
-
-#[test]
-fn places(rt: HostRuntime) -> Result<(), Fail> {
-    let alloc = rt.alloc();
-    assert_eq!(rt; answer(down(), alloc, Command::Commit)?.as_str(), "down");
-    assert_eq!(rt; answer(down(), alloc, scan(alloc, "q")?)?.as_str(), "down");
-    let mut waiting = open(0);
-    waiting.waiting = true;
-    assert_eq!(rt;
-        answer(waiting, alloc, drops(alloc, "q")?)?.as_str(),
-        "state"
-    );
-    assert_eq!(rt; answer(open(0), alloc, Command::Begin)?.as_str(), "state");
-    assert_eq!(rt; answer(idle(), alloc, Command::Commit)?.as_str(), "state");
-    assert_eq!(rt; answer(idle(), alloc, Command::Tables)?.as_str(), "ok");
-    Ok(())
-}
-
-#[test]
-fn missing_relations(rt: HostRuntime) -> Result<(), Fail> {
-    let alloc = rt.alloc();
-    assert_eq!(rt;
-        answer(idle(), alloc, scan(alloc, "q")?)?.as_str(),
-        "norelation q"
-    );
-    assert_eq!(rt; answer(idle(), alloc, scan(alloc, "r")?)?.as_str(), "ok");
-    let elsewhere = refers(alloc, Side::Main, &["a"], "z", &["a"])?;
-    assert_eq!(rt;
-        answer(idle(), alloc, attach(alloc, "r", "i", elsewhere)?)?.as_str(),
-        "norelation z"
-    );
-    Ok(())
-}
-
-#[test]
-fn names_that_stand(rt: HostRuntime) -> Result<(), Fail> {
-    let alloc = rt.alloc();
-    let again = create(alloc, "r", 2, &["z", "z"], &["z"])?;
-    assert_eq!(rt; answer(idle(), alloc, again)?.as_str(), "exists r");
-    let twice = create(alloc, "q", 2, &["x", "y", "y", "x"], &["z"])?;
-    assert_eq!(rt; answer(idle(), alloc, twice)?.as_str(), "exists y");
-    let index = tree(alloc, &["z"])?;
-    assert_eq!(rt;
-        answer(idle(), alloc, attach(alloc, "r", "i", index)?)?.as_str(),
-        "exists i"
-    );
-    assert_eq!(rt;
-        answer(open(1), alloc, savepoint(alloc, "p")?)?.as_str(),
-        "exists p"
-    );
-    Ok(())
-}
-
-#[test]
-fn names_that_are_missing(rt: HostRuntime) -> Result<(), Fail> {
-    let alloc = rt.alloc();
-    let unkeyed = create(alloc, "q", 9, &["x"], &["z"])?;
-    assert_eq!(rt; answer(idle(), alloc, unkeyed)?.as_str(), "noname z");
-    let action = delete(alloc, "z")?;
-    assert_eq!(rt;
-        answer(idle(), alloc, Command::Act { action })?.as_str(),
-        "noname z"
-    );
-    let action = delete(alloc, "a")?;
-    assert_eq!(rt;
-        answer(idle(), alloc, Command::Act { action })?.as_str(),
-        "ok"
-    );
-    assert_eq!(rt;
-        answer(idle(), alloc, lookup(alloc, "k", 1)?)?.as_str(),
-        "noname k"
-    );
-    Ok(())
-}
-
-#[test]
-fn codes(rt: HostRuntime) -> Result<(), Fail> {
-    let alloc = rt.alloc();
-    let unknown = create(alloc, "q", 9, &["x"], &["x"])?;
-    assert_eq!(rt; answer(idle(), alloc, unknown)?.as_str(), "noextension 9");
-    let column = name(alloc, "a")?;
-    let stats = Rule::Stats {
-        column,
-        low: 0,
-        width: 1,
-    };
-    assert_eq!(rt;
-        answer(idle(), alloc, attach(alloc, "r", "s", stats)?)?.as_str(),
-        "noextension 4"
-    );
-    let register = Command::Register {
-        method: true,
-        code: 2,
-    };
-    assert_eq!(rt; answer(idle(), alloc, register)?.as_str(), "noextension 2");
-    Ok(())
-}
-
-#[test]
-fn users(rt: HostRuntime) -> Result<(), Fail> {
-    let alloc = rt.alloc();
-    assert_eq!(rt;
-        answer(idle(), alloc, drops(alloc, "r")?)?.as_str(),
-        "inuse h f"
-    );
-    assert_eq!(rt; answer(idle(), alloc, drops(alloc, "h")?)?.as_str(), "ok");
-    let method = Command::Retire {
-        method: true,
-        code: 2,
-    };
-    assert_eq!(rt; answer(idle(), alloc, method)?.as_str(), "inuse r -");
-    let hash = Command::Retire {
-        method: false,
-        code: 2,
-    };
-    assert_eq!(rt; answer(idle(), alloc, hash)?.as_str(), "inuse r j");
-    let trigger = Command::Retire {
-        method: false,
-        code: 7,
-    };
-    assert_eq!(rt; answer(idle(), alloc, trigger)?.as_str(), "ok");
-    Ok(())
-}
-
-#[test]
-fn kinds(rt: HostRuntime) -> Result<(), Fail> {
-    let alloc = rt.alloc();
-    let keyless = create(alloc, "q", 2, &["x"], &[])?;
-    assert_eq!(rt; answer(idle(), alloc, keyless)?.as_str(), "mistyped");
-    let short = insert(alloc, vec![in alloc; Value::Int(1)]?)?;
-    assert_eq!(rt; answer(idle(), alloc, short)?.as_str(), "mistyped");
-    assert_eq!(rt;
-        answer(idle(), alloc, lookup(alloc, "i", 1)?)?.as_str(),
-        "ok"
-    );
-    assert_eq!(rt;
-        answer(idle(), alloc, lookup(alloc, "j", 1)?)?.as_str(),
-        "mistyped"
-    );
-    let deleted = attach(alloc, "h", "g", copying(alloc, Event::Delete)?)?;
-    assert_eq!(rt; answer(idle(), alloc, deleted)?.as_str(), "mistyped");
-    let inserted = attach(alloc, "h", "g", copying(alloc, Event::Insert)?)?;
-    assert_eq!(rt; answer(idle(), alloc, inserted)?.as_str(), "ok");
-    Ok(())
-}
-
-#[test]
-fn ties(rt: HostRuntime) -> Result<(), Fail> {
-    let alloc = rt.alloc();
-    let lasting = refers(alloc, Side::Main, &["c"], "r", &["a"])?;
-    assert_eq!(rt;
-        answer(idle(), alloc, attach(alloc, "t", "g", lasting)?)?.as_str(),
-        "mixed"
-    );
-    let itself = join(alloc, &["a"], "r", &["a"])?;
-    assert_eq!(rt;
-        answer(idle(), alloc, attach(alloc, "r", "g", itself)?)?.as_str(),
-        "mixed"
-    );
-    let other = join(alloc, &["a"], "h", &["c"])?;
-    assert_eq!(rt;
-        answer(idle(), alloc, attach(alloc, "r", "g", other)?)?.as_str(),
-        "ok"
-    );
-    Ok(())
-}
-
-#[test]
-fn limits(rt: HostRuntime) -> Result<(), Fail> {
-    let alloc = rt.alloc();
-    assert_eq!(rt;
-        answer(open(64), alloc, savepoint(alloc, "s")?)?.as_str(),
-        "limit"
-    );
-    assert_eq!(rt;
-        answer(open(63), alloc, savepoint(alloc, "s")?)?.as_str(),
-        "ok"
-    );
-    let large = check(alloc, 16)?;
-    assert_eq!(rt;
-        answer(idle(), alloc, attach(alloc, "r", "g", large)?)?.as_str(),
-        "limit"
-    );
-    let crowded = attach(alloc, "x", "g", tree(alloc, &["c"])?)?;
-    assert_eq!(rt; answer(idle(), alloc, crowded)?.as_str(), "limit");
-    Ok(())
-}
-
-/// The mirror takes 24 bytes beside the attachment's name, so there is room for 6.
-#[test]
-fn mirrors(rt: HostRuntime) -> Result<(), Fail> {
-    let alloc = rt.alloc();
-    let fits = refers(alloc, Side::Main, &["a"], "w", &["c"])?;
-    assert_eq!(rt;
-        answer(idle(), alloc, attach(alloc, "r", "kkkkkk", fits)?)?.as_str(),
-        "ok"
-    );
-    let large = refers(alloc, Side::Main, &["a"], "w", &["c"])?;
-    assert_eq!(rt;
-        answer(idle(), alloc, attach(alloc, "r", "kkkkkkk", large)?)?.as_str(),
-        "limit"
-    );
-    let crowded = refers(alloc, Side::Main, &["a"], "x", &["c"])?;
-    assert_eq!(rt;
-        answer(idle(), alloc, attach(alloc, "r", "g", crowded)?)?.as_str(),
-        "limit"
-    );
-    Ok(())
 }

@@ -7,6 +7,6 @@ use Rattle.sb_engine_tests.proofs.engine.put_number.Goals as goal
 pub change-put-requires-clause-may : goal.change-put-requires-clause-may
 change-put-requires-clause-may g c = record {
   one = c.in-Some.one.now;
-  at = ap (λ (l : List OpenRelation). open_at l c.in-Ok.name) (sym c.deref.ensures.value) ∙ sym c.open_at.ensures ∙ ap (λ (o : Option (Bor OpenRelation)). option_copied o) c.in-Some.is;
+  at = ap (λ (l : List OpenRelation). open_at l c.text-name.result) (sym c.deref.ensures.value) ∙ sym c.open_at.ensures ∙ ap (λ (o : Option (Bor OpenRelation)). option_copied o) c.in-Some.is;
   fits = c.fits.ensures c.if-fits.true;
 }
