@@ -1,12 +1,14 @@
 mod Samples
 mod Scripts
 mod WorkedKeys
+mod WorkedColumns
 mod WorkedCascades
 mod WorkedAttaching
 mod WorkedLimits
 mod WorkedPlaces
 mod WorkedExtensions
 mod WorkedWishes
+mod WorkedEvents
 mod WorkedFollowing
 mod WorkedWaiting
 mod WorkedRanges
