@@ -16,7 +16,6 @@ use sb_recover::format;
 use sb_space::{Durable, Space, Tx};
 use sb_txn::Store;
 use std::alloc::Global;
-use std::test::Fail;
 
 /// The smallest store, and the bytes that it takes of a disk.
 const PAGES: u32 = 64;
@@ -40,9 +39,14 @@ fn take_page<D: Disk>(alloc: Global, pages: &mut Durable<'_, D>) -> Result<(), S
     ensures changes { KeepsChanges (lent pages.old).tx pages.old.store.now.book pages.new.store.now.book }
 {
     let mut ctx = Ctx::new(alloc);
-    pages.answer(OWNER, &mut ctx, Ask::Fresh)?;
+    if let Err(fault) = pages.answer(OWNER, &mut ctx, Ask::Fresh) {
+        drop(ctx);
+        return Err(fault);
+    }
     let _page = ctx.fresh();
-    pages.store(alloc, OWNER, &ctx)
+    let stored = pages.store(alloc, OWNER, &ctx);
+    drop(ctx);
+    stored
 }
 
 /// The owner's next page behind this one, or its first one.
@@ -58,8 +62,13 @@ fn next_page<D: Disk>(
     ensures changes { KeepsChanges (lent pages.old).tx pages.old.store.now.book pages.new.store.now.book }
 {
     let mut ctx = Ctx::new(alloc);
-    pages.answer(OWNER, &mut ctx, Ask::After(low))?;
-    Ok(ctx.after(low).unwrap_or(None))
+    if let Err(fault) = pages.answer(OWNER, &mut ctx, Ask::After(low)) {
+        drop(ctx);
+        return Err(fault);
+    }
+    let page = ctx.after(low).unwrap_or(None);
+    drop(ctx);
+    Ok(page)
 }
 
 /// Takes a page of the space.
@@ -198,30 +207,55 @@ fn opened<D: Disk>(alloc: Global, disk: &mut D) -> Option<Space>
     };
     let space = Space { store };
     if space.pages() != PAGES {
+        drop(space);
         return None;
     }
     Some(space)
 }
 
+/// What is found in the two transactions.
+fn transact<D: Disk>(
+    alloc: Global,
+    space: &mut Space,
+    disk: &mut D,
+) -> Result<(Found, Found, Found), SpaceFault>
+    requires ready { IsReady (parts D.told D.len disk.old space.old.store) }
+    requires none { space.old.store.book.actives ≡ [] }
+    requires few { space.old.store.pool.geometry.pages ≤ 65536 }
+{
+    let (both, one) = first(alloc, space, disk)?;
+    let none = second(alloc, space, disk)?;
+    Ok((both, one, none))
+}
+
+/// What is found once the store is opened again.
+fn seen_again(alloc: Global, disk: &mut MemDisk) -> Option<Found> {
+    let mut space = opened(alloc, disk)?;
+    let found = seen(alloc, &mut space, disk);
+    drop(space);
+    found.ok()
+}
+
 /// What is found in the two transactions, and once the store is opened again.
 fn run(alloc: Global, disk: &mut MemDisk) -> Option<(Found, Found, Found, Found)> {
     let mut space = opened(alloc, disk)?;
-    let (both, one) = first(alloc, &mut space, disk).ok()?;
-    let none = second(alloc, &mut space, disk).ok()?;
-    let mut again = opened(alloc, disk)?;
-    let kept = seen(alloc, &mut again, disk).ok()?;
+    let found = transact(alloc, &mut space, disk);
+    drop(space);
+    let (both, one, none) = found.ok()?;
+    let kept = seen_again(alloc, disk)?;
     Some((both, one, none, kept))
 }
 
 #[test]
-fn what_is_behind_a_mark_goes_and_what_is_committed_stays(rt: HostRuntime) -> Result<(), Fail> {
+fn what_is_behind_a_mark_goes_and_what_is_committed_stays(rt: HostRuntime) {
     let alloc = rt.alloc();
-    let mut disk = MemDisk::new(alloc, SIZE)?;
+    let mut disk = MemDisk::new(alloc, SIZE).expect(&rt, "memory");
     let made = format(alloc, &mut disk, PAGES, LOG).is_ok();
+    let found = run(alloc, &mut disk);
+    drop(disk);
     assert!(rt; made);
     let both = (Some(2), Some(3));
     let one = (Some(2), None);
     let none = (None, None);
-    assert!(rt; run(alloc, &mut disk) == Some((both, one, none, both)));
-    Ok(())
+    assert!(rt; found == Some((both, one, none, both)));
 }

@@ -18,7 +18,6 @@ use sb_recover::format;
 use sb_space::Durable;
 use sb_txn::{Store, Tx};
 use std::alloc::Global;
-use std::test::Fail;
 
 /// The smallest store, and the bytes that it takes of a disk.
 pub(crate) const PAGES: u32 = 64;
@@ -36,9 +35,14 @@ fn take_one<D: Disk>(alloc: Global, space: &mut Durable<'_, D>) -> Result<(), Sp
     ensures same_tx { (lent space.new).tx ≡ (lent space.old).tx }
 {
     let mut ctx = Ctx::new(alloc);
-    space.answer(3, &mut ctx, Ask::Fresh)?;
+    if let Err(fault) = space.answer(3, &mut ctx, Ask::Fresh) {
+        drop(ctx);
+        return Err(fault);
+    }
     let _page = ctx.fresh();
-    space.store(alloc, 3, &ctx)
+    let stored = space.store(alloc, 3, &ctx);
+    drop(ctx);
+    stored
 }
 
 /// How many pages can be taken, and why no more.
@@ -81,6 +85,7 @@ pub(crate) fn opened<D: Disk>(alloc: Global, disk: &mut D) -> Option<Store>
         Err(_) => return None,
     };
     if store.pages() != PAGES {
+        drop(store);
         return None;
     }
     Some(store)
@@ -89,24 +94,30 @@ pub(crate) fn opened<D: Disk>(alloc: Global, disk: &mut D) -> Option<Store>
 /// How many pages of a new store can be taken, and why no more. Then they are given back.
 fn filled(alloc: Global, disk: &mut MemDisk) -> Option<(u32, Option<SpaceFault>)> {
     let mut store = opened(alloc, disk)?;
-    let tx = store.begin(disk).ok()?;
+    let Ok(tx) = store.begin(disk) else {
+        drop(store);
+        return None;
+    };
     let found = fill_store(alloc, &mut store, disk, &tx);
-    match store.abort(disk, tx) {
+    let ended = store.abort(disk, tx);
+    drop(store);
+    match ended {
         Ok(()) => Some(found),
         Err(_) => None,
     }
 }
 
 #[test]
-fn all_pages_but_the_table_and_the_catalogue_can_be_taken(rt: HostRuntime) -> Result<(), Fail> {
+fn all_pages_but_the_table_and_the_catalogue_can_be_taken(rt: HostRuntime) {
     let alloc = rt.alloc();
-    let mut disk = MemDisk::new(alloc, SIZE)?;
+    let mut disk = MemDisk::new(alloc, SIZE).expect(&rt, "memory");
     let made = format(alloc, &mut disk, PAGES, LOG).is_ok();
+    let found = filled(alloc, &mut disk);
+    drop(disk);
     assert!(rt; made);
     let full = SpaceFault::DataFull {
         used: 64,
         total: 64,
     };
-    assert!(rt; filled(alloc, &mut disk) == Some((62, Some(full))));
-    Ok(())
+    assert!(rt; found == Some((62, Some(full))));
 }

@@ -25,7 +25,6 @@ use sb_space::{Durable, Space, Tx};
 use sb_value::RecKey;
 use scribe::{Clerk, FIRST, Scribe, instance};
 use std::alloc::{AllocError, Global};
-use std::test::Fail;
 
 /// The first eight pages as the one box has them and as the other: a dot for a page without bytes, a 0 for one of zeros, else its first byte, behind which
 /// all are zeros.
@@ -105,7 +104,10 @@ const TORN: [u32; 3] = [0, 1, u32::MAX];
 /// How a driven call ended.
 fn ended(end: Result<Move, SpaceFault>) -> Result<(), SpaceFault> {
     match end {
-        Ok(_) => Ok(()),
+        Ok(last) => {
+            drop(last);
+            Ok(())
+        }
         Err(fault) => Err(fault),
     }
 }
@@ -127,6 +129,7 @@ fn drive<D: Disk>(
 {
     let call = MethodCall::Delete(order);
     let end = run_method(pages, alloc, boxed, inst, &call);
+    drop(call);
     ended(end)
 }
 
@@ -144,7 +147,9 @@ fn tell_first<D: Disk>(
 {
     let inst = instance(alloc, 0, FIRST.1)?;
     let mut pages = Durable::new(&mut space.store, disk, &tx.store);
-    drive(alloc, &mut pages, &Scribe {}, &inst, order)
+    let told = drive(alloc, &mut pages, &Scribe {}, &inst, order);
+    drop(inst);
+    told
 }
 
 /// Tells the second box what to do.
@@ -161,7 +166,9 @@ fn tell_second<D: Disk>(
 {
     let inst = instance(alloc, 1, FIRST.1 + 1)?;
     let mut pages = Durable::new(&mut space.store, disk, &tx.store);
-    drive(alloc, &mut pages, &Clerk {}, &inst, order)
+    let told = drive(alloc, &mut pages, &Clerk {}, &inst, order);
+    drop(inst);
+    told
 }
 
 /// Tells the one or the other, by its number.
@@ -214,8 +221,13 @@ fn peek_at<D: Disk>(
     ensures changes { KeepsChanges (lent pages.old).tx pages.old.store.now.book pages.new.store.now.book }
 {
     let mut ctx = Ctx::new(alloc);
-    pages.answer(owner, &mut ctx, Ask::Page(n))?;
-    Ok(shown(ctx.page(n)))
+    if let Err(fault) = pages.answer(owner, &mut ctx, Ask::Page(n)) {
+        drop(ctx);
+        return Err(fault);
+    }
+    let byte = shown(ctx.page(n));
+    drop(ctx);
+    Ok(byte)
 }
 
 /// The same within the space.
@@ -388,16 +400,23 @@ fn run<D: Disk>(alloc: Global, space: &mut Space, disk: &mut D) -> (u32, bool)
 fn ran<D: Disk>(alloc: Global, disk: &mut D) -> Option<(u32, bool)> {
     let store = opened(alloc, disk)?;
     let mut space = Space { store };
-    Some(run(alloc, &mut space, disk))
+    let ran = run(alloc, &mut space, disk);
+    drop(space);
+    Some(ran)
 }
 
 /// What is seen of a store that is opened.
 fn seen_in<D: Disk>(alloc: Global, disk: &mut D) -> Option<Seen> {
     let store = opened(alloc, disk)?;
     let mut space = Space { store };
-    let tx = space.begin(disk).ok()?;
+    let Ok(tx) = space.begin(disk) else {
+        drop(space);
+        return None;
+    };
     let found = look(alloc, &mut space, disk, &tx);
-    match space.abort(disk, tx) {
+    let ended = space.abort(disk, tx);
+    drop(space);
+    match ended {
         Ok(()) => found.ok(),
         Err(_) => None,
     }
@@ -411,19 +430,24 @@ fn formatted(alloc: Global) -> Result<MemDisk, AllocError> {
 }
 
 #[test]
-fn each_box_has_its_own_pages(rt: HostRuntime) -> Result<(), Fail> {
+fn each_box_has_its_own_pages(rt: HostRuntime) {
     let alloc = rt.alloc();
-    let mut disk = formatted(alloc)?;
-    assert_eq!(rt; seen_in(alloc, &mut disk), Some(COMMITS[0]));
-    assert_eq!(rt; ran(alloc, &mut disk), Some((4, true)));
-    assert_eq!(rt; seen_in(alloc, &mut disk), Some(COMMITS[4]));
-    Ok(())
+    let mut disk = formatted(alloc).expect(&rt, "memory");
+    let first = seen_in(alloc, &mut disk);
+    let ran = ran(alloc, &mut disk);
+    let last = seen_in(alloc, &mut disk);
+    drop(disk);
+    assert!(rt; first == Some(COMMITS[0]));
+    assert!(rt; ran == Some((4, true)));
+    assert!(rt; last == Some(COMMITS[4]));
 }
 
 /// Whether these bytes have so many commits, or one more, where this is what is seen behind each.
 fn is_kept(alloc: Global, image: &[u8], commits: u32, states: &[Seen]) -> Result<bool, AllocError> {
     let mut disk = MemDisk::from_image(alloc, image)?;
-    let Some(found) = seen_in(alloc, &mut disk) else {
+    let seen = seen_in(alloc, &mut disk);
+    drop(disk);
+    let Some(found) = seen else {
         return Ok(false);
     };
     Ok(
@@ -448,9 +472,13 @@ fn is_left(
         Some((commits, false)) => commits,
         None => 0,
     };
-    let stored = is_kept(alloc, disk.image()?.as_slice(), commits, states)?;
-    let synced = is_kept(alloc, disk.synced()?.as_slice(), commits, states)?;
-    Ok(stored && synced)
+    let bytes = disk.image()?;
+    let stored = is_kept(alloc, bytes.as_slice(), commits, states);
+    drop(bytes);
+    let bytes = disk.synced()?;
+    let synced = is_kept(alloc, bytes.as_slice(), commits, states);
+    drop(bytes);
+    Ok(stored? && synced?)
 }
 
 /// The same of a run that stops at this call.
@@ -458,26 +486,35 @@ fn survives(alloc: Global, image: &[u8], call: u64, torn: u32) -> Result<bool, A
     let mut disk = MemDisk::from_image(alloc, image)?;
     disk.stop_at(call, torn);
     let ran = ran(alloc, &mut disk);
-    is_left(alloc, &disk, ran, &COMMITS)
+    let left = is_left(alloc, &disk, ran, &COMMITS);
+    drop(disk);
+    left
+}
+
+/// The first of so many calls, with how many bytes are stored of it, at which a stop loses something.
+fn first_lost(alloc: Global, image: &[u8], calls: u64) -> Result<Option<(u64, u32)>, AllocError> {
+    for call in 0..calls {
+        for torn in TORN.iter() {
+            if !survives(alloc, image, call, *torn)? {
+                return Ok(Some((call, *torn)));
+            }
+        }
+    }
+    Ok(None)
 }
 
 #[test]
-fn each_stop_leaves_the_pages_of_the_acknowledged_commits(rt: HostRuntime) -> Result<(), Fail> {
+fn each_stop_leaves_the_pages_of_the_acknowledged_commits(rt: HostRuntime) {
     let alloc = rt.alloc();
-    let mut disk = formatted(alloc)?;
-    let image = disk.image()?;
+    let mut disk = formatted(alloc).expect(&rt, "memory");
+    let image = disk.image().expect(&rt, "memory");
     let from = disk.clock();
     let _run = ran(alloc, &mut disk);
     let calls = disk.clock().saturating_sub(from);
+    drop(disk);
+    let lost = first_lost(alloc, image.as_slice(), calls);
+    drop(image);
     // Two writes and two syncs for each commit.
-    assert!(rt; calls >= 16, "{calls}");
-    for call in 0..calls {
-        for torn in TORN {
-            assert!(rt;
-                survives(alloc, image.as_slice(), call, torn)?,
-                "call {call}, {torn} bytes"
-            );
-        }
-    }
-    Ok(())
+    assert!(rt; calls >= 16);
+    assert_eq!(rt; lost.expect(&rt, "memory"), None);
 }

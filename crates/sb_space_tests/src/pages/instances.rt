@@ -14,7 +14,6 @@ use sb_recover::format;
 use sb_space::Durable;
 use sb_txn::{Store, Tx};
 use std::alloc::Global;
-use std::test::Fail;
 
 /// Two instances, and a third one when the first has ended.
 type Three = ((u16, u32), (u16, u32), (u16, u32));
@@ -68,19 +67,27 @@ fn in_store<D: Disk>(
 /// The same in a transaction that is aborted then.
 fn tried(alloc: Global, disk: &mut MemDisk) -> Option<(Three, Rest)> {
     let mut store = opened(alloc, disk)?;
-    let tx = store.begin(disk).ok()?;
+    let Ok(tx) = store.begin(disk) else {
+        drop(store);
+        return None;
+    };
     let found = in_store(alloc, &mut store, disk, &tx);
-    match store.abort(disk, tx) {
+    let ended = store.abort(disk, tx);
+    drop(store);
+    match ended {
         Ok(()) => found.ok(),
         Err(_) => None,
     }
 }
 
 #[test]
-fn a_new_instance_gets_the_least_owner_and_page(rt: HostRuntime) -> Result<(), Fail> {
+fn a_new_instance_gets_the_least_owner_and_page(rt: HostRuntime) {
     let alloc = rt.alloc();
-    let mut disk = MemDisk::new(alloc, SIZE)?;
+    let mut disk = MemDisk::new(alloc, SIZE).expect(&rt, "memory");
     let made = format(alloc, &mut disk, PAGES, LOG).is_ok();
+    let first = tried(alloc, &mut disk);
+    let again = tried(alloc, &mut disk);
+    drop(disk);
     assert!(rt; made);
     let full = SpaceFault::DataFull {
         used: 64,
@@ -88,7 +95,6 @@ fn a_new_instance_gets_the_least_owner_and_page(rt: HostRuntime) -> Result<(), F
     };
     let three = ((3, 2), (4, 3), (3, 2));
     let expected = Some((three, (60, Some(full))));
-    assert!(rt; tried(alloc, &mut disk) == expected);
-    assert!(rt; tried(alloc, &mut disk) == expected, "behind an abort");
-    Ok(())
+    assert!(rt; first == expected);
+    assert!(rt; again == expected, "behind an abort");
 }

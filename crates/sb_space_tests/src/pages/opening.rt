@@ -6,7 +6,6 @@ use sb_memdisk::MemDisk;
 use sb_recover::{OpenFault, format};
 use sb_space::{catalogue, open_store, owner_of};
 use std::alloc::{AllocError, Global};
-use std::test::Fail;
 
 /// Where the first page of the table begins.
 const TABLE_AT: u64 = 2_166_784;
@@ -22,25 +21,35 @@ fn formatted(alloc: Global) -> Result<MemDisk, AllocError> {
 fn owner_in<D: Disk>(alloc: Global, disk: &mut D, n: u32) -> Option<u16> {
     let mut store = open_store(alloc, disk, 8).ok()?;
     if n >= store.pages() {
+        drop(store);
         return None;
     }
-    owner_of(&mut store, disk, n).ok()
+    let owner = owner_of(&mut store, disk, n);
+    drop(store);
+    owner.ok()
 }
 
 /// Where the catalogue is.
 fn catalogue_in<D: Disk>(alloc: Global, disk: &mut D) -> Option<(u16, u32)> {
     let store = open_store(alloc, disk, 8).ok()?;
-    Some(catalogue(&store))
+    let found = catalogue(&store);
+    drop(store);
+    Some(found)
 }
 
+/// Pages, and whose they are.
+const OWNERS: [(u32, u16); 3] = [(0, 1), (1, 2), (2, 0)];
+
 #[test]
-fn owners_in_a_new_store(rt: HostRuntime) -> Result<(), Fail> {
-    let mut disk = formatted(rt.alloc())?;
-    for (page, owner) in [(0, 1), (1, 2), (2, 0)] {
-        assert!(rt; owner_in(rt.alloc(), &mut disk, page) == Some(owner));
+fn owners_in_a_new_store(rt: HostRuntime) {
+    let alloc = rt.alloc();
+    let mut disk = formatted(alloc).expect(&rt, "memory");
+    for (page, owner) in OWNERS.iter() {
+        assert!(rt; owner_in(alloc, &mut disk, *page) == Some(*owner));
     }
-    assert!(rt; catalogue_in(rt.alloc(), &mut disk) == Some((2, 1)));
-    Ok(())
+    let found = catalogue_in(alloc, &mut disk);
+    drop(disk);
+    assert!(rt; found == Some((2, 1)));
 }
 
 /// The page that is called damaged where an entry is turned, if one is.
@@ -50,22 +59,30 @@ fn damaged_by<D: Disk>(alloc: Global, disk: &mut D, entry: u16, owner: u8) -> Op
         return None;
     }
     match open_store(alloc, disk, 8) {
+        Ok(store) => {
+            drop(store);
+            None
+        }
         Err(OpenFault::Damaged { page }) => Some(page),
-        _ => None,
+        Err(_) => None,
     }
 }
 
+/// Entries, the owners to which they are turned, and the page that is called damaged then.
+const TURNED: [(u16, u8, Option<u32>); 4] = [
+    (0, 2, Some(0)),
+    (5, 1, Some(0)),
+    (64, 3, Some(0)),
+    (63, 3, None),
+];
+
 #[test]
-fn turned_entries(rt: HostRuntime) -> Result<(), Fail> {
-    let rows = [
-        (0, 2, Some(0)),
-        (5, 1, Some(0)),
-        (64, 3, Some(0)),
-        (63, 3, None),
-    ];
-    for (entry, owner, page) in rows {
-        let mut disk = formatted(rt.alloc())?;
-        assert!(rt; damaged_by(rt.alloc(), &mut disk, entry, owner) == page);
+fn turned_entries(rt: HostRuntime) {
+    let alloc = rt.alloc();
+    for (entry, owner, page) in TURNED.iter() {
+        let mut disk = formatted(alloc).expect(&rt, "memory");
+        let found = damaged_by(alloc, &mut disk, *entry, *owner);
+        drop(disk);
+        assert!(rt; found == *page);
     }
-    Ok(())
 }

@@ -6,18 +6,21 @@ ghost use Rattle.sb_space.specs.Works.{Serves};
 ghost use Rattle.sb_space_tests.specs.Turns.{IsAtRest};
 ghost use Rattle.sb_txn.specs.Parts.{parts};
 
-use super::{COMMITS, Seen, finish, formatted, look, make, seen_in, tell};
+use super::{Seen, finish, formatted, look, make, seen_in, tell};
 use crate::pages::{PAGES, opened};
 use sb_disk::Disk;
 use sb_drive::SpaceFault;
 use sb_space::{Space, Tx};
 use std::alloc::Global;
-use std::test::Fail;
 
-/// What is seen once other calls are driven over the full store, and behind the call that comes after the way back.
+/// What is seen once other calls are driven over the full store, once it has gone back to the savepoint, and behind the call that comes then.
 const FULL: Seen = [*b"..0..xxx", *b"...yz..."];
 
+const BACK: Seen = [*b"..0.....", *b"...0...."];
+
 const THEN: Seen = [*b"..0.....", *b"...0b..."];
+
+const SEEN: [Seen; 3] = [FULL, BACK, THEN];
 
 /// How many pages were taken, why no more, and whether all was seen that should be.
 type Filled = (u32, Option<SpaceFault>, bool);
@@ -70,12 +73,12 @@ fn fill_and_go_back<D: Disk>(
 {
     let mark = space.mark(tx);
     let (taken, fault) = fill(alloc, space, disk, tx);
-    let full = go_on(alloc, space, disk, tx)? == FULL;
+    let full = go_on(alloc, space, disk, tx)?;
     space.back_to(disk, tx, mark)?;
-    let back = look(alloc, space, disk, tx)? == COMMITS[1];
+    let back = look(alloc, space, disk, tx)?;
     tell(alloc, space, disk, tx, 1, *b"t-b")?;
-    let then = look(alloc, space, disk, tx)? == THEN;
-    Ok((taken, fault, full && back && then))
+    let then = look(alloc, space, disk, tx)?;
+    Ok((taken, fault, [full, back, then] == SEEN))
 }
 
 /// The same in a transaction that is committed, behind the one that makes the instances.
@@ -93,19 +96,23 @@ fn transact<D: Disk>(alloc: Global, space: &mut Space, disk: &mut D) -> Result<F
 fn filled<D: Disk>(alloc: Global, disk: &mut D) -> Option<Filled> {
     let store = opened(alloc, disk)?;
     let mut space = Space { store };
-    transact(alloc, &mut space, disk).ok()
+    let filled = transact(alloc, &mut space, disk);
+    drop(space);
+    filled.ok()
 }
 
 #[test]
-fn a_full_store_gives_its_pages_back_at_a_savepoint(rt: HostRuntime) -> Result<(), Fail> {
+fn a_full_store_gives_its_pages_back_at_a_savepoint(rt: HostRuntime) {
     let alloc = rt.alloc();
-    let mut disk = formatted(alloc)?;
+    let mut disk = formatted(alloc).expect(&rt, "memory");
+    let filled = filled(alloc, &mut disk);
+    let seen = seen_in(alloc, &mut disk);
+    drop(disk);
     // The table, the catalogue and two roots have four of the pages.
     let full = SpaceFault::DataFull {
         used: 64,
         total: 64,
     };
-    assert_eq!(rt; filled(alloc, &mut disk), Some((60, Some(full), true)));
-    assert_eq!(rt; seen_in(alloc, &mut disk), Some(THEN));
-    Ok(())
+    assert!(rt; filled == Some((60, Some(full), true)));
+    assert!(rt; seen == Some(THEN));
 }

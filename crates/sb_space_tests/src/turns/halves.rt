@@ -19,7 +19,6 @@ use sb_memory::Memory;
 use sb_space::Space;
 use sb_value::RecKey;
 use std::alloc::{AllocError, Global};
-use std::test::Fail;
 
 /// The two halves. Each numbers owners and pages for itself: the first instances have the same owners in both, and their roots are 2 and 3 in the store,
 /// 0 and 1 in memory.
@@ -132,6 +131,7 @@ fn drive_in_memory(
 {
     let call = MethodCall::Delete(order);
     let end = run_method(memory, alloc, boxed, inst, &call);
+    drop(call);
     ended(end)
 }
 
@@ -140,7 +140,9 @@ fn tell_first_in_memory(alloc: Global, memory: &mut Memory, order: RecKey) -> Re
     ensures { length memory.old.past ≤ length memory.new.past }
 {
     let inst = instance(alloc, 0, 0)?;
-    drive_in_memory(alloc, memory, &Scribe {}, &inst, order)
+    let told = drive_in_memory(alloc, memory, &Scribe {}, &inst, order);
+    drop(inst);
+    told
 }
 
 /// Tells the second box what to do in memory.
@@ -152,7 +154,9 @@ fn tell_second_in_memory(
     ensures { length memory.old.past ≤ length memory.new.past }
 {
     let inst = instance(alloc, 1, 1)?;
-    drive_in_memory(alloc, memory, &Clerk {}, &inst, order)
+    let told = drive_in_memory(alloc, memory, &Clerk {}, &inst, order);
+    drop(inst);
+    told
 }
 
 /// Tells the one or the other, by its number.
@@ -416,7 +420,9 @@ fn ran<D: Disk>(alloc: Global, disk: &mut D) -> Option<(u32, bool)> {
         durable: Space { store },
         volatile: Memory::new(alloc),
     };
-    Some(run(alloc, &mut halves, disk))
+    let ran = run(alloc, &mut halves, disk);
+    drop(halves);
+    Some(ran)
 }
 
 /// What is seen of both halves of such a store.
@@ -426,21 +432,28 @@ fn found<D: Disk>(alloc: Global, disk: &mut D) -> Option<Both> {
         durable: Space { store },
         volatile: Memory::new(alloc),
     };
-    let tx = halves.begin(disk).ok()?;
+    let Ok(tx) = halves.begin(disk) else {
+        drop(halves);
+        return None;
+    };
     let found = look_at_both(alloc, &mut halves, disk, &tx);
-    match halves.abort(disk, tx) {
+    let ended = halves.abort(disk, tx);
+    drop(halves);
+    match ended {
         Ok(()) => found.ok(),
         Err(_) => None,
     }
 }
 
 #[test]
-fn each_box_has_its_own_pages_in_each_half(rt: HostRuntime) -> Result<(), Fail> {
+fn each_box_has_its_own_pages_in_each_half(rt: HostRuntime) {
     let alloc = rt.alloc();
-    let mut disk = formatted(alloc)?;
-    assert_eq!(rt; ran(alloc, &mut disk), Some((4, true)));
-    assert_eq!(rt; found(alloc, &mut disk), Some((COMMITS[4], NEW)));
-    Ok(())
+    let mut disk = formatted(alloc).expect(&rt, "memory");
+    let ran = ran(alloc, &mut disk);
+    let found = found(alloc, &mut disk);
+    drop(disk);
+    assert!(rt; ran == Some((4, true)));
+    assert!(rt; found == Some((COMMITS[4], NEW)));
 }
 
 /// Whether a run that stops at this call leaves what was acknowledged of the durable half.
@@ -448,28 +461,35 @@ fn survives(alloc: Global, image: &[u8], call: u64, torn: u32) -> Result<bool, A
     let mut disk = MemDisk::from_image(alloc, image)?;
     disk.stop_at(call, torn);
     let ran = ran(alloc, &mut disk);
-    is_left(alloc, &disk, ran, &COMMITS)
+    let left = is_left(alloc, &disk, ran, &COMMITS);
+    drop(disk);
+    left
+}
+
+/// The first of so many calls, with how many bytes are stored of it, at which a stop loses something.
+fn first_lost(alloc: Global, image: &[u8], calls: u64) -> Result<Option<(u64, u32)>, AllocError> {
+    for call in 0..calls {
+        for torn in TORN.iter() {
+            if !survives(alloc, image, call, *torn)? {
+                return Ok(Some((call, *torn)));
+            }
+        }
+    }
+    Ok(None)
 }
 
 #[test]
-fn each_stop_leaves_the_durable_pages_of_the_acknowledged_commits(
-    rt: HostRuntime,
-) -> Result<(), Fail> {
+fn each_stop_leaves_the_durable_pages_of_the_acknowledged_commits(rt: HostRuntime) {
     let alloc = rt.alloc();
-    let mut disk = formatted(alloc)?;
-    let image = disk.image()?;
+    let mut disk = formatted(alloc).expect(&rt, "memory");
+    let image = disk.image().expect(&rt, "memory");
     let from = disk.clock();
     let _run = ran(alloc, &mut disk);
     let calls = disk.clock().saturating_sub(from);
+    drop(disk);
+    let lost = first_lost(alloc, image.as_slice(), calls);
+    drop(image);
     // A write and two syncs, and a write of the gates, for each commit.
-    assert!(rt; calls >= 16, "{calls}");
-    for call in 0..calls {
-        for torn in TORN {
-            assert!(rt;
-                survives(alloc, image.as_slice(), call, torn)?,
-                "call {call}, {torn} bytes"
-            );
-        }
-    }
-    Ok(())
+    assert!(rt; calls >= 16);
+    assert_eq!(rt; lost.expect(&rt, "memory"), None);
 }

@@ -11,7 +11,6 @@ use sb_disk::Disk;
 use sb_drive::SpaceFault;
 use sb_space::{Space, Tx};
 use std::alloc::Global;
-use std::test::Fail;
 
 /// What a box is told, by its number, and the page that it calls broken then, since it gets no bytes of it.
 const ORDERS: [(u8, [u8; 3], Option<u32>); 9] = [
@@ -34,12 +33,12 @@ fn tell_all<D: Disk>(alloc: Global, space: &mut Space, disk: &mut D, tx: &Tx) ->
     requires { Serves tx.now.store.number (parts D.told D.len disk.old space.old.store) }
     ensures { Serves tx.now.store.number (parts D.told D.len disk.new space.new.store) }
 {
-    for (number, order, broken) in ORDERS {
-        let expected = match broken {
+    for (number, order, broken) in ORDERS.iter() {
+        let expected = match *broken {
             Some(page) => Err(SpaceFault::Damaged { page }),
             None => Ok(()),
         };
-        if tell(alloc, space, disk, tx, number, order) != expected {
+        if tell(alloc, space, disk, tx, *number, *order) != expected {
             return false;
         }
     }
@@ -61,19 +60,18 @@ fn transact<D: Disk>(alloc: Global, space: &mut Space, disk: &mut D) -> Result<b
 fn told<D: Disk>(alloc: Global, disk: &mut D) -> Option<bool> {
     let store = opened(alloc, disk)?;
     let mut space = Space { store };
-    transact(alloc, &mut space, disk).ok()
+    let told = transact(alloc, &mut space, disk);
+    drop(space);
+    told.ok()
 }
 
 #[test]
-fn a_page_of_another_owner_has_no_bytes_and_a_free_one_is_fresh(
-    rt: HostRuntime,
-) -> Result<(), Fail> {
+fn a_page_of_another_owner_has_no_bytes_and_a_free_one_is_fresh(rt: HostRuntime) {
     let alloc = rt.alloc();
-    let mut disk = formatted(alloc)?;
-    assert_eq!(rt; told(alloc, &mut disk), Some(true));
-    assert_eq!(rt;
-        seen_in(alloc, &mut disk),
-        Some([*b"..0.p...", *b"...0.qr."])
-    );
-    Ok(())
+    let mut disk = formatted(alloc).expect(&rt, "memory");
+    let told = told(alloc, &mut disk);
+    let seen = seen_in(alloc, &mut disk);
+    drop(disk);
+    assert!(rt; told == Some(true));
+    assert!(rt; seen == Some([*b"..0.p...", *b"...0.qr."]));
 }

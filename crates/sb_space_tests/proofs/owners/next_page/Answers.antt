@@ -2,8 +2,8 @@ use Rattle.sb_space.specs.View.{lent}
 use Rattle.sb_space.proofs.GoingBack.{KeepsChanges-driven}
 use Rattle.sb_space_tests.proofs.owners.next_page.Goals as goal
 
-pub returns-in_err-answer-clause-changes : goal.returns-in_err-answer-clause-changes
-returns-in_err-answer-clause-changes g c =
+pub returns-in-Err-clause-changes : goal.returns-in-Err-clause-changes
+returns-in-Err-clause-changes g c =
     KeepsChanges-driven g.D.Disk.told g.D.Disk.len g.D.Disk.faults 0 (lent c.args.pages.now) (lent c.answer.new.self) c.answer.ensures.leads
 
 pub returns-clause-changes : goal.returns-clause-changes

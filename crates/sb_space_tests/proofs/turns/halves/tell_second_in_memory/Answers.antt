@@ -2,5 +2,5 @@ use Rattle.std.proofs.Common.{refl}
 use Rattle.sb_space_tests.proofs.Scribing.{IsInstance-scribe}
 use Rattle.sb_space_tests.proofs.turns.halves.tell_second_in_memory.Goals as goal
 
-pub drive_in_memory-requires : goal.drive_in_memory-requires
-drive_in_memory-requires c = IsInstance-scribe _ 1 c.in_ok-inst.inst refl refl refl c.in_ok-inst.ensures
+pub drive_in_memory-told-requires : goal.drive_in_memory-told-requires
+drive_in_memory-told-requires c = IsInstance-scribe _ 1 c.in_ok-inst.inst refl refl refl c.in_ok-inst.ensures
