@@ -1,11 +1,13 @@
 //! Stores some bytes of which were written over.
 
-use super::{OPENED, Row, SIZE, SMALLEST, run_row};
+use super::{OPENED, Row, SIZE, SMALLEST, comes_to, new_disk, output_of, run_row};
 use sb_memdisk::MemDisk;
-use std::test::Fail;
+use std::alloc::Global;
+use std::process::Abort;
+use std::test::*;
 
 /// Three rows in a heap, whose pages are all on the disk behind the checkpoint.
-const MAKING: Row<'static> = Row {
+static MAKING: Row<'static> = Row {
     words: &SMALLEST,
     script: b"create t using heap (a int, b text)\n\
         insert t values (3, 'c')\n\
@@ -15,56 +17,56 @@ const MAKING: Row<'static> = Row {
     ..OPENED
 };
 
-/// Bytes that are written over, at two places, and what a run over them comes to.
+/// Bytes that are written over at some places, and what a run over them comes to.
 struct Damage {
-    places: [(usize, &'static [u8]); 2],
+    places: &'static [(usize, &'static [u8])],
     output: &'static [u8],
     begun: usize,
 }
 
 /// The pages begin behind 17 pages of the super page and the gates, and behind the log of 2 MiB.
-const DAMAGES: [Damage; 7] = [
+static DAMAGES: [Damage; 7] = [
     Damage {
-        places: [(17, &[2]), (0, &[])],
+        places: &[(17, &[2])],
         output: b"? notstore\n",
         begun: 0,
     },
     Damage {
-        places: [(4096, &[0xa5]), (69_632, &[0xff; 4])],
+        places: &[(4096, &[0xa5]), (69_632, &[0xff; 4])],
         output: b"? badlog 0 0\n",
         begun: 0,
     },
     Damage {
-        places: [(4096, &[0xa5]), (69_632, &[0, 0, 0, 6, 1, 0, 0, 0, 1, 9])],
+        places: &[(4096, &[0xa5]), (69_632, &[0, 0, 0, 6, 1, 0, 0, 0, 1, 9])],
         output: b"? badlog 0 5\n",
         begun: 0,
     },
     // The root of the catalogue, behind one page of owners.
     Damage {
-        places: [(2_170_880, &[0]), (0, &[])],
+        places: &[(2_170_880, &[0])],
         output: b"? damaged 1\n",
         begun: 0,
     },
     // The owner of the table's own page.
     Damage {
-        places: [(2_166_784, &[0, 3]), (0, &[])],
+        places: &[(2_166_784, &[0, 3])],
         output: b"? damaged 0\n",
         begun: 0,
     },
     // The root of the heap: the first command that reads it ends the run.
     Damage {
-        places: [(2_174_976, &[9]), (0, &[])],
+        places: &[(2_174_976, &[9])],
         output: b"! damaged 2\n",
         begun: 1,
     },
     Damage {
-        places: [(0, &[]), (0, &[])],
+        places: &[],
         output: b"@000000020000 (3, 'c')\n@000000020001 (1, 'it''s')\n@000000020002 (2, '')\nok 3\nt\nok 1\n",
         begun: 2,
     },
 ];
 
-const LOOKING: Row<'static> = Row {
+static LOOKING: Row<'static> = Row {
     script: b"scan t\ntables\n",
     ..OPENED
 };
@@ -78,41 +80,53 @@ fn write_over(bytes: &mut [u8], at: usize, new: &[u8]) {
     }
 }
 
-#[test]
-fn damage_is_named(rt: HostRuntime) -> Result<(), Fail> {
-    let alloc = rt.alloc();
-    let mut made = MemDisk::new(alloc, SIZE)?;
-    let (_, report) = run_row(alloc, &MAKING, &mut made)?;
-    assert_eq!(rt; report.status, 0);
-    for (number, damage) in DAMAGES.iter().enumerate() {
-        let mut image = made.image()?.as_slice().to_vec(alloc)?;
-        for (at, new) in damage.places {
-            write_over(&mut image, at, new);
-        }
-        let mut disk = MemDisk::from_image(alloc, &image)?;
-        let (sink, report) = run_row(alloc, &LOOKING, &mut disk)?;
-        assert_eq!(rt; sink.held(), damage.output, "damage {number}");
-        assert_eq!(rt;
-            report.starts.as_slice().len(),
-            damage.begun,
-            "damage {number}"
-        );
-        let status = if damage.begun == 2 { 0 } else { 6 };
-        assert_eq!(rt; report.status, status, "damage {number}");
+/// The disk with the damage.
+fn damaged(rt: &impl Abort, alloc: Global, made: &MemDisk, damage: &Damage) -> MemDisk {
+    let image = made.image().expect(rt, "memory");
+    let mut bytes = image.as_slice().to_vec(alloc).expect(rt, "memory");
+    drop(image);
+    for (at, new) in damage.places.iter() {
+        write_over(&mut bytes, *at, new);
     }
-    Ok(())
+    MemDisk::from_image(alloc, &bytes).expect(rt, "memory")
+}
+
+/// Whether a run over the disk with the damage comes to what is said of it.
+fn is_named(rt: &impl Abort, alloc: Global, made: &MemDisk, damage: &Damage) -> bool {
+    let mut disk = damaged(rt, alloc, made, damage);
+    let ended = run_row(rt, alloc, &LOOKING, &mut disk);
+    drop(disk);
+    let status = if damage.begun == 2 { 0 } else { 6 };
+    comes_to(ended, damage.output, status, damage.begun)
+}
+
+/// The disk of the store that is made.
+fn made(rt: &impl Abort, alloc: Global) -> MemDisk {
+    let mut made = new_disk(rt, alloc, SIZE);
+    let ended = run_row(rt, alloc, &MAKING, &mut made);
+    drop(output_of(rt, ended));
+    made
 }
 
 #[test]
-fn a_file_that_is_too_short_is_no_store(rt: HostRuntime) -> Result<(), Fail> {
+fn damage_is_named(rt: HostRuntime) {
+    let made = made(&rt, rt.alloc());
+    for (number, damage) in DAMAGES.iter().enumerate() {
+        assert!(rt; is_named(&rt, rt.alloc(), &made, damage), "damage {number}");
+    }
+    drop(made);
+}
+
+#[test]
+fn a_file_that_is_too_short_is_no_store(rt: HostRuntime) {
     let alloc = rt.alloc();
-    let mut made = MemDisk::new(alloc, SIZE)?;
-    let (_, _) = run_row(alloc, &MAKING, &mut made)?;
-    let image = made.image()?;
-    let front = image.as_slice().get(..4095).ok_or("a store is longer")?;
-    let mut disk = MemDisk::from_image(alloc, front)?;
-    let (sink, report) = run_row(alloc, &LOOKING, &mut disk)?;
-    assert_eq!(rt; sink.held(), b"? notstore\n".as_slice());
-    assert_eq!(rt; report.status, 6);
-    Ok(())
+    let made = made(&rt, alloc);
+    let image = made.image().expect(&rt, "memory");
+    drop(made);
+    let front = image.as_slice().get(..4095).expect(&rt, "a longer store");
+    let mut disk = MemDisk::from_image(alloc, front).expect(&rt, "memory");
+    let ended = run_row(&rt, alloc, &LOOKING, &mut disk);
+    drop(disk);
+    drop(image);
+    assert!(rt; comes_to(ended, b"? notstore\n", 6, 0));
 }

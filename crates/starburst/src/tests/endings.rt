@@ -1,9 +1,12 @@
 //! How a run ends whose source, sink or disk fails, or of which no more is taken.
 
-use super::{OPENED, Row, SIZE, SMALLEST, run_row};
+use super::{OPENED, Row, SIZE, SMALLEST, has_come, new_disk, run_row};
+use crate::report::Report;
 use sb_disk::Disk;
-use sb_memdisk::MemDisk;
-use std::test::Fail;
+use sb_memdisk::{MemDisk, MemSink};
+use std::alloc::Global;
+use std::process::Abort;
+use std::test::*;
 
 const NEW: Row<'static> = Row {
     words: &SMALLEST,
@@ -59,20 +62,22 @@ const ROWS: [Row<'static>; 6] = [
     },
 ];
 
-#[test]
-fn runs_end_where_a_call_fails(rt: HostRuntime) -> Result<(), Fail> {
-    let alloc = rt.alloc();
-    for (number, row) in ROWS.iter().enumerate() {
-        let mut disk = MemDisk::new(alloc, SIZE)?;
-        let (sink, report) = run_row(alloc, row, &mut disk)?;
-        assert_eq!(rt; sink.held(), row.output, "row {number}");
-        assert_eq!(rt; report.status, row.status, "row {number}");
-        assert_eq!(rt; report.starts.as_slice().len(), row.begun, "row {number}");
-    }
-    Ok(())
+/// Whether a run over a new disk comes to what the row says.
+fn is_ended(rt: &impl Abort, alloc: Global, row: &Row) -> bool {
+    let mut disk = new_disk(rt, alloc, SIZE);
+    let is_ended = has_come(row, run_row(rt, alloc, row, &mut disk));
+    drop(disk);
+    is_ended
 }
 
-const INSERTING: Row<'static> = Row {
+#[test]
+fn runs_end_where_a_call_fails(rt: HostRuntime) {
+    for (number, row) in ROWS.iter().enumerate() {
+        assert!(rt; is_ended(&rt, rt.alloc(), row), "row {number}");
+    }
+}
+
+static INSERTING: Row<'static> = Row {
     script: b"create t using heap (a int, b text)\n\
         insert t values (3, 'c')\n\
         insert t values (1, 'it''s')\n\
@@ -84,31 +89,40 @@ const INSERTING: Row<'static> = Row {
 /// More calls than the run makes.
 const MANY: u64 = 4000;
 
-#[test]
-fn each_call_on_the_disk_may_fail(rt: HostRuntime) -> Result<(), Fail> {
-    let alloc = rt.alloc();
-    for call in 0..MANY {
-        let mut disk = MemDisk::new(alloc, SIZE)?;
-        disk.fail_at(&[call])?;
-        let (sink, report) = run_row(alloc, &INSERTING, &mut disk)?;
-        if report.status == 0 {
-            assert_eq!(rt;
-                disk.calls(),
-                call,
-                "the call that fails is behind the last one"
-            );
-            assert!(rt; call > 50, "{call} calls");
-            return Ok(());
-        }
-        assert_eq!(rt; report.status, 3, "call {call}");
-        // No call follows the one that failed, and the last reply says so where an item had begun.
-        assert_eq!(rt; disk.calls(), call + 1, "call {call}");
-        assert_eq!(rt; disk.faults(), 1, "call {call}");
-        assert_eq!(rt;
-            sink.held().ends_with(b"! fault\n"),
-            !report.starts.as_slice().is_empty(),
-            "call {call}"
-        );
+/// Whether a run comes to what it should whose call of this number fails.
+fn is_right(sink: &MemSink, report: &Report, disk: &MemDisk, call: u64) -> bool {
+    if report.status == 0 {
+        // The call that fails is behind the last one.
+        return disk.calls() == call;
     }
-    Err(Fail::from("the run makes more calls than are tried"))
+    // No call follows the one that failed, and the last reply says so where an item had begun.
+    let is_said = sink.held().ends_with(b"! fault\n");
+    report.status == 3
+        && disk.calls() == call.saturating_add(1)
+        && disk.faults() == 1
+        && is_said != report.starts.as_slice().is_empty()
+}
+
+/// Whether a run ends well whose call of this number fails: since there is no such call.
+fn ends_well(rt: &impl Abort, alloc: Global, call: u64) -> bool {
+    let mut disk = new_disk(rt, alloc, SIZE);
+    disk.fail_at(&[call]).expect(rt, "memory");
+    let (sink, report) = run_row(rt, alloc, &INSERTING, &mut disk);
+    assert!(rt; is_right(&sink, &report, &disk, call), "call {call}");
+    let is_well = report.status == 0;
+    drop(report);
+    drop(sink);
+    drop(disk);
+    is_well
+}
+
+#[test]
+fn each_call_on_the_disk_may_fail(rt: HostRuntime) {
+    for call in 0..MANY {
+        if ends_well(&rt, rt.alloc(), call) {
+            assert!(rt; call > 50, "{call} calls");
+            return;
+        }
+    }
+    panic!(rt; "the run makes more calls than are tried");
 }

@@ -1,13 +1,16 @@
 //! Runs with boxes of another author beside those of the program.
 
-use super::{OPENED, PIECE, Row, SIZE, SMALLEST, boxes_of, run_row, words_of};
+use super::{
+    MAKING, Numbered, OPENED, Row, SIZE, SMALLEST, boxes_of, has_come, new_disk, output_of,
+    run_boxes, run_row, script_of, scripted,
+};
 use crate::report::Report;
-use crate::run;
 use sb_foreign::{Count, Legend, Limit, Once, Strip};
-use sb_memdisk::{MemDisk, MemSink, MemSource};
+use sb_memdisk::{MemDisk, MemSink};
 use sb_registry::Extensions;
-use std::alloc::{AllocError, Global};
-use std::test::Fail;
+use std::alloc::Global;
+use std::process::Abort;
+use std::test::*;
 
 const ROWS: [Row<'static>; 5] = [
     // The boxes serve once they are registered. A row of f is a byte of its page, under its place, and most vetoes what is above its desc.
@@ -137,15 +140,8 @@ const ROWS: [Row<'static>; 5] = [
     },
 ];
 
-/// The line that counts the rows that stand, and those behind it.
-const COUNTING: &str = "attach code 1002 many on r desc @\n\
-    entries many on r\n\
-    insert r values (-1)\n\
-    insert r values (-1)\n\
-    entries many on r\n";
-
 /// Where no box has the code.
-const LACKING: Row<'static> = Row {
+static LACKING: Row<'static> = Row {
     script: b"scan f\n",
     output: b"? missingextension 1000\n",
     status: 6,
@@ -153,77 +149,77 @@ const LACKING: Row<'static> = Row {
 };
 
 /// The program's boxes, and those of another author as spare ones.
-fn boxes_of_another_author(alloc: Global) -> Result<Extensions, AllocError> {
-    let mut exts = boxes_of(alloc, 1, 1)?;
-    exts.spare_methods.push(Box::new(alloc, Strip {})?)?;
-    exts.spare_attachments.push(Box::new(alloc, Limit {})?)?;
-    exts.spare_attachments.push(Box::new(alloc, Once {})?)?;
-    exts.spare_attachments.push(Box::new(alloc, Count {})?)?;
-    exts.spare_attachments.push(Box::new(alloc, Legend {})?)?;
-    Ok(exts)
+fn boxes_of_another_author(rt: &impl Abort, alloc: Global) -> Extensions {
+    let mut exts = boxes_of(rt, alloc, 1, 1);
+    let strip = Box::new(alloc, Strip {}).expect(rt, "memory");
+    exts.spare_methods.push(strip).expect(rt, "memory");
+    let limit = Box::new(alloc, Limit {}).expect(rt, "memory");
+    exts.spare_attachments.push(limit).expect(rt, "memory");
+    let once = Box::new(alloc, Once {}).expect(rt, "memory");
+    exts.spare_attachments.push(once).expect(rt, "memory");
+    let count = Box::new(alloc, Count {}).expect(rt, "memory");
+    exts.spare_attachments.push(count).expect(rt, "memory");
+    let legend = Box::new(alloc, Legend {}).expect(rt, "memory");
+    exts.spare_attachments.push(legend).expect(rt, "memory");
+    exts
 }
 
 /// Runs what a row says, with spare boxes of another author beside those of the program.
-fn run_foreign(
-    alloc: Global,
-    row: &Row,
-    disk: &mut MemDisk,
-) -> Result<(MemSink, Report), AllocError> {
-    let words = words_of(alloc, row.words)?;
-    let mut source = MemSource::new(alloc, row.script, PIECE, None)?;
-    let mut sink = MemSink::new(alloc, PIECE, None);
-    let exts = boxes_of_another_author(alloc)?;
-    let report = run(alloc, &words, exts, &mut source, &mut sink, disk);
-    Ok((sink, report))
+fn run_foreign(rt: &impl Abort, alloc: Global, row: &Row, disk: &mut MemDisk) -> (MemSink, Report) {
+    let exts = boxes_of_another_author(rt, alloc);
+    run_boxes(rt, alloc, row, exts, disk)
 }
 
 #[test]
-fn boxes_of_another_author_serve(rt: HostRuntime) -> Result<(), Fail> {
+fn boxes_of_another_author_serve(rt: HostRuntime) {
     let alloc = rt.alloc();
-    let mut disk = MemDisk::new(alloc, SIZE)?;
+    let mut disk = new_disk(&rt, alloc, SIZE);
     for (number, row) in ROWS.iter().enumerate() {
-        let (sink, report) = run_foreign(alloc, row, &mut disk)?;
-        assert_eq!(rt; sink.held(), row.output, "row {number}");
-        assert_eq!(rt; report.status, row.status, "row {number}");
-        assert_eq!(rt; report.starts.as_slice().len(), row.begun, "row {number}");
+        assert!(rt;
+            has_come(row, run_foreign(&rt, alloc, row, &mut disk)),
+            "row {number}"
+        );
     }
-    let (sink, report) = run_row(alloc, &LACKING, &mut disk)?;
-    assert_eq!(rt; sink.held(), LACKING.output);
-    assert_eq!(rt; report.status, LACKING.status);
-    Ok(())
+    assert!(rt; has_come(&LACKING, run_row(&rt, alloc, &LACKING, &mut disk)));
+    drop(disk);
 }
+
+/// A thousand rows; then an attachment that counts the rows that stand, and those behind it.
+static COUNTING: Numbered = Numbered {
+    front: "register attachment 1002\ncreate r using tree (k int) key (k)\n",
+    before: "insert r values (",
+    after: ")\n",
+    count: 1000,
+    behind: "attach code 1002 many on r desc @\n\
+        entries many on r\n\
+        insert r values (-1)\n\
+        insert r values (-1)\n\
+        entries many on r\n",
+};
+
+static AGAIN: Row<'static> = Row {
+    script: b"entries many on r\n",
+    output: b"sum 1001\nok 0\n",
+    begun: 1,
+    ..OPENED
+};
 
 /// An attachment is built over a thousand rows that stand, and its page is there in the next run.
 #[test]
-fn a_thousand_rows_are_counted(rt: HostRuntime) -> Result<(), Fail> {
+fn a_thousand_rows_are_counted(rt: HostRuntime) {
     let alloc = rt.alloc();
-    let mut script = String::from_str(
-        alloc,
-        "register attachment 1002\ncreate r using tree (k int) key (k)\n",
-    )?;
-    for number in 0..1000 {
-        script.push_str("insert r values (")?;
-        script.push_str(&number.to_string(alloc)?)?;
-        script.push_str(")\n")?;
-    }
-    script.push_str(COUNTING)?;
-    let row = Row {
-        words: &SMALLEST,
-        script: script.as_bytes(),
-        ..OPENED
-    };
-    let mut disk = MemDisk::new(alloc, SIZE)?;
-    let (sink, _) = run_foreign(alloc, &row, &mut disk)?;
+    let script = script_of(&rt, alloc, &COUNTING);
+    let row = scripted(&MAKING, &script);
+    let mut disk = new_disk(&rt, alloc, SIZE);
+    let ended = run_foreign(&rt, alloc, &row, &mut disk);
+    drop(script);
+    let sink = output_of(&rt, ended);
     assert!(rt;
         sink.held().ends_with(
             b"ok @80000000000003e7\nok\nsum 1000\nok 0\nok @7fffffffffffffff\n! duplicate r\nsum 1001\nok 0\n"
         )
     );
-    let again = Row {
-        script: b"entries many on r\n",
-        ..OPENED
-    };
-    let (sink, _) = run_foreign(alloc, &again, &mut disk)?;
-    assert_eq!(rt; sink.held(), b"sum 1001\nok 0\n".as_slice());
-    Ok(())
+    drop(sink);
+    assert!(rt; has_come(&AGAIN, run_foreign(&rt, alloc, &AGAIN, &mut disk)));
+    drop(disk);
 }

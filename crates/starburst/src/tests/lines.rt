@@ -2,15 +2,14 @@
 
 ghost use Rattle.std.specs.Prelude.{None};
 
-use super::{OPENED, Row, SIZE, SMALLEST, boxes_of, run_row, words_of};
-use crate::report::Report;
+use super::{MAKING, SIZE, SMALLEST, boxes_of, holds, new_disk, words_of, written};
 use crate::run;
 use sb_disk::{Failed, Sink, Source};
-use sb_memdisk::MemDisk;
-use std::alloc::{AllocError, Global};
+use std::alloc::Global;
 use std::cell::Cell;
 use std::fs;
-use std::test::Fail;
+use std::process::Abort;
+use std::test::*;
 
 /// The front of a line, what follows it so many times, its end, and the replies to it and to what stands behind it.
 struct Long {
@@ -74,32 +73,27 @@ const LONG: [Long; 7] = [
 ];
 
 /// The line, and one behind it.
-fn with_line(alloc: Global, long: &Long) -> Result<String, AllocError> {
-    let mut script = String::from_str(alloc, long.front)?;
+fn with_line(rt: &impl Abort, alloc: Global, long: &Long) -> String {
+    let mut script = String::from_str(alloc, long.front).expect(rt, "memory");
     for _ in 0..long.times {
-        script.push_str(long.part)?;
+        script.push_str(long.part).expect(rt, "memory");
     }
-    script.push_str(long.end)?;
-    script.push_str("tables\n")?;
-    Ok(script)
+    script.push_str(long.end).expect(rt, "memory");
+    script.push_str("tables\n").expect(rt, "memory");
+    script
+}
+
+/// Whether the replies to the line and to the one behind it are written.
+fn is_answered(rt: &impl Abort, alloc: Global, long: &Long) -> bool {
+    let script = with_line(rt, alloc, long);
+    holds(written(rt, alloc, &MAKING, script, SIZE), long.output)
 }
 
 #[test]
-fn long_lines_are_refused(rt: HostRuntime) -> Result<(), Fail> {
-    let alloc = rt.alloc();
+fn long_lines_are_refused(rt: HostRuntime) {
     for (number, long) in LONG.iter().enumerate() {
-        let script = with_line(alloc, long)?;
-        let row = Row {
-            words: &SMALLEST,
-            script: script.as_bytes(),
-            ..OPENED
-        };
-        let mut disk = MemDisk::new(alloc, SIZE)?;
-        let (sink, report) = run_row(alloc, &row, &mut disk)?;
-        assert_eq!(rt; sink.held(), long.output, "line {number}");
-        assert_eq!(rt; report.status, 0, "line {number}");
+        assert!(rt; is_answered(&rt, rt.alloc(), long), "line {number}");
     }
-    Ok(())
 }
 
 /// Counts the bytes that it takes.
@@ -158,16 +152,22 @@ impl<'a> Source for WatchingSource<'a> {
     }
 }
 
-/// Runs over a new store, without a box for rules.
+/// Runs over a new store, without a box for rules. The status.
 fn run_watched<S: Source>(
+    rt: &impl Abort,
     alloc: Global,
     source: &mut S,
     sink: &mut CountingSink,
-) -> Result<Report, AllocError> {
-    let words = words_of(alloc, &SMALLEST)?;
-    let exts = boxes_of(alloc, 0, 0)?;
-    let mut disk = MemDisk::new(alloc, SIZE)?;
-    Ok(run(alloc, &words, exts, source, sink, &mut disk))
+) -> u8 {
+    let words = words_of(rt, alloc, &SMALLEST);
+    let exts = boxes_of(rt, alloc, 0, 0);
+    let mut disk = new_disk(rt, alloc, SIZE);
+    let report = run(alloc, &words, exts, source, sink, &mut disk);
+    let status = report.status;
+    drop(report);
+    drop(disk);
+    drop(words);
+    status
 }
 
 const TALK: [(&[u8], usize); 8] = [
@@ -182,7 +182,7 @@ const TALK: [(&[u8], usize); 8] = [
 ];
 
 #[test]
-fn replies_are_written_before_more_is_read(rt: HostRuntime) -> Result<(), Fail> {
+fn replies_are_written_before_more_is_read(rt: HostRuntime) {
     let alloc = rt.alloc();
     let written = Cell::new(0);
     let mut source = WatchingSource {
@@ -192,20 +192,24 @@ fn replies_are_written_before_more_is_read(rt: HostRuntime) -> Result<(), Fail> 
         untimely: 0,
     };
     let mut sink = CountingSink { written: &written };
-    let report = run_watched(alloc, &mut source, &mut sink)?;
-    assert_eq!(rt; report.status, 0);
-    assert_eq!(rt; source.untimely, 0);
-    assert_eq!(rt; source.given, TALK.len());
+    assert!(rt; run_watched(&rt, alloc, &mut source, &mut sink) == 0);
+    assert!(rt; source.untimely == 0 && source.given == TALK.len());
     // `ok` and three keys, a wrong line, and a key that is there.
-    assert_eq!(rt; written.get(), 92);
-    Ok(())
+    assert!(rt; written.get() == 92);
 }
 
-/// The most kilobytes of memory that this process has held so far, where the system tells them.
-fn peak_memory(rt: &HostRuntime) -> Option<u64> {
-    let status = fs::read_to_string(rt, "/proc/self/status").ok()?;
+/// The most kilobytes of memory that a process has held so far, by what the system tells of it.
+fn peak_of(status: &str) -> Option<u64> {
     let peak = status.lines().find_map(|line| line.strip_prefix("VmHWM:"))?;
     peak.trim().strip_suffix(" kB")?.parse().ok()
+}
+
+/// That of this process, where the system tells it.
+fn peak_memory(rt: &HostRuntime) -> Option<u64> {
+    let status = fs::read_to_string(rt, "/proc/self/status").ok()?;
+    let peak = peak_of(&status);
+    drop(status);
+    peak
 }
 
 /// Gives the same piece at each of so many calls.
@@ -248,23 +252,28 @@ const PASSED: [(&[u8], usize); 2] = [
     ),
 ];
 
-/// Runs over so many of the piece: the status, and how many bytes were written.
-fn pass_over(alloc: Global, piece: &'static [u8], times: u64) -> Result<(u8, usize), AllocError> {
+/// Whether a run over so many of the piece ends well, and so many bytes are written.
+fn passes_over(
+    rt: &impl Abort,
+    alloc: Global,
+    piece: &'static [u8],
+    times: u64,
+    replied: usize,
+) -> bool {
     let written = Cell::new(0);
     let mut source = RepeatingSource { piece, left: times };
     let mut sink = CountingSink { written: &written };
-    let report = run_watched(alloc, &mut source, &mut sink)?;
-    Ok((report.status, written.get()))
+    run_watched(rt, alloc, &mut source, &mut sink) == 0 && written.get() == replied
 }
 
 #[test]
-fn passed_input_is_not_kept(rt: HostRuntime) -> Result<(), Fail> {
+fn passed_input_is_not_kept(rt: HostRuntime) {
     let alloc = rt.alloc();
-    for (piece, replied) in PASSED {
+    for (piece, replied) in PASSED.iter() {
         // What a run takes for its disk and its pages. 65 pieces are a line that is too long.
-        assert_eq!(rt; pass_over(alloc, piece, 65)?, (0, replied));
+        assert!(rt; passes_over(&rt, alloc, piece, 65, *replied));
         let before = peak_memory(&rt);
-        assert_eq!(rt; pass_over(alloc, piece, 1 << 18)?, (0, replied));
+        assert!(rt; passes_over(&rt, alloc, piece, 1 << 18, *replied));
         if let (Some(before), Some(after)) = (before, peak_memory(&rt)) {
             assert!(rt;
                 after.saturating_sub(before) < 12_288,
@@ -272,5 +281,4 @@ fn passed_input_is_not_kept(rt: HostRuntime) -> Result<(), Fail> {
             );
         }
     }
-    Ok(())
 }

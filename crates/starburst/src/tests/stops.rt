@@ -1,20 +1,17 @@
 //! Runs that stop at each write and sync in turn, and what the next run finds.
 
-use super::{OPENED, Row, SIZE, SMALLEST, run_row};
+use super::{MAKING, OPENED, Row, SIZE, holds, new_disk, output_of, run_row};
+use crate::report::Report;
 use sb_disk::Disk;
 use sb_memdisk::MemDisk;
 use sb_value::Bytes;
-use std::alloc::{AllocError, Global};
-use std::test::Fail;
-
-const MAKING: Row<'static> = Row {
-    words: &SMALLEST,
-    ..OPENED
-};
+use std::alloc::Global;
+use std::process::Abort;
+use std::test::*;
 
 /// Four commits: the second of a transaction with two inserts and one that is rolled back, the last of one whose deferred trigger puts in a row. Between
 /// them a transaction is aborted, and one ends since a deferred check doesn't hold.
-const CHANGING: Row<'static> = Row {
+static CHANGING: Row<'static> = Row {
     words: &["--store", "s", "--frames", "8"],
     script: b"create r using tree (k int) key (k)\n\
         attach check small on r k < 9 deferred\n\
@@ -53,7 +50,7 @@ const CHANGING: Row<'static> = Row {
     ..OPENED
 };
 
-const LOOKING: Row<'static> = Row {
+static LOOKING: Row<'static> = Row {
     script: b"scan r\n",
     ..OPENED
 };
@@ -103,17 +100,19 @@ fn last_acknowledged(starts: &[u64], call: u64) -> usize {
     last
 }
 
-/// Whether a run over these bytes finds this commit, or the next one.
-fn is_kept(alloc: Global, image: &[u8], last: usize) -> Result<bool, AllocError> {
-    let mut disk = MemDisk::from_image(alloc, image)?;
-    let (sink, _) = run_row(alloc, &LOOKING, &mut disk)?;
-    Ok(
-        COMMITS
-            .iter()
-            .skip(last)
-            .take(2)
-            .any(|commit| commit.scan == sink.held()),
-    )
+fn disk_of(rt: &impl Abort, alloc: Global, image: &[u8]) -> MemDisk {
+    MemDisk::from_image(alloc, image).expect(rt, "memory")
+}
+
+/// Whether a look over these bytes writes one of these.
+fn finds(rt: &impl Abort, alloc: Global, image: &[u8], outputs: &[&'static [u8]; 2]) -> bool {
+    let mut disk = disk_of(rt, alloc, image);
+    let (sink, report) = run_row(rt, alloc, &LOOKING, &mut disk);
+    drop(report);
+    drop(disk);
+    let finds = sink.held() == outputs[0] || sink.held() == outputs[1];
+    drop(sink);
+    finds
 }
 
 /// What a disk holds: all that was stored, and what was synced.
@@ -123,126 +122,143 @@ struct Left {
     synced: Bytes,
 }
 
-/// Whether a run over each of the two finds this commit, or the next one.
-fn are_kept(alloc: Global, left: &Left, last: usize) -> Result<bool, AllocError> {
-    if !is_kept(alloc, left.stored.as_slice(), last)? {
-        return Ok(false);
-    }
-    is_kept(alloc, left.synced.as_slice(), last)
+/// Whether a look over each of the two writes one of these.
+fn is_found(rt: &impl Abort, alloc: Global, left: &Left, outputs: &[&'static [u8]; 2]) -> bool {
+    finds(rt, alloc, left.stored.as_slice(), outputs)
+        && finds(rt, alloc, left.synced.as_slice(), outputs)
 }
 
-/// What a disk of these bytes holds once the run over it has stopped at this call. None where the run doesn't say that the disk failed.
-fn stopped(
+/// What a disk of these bytes holds once the run over it has stopped at this call, and says that the disk failed.
+fn stopped(rt: &impl Abort, alloc: Global, image: &[u8], row: &Row, call: u64, torn: u32) -> Left {
+    let mut disk = disk_of(rt, alloc, image);
+    disk.stop_at(call, torn);
+    let (sink, report) = run_row(rt, alloc, row, &mut disk);
+    assert!(rt; report.status == 3, "a run that stopped ends well");
+    drop(report);
+    drop(sink);
+    let left = Left {
+        stored: disk.image().expect(rt, "memory"),
+        synced: disk.synced().expect(rt, "memory"),
+    };
+    drop(disk);
+    left
+}
+
+/// Stops the run over these bytes at a call, with each part of its write. A look over what is left writes one of these.
+fn stop(
+    rt: &impl Abort,
     alloc: Global,
     image: &[u8],
     row: &Row,
     call: u64,
-    torn: u32,
-) -> Result<Option<Left>, AllocError> {
-    let mut disk = MemDisk::from_image(alloc, image)?;
-    disk.stop_at(call, torn);
-    let (_, report) = run_row(alloc, row, &mut disk)?;
-    if report.status != 3 {
-        return Ok(None);
+    outputs: &[&'static [u8]; 2],
+) {
+    for torn in TORN.iter() {
+        let left = stopped(rt, alloc, image, row, call, *torn);
+        assert!(rt;
+            is_found(rt, alloc, &left, outputs),
+            "call {call}, {torn} bytes"
+        );
+        drop(left);
     }
-    Ok(Some(Left {
-        stored: disk.image()?,
-        synced: disk.synced()?,
-    }))
+}
+
+/// Over this commit, or the next one.
+fn scans(last: usize) -> [&'static [u8]; 2] {
+    let next = last.saturating_add(1);
+    match (COMMITS.get(last), COMMITS.get(next)) {
+        (Some(one), Some(other)) => [one.scan, other.scan],
+        (Some(one), None) => [one.scan, one.scan],
+        (None, _) => [b"", b""],
+    }
 }
 
 /// The bytes of a new store.
-fn made(alloc: Global) -> Result<Bytes, AllocError> {
-    let mut disk = MemDisk::new(alloc, SIZE)?;
-    let (_, _) = run_row(alloc, &MAKING, &mut disk)?;
-    disk.image()
+fn made(rt: &impl Abort, alloc: Global) -> Bytes {
+    let mut disk = new_disk(rt, alloc, SIZE);
+    let (sink, report) = run_row(rt, alloc, &MAKING, &mut disk);
+    drop(report);
+    drop(sink);
+    let image = disk.image().expect(rt, "memory");
+    drop(disk);
+    image
+}
+
+/// What the changes report, and the disk's clock after them.
+fn changed(rt: &impl Abort, alloc: Global, image: &[u8]) -> (Report, u64) {
+    let mut disk = disk_of(rt, alloc, image);
+    let (sink, report) = run_row(rt, alloc, &CHANGING, &mut disk);
+    assert!(rt; holds(sink, CHANGING.output));
+    let clock = disk.clock();
+    drop(disk);
+    (report, clock)
 }
 
 #[test]
-fn each_stop_leaves_the_acknowledged_commits(rt: HostRuntime) -> Result<(), Fail> {
+fn each_stop_leaves_the_acknowledged_commits(rt: HostRuntime) {
     let alloc = rt.alloc();
-    let image = made(alloc)?;
-    let mut disk = MemDisk::from_image(alloc, image.as_slice())?;
-    let (sink, report) = run_row(alloc, &CHANGING, &mut disk)?;
-    assert_eq!(rt; sink.held(), CHANGING.output);
+    let image = made(&rt, alloc);
+    let (report, to) = changed(&rt, alloc, image.as_slice());
     let starts = report.starts.as_slice();
-    let from = *starts.first().ok_or("no item has begun")?;
-    let to = disk.clock();
+    let from = *starts.first().expect(&rt, "an item");
     // Two writes and two syncs for each commit.
-    assert!(rt; from < to && to - from >= 16, "{from} and {to}");
+    assert!(rt; to.saturating_sub(from) >= 16, "{from} and {to}");
     for call in from..to {
-        let last = last_acknowledged(starts, call);
-        for torn in TORN {
-            let left = stopped(alloc, image.as_slice(), &CHANGING, call, torn)?.ok_or(
-                "a run that stopped ends well",
-            )?;
-            assert!(rt; are_kept(alloc, &left, last)?, "call {call}, {torn} bytes");
-        }
+        let outputs = scans(last_acknowledged(starts, call));
+        stop(&rt, alloc, image.as_slice(), &CHANGING, call, &outputs);
     }
-    Ok(())
+    drop(report);
+    drop(image);
 }
 
 /// What a run finds over what a stopped `--create` left: no store, or a new one.
-const FRESH: [&[u8]; 2] = [b"? notstore\n", b"! norelation r\n"];
-
-fn is_fresh(alloc: Global, image: &[u8]) -> Result<bool, AllocError> {
-    let mut disk = MemDisk::from_image(alloc, image)?;
-    let (sink, _) = run_row(alloc, &LOOKING, &mut disk)?;
-    Ok(FRESH.contains(&sink.held()))
-}
+static FRESH: [&[u8]; 2] = [b"? notstore\n", b"! norelation r\n"];
 
 #[test]
-fn each_stop_of_a_create_leaves_no_store_or_a_new_one(rt: HostRuntime) -> Result<(), Fail> {
+fn each_stop_of_a_create_leaves_no_store_or_a_new_one(rt: HostRuntime) {
     let alloc = rt.alloc();
-    let mut disk = MemDisk::new(alloc, SIZE)?;
-    let zeros = disk.image()?;
-    let (_, report) = run_row(alloc, &MAKING, &mut disk)?;
-    assert_eq!(rt; report.status, 0);
-    for call in 0..disk.clock() {
-        for torn in TORN {
-            let left = stopped(alloc, zeros.as_slice(), &MAKING, call, torn)?.ok_or(
-                "a run that stopped ends well",
-            )?;
-            assert!(rt;
-                is_fresh(alloc, left.stored.as_slice())?,
-                "call {call}, {torn} bytes"
-            );
-            assert!(rt;
-                is_fresh(alloc, left.synced.as_slice())?,
-                "call {call}, {torn} bytes"
-            );
-        }
+    let mut disk = new_disk(&rt, alloc, SIZE);
+    let zeros = disk.image().expect(&rt, "memory");
+    let ended = run_row(&rt, alloc, &MAKING, &mut disk);
+    drop(output_of(&rt, ended));
+    let calls = disk.clock();
+    drop(disk);
+    for call in 0..calls {
+        stop(&rt, alloc, zeros.as_slice(), &MAKING, call, &FRESH);
     }
-    Ok(())
+    drop(zeros);
+}
+
+/// How many calls a look over these bytes makes.
+fn calls_of_a_look(rt: &impl Abort, alloc: Global, image: &[u8]) -> u64 {
+    let mut disk = disk_of(rt, alloc, image);
+    let (sink, report) = run_row(rt, alloc, &LOOKING, &mut disk);
+    drop(report);
+    drop(sink);
+    let calls = disk.clock();
+    drop(disk);
+    calls
 }
 
 /// The restart of what a stopped run left is stopped at each of its calls, and the next one goes on.
 #[test]
-fn a_restart_may_be_stopped(rt: HostRuntime) -> Result<(), Fail> {
+fn a_restart_may_be_stopped(rt: HostRuntime) {
     let alloc = rt.alloc();
-    let image = made(alloc)?;
-    let mut disk = MemDisk::from_image(alloc, image.as_slice())?;
-    let (_, report) = run_row(alloc, &CHANGING, &mut disk)?;
+    let image = made(&rt, alloc);
+    let (report, _) = changed(&rt, alloc, image.as_slice());
     let starts = report.starts.as_slice();
     // Within the last commit: it is that of the last item but one.
-    let start = starts.get(15).ok_or("fewer items have begun")?;
+    let start = *starts.get(15).expect(&rt, "more items");
     let call = start.saturating_add(2);
-    let last = last_acknowledged(starts, call);
-    let left = stopped(alloc, image.as_slice(), &CHANGING, call, 1)?.ok_or(
-        "a run that stopped ends well",
-    )?;
-    let mut disk = MemDisk::from_image(alloc, left.stored.as_slice())?;
-    let (_, _) = run_row(alloc, &LOOKING, &mut disk)?;
-    let calls = disk.clock();
+    let outputs = scans(last_acknowledged(starts, call));
+    drop(report);
+    let left = stopped(&rt, alloc, image.as_slice(), &CHANGING, call, 1);
+    drop(image);
+    let calls = calls_of_a_look(&rt, alloc, left.stored.as_slice());
     // A page and its sync, and four calls that close the gates.
     assert!(rt; calls >= 6, "{calls} calls");
     for call in 0..calls {
-        for torn in TORN {
-            let again = stopped(alloc, left.stored.as_slice(), &LOOKING, call, torn)?.ok_or(
-                "a run that stopped ends well",
-            )?;
-            assert!(rt; are_kept(alloc, &again, last)?, "call {call}, {torn} bytes");
-        }
+        stop(&rt, alloc, left.stored.as_slice(), &LOOKING, call, &outputs);
     }
-    Ok(())
+    drop(left);
 }
