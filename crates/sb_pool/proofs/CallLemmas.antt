@@ -7,7 +7,8 @@ use Rattle.sb_log.specs.Records.{Record}
 use Rattle.sb_images.specs.Store.{IsReadyOn, KeepsRest}
 use Rattle.sb_images.proofs.CallLemmas.{LeavesOnly-idle}
 use Rattle.sb_pool.specs.declared.fault.PoolFault.{PoolFault}
-use Rattle.sb_pool.specs.Calls.{Serves, IsReadyWith, KeepsImages}
+use Rattle.sb_pool.specs.Calls.{Serves, AreTied, IsReadyWith, KeepsImages}
+use Rattle.sb_pool.specs.State.{State}
 
 pub on_ok : {T E : Type 0} (result : Result T E) (P : Type 0) → P → OnOk result P
 on_ok (Ok x) P has = has
@@ -29,10 +30,10 @@ pub rest-none : (g : Geometry) (recs : List Record) (told : Option Story) → Wh
 rest-none g recs None = refl
 rest-none g recs (Some s) = λ p lt. inr refl
 
-pub KeepsImages-none : {T : Type 0} (want : ℕ → List ℕ) (g : Geometry) (opened pending : List Record) (j : journal.State) (told new : Option Story) (result : Result T PoolFault) → new ≡ told
-    → IsReadyOn want told j g opened pending → KeepsImages want g (opened ++ pending) j told new result
-KeepsImages-none want g opened pending j told new result same ready =
-    as_told (λ n. KeepsImages want g (opened ++ pending) j told n result) told new same (record {
+pub KeepsImages-none : {T : Type 0} (want : ℕ → List ℕ) (g : Geometry) (opened pending : List Record) (j : journal.State) (after : State) (told new : Option Story) (result : Result T PoolFault) → new ≡ told
+    → IsReadyOn want told j g opened pending → AreTied after j opened pending → KeepsImages want g (opened ++ pending) j after told new result
+KeepsImages-none want g opened pending j after told new result same ready tied =
+    as_told (λ n. KeepsImages want g (opened ++ pending) j after told n result) told new same (record {
       leaves = LeavesOnly-idle want j g opened pending told ready;
-      ready = on_ok result (IsReadyWith want g (opened ++ pending) j told told) (opened, pending, refl, record { ready = ready; rest = rest-none g opened told });
+      ready = on_ok result (IsReadyWith want g (opened ++ pending) j after told told) (opened, pending, refl, record { ready = ready; rest = rest-none g opened told }, tied);
     })

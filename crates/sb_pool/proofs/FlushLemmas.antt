@@ -79,8 +79,11 @@ module _ (pool : State) where
   cleaned_dirty None dirty = dirty
   cleaned_dirty (Some x) dirty = false≢true dirty
 
+  pub flushed-clean : (p : ℕ) → IsDirty (flushed pool) p → ⊥
+  flushed-clean p dirty = cleaned_dirty (held pool p) (subst IsWritten (held_flushed p) dirty)
+
   pub flushed-dirty : NoneMoreDirty pool (flushed pool)
-  flushed-dirty p dirty = absurd (cleaned_dirty (held pool p) (subst IsWritten (held_flushed p) dirty))
+  flushed-dirty p dirty = absurd (flushed-clean p dirty)
 
   -- ---- a run behind a force
   module _ (size : ℕ) (j k : journal.State) (room : need pool.geometry.pages pool.geometry.log ≤ size) (gates : j.gates ≡ gates_of pool.geometry) (log : j.log ≡ log_of pool.geometry) (whole : IsPool pool) where

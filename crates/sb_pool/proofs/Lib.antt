@@ -1,6 +1,7 @@
 pub mod PutLemmas
 pub mod RunLemmas
 pub mod PageLemmas
+pub mod TieLemmas
 pub mod CallLemmas
 pub mod PutRuns
 pub mod PutImages

@@ -1,5 +1,5 @@
 -- What becomes of the pages of a pool when one of them is put into memory, or is written there.
-use Rattle.std.proofs.Common.{◌≡◌, ◌⊎◌, inl, inr, ⊎_elim, ℕ, zero, suc, ◌<◌, ◌≤◌, false, Option, Some, None, IsSome, List, length, take, drop, map, get_or, set, replicate, refl, sym, ◌∙◌, ap, subst, arith}
+use Rattle.std.proofs.Common.{◌≡◌, ◌⊎◌, inl, inr, ⊎_elim, ℕ, zero, suc, ◌<◌, false, Option, Some, None, IsSome, List, length, take, drop, map, get_or, set, replicate, refl, sym, ◌∙◌, ap, subst, arith}
 use Rattle.std.proofs.lemmas.Bool.{cases_eq, false≢true}
 use Rattle.std.proofs.lemmas.List.{map-set, length-map, get_or-map, get_or-set_same, get_or-set_other}
 use Rattle.sb_disk.specs.Disk.{Story, Reads}
@@ -8,7 +8,7 @@ use Rattle.sb_log.specs.declared.geometry.Geometry.{Geometry}
 use Rattle.sb_images.specs.Layout.{place_of, page_at}
 use Rattle.sb_pool.specs.declared.frame.Frame.{Frame}
 use Rattle.sb_pool.specs.declared.pool.Pool.TheInside.{Inside}
-use Rattle.sb_pool.specs.State.{Held, State, held, IsHeld, IsWritten, NoneMoreDirty, empty_pool}
+use Rattle.sb_pool.specs.State.{Held, State, held, IsHeld, IsWritten, IsDirty, NoneMoreDirty, empty_pool}
 use Rattle.sb_pool.specs.Pages.{bytes_or, pool_page, IsClean, PagesAgreeOn, AgreesOn, KeepsPages}
 use Rattle.sb_pool.specs.Frames.{held_of, IsLoaded}
 use Rattle.sb_pool.specs.View.{state_of}
@@ -137,6 +137,10 @@ none_held : (n p : ℕ) → get_or {A = Option Held} (replicate n None) p None �
 none_held zero p = refl
 none_held (suc n) zero = refl
 none_held (suc n) (suc p) = none_held n p
+
+-- no page of it is dirty
+pub empty-clean : (g : Geometry) (pool : State) → pool ≡ empty_pool g → (p : ℕ) → IsDirty pool p → ⊥
+empty-clean g pool is p dirty = subst IsWritten (ap (λ (x : State). held x p) is ∙ none_held g.pages p) dirty
 
 -- it agrees with every disk
 PagesAgreeOn-empty : (g : Geometry) (pool : State) → pool ≡ empty_pool g → (told : Option Story) (j : journal.State) → PagesAgreeOn told j pool

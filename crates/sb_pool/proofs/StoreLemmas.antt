@@ -13,7 +13,7 @@ use Rattle.sb_log.proofs.RestoredLemmas.{imaged-append, base-imaged}
 use Rattle.sb_images.specs.Layout.{place_of, page_at, gates_of, log_of}
 use Rattle.sb_images.specs.Store.{IsReady, IsStore, IsStoreOn, KeepsRest}
 use Rattle.sb_images.proofs.LayoutLemmas.{page_off_gates, page_off_log, page_at-AgreesBut}
-use Rattle.sb_pool.specs.Calls.{IsReadyStill, IsReadyWith}
+use Rattle.sb_pool.specs.Calls.{AreTied, IsReadyStill, IsReadyWith}
 use Rattle.sb_pool.specs.Pages.{bytes_or, pool_page, with_bytes, IsClean, PagesAgreeOn, AgreesOn, ArePagesOn, Becomes, KeepsPages}
 use Rattle.sb_pool.specs.State.{State, held}
 
@@ -84,12 +84,13 @@ module _ (j k : journal.State) (up : k.failed ≡ false → j.failed ≡ false) 
 
 -- the store goes on, perhaps with more of its records in open chunks
 module _ (want now : ℕ → List ℕ) (j k : journal.State) (g : Geometry) (opened pending : List Record) (active : List Active) where
-  -- with these records open, and these pending
-  pub record GoesOn (new : Option Story) : Type 0 where
+  -- with these records open, and these pending, to which the pool is tied
+  pub record GoesOn (after : State) (new : Option Story) : Type 0 where
     pub opened_now : List Record
     pub pending_now : List Record
     pub same : opened_now ++ pending_now ≡ opened ++ pending
     pub store : IsStoreOn want now new k g opened_now pending_now active
+    pub tied : AreTied after k opened_now pending_now
 
   module _ (o p : List Record) (same : o ++ p ≡ opened ++ pending) where
     base_same : (s t : Story) (q : ℕ) → (imaged o q ≡ true) ⊎ (page_at g q t.now.reads ≡ page_at g q s.now.reads) → base q (o ++ p) (page_at g q s.now.reads) ≡ base q (o ++ p) (page_at g q t.now.reads)
@@ -115,10 +116,11 @@ module _ (want now : ℕ → List ℕ) (j k : journal.State) (g : Geometry) (ope
     IsStoreOn-still (Some s) None store still = absurd still.rest
     IsStoreOn-still (Some s) (Some t) store still = goes_on s t store still.ready still.rest
 
-  pub IsStoreOn-with : (told new : Option Story) → IsStoreOn want now told j g opened pending active → IsReadyWith want g (opened ++ pending) k told new → GoesOn new
-  IsStoreOn-with told new store still = record {
+  pub IsStoreOn-with : (after : State) (told new : Option Story) → IsStoreOn want now told j g opened pending active → IsReadyWith want g (opened ++ pending) k after told new → GoesOn after new
+  IsStoreOn-with after told new store still = record {
     opened_now = still.0;
     pending_now = still.1;
     same = still.2;
     store = IsStoreOn-still still.0 still.1 still.2 told new store still.3;
+    tied = still.4;
   }

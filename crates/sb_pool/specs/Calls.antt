@@ -4,6 +4,7 @@ use Rattle.std.specs.Prelude.{Result, OnOk, OnErr, IfErr, IsErrOf}
 use Rattle.sb_disk.specs.Causes.{Rose}
 use Rattle.sb_disk.specs.Disk.{Story, WhereTold}
 use Rattle.sb_disk.specs.Moments.{LeavesOnly}
+use Rattle.sb_journal.specs.Chunks.{bytes_of}
 use Rattle.sb_journal.specs.State.{Sound, StandsOn, after_force}
 use Rattle.sb_journal.specs.State as journal
 use Rattle.sb_log.specs.declared.geometry.Geometry.{Geometry}
@@ -84,10 +85,15 @@ pub record ReadsClean (pool : State) (j k : journal.State) (old new : Option Sto
 abbrev pub AreImaged : State → List Record → Type 0
 AreImaged pool recs = (p : ℕ) → IsDirty pool p → imaged recs p ≡ true
 
--- So it is with whatever pages the store restores and whatever records it has, where each dirty page has an Image among them.
+-- What ties a pool to the log: each dirty page has an Image, and one in an open chunk where the position of the last write lies within the chunks.
+pub record AreTied (pool : State) (j : journal.State) (opened pending : List Record) : Type 0 where
+  pub imaged : AreImaged pool (opened ++ pending)
+  pub forced : pool.position ≤ bytes_of j.lens → AreImaged pool opened
+
+-- So it is with whatever pages the store restores and whatever records it has, where the pool is tied to them.
 abbrev pub InStore : Option Story → journal.State → State → ((ℕ → List ℕ) → List Record → Type 0) → Type 0
-InStore told j pool Holds = (want : ℕ → List ℕ) (opened pending : List Record)
-    → IsReadyOn want told j pool.geometry opened pending → AreImaged pool (opened ++ pending) → Holds want (opened ++ pending)
+InStore told j pool Fact = (want : ℕ → List ℕ) (opened pending : List Record)
+    → IsReadyOn want told j pool.geometry opened pending → AreTied pool j opened pending → Fact want (opened ++ pending)
 
 -- The pages wanted are restored still, and only pages with an Image in an open chunk have changed on the disk.
 pub record IsReadyStill (want : ℕ → List ℕ) (g : Geometry) (opened pending : List Record) (k : journal.State) (old new : Option Story)
@@ -95,22 +101,23 @@ pub record IsReadyStill (want : ℕ → List ℕ) (g : Geometry) (opened pending
   pub ready : IsReadyOn want new k g opened pending
   pub rest : WhereTold old new (KeepsRest g opened)
 
--- so it is with these records, perhaps with more of them in open chunks
-abbrev pub IsReadyWith : (ℕ → List ℕ) → Geometry → List Record → journal.State → Option Story → Option Story → Type 0
-IsReadyWith want g recs k old new =
-    (opened pending : List Record) × (opened ++ pending ≡ recs) × IsReadyStill want g opened pending k old new
+-- so it is with these records, perhaps with more of them in open chunks, to which the pool is tied
+abbrev pub IsReadyWith : (ℕ → List ℕ) → Geometry → List Record → journal.State → State → Option Story → Option Story → Type 0
+IsReadyWith want g recs k after old new = (opened pending : List Record) × (opened ++ pending ≡ recs)
+    × IsReadyStill want g opened pending k old new × AreTied after k opened pending
 
--- A crash anywhere in the call leaves only images that restore the pages wanted. After it the store is ready again.
-pub record KeepsImages {T : Type 0} (want : ℕ → List ℕ) (g : Geometry) (recs : List Record) (k : journal.State) (old new : Option Story)
-    (result : Result T PoolFault) : Type 0 where
+-- A crash anywhere in the call leaves only images that restore the pages wanted. After it the store is ready again, and the pool is tied to it.
+pub record KeepsImages {T : Type 0} (want : ℕ → List ℕ) (g : Geometry) (recs : List Record) (k : journal.State) (after : State)
+    (old new : Option Story) (result : Result T PoolFault) : Type 0 where
   pub leaves : LeavesOnly old new (Restores g want)
-  pub ready : OnOk result (IsReadyWith want g recs k old new)
+  pub ready : OnOk result (IsReadyWith want g recs k after old new)
 
 -- The same of a call that forces: after it all records are in open chunks.
-pub record FlushesImages {T : Type 0} (want : ℕ → List ℕ) (g : Geometry) (recs : List Record) (k : journal.State) (old new : Option Story)
-    (result : Result T PoolFault) : Type 0 where
+pub record FlushesImages {T : Type 0} (want : ℕ → List ℕ) (g : Geometry) (recs : List Record) (k : journal.State) (after : State)
+    (old new : Option Story) (result : Result T PoolFault) : Type 0 where
   pub leaves : LeavesOnly old new (Restores g want)
   pub ready : OnOk result (IsReadyStill want g recs [] k old new)
+  pub tied : OnOk result (AreTied after k recs [])
 
 -- The call has brought the page into memory, where it answers Ok. Each page is as it was last written, and no more of them are dirty.
 pub record IsLoad {T : Type 0} (old new : Moment) (page : ℕ) (result : Result T PoolFault) : Type 0 where
@@ -118,6 +125,6 @@ pub record IsLoad {T : Type 0} (old new : Moment) (page : ℕ) (result : Result 
   pub pages : KeepsPages new.journal old.pool new.pool old.told new.told
   pub dirty : NoneMoreDirty old.pool new.pool
   pub images : InStore old.told old.journal old.pool (λ want recs.
-      KeepsImages want old.pool.geometry recs new.journal old.told new.told result)
+      KeepsImages want old.pool.geometry recs new.journal new.pool old.told new.told result)
   pub journal : OnOk result (IsSameOrForced old.journal new.journal)
   pub keeps : KeepsPool old new result

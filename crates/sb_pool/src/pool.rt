@@ -1,12 +1,13 @@
 //! The pool and its calls.
 
-ghost use Rattle.std.specs.Prelude.{◌≡◌, ◌⊎◌, ◌+◌, ◌<◌, ◌≤◌, ℕ, Option, true, false, Some, length, OnOk, OnErr, IfOk, IfErr};
+ghost use Rattle.std.specs.Prelude.{◌≡◌, ◌⊎◌, ◌+◌, ◌<◌, ◌≤◌, ℕ, List, Option, true, false, Some, length, OnOk, OnErr, IfOk, IfErr};
 ghost use Rattle.sb_disk.specs.Disk.{Story};
 ghost use Rattle.sb_images.specs.Store.{IfTold};
 ghost use Rattle.sb_journal.specs.State.{State, used_of, after_force};
+ghost use Rattle.sb_log.specs.Records.{Record};
 ghost use Rattle.sb_log.specs.Restored.{imaged};
 ghost use Rattle.sb_pool.specs.declared.fault.PoolFault.TheVariants.{NoMemory};
-ghost use Rattle.sb_pool.specs.Calls.{moment, Serves, KeepsPool, KeepsFlushed, IsSameOrForced, InStore, KeepsImages, FlushesImages, IsLoad, ReadsClean};
+ghost use Rattle.sb_pool.specs.Calls.{moment, Serves, KeepsPool, KeepsFlushed, IsSameOrForced, AreTied, InStore, KeepsImages, FlushesImages, IsLoad, ReadsClean};
 ghost use Rattle.sb_pool.specs.Pages.{AgreesOn, Becomes, KeepsPages, AreFlushed, with_bytes, pool_page, bytes_or};
 ghost use Rattle.sb_pool.specs.State.{held, IsHeld, IsDirty, is_dirty, NoneMoreDirty, empty_pool, flushed};
 
@@ -54,6 +55,7 @@ impl Pool {
         requires { (8 ≤ frames) × (frames ≤ 65536) }
         ensures ok { IfOk result (λ pool. pool ≡ empty_pool geometry) }
         ensures agrees { IfOk result (λ pool. (told : Option Story) (j : State) → AgreesOn told j pool) }
+        ensures tied { IfOk result (λ pool. (j : State) (opened pending : List Record) → AreTied pool j opened pending) }
         ensures err { IfErr result (λ e. e ≡ NoMemory) }
     {
         let frames = empty_frames(alloc, geometry.pages)?;
@@ -95,7 +97,7 @@ impl Pool {
 
         // A crash anywhere in the call leaves what the store restores.
         ensures images { InStore (D.told disk.old) journal.old self.old (λ want recs.
-            KeepsImages want self.old.geometry recs journal.new (D.told disk.old) (D.told disk.new) result) }
+            KeepsImages want self.old.geometry recs journal.new self.new (D.told disk.old) (D.told disk.new) result) }
 
         // With no page dirty it only reads.
         ensures reads { ReadsClean self.old journal.old journal.new (D.told disk.old) (D.told disk.new) }
@@ -165,7 +167,7 @@ impl Pool {
 
         // A crash anywhere in the call leaves what the store restores.
         ensures images { InStore (D.told disk.old) journal.old self.old (λ want recs. imaged recs page ≡ true
-            → KeepsImages want self.old.geometry recs journal.new (D.told disk.old) (D.told disk.new) result) }
+            → KeepsImages want self.old.geometry recs journal.new self.new (D.told disk.old) (D.told disk.new) result) }
 
         ensures journal { OnOk result (IsSameOrForced journal.old journal.new) }
         ensures keeps { KeepsPool (moment D.told D.len D.faults disk.old journal.old self.old)
@@ -196,7 +198,7 @@ impl Pool {
 
         // A crash anywhere in the call leaves what the store restores.
         ensures images { InStore (D.told disk.old) journal.old self.old (λ want recs.
-            FlushesImages want self.old.geometry recs journal.new (D.told disk.old) (D.told disk.new) result) }
+            FlushesImages want self.old.geometry recs journal.new self.new (D.told disk.old) (D.told disk.new) result) }
 
         ensures keeps { KeepsFlushed (moment D.told D.len D.faults disk.old journal.old self.old)
             (moment D.told D.len D.faults disk.new journal.new self.new) result }

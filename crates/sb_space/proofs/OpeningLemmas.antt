@@ -67,7 +67,7 @@ module _ (p : Parts) (fresh : IsFresh p) where
   fresh-clean q less dirty =
       let ties = (fresh.ready fresh-up).2.2 in
       let none : get_or p.store.book.imaged q false ≡ false = ap (λ (b : Book). get_or b.imaged q false) fresh.book ∙ get_or-replicate p.store.pool.geometry.pages q false false less in
-      false≢true (sym none ∙ ties.knows.images q less ∙ ties.dirty q dirty)
+      false≢true (sym none ∙ ties.knows.images q less ∙ ties.tied.imaged q dirty)
 
 -- ---- pages that are brought into memory
 pub OnlyLoads-none : (p : Parts) → IsReady p → OnlyLoads p p

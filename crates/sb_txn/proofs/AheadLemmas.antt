@@ -21,15 +21,15 @@ use Rattle.sb_txn.proofs.RoomLemmas.{SameRoom-forced}
 use Rattle.sb_txn.proofs.TiedLemmas.{HasReserve-same}
 
 module _ (want now : ℕ → List ℕ) (told new : Option Story) (size len : ℕ) (j k : journal.State) (p after : pool.State) (book : Book) (opened pending : List Record) (page offset : ℕ) (bytes : List ℕ) where
-  pub HoldsAll-written : Leans want now (with_bytes page offset bytes now) opened pending (stored told size j p book) → imaged (opened ++ pending) page ≡ true
+  pub HoldsAll-written : Leans want now (with_bytes page offset bytes now) opened pending (stored told size j p book)
       → after.geometry ≡ p.geometry → Becomes (with_bytes page offset bytes (pool_page told p)) k after told new
-      → ((q : ℕ) → IsDirty after q → IsDirty p q ⊎ (q ≡ page)) → IsReadyWith want p.geometry (opened ++ pending) k told new
+      → IsReadyWith want p.geometry (opened ++ pending) k after told new
       → IsSameOrForced j k → Serves new len k after.geometry → AgreesOn new k after
       → HoldsAll want (with_bytes page offset bytes now) (opened ++ pending) (record { told = new; size = len; store = together k after book })
-  HoldsAll-written leans covered sizes wrote others still forced serves agrees =
+  HoldsAll-written leans sizes wrote still forced serves agrees =
       let room = SameRoom-forced j k forced in
       let then : ℕ → List ℕ = with_bytes page offset bytes now in
-      let goes = IsStoreOn-with want then j k p.geometry opened pending (views book.actives) told new leans.store still in (
+      let goes = IsStoreOn-with want then j k p.geometry opened pending (views book.actives) after told new leans.store still in (
         goes.opened_now,
         goes.pending_now,
         record {
@@ -38,8 +38,7 @@ module _ (want now : ℕ → List ℕ) (told new : Option Story) (size len : ℕ
           serves = serves;
           agrees = agrees;
           pages = ArePagesOn-write j k (λ up. sym room.up ∙ up) now p after sizes page offset bytes told new wrote leans.pages;
-          dirty = subst (λ (l : List Record). AreImaged after l) (sym goes.same)
-              (λ q is. ⊎_elim (λ (was : IsDirty p q). leans.dirty q was) (λ (e : q ≡ page). subst (λ (n : ℕ). imaged (opened ++ pending) n ≡ true) (sym e) covered) (others q is));
+          tied = goes.tied;
           knows = subst (λ (l : List Record). IsBookOf after.geometry.pages l book) (sym goes.same) (subst (λ (g : Geometry). IsBookOf g.pages (opened ++ pending) book) (sym sizes) leans.knows);
           spare = HasReserve-same j k book room leans.spare;
         },

@@ -1,8 +1,7 @@
 -- What a checkpoint and a begin leave of a store.
-use Rattle.std.proofs.Common.{◌≡◌, ℕ, ◌+◌, ◌<◌, ◌≤◌, false, cond, Option, Some, None, List, [], ◌∷◌, ◌++◌, length, replicate, refl, sym, ◌∙◌, ap, subst, arith}
+use Rattle.std.proofs.Common.{◌≡◌, ℕ, ◌+◌, ◌<◌, ◌≤◌, false, cond, Option, List, [], ◌∷◌, ◌++◌, length, replicate, refl, sym, ◌∙◌, ap, subst, arith}
 use Rattle.std.proofs.lemmas.List.{append-nil, get_or-replicate, length-replicate, length_push}
 use Rattle.std.proofs.lemmas.List.Elements.{All-nil, All-cons, All-append}
-use Rattle.std.proofs.lemmas.Bool.{false≢true}
 use Rattle.sb_disk.specs.Disk.{Story}
 use Rattle.sb_journal.specs.State.{used_of, after_force, after_close}
 use Rattle.sb_journal.specs.State as journal
@@ -15,11 +14,12 @@ use Rattle.sb_log.proofs.StandingLemmas.{own_changes-keep, AreBelow-higher, AreB
 use Rattle.sb_log.proofs.WholeLemmas.{IsWhole-active, IsWhole-place}
 use Rattle.sb_images.specs.Store.{IsStoreOn}
 use Rattle.sb_images.proofs.StoreLemmas.{IsStoreOn-step}
-use Rattle.sb_pool.specs.Calls.{Serves}
+use Rattle.sb_pool.specs.Calls.{Serves, AreTied}
 use Rattle.sb_pool.specs.Pages.{AgreesOn, ArePagesOn}
-use Rattle.sb_pool.specs.State.{Held, held, IsWritten, IsDirty, cleaned, flushed}
+use Rattle.sb_pool.specs.State.{flushed}
 use Rattle.sb_pool.specs.State as pool
-use Rattle.std.proofs.Math.ListN as list
+use Rattle.sb_pool.proofs.FlushLemmas.{flushed-clean}
+use Rattle.sb_pool.proofs.TieLemmas.{AreTied-clean}
 use Rattle.sb_txn.specs.Book.{ActiveTransaction, Book, views, begun_in, new_transaction, begun_book, emptied_book}
 use Rattle.sb_txn.specs.Tied.{AreUndos, IsTransactionOf, AreTransactionsOf, AreOnce, IsBookOf, HasReserve, Holds}
 use Rattle.sb_txn.specs.Clauses.{Checkpoints, MakesRoom}
@@ -28,13 +28,6 @@ use Rattle.sb_txn.specs.Steps.{TakesCheckpoint}
 use Rattle.sb_txn.proofs.OrderLemmas.{views-append}
 
 -- ---- a checkpoint
-cleaned_dirty : (h : Option Held) → IsWritten (cleaned h) → ⊥
-cleaned_dirty None dirty = dirty
-cleaned_dirty (Some x) dirty = false≢true dirty
-
-none_dirty : (p : pool.State) (q : ℕ) → IsDirty (flushed p) q → ⊥
-none_dirty p q dirty = cleaned_dirty (held p q) (subst IsWritten (list.get_or-map cleaned p.pages q None) dirty)
-
 IsBookOf-emptied : (count : ℕ) (recs : List Record) (book : Book) → book.actives ≡ [] → IsBookOf count recs book → IsBookOf count [] (emptied_book book)
 IsBookOf-emptied count recs book none knows = record {
   images = λ q lt. get_or-replicate (length book.imaged) q false false (let e = knows.count in omega arith);
@@ -65,7 +58,7 @@ module _ (want now : ℕ → List ℕ) (told new : Option Story) (size len : ℕ
         serves = serves;
         agrees = agrees;
         pages = pages;
-        dirty = λ q dirty. absurd (none_dirty p q (subst (λ (x : pool.State). IsDirty x q) is dirty));
+        tied = subst (λ (x : pool.State). AreTied x l [] []) (sym is) (AreTied-clean (flushed p) l [] [] (flushed-clean p));
         knows = subst (λ (g : Geometry). IsBookOf g.pages [] (emptied_book book)) (sym same) (IsBookOf-emptied p.geometry.pages (opened ++ pending) book none holds.knows);
         spare = subst (λ (k : journal.State). HasReserve k (emptied_book book)) (sym done) (HasReserve-emptied (after_force j) book none);
       }
@@ -140,7 +133,7 @@ module _ (want now : ℕ → List ℕ) (told : Option Story) (size : ℕ) (j : j
         serves = holds.serves;
         agrees = holds.agrees;
         pages = holds.pages;
-        dirty = holds.dirty;
+        tied = holds.tied;
         knows = record {
           images = holds.knows.images;
           count = holds.knows.count;

@@ -93,7 +93,7 @@ module _ (want now : ℕ → List ℕ) (told : Option Story) (size : ℕ) (j : j
     serves = holds.serves;
     agrees = holds.agrees;
     pages = holds.pages;
-    dirty = holds.dirty;
+    tied = holds.tied;
     knows = record { images = holds.knows.images; count = holds.knows.count; actives = rest_transactions; fresh = holds.knows.fresh; once = first_once.1; most = let h = rest_most in omega arith };
     spare = record { few = rest_few (used_of j) (omega arith); room = let h = first_room in omega arith; gates = let h = first_gates in omega arith };
   }
@@ -115,7 +115,7 @@ Holds-idle want now told size j p book opened pending none holds = record {
   serves = holds.serves;
   agrees = holds.agrees;
   pages = holds.pages;
-  dirty = holds.dirty;
+  tied = holds.tied;
   knows = holds.knows;
   spare = holds.spare;
 }
@@ -146,7 +146,7 @@ Holds-wanted want now told size j p book opened pending none holds =
       serves = holds.serves;
       agrees = holds.agrees;
       pages = pages_wanted want now told j p opened pending store holds.pages;
-      dirty = holds.dirty;
+      tied = holds.tied;
       knows = holds.knows;
       spare = holds.spare;
     }
@@ -289,6 +289,9 @@ module _ (told new : Option Story) (size len : ℕ) (j k : journal.State) (p : p
     all : recs ≡ recs ++ []
     all = sym (append-nil recs)
 
+    images : AreImaged p recs
+    images q dirty = no_image (opened ++ pending) o.undone o.tx (length o.undos) q ∙ holds.tied.imaged q dirty
+
     pub Holds-finish : Holds (committed_pages (opened ++ pending) o want) now recs [] (stored new len k p (with_actives book rest))
     Holds-finish = record {
       up = finished.up ∙ holds.up;
@@ -305,7 +308,7 @@ module _ (told new : Option Story) (size len : ℕ) (j k : journal.State) (p : p
       };
       agrees = AgreesOn-same j k was_up p told new same_disk (let h = holds.agrees.position in let m = finish_more in omega arith) holds.agrees;
       pages = ArePagesOn-same j k was_up now p told new same_disk holds.pages;
-      dirty = subst (λ (l : List Record). AreImaged p l) all (λ q dirty. no_image (opened ++ pending) o.undone o.tx (length o.undos) q ∙ holds.dirty q dirty);
+      tied = record { imaged = subst (λ (l : List Record). AreImaged p l) all images; forced = λ within. images };
       knows = subst (λ (l : List Record). IsBookOf p.geometry.pages l (with_actives book rest)) all (record {
         images = λ q lt. holds.knows.images q lt ∙ sym (no_image (opened ++ pending) o.undone o.tx (length o.undos) q);
         count = holds.knows.count;

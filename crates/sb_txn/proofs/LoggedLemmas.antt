@@ -299,7 +299,10 @@ module _ (want now : ℕ → List ℕ) (told : Option Story) (size : ℕ) (j : j
         serves = edit_serves;
         agrees = AgreesOn-same j k (λ up. holds.up) p told new same_pages reaches holds.agrees;
         pages = ArePagesOn-same j k (λ up. holds.up) now p told new same_pages holds.pages;
-        dirty = λ q dirty. imaged-changed opened pending w o.tx (length o.undos) page image c q (holds.dirty q dirty);
+        tied = record {
+          imaged = λ q dirty. imaged-changed opened pending w o.tx (length o.undos) page image c q (holds.tied.imaged q dirty);
+          forced = λ within. holds.tied.forced (subst (λ (x : journal.State). p.position ≤ bytes_of x.lens) done within);
+        };
         knows = edit_knows now p book opened pending o rest owner page offset image bytes holds.knows is lt range long;
         spare = edit_spare;
       }

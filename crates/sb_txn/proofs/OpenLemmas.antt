@@ -14,8 +14,9 @@ use Rattle.sb_images.specs.Store.{IfTold, IsMounted, IsReadyOn, AreShut}
 use Rattle.sb_images.proofs.LayoutLemmas.{one_geometry}
 use Rattle.sb_images.proofs.StoreLemmas.{IsStoreOn-empty}
 use Rattle.sb_pool.specs.Pages.{bytes_or, AgreesOn, ArePagesOn}
-use Rattle.sb_pool.specs.State.{Held, held, IsWritten, IsDirty, empty_pool}
+use Rattle.sb_pool.specs.State.{Held, held, empty_pool}
 use Rattle.sb_pool.specs.State as pool
+use Rattle.sb_pool.proofs.TieLemmas.{AreTied-empty}
 use Rattle.sb_recover.specs.Restarted.{IsRestarted}
 use Rattle.sb_recover.proofs.MountLemmas.{IsMounted-pages, IsMounted-restarted, IsReadyOn-restarted}
 use Rattle.sb_txn.specs.Book.{ActiveTransaction, Book, empty_book}
@@ -63,9 +64,6 @@ none_held zero p = refl
 none_held (suc n) zero = refl
 none_held (suc n) (suc p) = none_held n p
 
-none_dirty : (g : Geometry) (q : ℕ) → IsDirty (empty_pool g) q → ⊥
-none_dirty g q dirty = subst IsWritten (none_held g.pages q) dirty
-
 pages_empty : (want : ℕ → List ℕ) (told : Option Story) (j : journal.State) (g : Geometry) → IsReadyOn want told j g [] [] → ArePagesOn want told j (empty_pool g)
 pages_empty want None j g ready = tt
 pages_empty want (Some s) j g ready = λ up q lt. ap (λ (h : Option Held). bytes_or (page_at g q s.now.reads) h) (none_held g.pages q) ∙ ready.same q lt
@@ -95,7 +93,7 @@ module _ (g : Geometry) (sizes : IsGeometry g) (size : ℕ) (room : need g.pages
     serves = record { sizes = sizes; room = room; gates = refl; log = refl; stands = stands; clean = refl; free = λ some. absurd (omega arith) };
     agrees = agrees;
     pages = pages_empty want told journal_of g ready;
-    dirty = λ q dirty. absurd (none_dirty g q dirty);
+    tied = AreTied-empty g (empty_pool g) refl journal_of [] [];
     knows = IsBookOf-empty g.pages;
     spare = HasReserve-empty g;
   }

@@ -135,7 +135,7 @@ module _ (want now : ℕ → List ℕ) (told : Option Story) (size : ℕ) (j : j
         serves = holds.serves;
         agrees = holds.agrees;
         pages = holds.pages;
-        dirty = holds.dirty;
+        tied = holds.tied;
         knows = record {
           images = holds.knows.images;
           count = holds.knows.count;
@@ -173,7 +173,7 @@ module _ (want now then : ℕ → List ℕ) (told : Option Story) (size : ℕ) (
         serves = leans.serves;
         agrees = leans.agrees;
         pages = leans.pages;
-        dirty = leans.dirty;
+        tied = leans.tied;
         knows = record {
           images = leans.knows.images;
           count = leans.knows.count;

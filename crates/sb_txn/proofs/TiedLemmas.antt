@@ -33,11 +33,11 @@ HasReserve-same j k book same spare = record {
 -- ---- a page is brought into memory
 module _ (want now : ℕ → List ℕ) (told new : Option Story) (size len : ℕ) (j k : journal.State) (p after : pool.State) (book : Book) (opened pending : List Record) where
   -- the store after a call of the pool that keeps the pages
-  pub HoldsAll-kept : Holds want now opened pending (stored told size j p book) → after.geometry ≡ p.geometry → KeepsPages k p after told new → NoneMoreDirty p after → IsReadyWith want p.geometry (opened ++ pending) k told new
+  pub HoldsAll-kept : Holds want now opened pending (stored told size j p book) → after.geometry ≡ p.geometry → KeepsPages k p after told new → IsReadyWith want p.geometry (opened ++ pending) k after told new
       → IsSameOrForced j k → Serves new len k after.geometry → AgreesOn new k after → HoldsAll want now (opened ++ pending) (record { told = new; size = len; store = together k after book })
-  HoldsAll-kept holds sizes kept fewer still forced serves agrees =
+  HoldsAll-kept holds sizes kept still forced serves agrees =
       let room = SameRoom-forced j k forced in
-      let goes = IsStoreOn-with want now j k p.geometry opened pending (views book.actives) told new holds.store still in (
+      let goes = IsStoreOn-with want now j k p.geometry opened pending (views book.actives) after told new holds.store still in (
         goes.opened_now,
         goes.pending_now,
         record {
@@ -46,7 +46,7 @@ module _ (want now : ℕ → List ℕ) (told new : Option Story) (size len : ℕ
           serves = serves;
           agrees = agrees;
           pages = ArePagesOn-kept j k (λ up. sym room.up ∙ up) now p after sizes told new kept holds.pages;
-          dirty = subst (λ (l : List Record). AreImaged after l) (sym goes.same) (λ q is. holds.dirty q (fewer q is));
+          tied = goes.tied;
           knows = subst (λ (l : List Record). IsBookOf after.geometry.pages l book) (sym goes.same) (subst (λ (g : Geometry). IsBookOf g.pages (opened ++ pending) book) (sym sizes) holds.knows);
           spare = HasReserve-same j k book room holds.spare;
         },

@@ -122,7 +122,7 @@ module _ (want now : ℕ → List ℕ) (told : Option Story) (size : ℕ) (j : j
     serves = holds.serves;
     agrees = holds.agrees;
     pages = holds.pages;
-    dirty = holds.dirty;
+    tied = holds.tied;
     knows = record {
       images = holds.knows.images;
       count = holds.knows.count;

@@ -5,7 +5,7 @@ use Rattle.sb_log.specs.Records.{Record}
 use Rattle.sb_log.specs.Restored.{imaged}
 use Rattle.sb_images.specs.Images.{Restores}
 use Rattle.sb_images.specs.Store.{IsStoreOn}
-use Rattle.sb_pool.specs.Calls.{Serves, AreImaged, IsSameOrForced}
+use Rattle.sb_pool.specs.Calls.{Serves, AreTied, IsSameOrForced}
 use Rattle.sb_pool.specs.Pages.{AgreesOn, ArePagesOn, with_bytes}
 use Rattle.sb_txn.specs.Book.{views}
 use Rattle.sb_txn.specs.Clauses.{HoldsAll, HoldsPages}
@@ -19,7 +19,7 @@ pub record Leans (want now then : ℕ → List ℕ) (opened pending : List Recor
   pub serves : Serves p.told p.size p.store.journal p.store.pool.geometry
   pub agrees : AgreesOn p.told p.store.journal p.store.pool
   pub pages : ArePagesOn now p.told p.store.journal p.store.pool
-  pub dirty : AreImaged p.store.pool (opened ++ pending)
+  pub tied : AreTied p.store.pool p.store.journal opened pending
   pub knows : IsBookOf p.store.pool.geometry.pages (opened ++ pending) p.store.book
   pub spare : HasReserve p.store.journal p.store.book
 

@@ -8,7 +8,7 @@ use Rattle.sb_log.specs.Standing.{keep, standing, own_changes, count_of, AreBelo
 use Rattle.sb_log.specs.Restored.{imaged}
 use Rattle.sb_log.specs.Views.{IsInactive}
 use Rattle.sb_images.specs.Store.{IsStoreOn}
-use Rattle.sb_pool.specs.Calls.{Serves, AreImaged}
+use Rattle.sb_pool.specs.Calls.{Serves, AreTied}
 use Rattle.sb_pool.specs.Pages.{AgreesOn, ArePagesOn}
 use Rattle.sb_txn.specs.Book.{Undo, ActiveTransaction, Book, views, begun_in}
 use Rattle.sb_txn.specs.Parts.{Parts}
@@ -86,6 +86,6 @@ pub record Holds (want now : ℕ → List ℕ) (opened pending : List Record) (p
   pub serves : Serves p.told p.size p.store.journal p.store.pool.geometry
   pub agrees : AgreesOn p.told p.store.journal p.store.pool
   pub pages : ArePagesOn now p.told p.store.journal p.store.pool
-  pub dirty : AreImaged p.store.pool (opened ++ pending)
+  pub tied : AreTied p.store.pool p.store.journal opened pending
   pub knows : IsBookOf p.store.pool.geometry.pages (opened ++ pending) p.store.book
   pub spare : HasReserve p.store.journal p.store.book

@@ -10,7 +10,7 @@ ghost use Rattle.sb_log.specs.declared.geometry.Geometry.{Geometry};
 ghost use Rattle.sb_log.specs.Records.{Record, Commit};
 ghost use Rattle.sb_log.specs.Standing.{standing, count_of};
 ghost use Rattle.sb_log.specs.Views.{Active, active_with};
-ghost use Rattle.sb_pool.specs.Calls.{moment, Serves, AreImaged};
+ghost use Rattle.sb_pool.specs.Calls.{moment, Serves, AreTied};
 ghost use Rattle.sb_pool.specs.Pages.{AgreesOn, ArePagesOn, KeepsPages};
 ghost use Rattle.sb_pool.specs.State.{flushed};
 ghost use Rattle.sb_txn.specs.Steps.{KeepsSizes, KeepsDisk, Stays, filled};
@@ -43,13 +43,13 @@ pub(crate) fn checkpoint<D: Disk>(
     // After it the log is empty.
     ensures store { OnOk result ((want now : ℕ → List ℕ) (opened pending : List Record)
         → IsStoreOn want now (D.told disk.old) journal.old pool.old.geometry opened pending []
-        → AreImaged pool.old (opened ++ pending) → ArePagesOn now (D.told disk.old) journal.old pool.old
+        → AreTied pool.old journal.old opened pending → ArePagesOn now (D.told disk.old) journal.old pool.old
         → IsStoreOn want now (D.told disk.new) journal.new pool.old.geometry [] [] []) }
 
     // A crash anywhere in the call leaves what the store restores.
     ensures any_moment { (want now : ℕ → List ℕ) (opened pending : List Record)
         → IsStoreOn want now (D.told disk.old) journal.old pool.old.geometry opened pending []
-        → AreImaged pool.old (opened ++ pending) → ArePagesOn now (D.told disk.old) journal.old pool.old
+        → AreTied pool.old journal.old opened pending → ArePagesOn now (D.told disk.old) journal.old pool.old
         → LeavesOnly (D.told disk.old) (D.told disk.new) (Restores pool.old.geometry want) }
 {
     pool.flush_all(disk, journal)?;

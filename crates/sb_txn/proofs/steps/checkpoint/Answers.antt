@@ -7,22 +7,22 @@ use Rattle.sb_pool.proofs.StoreLemmas.{ArePagesOn-kept}
 use Rattle.sb_txn.proofs.steps.checkpoint.Goals as goal
 
 pub returns-in_err-flush_all-clause-any_moment : goal.returns-in_err-flush_all-clause-any_moment
-returns-in_err-flush_all-clause-any_moment g c want now opened pending store imaged pages =
-    (c.flush_all.ensures.images want opened pending (IsStoreOn-ready want now _ c.args.journal.now c.args.pool.now.geometry opened pending [] store) imaged).leaves
+returns-in_err-flush_all-clause-any_moment g c want now opened pending store tied pages =
+    (c.flush_all.ensures.images want opened pending (IsStoreOn-ready want now _ c.args.journal.now c.args.pool.now.geometry opened pending [] store) tied).leaves
 
 pub returns-in_err-close_all-clause-any_moment : goal.returns-in_err-close_all-clause-any_moment
-returns-in_err-close_all-clause-any_moment g c want now opened pending store imaged pages =
-    let flush = c.in_ok-flush_all.ensures.images want opened pending (IsStoreOn-ready want now _ c.args.journal.now c.args.pool.now.geometry opened pending [] store) imaged in
+returns-in_err-close_all-clause-any_moment g c want now opened pending store tied pages =
+    let flush = c.in_ok-flush_all.ensures.images want opened pending (IsStoreOn-ready want now _ c.args.journal.now c.args.pool.now.geometry opened pending [] store) tied in
     LeavesOnly-checkpoint want now c.args.pool.now c.args.journal.now c.flush_all.new.journal opened pending _ _ _ store pages flush.ready c.in_ok-flush_all.ensures.disk flush.leaves c.close_all.ensures.any_moment
 
 pub returns-clause-any_moment : goal.returns-clause-any_moment
-returns-clause-any_moment g c want now opened pending store imaged pages =
-    let flush = c.in_ok-flush_all.ensures.images want opened pending (IsStoreOn-ready want now _ c.args.journal.now c.args.pool.now.geometry opened pending [] store) imaged in
+returns-clause-any_moment g c want now opened pending store tied pages =
+    let flush = c.in_ok-flush_all.ensures.images want opened pending (IsStoreOn-ready want now _ c.args.journal.now c.args.pool.now.geometry opened pending [] store) tied in
     LeavesOnly-checkpoint want now c.args.pool.now c.args.journal.now c.flush_all.new.journal opened pending _ _ _ store pages flush.ready c.in_ok-flush_all.ensures.disk flush.leaves c.close_all.ensures.any_moment
 
 pub returns-clause-store : goal.returns-clause-store
-returns-clause-store g c want now opened pending store imaged pages =
-    let flush = c.in_ok-flush_all.ensures.images want opened pending (IsStoreOn-ready want now _ c.args.journal.now c.args.pool.now.geometry opened pending [] store) imaged in
+returns-clause-store g c want now opened pending store tied pages =
+    let flush = c.in_ok-flush_all.ensures.images want opened pending (IsStoreOn-ready want now _ c.args.journal.now c.args.pool.now.geometry opened pending [] store) tied in
     IsStoreOn-checkpoint want now c.args.pool.now c.args.journal.now c.flush_all.new.journal opened pending _ _ _ store pages flush.ready c.in_ok-flush_all.ensures.disk
     c.close_all.new.self c.in_ok-close_all.ensures.done c.close_all.ensures.keeps.sound c.in_ok-close_all.ensures.closed
 

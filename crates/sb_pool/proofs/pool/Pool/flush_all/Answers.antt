@@ -1,18 +1,19 @@
-use Rattle.std.proofs.Common.{rules, ◌≡◌, ℕ, Option, ◌++◌, map, refl, sym, ◌∙◌, ap, subst}
+use Rattle.std.proofs.Common.{rules, ◌≡◌, ℕ, Option, [], ◌++◌, map, refl, sym, ◌∙◌, ap, subst}
 use Rattle.std.specs.Vec.{with_items}
 use Rattle.std.proofs.lemmas.List.{with_items_is}
 use Rattle.sb_disk.specs.Disk.{Story, Fits}
 use Rattle.sb_disk.specs.Moments.{Sized}
 use Rattle.sb_images.proofs.CallLemmas.{LeavesOnly-force}
 use Rattle.sb_journal.proofs.RegionLemmas.{sized}
-use Rattle.sb_pool.specs.Calls.{Serves}
+use Rattle.sb_pool.specs.Calls.{Serves, AreTied}
 use Rattle.sb_pool.specs.Frames.{held_of}
 use Rattle.sb_pool.specs.Pages.{pool_page, AgreesOn, KeepsPages}
-use Rattle.sb_pool.specs.State.{State, NoneMoreDirty}
+use Rattle.sb_pool.specs.State.{State, NoneMoreDirty, flushed}
 use Rattle.sb_pool.proofs.CallLemmas.{on_err}
-use Rattle.sb_pool.proofs.FlushLemmas.{dirty_pages, dirty-IsPage, dirty-imaged, dirty-bytes, AreFlushed-ok, AgreesOn-flushed, KeepsPages-flushed, flushed-dirty, Serves-ok, Serves-err}
+use Rattle.sb_pool.proofs.FlushLemmas.{dirty_pages, dirty-IsPage, dirty-imaged, dirty-bytes, AreFlushed-ok, AgreesOn-flushed, KeepsPages-flushed, flushed-clean, flushed-dirty, Serves-ok, Serves-err}
 use Rattle.sb_pool.proofs.InsideLemmas.{IsPool-inside, RanOk-inside, RanErr-inside, flushed-inside}
 use Rattle.sb_pool.proofs.PutImages.{flush_ok, flush_err}
+use Rattle.sb_pool.proofs.TieLemmas.{AreTied-clean}
 use Rattle.sb_pool.proofs.pool.Pool.flush_all.Goals as goal
 
 sized_as : (told : Option Story) (len clock size : ℕ) → Fits len clock told → len ≡ size → Sized size told
@@ -20,9 +21,10 @@ sized_as told len clock size fits is = subst (λ (n : ℕ). Sized n told) is (si
 
 -- ---- the force failed
 pub returns-in_err-force-clause-images : goal.returns-in_err-force-clause-images
-returns-in_err-force-clause-images g c want opened pending ready imaged = record {
+returns-in_err-force-clause-images g c want opened pending ready tied = record {
   leaves = LeavesOnly-force want c.args.journal.now c.args.self.now.geometry opened pending (g.D.Disk.told c.args.disk.now) _ ready c.force.ensures.any_moment;
   ready = search rules;
+  tied = search rules;
 }
 
 -- ---- a write or the sync failed
@@ -46,10 +48,11 @@ returns-in_err-put_all_out g c =
       pages = search rules;
       err = search rules;
       dirty = search rules;
-      images = λ want opened pending ready imaged. record {
-        leaves = flush_err want (pool_page told pool) j k pool.geometry opened pending (dirty_pages pool) told mid new ready (dirty-IsPage pool whole) (dirty-imaged pool (opened ++ pending) imaged) (dirty-bytes pool told)
+      images = λ want opened pending ready tied. record {
+        leaves = flush_err want (pool_page told pool) j k pool.geometry opened pending (dirty_pages pool) told mid new ready (dirty-IsPage pool whole) (dirty-imaged pool (opened ++ pending) tied.imaged) (dirty-bytes pool told)
             c.force.ensures.any_moment forced.done forced.keeps.sound forced.forced ran;
         ready = search rules;
+        tied = search rules;
       };
       keeps = record {
         size = search rules;
@@ -88,10 +91,10 @@ returns g c =
       pages = subst (λ (s : State). KeepsPages k pool s told new) (sym is) (KeepsPages-flushed pool k told new flush);
       err = tt;
       dirty = subst (λ (s : State). NoneMoreDirty pool s) (sym is) (flushed-dirty pool);
-      images = λ want opened pending ready imaged.
-          let after = flush_ok want (pool_page told pool) j k pool.geometry opened pending (dirty_pages pool) told mid new ready (dirty-IsPage pool whole) (dirty-imaged pool (opened ++ pending) imaged) (dirty-bytes pool told)
+      images = λ want opened pending ready tied.
+          let after = flush_ok want (pool_page told pool) j k pool.geometry opened pending (dirty_pages pool) told mid new ready (dirty-IsPage pool whole) (dirty-imaged pool (opened ++ pending) tied.imaged) (dirty-bytes pool told)
           c.force.ensures.any_moment forced.done forced.keeps.sound forced.forced ran in
-          record { leaves = after.0; ready = after.1 };
+          record { leaves = after.0; ready = after.1; tied = subst (λ (s : State). AreTied s k (opened ++ pending) []) (sym is) (AreTied-clean (flushed pool) k (opened ++ pending) [] (flushed-clean pool)) };
       keeps = record {
         size = search rules;
         geometry = ap (λ (s : State). s.geometry) is;

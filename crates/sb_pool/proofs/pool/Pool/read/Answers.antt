@@ -27,7 +27,7 @@ module _ (old new : Moment) (page : ℕ) where
     held = tt;
     pages = load.pages;
     dirty = load.dirty;
-    images = λ want opened pending ready imaged. record { leaves = (load.images want opened pending ready imaged).leaves; ready = tt };
+    images = λ want opened pending ready tied. record { leaves = (load.images want opened pending ready tied).leaves; ready = tt };
     journal = tt;
     keeps = record {
       size = load.keeps.size;
@@ -47,7 +47,7 @@ module _ (old new : Moment) (page : ℕ) where
     held = load.held;
     pages = load.pages;
     dirty = load.dirty;
-    images = λ want opened pending ready imaged. let i = load.images want opened pending ready imaged in record { leaves = i.leaves; ready = i.ready };
+    images = λ want opened pending ready tied. let i = load.images want opened pending ready tied in record { leaves = i.leaves; ready = i.ready };
     journal = load.journal;
     keeps = record {
       size = load.keeps.size;

@@ -1,4 +1,4 @@
-use Rattle.std.proofs.Common.{rules, ◌≡◌, ◌<◌, ◌≤◌, ℕ, List, Option, Result, Ok, Err, OnOk, length, map, get_or, set, refl, sym, ◌∙◌, ap, subst, arith}
+use Rattle.std.proofs.Common.{rules, ◌≡◌, ◌<◌, ◌≤◌, ℕ, List, Option, Result, Ok, Err, OnOk, ◌++◌, length, map, get_or, set, refl, sym, ◌∙◌, ap, subst, arith}
 use Rattle.std.specs.Result.{IsErrAnd}
 use Rattle.sb_disk.specs.Disk.{splice}
 use Rattle.sb_journal.specs.State.{used_of}
@@ -12,6 +12,7 @@ use Rattle.sb_pool.specs.State.{State, Held, held, IsHeld}
 use Rattle.sb_pool.specs.View.{state_of}
 use Rattle.sb_pool.proofs.CallLemmas.{Serves-as}
 use Rattle.sb_pool.proofs.PageLemmas.{Puts, Puts-frame, held-frame}
+use Rattle.sb_pool.proofs.TieLemmas.{IsReadyWith-written}
 use Rattle.sb_pool.proofs.WriteLemmas.{some_bytes, written, dirty_frame, IsDirty-written, dirty-written, PagesAgreeOn-written, Becomes-written}
 use Rattle.sb_pool.proofs.pool.Pool.write.Goals as goal
 
@@ -37,8 +38,8 @@ no_value (Ok x) e P is = absurd is
 no_value (Err f) e P is = tt
 
 pub returns-in_err-load-clause-images : goal.returns-in_err-load-clause-images
-returns-in_err-load-clause-images g c = λ want opened pending ready imaged here. record {
-  leaves = (c.in_err-load.ensures.images want opened pending ready imaged).leaves;
+returns-in_err-load-clause-images g c = λ want opened pending ready tied here. record {
+  leaves = (c.in_err-load.ensures.images want opened pending ready tied).leaves;
   ready = no_value c.from_residual.result c.in_err-load.field-0.0 _ c.from_residual.ensures.1;
 }
 
@@ -54,7 +55,11 @@ returns g c =
       dirty = (IsDirty-written c.load.new.self _ c.args.page _ at.puts, c.used-self-inside.ensures);
       others = dirty-written c.load.new.self _ c.args.page _ at.puts c.args.self.now load.dirty;
       err = tt;
-      images = λ want opened pending ready imaged here. let i = load.images want opened pending ready imaged in record { leaves = i.leaves; ready = i.ready };
+      images = λ want opened pending ready tied here. let i = load.images want opened pending ready tied in record {
+        leaves = i.leaves;
+        ready = IsReadyWith-written want c.args.self.now.geometry (opened ++ pending) c.load.new.journal c.load.new.self _ c.args.page here
+            (dirty-written c.load.new.self _ c.args.page _ at.puts c.load.new.self (λ p dirty. dirty)) c.used-self-inside.ensures (g.D.Disk.told c.args.disk.now) told i.ready;
+      };
       journal = load.journal;
       keeps = record {
         size = kept.size;

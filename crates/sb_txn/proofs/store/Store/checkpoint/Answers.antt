@@ -27,7 +27,7 @@ returns-in-Ok-clause-checkpoints g c =
           let was = subst (λ (l : List ActiveTransaction). IsStoreOn want now (g.D.Disk.told c.args.disk.now) c.args.self.now.journal c.args.self.now.pool.geometry store.0 store.1 (views l)) none store.2.store in
           subst (λ (b : Book). Holds want now [] [] (stored (g.D.Disk.told c.checkpoint.new.disk) (g.D.Disk.len c.checkpoint.new.disk) c.checkpoint.new.journal c.checkpoint.new.pool b)) (sym c.empty.ensures)
           (Holds-checkpoint want now (g.D.Disk.told c.args.disk.now) (g.D.Disk.told c.checkpoint.new.disk) (g.D.Disk.len c.args.disk.now) (g.D.Disk.len c.checkpoint.new.disk) c.args.self.now.journal c.checkpoint.new.journal c.args.self.now.pool c.checkpoint.new.pool c.args.self.now.book store.0 store.1
-          store.2 none call.journal call.pool (call.store want now store.0 store.1 was store.2.dirty store.2.pages) call.serves call.agrees (call.pages now store.2.pages));
+          store.2 none call.journal call.pool (call.store want now store.0 store.1 was store.2.tied store.2.pages) call.serves call.agrees (call.pages now store.2.pages));
     }
 
 pub returns-in-Ok-clause-keeps : goal.returns-in-Ok-clause-keeps

@@ -16,13 +16,13 @@ returns-then-is_down-clause-any_moment g c = LeavesWanted-none _
 pub returns-in-Err-clause-any_moment : goal.returns-in-Err-clause-any_moment
 returns-in-Err-clause-any_moment g c = record {
   each = λ want now store.
-      (c.load.ensures.images want store.0 store.1 (IsStoreOn-ready want now _ c.args.self.now.journal c.args.self.now.pool.geometry store.0 store.1 (views c.args.self.now.book.actives) store.2.store) store.2.dirty).leaves;
+      (c.load.ensures.images want store.0 store.1 (IsStoreOn-ready want now _ c.args.self.now.journal c.args.self.now.pool.geometry store.0 store.1 (views c.args.self.now.book.actives) store.2.store) store.2.tied).leaves;
 }
 
 pub returns-in-Ok-clause-any_moment : goal.returns-in-Ok-clause-any_moment
 returns-in-Ok-clause-any_moment g c = record {
   each = λ want now store.
-      (c.load.ensures.images want store.0 store.1 (IsStoreOn-ready want now _ c.args.self.now.journal c.args.self.now.pool.geometry store.0 store.1 (views c.args.self.now.book.actives) store.2.store) store.2.dirty).leaves;
+      (c.load.ensures.images want store.0 store.1 (IsStoreOn-ready want now _ c.args.self.now.journal c.args.self.now.pool.geometry store.0 store.1 (views c.args.self.now.book.actives) store.2.store) store.2.tied).leaves;
 }
 
 pub returns-in-Ok-clause-loads : goal.returns-in-Ok-clause-loads
@@ -33,7 +33,7 @@ returns-in-Ok-clause-loads g c =
     let call = c.in-Ok.ensures in
     let ready = IsStoreOn-ready want now (g.D.Disk.told c.args.disk.now) c.args.self.now.journal c.args.self.now.pool.geometry opened pending (views c.args.self.now.book.actives) holds.store in
     HoldsAll-kept want now (g.D.Disk.told c.args.disk.now) (g.D.Disk.told c.load.new.disk) (g.D.Disk.len c.args.disk.now) (g.D.Disk.len c.load.new.disk) c.args.self.now.journal c.load.new.journal c.args.self.now.pool c.load.new.self c.args.self.now.book opened pending holds
-    call.keeps.geometry call.pages call.dirty (call.images want opened pending ready holds.dirty).ready call.journal call.keeps.serves call.keeps.agrees in
+    call.keeps.geometry call.pages (call.images want opened pending ready holds.tied).ready call.journal call.keeps.serves call.keeps.agrees in
     record {
       book = refl;
       pages = λ want now store. let h = logged want now store.0 store.1 store.2 in (h.0, h.1, h.2);

@@ -15,7 +15,7 @@ returns-in-Err-clause-any_moment g c = record {
   each = λ want now ahead.
       (c.write.ensures.images want ahead.opened ahead.pending
       (IsStoreOn-ready want (with_bytes c.args.page c.args.offset c.args.bytes.now now) _ c.args.self.now.journal c.args.self.now.pool.geometry ahead.opened ahead.pending (views c.args.self.now.book.actives) ahead.leans.store)
-      ahead.leans.dirty ahead.covered).leaves;
+      ahead.leans.tied ahead.covered).leaves;
 }
 
 pub returns-in-Ok-clause-any_moment : goal.returns-in-Ok-clause-any_moment
@@ -23,7 +23,7 @@ returns-in-Ok-clause-any_moment g c = record {
   each = λ want now ahead.
       (c.write.ensures.images want ahead.opened ahead.pending
       (IsStoreOn-ready want (with_bytes c.args.page c.args.offset c.args.bytes.now now) _ c.args.self.now.journal c.args.self.now.pool.geometry ahead.opened ahead.pending (views c.args.self.now.book.actives) ahead.leans.store)
-      ahead.leans.dirty ahead.covered).leaves;
+      ahead.leans.tied ahead.covered).leaves;
 }
 
 pub returns-in-Ok-clause-written : goal.returns-in-Ok-clause-written
@@ -34,8 +34,8 @@ returns-in-Ok-clause-written g c =
     let call = c.in-Ok.ensures in
     let ready = IsStoreOn-ready want (with_bytes c.args.page c.args.offset c.args.bytes.now now) (g.D.Disk.told c.args.disk.now) c.args.self.now.journal c.args.self.now.pool.geometry ahead.opened ahead.pending (views c.args.self.now.book.actives) ahead.leans.store in
     HoldsAll-written want now (g.D.Disk.told c.args.disk.now) (g.D.Disk.told c.write.new.disk) (g.D.Disk.len c.args.disk.now) (g.D.Disk.len c.write.new.disk) c.args.self.now.journal c.write.new.journal c.args.self.now.pool c.write.new.self c.args.self.now.book
-    ahead.opened ahead.pending c.args.page c.args.offset c.args.bytes.now ahead.leans ahead.covered
-    call.keeps.geometry call.written call.others (call.images want ahead.opened ahead.pending ready ahead.leans.dirty ahead.covered).ready call.journal call.keeps.serves call.keeps.agrees in
+    ahead.opened ahead.pending c.args.page c.args.offset c.args.bytes.now ahead.leans
+    call.keeps.geometry call.written (call.images want ahead.opened ahead.pending ready ahead.leans.tied ahead.covered).ready call.journal call.keeps.serves call.keeps.agrees in
     record {
       book = refl;
       journal = c.in-Ok.ensures.journal;
