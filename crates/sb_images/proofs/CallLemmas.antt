@@ -9,14 +9,14 @@ use Rattle.sb_log.specs.Records.{Record, AreRecords, spelled}
 use Rattle.sb_log.specs.Restored.{imaged, IsCoveredBehind}
 use Rattle.sb_images.specs.Layout.{place_of}
 use Rattle.sb_images.specs.Images.{Restores}
-use Rattle.sb_images.specs.Store.{IsReady, IsReadyOn, IsPlainOn, AllOpen, IsStolen, OnDisk, restored_on}
+use Rattle.sb_images.specs.Store.{IsReadyFor, IsReadyOn, IsPlainOn, AllOpen, IsStolen, OnDisk, restored_on}
 use Rattle.sb_images.proofs.LayoutLemmas.{page_within}
 use Rattle.sb_images.proofs.ImageLemmas.{Restores-as}
 use Rattle.sb_images.proofs.HoldLemmas.{restored_on-plain, restores-now, restores-append, restores-force, restores-close, restores-write}
-use Rattle.sb_images.proofs.StepLemmas.{IsReady-append, AllOpen-force, IsStolen-wrote, IsReady-sync, IsReady-close}
+use Rattle.sb_images.proofs.StepLemmas.{IsReadyFor-append, AllOpen-force, IsStolen-wrote, IsReadyFor-sync, IsReadyFor-close}
 
 module _ (want : ℕ → List ℕ) (j : State) (g : Geometry) (opened pending : List Record) where
-  wanted : (s : Story) → IsReady want s j g opened pending → (image : List ℕ) → Restores g (restored_on s g opened) image → Restores g want image
+  wanted : (s : Story) → IsReadyFor want s j g opened pending → (image : List ℕ) → Restores g (restored_on s g opened) image → Restores g want image
   wanted s ready image restores = Restores-as g (restored_on s g opened) want image ready.same restores
 
   -- the journal stands
@@ -93,7 +93,7 @@ module _ (want : ℕ → List ℕ) (j : State) (g : Geometry) (opened pending : 
   IsReadyOn-append k more bytes None new spells done sound appended covered all ready plain = subst (λ (m : Option Story). IsReadyOn want m k g opened (pending ++ more)) (sym appended) tt
   IsReadyOn-append k more bytes (Some s) None spells done sound appended covered all ready plain = absurd appended
   IsReadyOn-append k more bytes (Some s) (Some t) spells done sound appended covered all ready plain =
-      IsReady-append s t j k g opened pending more (length bytes) done sound (subst (λ (l : List ℕ). Appended l j k s t) spells appended) want ready covered all plain
+      IsReadyFor-append s t j k g opened pending more (length bytes) done sound (subst (λ (l : List ℕ). Appended l j k s t) spells appended) want ready covered all plain
 
   -- what was pending is in open chunks now
   pub AllOpen-on : (k : State) (told new : Option Story) → k ≡ after_force j → Sound k → WhereTold told new (Forced j k) → IsReadyOn want told j g opened pending → WhereTold told new (AllOpen want k g (opened ++ pending))
@@ -103,13 +103,13 @@ module _ (want : ℕ → List ℕ) (j : State) (g : Geometry) (opened pending : 
 
   pub IsReadyOn-synced : (told new : Option Story) → new ≡ synced told → IsReadyOn want told j g opened pending → IsReadyOn want new j g opened pending
   IsReadyOn-synced None new is ready = subst (λ (m : Option Story). IsReadyOn want m j g opened pending) (sym is) tt
-  IsReadyOn-synced (Some s) new is ready = subst (λ (m : Option Story). IsReadyOn want m j g opened pending) (sym is) (IsReady-sync want s j g opened pending ready)
+  IsReadyOn-synced (Some s) new is ready = subst (λ (m : Option Story). IsReadyOn want m j g opened pending) (sym is) (IsReadyFor-sync want s j g opened pending ready)
 
   -- no record is left, and the pages are those of the disk
   pub IsReadyOn-close : (k : State) (told new : Option Story) → k ≡ after_close j → Sound k → WhereTold told new (Closed j k) → IsReadyOn want told j g opened pending → OnDisk want told g → IsReadyOn want new k g [] []
   IsReadyOn-close k None new done sound closed ready pages = subst (λ (m : Option Story). IsReadyOn want m k g [] []) (sym closed) tt
   IsReadyOn-close k (Some s) None done sound closed ready pages = absurd closed
-  IsReadyOn-close k (Some s) (Some t) done sound closed ready pages = IsReady-close s t j k g done sound closed ready.holds.placed want (λ p lt. (pages p lt).1)
+  IsReadyOn-close k (Some s) (Some t) done sound closed ready pages = IsReadyFor-close s t j k g done sound closed ready.holds.placed want (λ p lt. (pages p lt).1)
 
 pub IsReadyOn-open : (want : ℕ → List ℕ) (k : State) (g : Geometry) (recs : List Record) (told new : Option Story) → WhereTold told new (AllOpen want k g recs) → IsReadyOn want new k g recs []
 IsReadyOn-open want k g recs None new all = subst (λ (n : Option Story). IsReadyOn want n k g recs []) (sym all) tt

@@ -8,10 +8,10 @@ use Rattle.sb_log.specs.declared.geometry.Geometry.{Geometry}
 use Rattle.sb_log.specs.Records.{Record, AreRecords, spelled}
 use Rattle.sb_log.specs.Restored.{IsCoveredBehind}
 use Rattle.sb_images.specs.Images.{Restores, IsOldOrNew}
-use Rattle.sb_images.specs.Store.{Holds, restored_on, IsReady, IsReadyOn, WillBe}
+use Rattle.sb_images.specs.Store.{HoldsRecords, restored_on, IsReadyFor, IsReadyOn, WillBe}
 use Rattle.sb_images.proofs.ImageLemmas.{Restores-as}
 use Rattle.sb_images.proofs.HoldLemmas.{restores-force}
-use Rattle.sb_images.proofs.StepLemmas.{Holds-append, restored_on-append, Holds-force, restored_on-force}
+use Rattle.sb_images.proofs.StepLemmas.{HoldsRecords-append, restored_on-append, HoldsRecords-force, restored_on-force}
 
 -- a run that leaves the old pages leaves the old or the new ones
 pub LeavesOnly-old : (old new : ℕ → List ℕ) (g : Geometry) (a b : Option Story) → LeavesOnly a b (Restores g old) → LeavesOnly a b (IsOldOrNew g old new)
@@ -23,12 +23,12 @@ LeavesOnly-new old new g a b run = weaker a b (Restores g new) (IsOldOrNew g old
 
 module _ (want then : ℕ → List ℕ) (j k : State) (g : Geometry) (opened pending more : List Record) (bytes : List ℕ) (spells : bytes ≡ spelled more) (done : k ≡ after_append (length bytes) j) (sound : Sound k) (covered : IsCoveredBehind (opened ++ pending) more) (all : AreRecords more) where
   -- its records are pending
-  module _ (s t : Story) (ready : IsReady want s j g opened pending) (will : (p : ℕ) → p < g.pages → restored_on s g ((opened ++ pending) ++ more) p ≡ then p) (appended : Appended bytes j k s t) where
+  module _ (s t : Story) (ready : IsReadyFor want s j g opened pending) (will : (p : ℕ) → p < g.pages → restored_on s g ((opened ++ pending) ++ more) p ≡ then p) (appended : Appended bytes j k s t) where
     as_spelled : Appended (spelled more) j k s t
     as_spelled = subst (λ (l : List ℕ). Appended l j k s t) spells appended
 
-    holds_mid : Holds t k g opened (pending ++ more)
-    holds_mid = Holds-append s t j k g opened pending more (length bytes) done sound as_spelled ready.holds covered all
+    holds_mid : HoldsRecords t k g opened (pending ++ more)
+    holds_mid = HoldsRecords-append s t j k g opened pending more (length bytes) done sound as_spelled ready.holds covered all
 
     same_old : (p : ℕ) → p < g.pages → restored_on t g opened p ≡ want p
     same_old p lt = restored_on-append s t j k g opened pending more (length bytes) done sound as_spelled ready.holds.placed opened p ∙ ready.same p lt
@@ -44,9 +44,9 @@ module _ (want then : ℕ → List ℕ) (j k : State) (g : Geometry) (opened pen
         (λ (new : Restores g (restored_on t g (opened ++ (pending ++ more))) image). inr (Restores-as g (restored_on t g (opened ++ (pending ++ more))) then image same_new new))
         (restores-force t k g opened (pending ++ more) holds_mid image forced)
 
-    ready_new : (u : Story) (l : State) → l ≡ after_force k → Sound l → Forced k l t u → IsReady then u l g (opened ++ (pending ++ more)) []
+    ready_new : (u : Story) (l : State) → l ≡ after_force k → Sound l → Forced k l t u → IsReadyFor then u l g (opened ++ (pending ++ more)) []
     ready_new u l forced_done sound_l forced = record {
-      holds = Holds-force t u k l g opened (pending ++ more) forced_done sound_l forced holds_mid;
+      holds = HoldsRecords-force t u k l g opened (pending ++ more) forced_done sound_l forced holds_mid;
       plain = λ p lt. tt;
       same = λ p lt. restored_on-force t u k l g opened (pending ++ more) forced_done sound_l forced holds_mid.placed (opened ++ (pending ++ more)) p ∙ same_new p lt;
     }

@@ -15,7 +15,7 @@ use Rattle.sb_log.proofs.RowLemmas.{AreRecords-parts, Spells-more}
 use Rattle.sb_log.proofs.RestoredLemmas.{imaged-append, restored-imaged, restored-all_harmless, IsCoveredBehind-parts}
 use Rattle.sb_images.specs.Layout.{gates_of, log_of, place_of, page_at, IsStoreOf}
 use Rattle.sb_images.specs.Images.{Restores}
-use Rattle.sb_images.specs.Store.{IsPlaced, Holds, IsPlain, restored_on}
+use Rattle.sb_images.specs.Store.{IsPlaced, HoldsRecords, IsPlain, restored_on}
 use Rattle.sb_images.proofs.LayoutLemmas.{Lies-at, page_off_gates, page_off_log, super_off_gates, super_off_log, IsOff-page, super_off_page, page_off_page, page_at-AgreesBut, IsStoreOf-AgreesBut}
 use Rattle.sb_images.proofs.ImageLemmas.{Restores-empty}
 
@@ -23,7 +23,7 @@ use Rattle.sb_images.proofs.ImageLemmas.{Restores-empty}
 pub IsPlaced-lies : (s : Story) (j : State) (g : Geometry) → IsPlaced s j g → Lies (length s.now.reads) j.gates j.log
 IsPlaced-lies s j g placed = Lies-at g (length s.now.reads) j placed.store.sizes placed.store.room placed.gates placed.log
 
-module _ (s : Story) (j : State) (g : Geometry) (opened pending : List Record) (holds : Holds s j g opened pending) where
+module _ (s : Story) (j : State) (g : Geometry) (opened pending : List Record) (holds : HoldsRecords s j g opened pending) where
   placed : IsPlaced s j g
   placed = holds.placed
 

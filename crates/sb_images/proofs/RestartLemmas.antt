@@ -14,13 +14,13 @@ use Rattle.sb_log.proofs.RestoredLemmas.{restored-imaged}
 use Rattle.sb_log.proofs.ImageLemmas.{restored-not_imaged}
 use Rattle.sb_images.specs.Layout.{gates_of, log_of, place_of, page_at}
 use Rattle.sb_images.specs.Images.{Restores}
-use Rattle.sb_images.specs.Store.{IsReady, IfTold, IsReadyOn, IsMounted, AreChunks, AreShut}
+use Rattle.sb_images.specs.Store.{IsReadyFor, IfTold, IsReadyOn, IsMounted, AreChunks, AreShut}
 use Rattle.sb_images.specs.Writing.{HasRest}
 use Rattle.sb_images.proofs.ImageLemmas.{Logs-one, Restores-as}
 use Rattle.sb_images.proofs.HoldLemmas.{restores-now}
 
 -- the contents are an image
-pub Restores-contents : (want : ℕ → List ℕ) (s : Story) (j : State) (g : Geometry) (opened pending : List Record) → IsReady want s j g opened pending → Restores g want s.now.reads
+pub Restores-contents : (want : ℕ → List ℕ) (s : Story) (j : State) (g : Geometry) (opened pending : List Record) → IsReadyFor want s j g opened pending → Restores g want s.now.reads
 Restores-contents want s j g opened pending ready =
     Restores-as g (λ p. restored opened p (page_at g p s.now.reads)) want s.now.reads ready.same (restores-now s j g opened pending ready.holds s.now.reads (Leaves-reads s.now))
 
@@ -42,7 +42,7 @@ module _ (want : ℕ → List ℕ) (j : State) (g : Geometry) (gates : j.gates �
     settled_sure : (at count : ℕ) → Sure at count s.now.written
     settled_sure at count = λ i from to. settled i
 
-    ready_here : IsReady want s j g recs []
+    ready_here : IsReadyFor want s j g recs []
     ready_here = record {
       holds = record {
         placed = record { store = restores.store; super = settled_sure 0 4096; gates = gates; log = log; sound = sound; up = up; stands = stands };

@@ -16,7 +16,7 @@ use Rattle.sb_log.specs.Restored.{restored, imaged, IsCoveredBehind, IsCovered, 
 use Rattle.sb_log.proofs.RowLemmas.{spelled-append, spelled_none, AreRecords-append, Spells-more}
 use Rattle.sb_log.proofs.RestoredLemmas.{imaged-append, base-imaged, restored-imaged, IsCoveredBehind-append}
 use Rattle.sb_images.specs.Layout.{place_of, page_at, IsStoreOf}
-use Rattle.sb_images.specs.Store.{IsPlaced, Holds, IsPlain, restored_on, IsReady, AllOpen, IsStolen}
+use Rattle.sb_images.specs.Store.{IsPlaced, HoldsRecords, IsPlain, restored_on, IsReadyFor, AllOpen, IsStolen}
 use Rattle.sb_images.proofs.LayoutLemmas.{page_within, page_off_gates, page_off_log, super_off_gates, super_off_log, IsOff-page, log_before, super_off_page, page_off_page, page_at-AgreesBut, IsStoreOf-AgreesBut}
 use Rattle.sb_images.proofs.HoldLemmas.{IsPlaced-lies, restored_on-plain, backed-write}
 
@@ -57,8 +57,8 @@ module _ (s t : Story) (j k : State) (g : Geometry) (opened pending more : List 
   pub page_at-append : IsPlaced s j g → (p : ℕ) → page_at g p t.now.reads ≡ page_at g p s.now.reads
   page_at-append placed p = page_at-AgreesBut g p (j.log ∷ []) s.now.reads t.now.reads appended.elsewhere (page_off_log g j placed.gates placed.log p [] (none_sure (place_of g p) 4096))
 
-  pub Holds-append : Holds s j g opened pending → IsCoveredBehind (opened ++ pending) more → AreRecords more → Holds t k g opened (pending ++ more)
-  Holds-append holds covered all = record {
+  pub HoldsRecords-append : HoldsRecords s j g opened pending → IsCoveredBehind (opened ++ pending) more → AreRecords more → HoldsRecords t k g opened (pending ++ more)
+  HoldsRecords-append holds covered all = record {
     placed =
         let placed = holds.placed in
         let off = super_off_log g j placed.gates placed.log [] (none_sure 0 4096) in
@@ -76,9 +76,9 @@ module _ (s t : Story) (j k : State) (g : Geometry) (opened pending more : List 
   pub restored_on-append : IsPlaced s j g → (recs : List Record) (p : ℕ) → restored_on t g recs p ≡ restored_on s g recs p
   restored_on-append placed recs p = ap (λ (d : List ℕ). restored recs p d) (page_at-append placed p)
 
-  pub IsReady-append : (want : ℕ → List ℕ) → IsReady want s j g opened pending → IsCoveredBehind (opened ++ pending) more → AreRecords more → IsPlain s g opened (pending ++ more) → IsReady want t k g opened (pending ++ more)
-  IsReady-append want ready covered all plain = record {
-    holds = Holds-append ready.holds covered all;
+  pub IsReadyFor-append : (want : ℕ → List ℕ) → IsReadyFor want s j g opened pending → IsCoveredBehind (opened ++ pending) more → AreRecords more → IsPlain s g opened (pending ++ more) → IsReadyFor want t k g opened (pending ++ more)
+  IsReadyFor-append want ready covered all plain = record {
+    holds = HoldsRecords-append ready.holds covered all;
     plain = λ p lt. subst (λ (d : List ℕ). AreHarmless opened p d (pending ++ more)) (sym (page_at-append ready.holds.placed p)) (plain p lt);
     same = λ p lt. restored_on-append ready.holds.placed opened p ∙ ready.same p lt;
   }
@@ -96,7 +96,7 @@ module _ (s t : Story) (j k : State) (g : Geometry) (opened pending : List Recor
   page_at-force placed p = page_at-AgreesBut g p (j.gates ∷ j.log ∷ []) s.now.reads t.now.reads (AgreesBut-gates j (j.log ∷ []) s.now.reads t.now.reads forced.elsewhere)
       (page_off_gates g j placed.gates placed.log p (j.log ∷ []) (page_off_log g j placed.gates placed.log p [] (none_sure (place_of g p) 4096)))
 
-  spells_force : Holds s j g opened pending → Spells (chunks_of k t.now.reads) (opened ++ pending)
+  spells_force : HoldsRecords s j g opened pending → Spells (chunks_of k t.now.reads) (opened ++ pending)
   spells_force holds = subst (λ (cs : List (List ℕ)). Spells cs (opened ++ pending)) (sym forced.chunks) (⊎_elim
       (λ (none : j.pending ≡ 0).
       let empty : pending ≡ [] = spelled_none pending (sym holds.tail ∙ ap (λ (m : ℕ). take m (drop (j.log.start + bytes_of j.lens + 4) s.now.reads)) none) in
@@ -112,8 +112,8 @@ module _ (s t : Story) (j k : State) (g : Geometry) (opened pending : List Recor
   imaged_force : (p : ℕ) → imaged opened p ≡ true → imaged (opened ++ pending) p ≡ true
   imaged_force p is = rw (imaged-append opened pending p, is) refl
 
-  pub Holds-force : Holds s j g opened pending → Holds t k g (opened ++ pending) []
-  Holds-force holds = record {
+  pub HoldsRecords-force : HoldsRecords s j g opened pending → HoldsRecords t k g (opened ++ pending) []
+  HoldsRecords-force holds = record {
     placed =
         let placed = holds.placed in
         let off = super_off_gates g j placed.gates placed.log (j.log ∷ []) (super_off_log g j placed.gates placed.log [] (none_sure 0 4096)) in
@@ -129,10 +129,10 @@ module _ (s t : Story) (j k : State) (g : Geometry) (opened pending : List Recor
   pub restored_on-force : IsPlaced s j g → (recs : List Record) (p : ℕ) → restored_on t g recs p ≡ restored_on s g recs p
   restored_on-force placed recs p = ap (λ (d : List ℕ). restored recs p d) (page_at-force placed p)
 
-  pub AllOpen-force : (want : ℕ → List ℕ) → IsReady want s j g opened pending → AllOpen want k g (opened ++ pending) s t
+  pub AllOpen-force : (want : ℕ → List ℕ) → IsReadyFor want s j g opened pending → AllOpen want k g (opened ++ pending) s t
   AllOpen-force want ready = record {
     ready = record {
-      holds = Holds-force ready.holds;
+      holds = HoldsRecords-force ready.holds;
       plain = λ p lt. tt;
       same = λ p lt. restored_on-force ready.holds.placed (opened ++ pending) p ∙ restored_on-plain s j g opened pending ready.holds ready.plain p lt ∙ ready.same p lt;
     };
@@ -160,8 +160,8 @@ module _ (s : Story) (j : State) (g : Geometry) (opened pending : List Record) (
       (λ (apart : (p < q) ⊎ (q < p)). page_off_page g p q at n [] from to apart (none_sure (place_of g q) 4096))
       (cases_order p q))
 
-  pub Holds-write : Holds s j g opened pending → Holds (after_write at n reads s) j g opened pending
-  Holds-write holds =
+  pub HoldsRecords-write : HoldsRecords s j g opened pending → HoldsRecords (after_write at n reads s) j g opened pending
+  HoldsRecords-write holds =
       let placed = holds.placed in
       let before = log_before g j placed.gates placed.log p in
       let room = placed.sound.log in
@@ -194,15 +194,15 @@ module _ (s : Story) (j : State) (g : Geometry) (opened pending : List Record) (
       (λ (other : ¬ (q ≡ p)). subst (λ (d : List ℕ). AreHarmless opened q d pending) (sym (page_at-write q other)) (plain q below))
       (cases_eq q p)
 
-  pub IsReady-write : (want : ℕ → List ℕ) → IsReady want s j g opened pending → IsReady want (after_write at n reads s) j g opened pending
-  IsReady-write want ready = record {
-    holds = Holds-write ready.holds;
+  pub IsReadyFor-write : (want : ℕ → List ℕ) → IsReadyFor want s j g opened pending → IsReadyFor want (after_write at n reads s) j g opened pending
+  IsReadyFor-write want ready = record {
+    holds = HoldsRecords-write ready.holds;
     plain = plain_write ready.plain;
     same = λ q below. restored_on-write opened is q ∙ ready.same q below;
   }
 
 -- a whole page
-pub IsStolen-wrote : (want : ℕ → List ℕ) (s : Story) (j : State) (g : Geometry) (opened pending : List Record) (p : ℕ) (bytes : List ℕ) → IsReady want s j g opened pending → p < g.pages → imaged opened p ≡ true → length bytes ≡ 4096
+pub IsStolen-wrote : (want : ℕ → List ℕ) (s : Story) (j : State) (g : Geometry) (opened pending : List Record) (p : ℕ) (bytes : List ℕ) → IsReadyFor want s j g opened pending → p < g.pages → imaged opened p ≡ true → length bytes ≡ 4096
     → IsStolen want j g opened pending p bytes s (after_write (place_of g p) (length bytes) (splice (place_of g p) bytes s.now.reads) s)
 IsStolen-wrote want s j g opened pending p bytes ready lt is long =
     let within = page_within g (length s.now.reads) p ready.holds.placed.store.room lt in
@@ -211,14 +211,14 @@ IsStolen-wrote want s j g opened pending p bytes ready lt is long =
     let agrees = splice-AgreesBut (place_of g p) bytes s.now.reads (omega arith) in
     let reads : List ℕ = splice (place_of g p) bytes s.now.reads in
     record {
-      ready = IsReady-write s j g opened pending p (place_of g p) (length bytes) is from to (splice (place_of g p) bytes s.now.reads) agrees want ready;
+      ready = IsReadyFor-write s j g opened pending p (place_of g p) (length bytes) is from to (splice (place_of g p) bytes s.now.reads) agrees want ready;
       page = ap (λ (m : ℕ). take m (drop (place_of g p) (splice (place_of g p) bytes s.now.reads))) (sym long) ∙ slice-splice (place_of g p) bytes s.now.reads (omega arith);
       others = λ q below other. page_at-write s j g opened pending p (place_of g p) (length bytes) is from to (splice (place_of g p) bytes s.now.reads) agrees q other;
     }
 
 -- ---- a sync
-pub IsReady-sync : (want : ℕ → List ℕ) (s : Story) (j : State) (g : Geometry) (opened pending : List Record) → IsReady want s j g opened pending → IsReady want (after_sync s) j g opened pending
-IsReady-sync want s j g opened pending ready =
+pub IsReadyFor-sync : (want : ℕ → List ℕ) (s : Story) (j : State) (g : Geometry) (opened pending : List Record) → IsReadyFor want s j g opened pending → IsReadyFor want (after_sync s) j g opened pending
+IsReadyFor-sync want s j g opened pending ready =
     let holds = ready.holds in
     let placed = holds.placed in
     let stands = placed.stands in
@@ -245,8 +245,8 @@ module _ (s t : Story) (j k : State) (g : Geometry) (done : k ≡ after_close j)
   pub page_at-close : (p : ℕ) → page_at g p t.now.reads ≡ page_at g p s.now.reads
   page_at-close p = page_at-AgreesBut g p (j.gates ∷ []) s.now.reads t.now.reads closed.elsewhere (page_off_gates g j placed.gates placed.log p [] (none_sure (place_of g p) 4096))
 
-  pub IsReady-close : (want : ℕ → List ℕ) → ((p : ℕ) → p < g.pages → page_at g p s.now.reads ≡ want p) → IsReady want t k g [] []
-  IsReady-close want pages = record {
+  pub IsReadyFor-close : (want : ℕ → List ℕ) → ((p : ℕ) → p < g.pages → page_at g p s.now.reads ≡ want p) → IsReadyFor want t k g [] []
+  IsReadyFor-close want pages = record {
     holds = record {
       placed = IsPlaced-next s t j k g placed
           (IsStoreOf-AgreesBut g (j.gates ∷ []) s.now.reads t.now.reads closed.elsewhere (super_off_gates g j placed.gates placed.log [] (none_sure 0 4096)) placed.store)

@@ -17,7 +17,7 @@ use Rattle.sb_images.proofs.LayoutLemmas.{length-page_at}
 use Rattle.std.proofs.lemmas.Bool.{cases_eq}
 use Rattle.std.proofs.lemmas.List.{append-nil}
 use Rattle.sb_images.proofs.HoldLemmas.{restored_on-plain}
-use Rattle.sb_images.proofs.StepLemmas.{Holds-append, page_at-append, IsReady-append, page_at-force, AllOpen-force, IsReady-sync, page_at-close, IsReady-close}
+use Rattle.sb_images.proofs.StepLemmas.{HoldsRecords-append, page_at-append, IsReadyFor-append, page_at-force, AllOpen-force, IsReadyFor-sync, page_at-close, IsReadyFor-close}
 use Rattle.sb_images.proofs.CommitLemmas.{IsReadyOn-commit}
 use Rattle.sb_images.proofs.PageLemmas.{IsWhole-pages, restored-commit_same, restored-commit_own, restored-commit_only}
 
@@ -62,7 +62,7 @@ module _ (want now : ℕ → List ℕ) (j : State) (g : Geometry) (opened pendin
         let spelled_so = subst (λ (l : List ℕ). Appended l j k s t) spells appended in
         let covered : IsCovered ((opened ++ pending) ++ more) = subst (λ (l : List Record). IsCovered l) (sym (append_assoc opened pending more)) whole.covered in
         record {
-          ready = IsReady-append s t j k g opened pending more (length bytes) done sound spelled_so want store.ready (IsCoveredBehind-parts [] (opened ++ pending) more covered).1 all whole.plain;
+          ready = IsReadyFor-append s t j k g opened pending more (length bytes) done sound spelled_so want store.ready (IsCoveredBehind-parts [] (opened ++ pending) more covered).1 all whole.plain;
           whole = IsWhole-pages g.pages (λ p. page_at g p s.now.reads) (λ p. page_at g p t.now.reads) then opened (pending ++ more) then_active
               (λ p lt. inr (page_at-append s t j k g opened pending more (length bytes) done sound spelled_so store.ready.holds.placed p)) whole;
         }
@@ -117,7 +117,7 @@ module _ (want now : ℕ → List ℕ) (j : State) (g : Geometry) (opened pendin
   pub IsStoreOn-synced : (told new : Option Story) → new ≡ synced told → IsStoreOn want now told j g opened pending active → IsStoreOn want now new j g opened pending active
   IsStoreOn-synced None new is store = subst (λ (m : Option Story). IsStoreOn want now m j g opened pending active) (sym is) tt
   IsStoreOn-synced (Some s) new is store = subst (λ (m : Option Story). IsStoreOn want now m j g opened pending active) (sym is)
-      (record { ready = IsReady-sync want s j g opened pending store.ready; whole = store.whole })
+      (record { ready = IsReadyFor-sync want s j g opened pending store.ready; whole = store.whole })
 
 -- ---- a checkpoint
 module _ (want now : ℕ → List ℕ) (j : State) (g : Geometry) (opened pending : List Record) where
@@ -126,7 +126,7 @@ module _ (want now : ℕ → List ℕ) (j : State) (g : Geometry) (opened pendin
       let placed = store.ready.holds.placed in
       let same = IsStore-idle want now j g opened pending [] s refl store in
       record {
-        ready = IsReady-close s t j k g done sound closed placed want (λ p lt. pages p lt ∙ same p lt);
+        ready = IsReadyFor-close s t j k g done sound closed placed want (λ p lt. pages p lt ∙ same p lt);
         whole = IsWhole-pages g.pages now (λ p. page_at g p t.now.reads) now [] [] []
             (λ p lt. inr (page_at-close s t j k g done sound closed placed p ∙ pages p lt))
             (IsWhole-checkpoint g.pages (λ p. page_at g p s.now.reads) now opened pending store.whole);
@@ -168,7 +168,7 @@ module _ (want now : ℕ → List ℕ) (j : State) (g : Geometry) (opened pendin
         let none : ((opened ++ pending) ++ more) ++ [] ≡ (opened ++ pending) ++ more = append-nil ((opened ++ pending) ++ more) in
         let covered = (IsCoveredBehind-parts [] (opened ++ pending) more (subst (λ (x : List Record). IsCovered x) none whole.covered)).1 in
         let placed = store.ready.holds.placed in
-        let mid = Holds-append s t j k g opened pending more (length bytes) done sound spelled_so store.ready.holds covered all in
+        let mid = HoldsRecords-append s t j k g opened pending more (length bytes) done sound spelled_so store.ready.holds covered all in
         record {
           ready = IsReadyOn-commit want then j k g opened pending more bytes spells done sound covered all l (Some s) (Some t) (Some u) store.ready will appended forced_done sound_l forced;
           whole = IsWhole-pages g.pages (λ p. page_at g p s.now.reads) (λ p. page_at g p u.now.reads) now (opened ++ (pending ++ more)) [] rest

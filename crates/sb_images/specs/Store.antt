@@ -24,7 +24,7 @@ pub record IsPlaced (s : Story) (j : State) (g : Geometry) : Type 0 where
   pub stands : Stands s j
 
 -- The open chunks are the records opened, and the pending bytes those pending. Each page has an Image in an open chunk, or isn't pending.
-pub record Holds (s : Story) (j : State) (g : Geometry) (opened pending : List Record) : Type 0 where
+pub record HoldsRecords (s : Story) (j : State) (g : Geometry) (opened pending : List Record) : Type 0 where
   pub placed : IsPlaced s j g
   pub forced : Spells (chunks_of j s.now.reads) opened
   pub tail : pending_of j s.now.reads ≡ spelled pending
@@ -41,28 +41,28 @@ abbrev pub restored_on : Story → Geometry → List Record → ℕ → List ℕ
 restored_on s g recs p = restored recs p (page_at g p s.now.reads)
 
 -- What is restored are these pages, and it stays so when the pending records are forced.
-pub record IsReady (want : ℕ → List ℕ) (s : Story) (j : State) (g : Geometry) (opened pending : List Record)
+pub record IsReadyFor (want : ℕ → List ℕ) (s : Story) (j : State) (g : Geometry) (opened pending : List Record)
     : Type 0 where
-  pub holds : Holds s j g opened pending
+  pub holds : HoldsRecords s j g opened pending
   pub plain : IsPlain s g opened pending
   pub same : (p : ℕ) → p < g.pages → restored_on s g opened p ≡ want p
 
 -- A store: what is restored are the pages wanted, and if all active transactions committed, it would be the pages now.
 pub record IsStore (want now : ℕ → List ℕ) (s : Story) (j : State) (g : Geometry)
     (opened pending : List Record) (active : List Active) : Type 0 where
-  pub ready : IsReady want s j g opened pending
+  pub ready : IsReadyFor want s j g opened pending
   pub whole : IsWhole g.pages (λ p. page_at g p s.now.reads) now opened pending active
 
 -- ---- what a step makes of it
 -- All records are in open chunks now, and the disk's pages are as they were.
 pub record AllOpen (want : ℕ → List ℕ) (j : State) (g : Geometry) (recs : List Record) (s t : Story) : Type 0 where
-  pub ready : IsReady want t j g recs []
+  pub ready : IsReadyFor want t j g recs []
   pub pages : (q : ℕ) → q < g.pages → page_at g q t.now.reads ≡ page_at g q s.now.reads
 
 -- The disk's page p is these bytes now, and its other pages are as they were.
 pub record IsStolen (want : ℕ → List ℕ) (j : State) (g : Geometry) (opened pending : List Record)
     (p : ℕ) (bytes : List ℕ) (s t : Story) : Type 0 where
-  pub ready : IsReady want t j g opened pending
+  pub ready : IsReadyFor want t j g opened pending
   pub page : page_at g p t.now.reads ≡ bytes
   pub others : (q : ℕ) → q < g.pages → ¬ (q ≡ p) → page_at g q t.now.reads ≡ page_at g q s.now.reads
 
@@ -89,7 +89,7 @@ IfTold (Some s) A = A
 -- what is restored are these pages
 abbrev pub IsReadyOn : (ℕ → List ℕ) → Option Story → State → Geometry → List Record → List Record → Type 0
 IsReadyOn want None j g opened pending = Unit {0}
-IsReadyOn want (Some s) j g opened pending = IsReady want s j g opened pending
+IsReadyOn want (Some s) j g opened pending = IsReadyFor want s j g opened pending
 
 -- a store with these pages wanted, these now, and these transactions active
 abbrev pub IsStoreOn : (ℕ → List ℕ) → (ℕ → List ℕ) → Option Story → State → Geometry

@@ -11,7 +11,7 @@ use Rattle.sb_log.specs.Restored.{base, imaged, IsCovered}
 use Rattle.sb_log.specs.Views.{Active, AreActive, IsPage}
 use Rattle.sb_log.proofs.RestoredLemmas.{imaged-append, base-imaged}
 use Rattle.sb_images.specs.Layout.{place_of, page_at, gates_of, log_of}
-use Rattle.sb_images.specs.Store.{IsReady, IsStore, IsStoreOn, KeepsRest}
+use Rattle.sb_images.specs.Store.{IsReadyFor, IsStore, IsStoreOn, KeepsRest}
 use Rattle.sb_images.proofs.LayoutLemmas.{page_off_gates, page_off_log, page_at-AgreesBut}
 use Rattle.sb_pool.specs.Calls.{AreTied, IsReadyStill, IsReadyWith}
 use Rattle.sb_pool.specs.Pages.{bytes_or, pool_page, with_bytes, IsClean, PagesAgreeOn, AgreesOn, ArePagesOn, Becomes, KeepsPages}
@@ -99,7 +99,7 @@ module _ (want now : ℕ → List ℕ) (j k : journal.State) (g : Geometry) (ope
         (λ (e : page_at g q t.now.reads ≡ page_at g q s.now.reads). ap (λ (d : List ℕ). base q (o ++ p) d) (sym e))
         rest
 
-    goes_on : (s t : Story) → IsStore want now s j g opened pending active → IsReady want t k g o p → KeepsRest g o s t → IsStore want now t k g o p active
+    goes_on : (s t : Story) → IsStore want now s j g opened pending active → IsReadyFor want t k g o p → KeepsRest g o s t → IsStore want now t k g o p active
     goes_on s t store ready rest = record {
       ready = ready;
       whole = record {

@@ -9,7 +9,7 @@ use Rattle.sb_log.specs.declared.geometry.Geometry.{Geometry}
 use Rattle.sb_log.specs.Records.{Record}
 use Rattle.sb_log.specs.Restored.{imaged}
 use Rattle.sb_log.proofs.RowLemmas.{spelled_none}
-use Rattle.sb_images.specs.Store.{IsReady}
+use Rattle.sb_images.specs.Store.{IsReadyFor}
 use Rattle.sb_pool.specs.Calls.{AreImaged, AreTied, IsReadyWith}
 use Rattle.sb_pool.specs.State.{State, IsDirty, NoneMoreDirty, empty_pool}
 use Rattle.sb_pool.proofs.PageLemmas.{empty-clean}
@@ -34,7 +34,7 @@ none_behind : (chunks n : ℕ) → chunks + room_of n ≤ chunks → n ≡ 0
 none_behind chunks zero within = omega arith
 none_behind chunks (suc n) within = absurd (omega arith)
 
-none_pending : (want : ℕ → List ℕ) (s : Story) (j : journal.State) (g : Geometry) (opened pending : List Record) → IsReady want s j g opened pending → j.pending ≡ 0 → pending ≡ []
+none_pending : (want : ℕ → List ℕ) (s : Story) (j : journal.State) (g : Geometry) (opened pending : List Record) → IsReadyFor want s j g opened pending → j.pending ≡ 0 → pending ≡ []
 none_pending want s j g opened pending ready none = spelled_none pending (sym ready.holds.tail ∙ ap (λ (m : ℕ). take m (drop (j.log.start + bytes_of j.lens + 4) s.now.reads)) none)
 
 module _ (want : ℕ → List ℕ) (g : Geometry) (recs : List Record) (k : journal.State) (mid after : State) (page : ℕ) (here : imaged recs page ≡ true) (others : (p : ℕ) → IsDirty after p → IsDirty mid p ⊎ (p ≡ page)) where
