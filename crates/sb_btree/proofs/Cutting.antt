@@ -3,7 +3,8 @@ use Rattle.std.proofs.Common.{◌≡◌, ℕ, ◌+◌, ◌-◌, ◌<◌, Bool, t
 use Rattle.std.specs.Prelude.{nat_eq, Result, Ok, Err, IfSome}
 use Rattle.std.specs.FinMap.Entries.{find}
 use Rattle.std.proofs.lemmas.List.{nil_from_length}
-use Rattle.sb_ctx.specs.View.{View, page_of, with_page, spliced, dropped}
+use Rattle.sb_bytes.specs.Bytes.{splice}
+use Rattle.sb_ctx.specs.View.{View, page_of, with_page, dropped}
 use Rattle.sb_ctx.proofs.ViewLaws.{room_of-page, dropped-with_page}
 use Rattle.sb_node.specs.declared.head.Head.{Head}
 use Rattle.sb_node.specs.Entries.{Entry, key_cmp, lesser, place_of, without}
@@ -25,7 +26,7 @@ use Rattle.sb_btree.proofs.Placing.{page_count, passed-ok, nth_first}
 use Rattle.sb_btree.proofs.Without.{cut_is}
 
 -- a page that is written whole has this node
-pub wrote : (old new : View) (page : ℕ) (bytes left : List ℕ) (n : Node) → page_of old page ≡ Some bytes → has_form bytes ≡ true → has_form left ≡ true → node_in left ≡ n → IfSome (page_of old page) (λ was. new ≡ with_page page (spliced 0 left was) old) → Wrote old new page n
+pub wrote : (old new : View) (page : ℕ) (bytes left : List ℕ) (n : Node) → page_of old page ≡ Some bytes → has_form bytes ≡ true → has_form left ≡ true → node_in left ≡ n → IfSome (page_of old page) (λ was. new ≡ with_page page (splice 0 left was) old) → Wrote old new page n
 wrote old new page bytes left n at form form_left is changed = record {
   bytes = left;
   changed = edited old new page left (room_of-page old page bytes at ∙ form_size bytes form) (form_size left form_left) changed;
@@ -100,7 +101,7 @@ pub first_left : (bytes : List ℕ) (head : Head) (i k first : ℕ) → head ≡
 first_left bytes head i k first is at which = at ∙ ap (λ (h : Head). nth_child h.a (node_in bytes).entries k) is ∙ first_is i k (node_in bytes) which
 
 pub child_cut : (old new : View) (page i j first : ℕ) (bytes mid left : List ℕ) (head : Head) → page_of old page ≡ Some bytes → has_form bytes ≡ true → head ≡ (node_in bytes).head → first ≡ first_without i (node_in bytes) → j ≡ i - 1
-    → Becomes bytes mid (with_entries (without j (node_in bytes).entries) (node_in bytes)) → Becomes mid left (with_head (record head { a = first }) (node_in mid)) → IfSome (page_of old page) (λ was. new ≡ with_page page (spliced 0 left was) old)
+    → Becomes bytes mid (with_entries (without j (node_in bytes).entries) (node_in bytes)) → Becomes mid left (with_head (record head { a = first }) (node_in mid)) → IfSome (page_of old page) (λ was. new ≡ with_page page (splice 0 left was) old)
     → Wrote old new page (without_child i (node_in bytes))
 child_cut old new page i j first bytes mid left head at form is first_is before cut set changed =
     wrote old new page bytes left (without_child i (node_in bytes)) at form set.form
@@ -109,6 +110,6 @@ child_cut old new page i j first bytes mid left head at form is first_is before 
 
 -- the leftmost child alone is another one
 pub first_set : (old new : View) (page child : ℕ) (bytes left : List ℕ) (head : Head) → page_of old page ≡ Some bytes → has_form bytes ≡ true → head ≡ (node_in bytes).head
-    → Becomes bytes left (with_head (record head { a = child }) (node_in bytes)) → IfSome (page_of old page) (λ was. new ≡ with_page page (spliced 0 left was) old) → Wrote old new page (taker true child (node_in bytes))
+    → Becomes bytes left (with_head (record head { a = child }) (node_in bytes)) → IfSome (page_of old page) (λ was. new ≡ with_page page (splice 0 left was) old) → Wrote old new page (taker true child (node_in bytes))
 first_set old new page child bytes left head at form is set changed =
     wrote old new page bytes left (taker true child (node_in bytes)) at form set.form (set.node_is ∙ ap (λ (h : Head). with_head (record h { a = child }) (node_in bytes)) is) changed

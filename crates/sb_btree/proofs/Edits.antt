@@ -4,11 +4,12 @@ use Rattle.std.specs.Prelude.{◌||◌, Result, Ok, Err, IfOk, IfSome}
 use Rattle.std.proofs.lemmas.Bool.{and_parts, eqb-true}
 use Rattle.std.proofs.lemmas.List.{append-nil, drop_all}
 use Rattle.std.proofs.lemmas.Option.{same_Some}
+use Rattle.sb_bytes.specs.Bytes.{splice}
 use Rattle.sb_bytes.specs.Field.{number_at}
 use Rattle.sb_forms.specs.Pages.{zeros}
 use Rattle.sb_ctx.proofs.HeldLaws.{page_in-each}
 use Rattle.sb_ctx.proofs.ViewLaws.{page_of-same, page_of-other, room_of-page}
-use Rattle.sb_ctx.specs.View.{HeldPage, HeldPages, View, held_at, page_of, room_of, with_page, spliced, as_given, dropped}
+use Rattle.sb_ctx.specs.View.{HeldPage, HeldPages, View, held_at, page_of, room_of, with_page, as_given, dropped}
 use Rattle.sb_node.specs.declared.head.Head.{Head}
 use Rattle.sb_node.specs.Page.{Node, has_form, node_in}
 use Rattle.sb_node.proofs.Edited.{node_of-form}
@@ -24,13 +25,13 @@ use Rattle.sb_btree.proofs.Descending.{breaks_here}
 use Rattle.sb_btree.proofs.Halved.{held_some, free_page_of}
 
 -- ---- a page that is written whole
-pub edited : (c new : View) (n : ℕ) (bytes : List ℕ) → room_of c n ≡ 4096 → length bytes ≡ 4096 → IfSome (page_of c n) (λ page. new ≡ with_page n (spliced 0 bytes page) c) → new ≡ with_page n bytes c
+pub edited : (c new : View) (n : ℕ) (bytes : List ℕ) → room_of c n ≡ 4096 → length bytes ≡ 4096 → IfSome (page_of c n) (λ page. new ≡ with_page n (splice 0 bytes page) c) → new ≡ with_page n bytes c
 edited c new n bytes whole long is = by (page_of c n) whole is
   where
     room : Option (List ℕ) → ℕ
     room o = elim o [ None ↦ 0 | Some page ↦ length page ]
 
-    by : (o : Option (List ℕ)) → room o ≡ 4096 → IfSome o (λ page. new ≡ with_page n (spliced 0 bytes page) c) → new ≡ with_page n bytes c
+    by : (o : Option (List ℕ)) → room o ≡ 4096 → IfSome o (λ page. new ≡ with_page n (splice 0 bytes page) c) → new ≡ with_page n bytes c
     by None whole is = absurd (omega arith)
     by (Some page) whole is =
         is ∙ ap (λ (l : List ℕ). with_page n l c) (ap (λ (l : List ℕ). bytes ++ l) (drop_all (0 + length bytes) page (omega arith)) ∙ append-nil bytes)

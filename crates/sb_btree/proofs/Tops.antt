@@ -3,11 +3,12 @@ use Rattle.std.proofs.Common.{◌≡◌, ℕ, suc, ◌+◌, List, [], ◌∷◌,
 use Rattle.std.specs.Prelude.{IfSome}
 use Rattle.std.proofs.lemmas.List.{length-replicate}
 use Rattle.std.specs.FinMap.Entries.{put}
+use Rattle.sb_bytes.specs.Bytes.{splice}
 use Rattle.sb_bytes.specs.Field.{number_at}
 use Rattle.sb_forms.specs.Pages.{zeros}
 use Rattle.sb_ctx.proofs.ViewLaws.{IsFree-free_page, page_of-same, page_of-other, room_of-page, dropped-with_page}
 use Rattle.sb_ctx.specs.Sound.{IsSound}
-use Rattle.sb_ctx.specs.View.{View, page_of, room_of, free_page, with_page, spliced, dropped}
+use Rattle.sb_ctx.specs.View.{View, page_of, room_of, free_page, with_page, dropped}
 use Rattle.sb_node.specs.declared.head.Head.{Head}
 use Rattle.sb_node.specs.Entries.{key_cmp}
 use Rattle.sb_node.specs.Page.{Node, Becomes, node_in, node_of, with_entries, with_head, empty_node}
@@ -66,7 +67,7 @@ pub record Writes (old new : View) (page other : ℕ) (bytes : List ℕ) : Type 
   pub given : dropped new ≡ dropped old
 
 -- another page keeps its room
-pub writes : (old new : View) (page other : ℕ) (bytes : List ℕ) → (page ≡ other → ⊥) → (room_of old page ≡ 4096) × (room_of old other ≡ 4096) → length bytes ≡ 4096 → IfSome (page_of old page) (λ was. new ≡ with_page page (spliced 0 bytes was) old) → Writes old new page other bytes
+pub writes : (old new : View) (page other : ℕ) (bytes : List ℕ) → (page ≡ other → ⊥) → (room_of old page ≡ 4096) × (room_of old other ≡ 4096) → length bytes ≡ 4096 → IfSome (page_of old page) (λ was. new ≡ with_page page (splice 0 bytes was) old) → Writes old new page other bytes
 writes old new page other bytes apart rooms long is =
     let changed = edited old new page bytes rooms.0 long is in
     record {
@@ -75,7 +76,7 @@ writes old new page other bytes apart rooms long is =
       given = ap dropped changed ∙ dropped-with_page old page bytes;
     }
 
-pub edit_given : (old new : View) (page : ℕ) (bytes : List ℕ) → room_of old page ≡ 4096 → length bytes ≡ 4096 → IfSome (page_of old page) (λ was. new ≡ with_page page (spliced 0 bytes was) old) → dropped new ≡ dropped old
+pub edit_given : (old new : View) (page : ℕ) (bytes : List ℕ) → room_of old page ≡ 4096 → length bytes ≡ 4096 → IfSome (page_of old page) (λ was. new ≡ with_page page (splice 0 bytes was) old) → dropped new ≡ dropped old
 edit_given old new page bytes room long is = ap dropped (edited old new page bytes room long is) ∙ dropped-with_page old page bytes
 
 -- ---- a root over two pages

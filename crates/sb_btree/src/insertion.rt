@@ -19,9 +19,9 @@ use crate::halves::{put_in, split};
 use crate::lookup::copied;
 use crate::page::{MOST_LEVEL, child_at, count_upto, root_level, tree_page};
 use crate::walk::{Stop, Walk, answer};
-use sb_bytes::put_u32;
+use sb_bytes::{PAGE_LEN, put_u32};
 use sb_ctx::Ctx;
-use sb_node::{Head, PAGE_SIZE, add, clear, cut, entry, form, kind, place, set_head};
+use sb_node::{Head, add, clear, cut, entry, form, kind, place, set_head};
 use sb_value::RecKey;
 use std::alloc::{AllocError, Global};
 
@@ -327,7 +327,7 @@ fn split_copy(
     ensures edits { edits_of ctx.new ≤ edits_of ctx.old + (3 - written ctx.old page) }
     ensures room { TakesAt ctx.old ctx.new (size_of (key.now, value.now)) (Some (node_in copy.old)) result }
 {
-    let mut right = [0; PAGE_SIZE];
+    let mut right = [0; PAGE_LEN];
     clear(&mut right, copy[0], level);
     split(copy, &mut right, key, value);
     match first_bound(alloc, &mut right, level)? {
@@ -433,7 +433,7 @@ pub fn grow(
     let Some(first) = ctx.fresh() else {
         return Err(Stop::Fresh);
     };
-    let mut top = [0; PAGE_SIZE];
+    let mut top = [0; PAGE_LEN];
     make_top(&mut top, level + 1, first, bound, next);
     write_both(ctx, first, &content, root, &top)?;
     Ok(())

@@ -8,8 +8,9 @@ ghost use Rattle.sb_btree.specs.Prepared.{Prepares};
 ghost use Rattle.sb_btree.specs.Walks.{Breaks};
 
 use crate::walk::Walk;
+use sb_bytes::PAGE_LEN;
 use sb_ctx::Ctx;
-use sb_node::{PAGE_SIZE, clear, kind};
+use sb_node::{clear, kind};
 
 /// Makes the root an empty leaf, whatever its bytes are.
 pub fn prepare(ctx: &mut Ctx, root: u32) -> Walk<()>
@@ -22,10 +23,10 @@ pub fn prepare(ctx: &mut Ctx, root: u32) -> Walk<()>
     let Some(page) = ctx.page(root) else {
         return Walk::Need(root);
     };
-    if page.len() != PAGE_SIZE {
+    if page.len() != PAGE_LEN {
         return Walk::Broken(root);
     }
-    let mut leaf = [0; PAGE_SIZE];
+    let mut leaf = [0; PAGE_LEN];
     clear(&mut leaf, kind::TREE_LEAF, 0);
     match ctx.edit(root, 0, &leaf) {
         Ok(()) => Walk::Ready(()),

@@ -18,8 +18,9 @@ use crate::insertion::{MOST_KEY, Put, grow, put_child};
 use crate::lookup::copied;
 use crate::page::{child_at, count_upto, root_level, tree_page};
 use crate::walk::{Stop, Walk, answer};
+use sb_bytes::PAGE_LEN;
 use sb_ctx::Ctx;
-use sb_node::{Head, PAGE_SIZE, clear, cut, entry, form, kind, place, set_head};
+use sb_node::{Head, clear, cut, entry, form, kind, place, set_head};
 use sb_value::RecKey;
 use std::alloc::Global;
 
@@ -78,7 +79,7 @@ fn remove_at_root(
         Taken::Lacks => Ok(false),
         Taken::Done => Ok(true),
         Taken::Empty => {
-            let mut leaf = [0; PAGE_SIZE];
+            let mut leaf = [0; PAGE_LEN];
             clear(&mut leaf, kind::TREE_LEAF, 0);
             ctx.edit(root, 0, &leaf)?;
             Ok(true)

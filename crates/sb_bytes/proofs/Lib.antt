@@ -1,3 +1,4 @@
+pub mod BytesLaws
 pub mod FieldLaws
 pub mod Digits
 pub mod Part

@@ -16,3 +16,10 @@ fn fields(rt: HostRuntime) {
     writes_back();
     leaves_others();
 }
+
+#[test]
+fn bytes_over_others(rt: HostRuntime) {
+    let mut bytes = [1, 2, 3, 4, 5];
+    splice(&mut bytes, 1, &[7, 8]);
+    assert_eq!(rt; bytes, [1, 7, 8, 4, 5]);
+}

@@ -5,12 +5,13 @@ use Rattle.std.proofs.lemmas.List.Elements.{All-nil, All-append, All-take, All-d
 use Rattle.std.proofs.lemmas.Option.{same_Some}
 use Rattle.std.proofs.lemmas.List.{nil_from_length, length-replicate}
 use Rattle.sb_forms.specs.Pages.{zeros}
-use Rattle.sb_ctx.specs.View.{HeldPage, bytes_put, as_given, spliced}
+use Rattle.sb_bytes.specs.Bytes.{splice}
+use Rattle.sb_bytes.proofs.BytesLaws.{length-splice}
+use Rattle.sb_ctx.specs.View.{HeldPage, bytes_put, as_given}
 use Rattle.sb_ctx.specs.Held.{Entries, page_in, with_bytes, each}
 use Rattle.sb_ctx.proofs.HeldLaws.{page_in-put, page_in-each, page_in-bytes_put, page_in-place}
 use Rattle.sb_ctx.specs.Sound.{AreSound}
 use Rattle.sb_ctx.specs.Sized.{IsSized, AreSized}
-use Rattle.sb_ctx.proofs.ViewLaws.{length-spliced}
 use Rattle.sb_ctx.proofs.HeldLemmas.{bytes_put-place}
 
 abbrev IsByte : ℕ → Type 0
@@ -53,15 +54,15 @@ AreSized-as_given held sound all n h is = by (page_in held n) refl (sym (page_in
 
 -- ---- a page at its place has other bytes
 -- bytes written over those of a page
-pub spliced-sized : (h : HeldPage) (offset : ℕ) (bytes : List ℕ) → offset + length bytes ≤ length h.now → All IsByte bytes → IsSized h → IsSized (with_bytes (spliced offset bytes h.now) h)
-spliced-sized h offset bytes fits small sized = record {
+pub splice-sized : (h : HeldPage) (offset : ℕ) (bytes : List ℕ) → offset + length bytes ≤ length h.now → All IsByte bytes → IsSized h → IsSized (with_bytes (splice offset bytes h.now) h)
+splice-sized h offset bytes fits small sized = record {
   given = sized.given;
   bytes = All-append IsByte (take offset h.now ++ bytes) (drop (offset + length bytes) h.now) (All-append IsByte (take offset h.now) bytes (All-take IsByte offset h.now sized.bytes) small) (All-drop IsByte (offset + length bytes) h.now sized.bytes);
-  long = λ some. length-spliced offset bytes h.now fits ∙ by h.now refl some;
+  long = λ some. length-splice offset bytes h.now fits ∙ by h.now refl some;
 }
   where
-    by : (now : List ℕ) → h.now ≡ now → spliced offset bytes h.now ≢ [] → length h.now ≡ cond h.fresh 4096 (length h.given)
-    by [] none some = absurd (some (nil_from_length (spliced offset bytes h.now) (length-spliced offset bytes h.now fits ∙ ap length none)))
+    by : (now : List ℕ) → h.now ≡ now → splice offset bytes h.now ≢ [] → length h.now ≡ cond h.fresh 4096 (length h.given)
+    by [] none some = absurd (some (nil_from_length (splice offset bytes h.now) (length-splice offset bytes h.now fits ∙ ap length none)))
     by (b ∷ now) is some = sized.long (λ none. absurd (nonempty b now (sym is ∙ none)))
       where
         nonempty : (b : ℕ) (now : List ℕ) → b ∷ now ≡ [] → ⊥

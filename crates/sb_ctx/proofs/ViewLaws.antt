@@ -1,11 +1,11 @@
 -- What the author of a box cites of a Ctx, and of the pages of which it holds a part.
-use Rattle.std.proofs.Common.{◌≡◌, ℕ, ◌+◌, ◌<◌, ◌≤◌, ◌==◌, Bool, true, false, cond, ◌&&◌, List, [], ◌∷◌, ◌++◌, length, take, drop, Option, Some, None, option_map, IsSome, slice_get, refl, sym, ap, subst, ◌∙◌, arith, eq-eqb, ne_eqb, eqb-true, All, suc, true≢false, length-append, length-take, length-drop}
+use Rattle.std.proofs.Common.{◌≡◌, ℕ, ◌<◌, ◌==◌, Bool, true, false, cond, ◌&&◌, List, [], ◌∷◌, length, Option, Some, None, option_map, IsSome, slice_get, refl, sym, ap, subst, ◌∙◌, eq-eqb, ne_eqb, eqb-true, All, suc, true≢false}
 use Rattle.std.specs.List.{find as first}
 use Rattle.std.proofs.lemmas.Bool.{and_parts, and_right, cond-true, cond-false}
 use Rattle.std.proofs.lemmas.Option.{same_Some}
 use Rattle.sb_relation.specs.Fits.{is_empty}
 use Rattle.sb_forms.specs.Pages.{Pages, IsNext}
-use Rattle.sb_ctx.specs.View.{HeldPage, View, held_at, page_of, room_of, next_of, spliced, bytes_put, with_page, free_page, as_given, dropped, HoldsPart, stored}
+use Rattle.sb_ctx.specs.View.{HeldPage, View, held_at, page_of, room_of, next_of, bytes_put, with_page, free_page, as_given, dropped, HoldsPart, stored}
 use Rattle.sb_ctx.specs.Held.{Entries, page_in, with_bytes}
 use Rattle.sb_ctx.proofs.HeldLaws.{page_in-cons, page_in-each, page_in-bytes_put, page_in-place, each-each, each-bytes_put}
 use Rattle.sb_ctx.specs.Sound.{AreSound, IsSound}
@@ -43,10 +43,6 @@ room_of-none c n is = ap (λ (o : Option (List ℕ)). room_in o) is
 -- what is known of other things stays
 pub next_of-with_page : (c : View) (n : ℕ) (bytes : List ℕ) (low : Option ℕ) → next_of (with_page n bytes c) low ≡ next_of c low
 next_of-with_page c n bytes low = refl
-
--- ---- bytes written over others
-pub length-spliced : (offset : ℕ) (bytes page : List ℕ) → offset + length bytes ≤ length page → length (spliced offset bytes page) ≡ length page
-length-spliced offset bytes page fits = omega (arith, length-append (take offset page ++ bytes) (drop (offset + length bytes) page), length-append (take offset page) bytes, length-take offset page, length-drop (offset + length bytes) page)
 
 -- ---- what was given stays
 pub dropped-with_page : (c : View) (n : ℕ) (bytes : List ℕ) → dropped (with_page n bytes c) ≡ dropped c

@@ -1,5 +1,5 @@
 -- What a boxed call sees: the pages of its instance that it was given, and what it has made of them.
-use Rattle.std.specs.Prelude.{◌≡◌, ℕ, ◌+◌, ◌-◌, ◌^◌, ◌<◌, min, ◌==◌, Bool, true, false, cond, not, ◌&&◌, List, [], ◌∷◌, ◌++◌, length, take, drop, map, filter, All, Option, Some, None, is_none, option_map}
+use Rattle.std.specs.Prelude.{◌≡◌, ℕ, ◌+◌, ◌-◌, ◌^◌, ◌<◌, min, ◌==◌, Bool, true, false, cond, not, ◌&&◌, List, [], ◌∷◌, length, map, filter, All, Option, Some, None, is_none, option_map}
 use Rattle.std.specs.List.{find as first}
 use Rattle.std.specs.Ordering.{nat_cmp}
 use Rattle.std.specs.Option.{option_eq}
@@ -68,10 +68,6 @@ abbrev pub found_of : View → Name → List Name → List Value → Option (Lis
 found_of c relation columns values = option_map (λ f. f.keys) (first (is_answer_to relation columns values) c.found)
 
 -- ---- what is made of it
--- bytes with others written over them from a place on
-abbrev pub spliced : ℕ → List ℕ → List ℕ → List ℕ
-spliced offset bytes page = take offset page ++ bytes ++ drop (offset + length bytes) page
-
 -- the page of this number has these bytes now
 abbrev pub bytes_put : ℕ → List ℕ → List (ℕ × HeldPage) → List (ℕ × HeldPage)
 bytes_put n bytes [] = []

@@ -8,7 +8,8 @@ ghost use Rattle.sb_relation.specs.Fits.{is_empty};
 ghost use Rattle.sb_forms.specs.Pages.{zeros};
 ghost use Rattle.sb_ctx.specs.Sized.{IsSized, IsCtx};
 ghost use Rattle.sb_ctx.specs.Sound.{IsSound, MayBeHeld};
-ghost use Rattle.sb_ctx.specs.View.{nothing, page_of, next_of, found_of, with_page, free_page, as_given, dropped, edited_pages, fresh_pages, freed_pages, with_held, given_page, fresh_page, holds_fresh, with_next, with_found, spliced, room_of};
+ghost use Rattle.sb_bytes.specs.Bytes.{splice};
+ghost use Rattle.sb_ctx.specs.View.{nothing, page_of, next_of, found_of, with_page, free_page, as_given, dropped, edited_pages, fresh_pages, freed_pages, with_held, given_page, fresh_page, holds_fresh, with_next, with_found, room_of};
 
 use crate::Keys;
 use crate::held::{Found, Held};
@@ -62,7 +63,7 @@ impl Ctx {
     pub fn edit(&mut self, n: u32, offset: u16, bytes: &[u8]) -> Result<(), AllocError>
         requires held { IsSome (page_of self.old n) }
         requires room { offset + length bytes.now ≤ room_of self.old n }
-        ensures ok { OnOk result (IfSome (page_of self.old n) (λ page. self.new ≡ with_page n (spliced offset bytes.now page) self.old)) }
+        ensures ok { OnOk result (IfSome (page_of self.old n) (λ page. self.new ≡ with_page n (splice offset bytes.now page) self.old)) }
         ensures err { OnErr result (self.new ≡ self.old) }
     {
         match place_of(&self.held, n) {

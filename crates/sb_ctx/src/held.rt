@@ -1,11 +1,13 @@
 //! One page as a Ctx holds it.
 
 ghost use Rattle.std.specs.Prelude.{◌≡◌, ◌+◌, ◌<◌, ◌≤◌, All, true, [], length, replicate, OnOk, OnErr, IfOk};
-ghost use Rattle.sb_ctx.specs.View.{HeldPage, given_page, fresh_page, as_given, spliced, is_edited, is_freed, is_answer_to};
+ghost use Rattle.sb_bytes.specs.Bytes.{splice};
+ghost use Rattle.sb_ctx.specs.View.{HeldPage, given_page, fresh_page, as_given, is_edited, is_freed, is_answer_to};
 ghost use Rattle.sb_ctx.specs.Sized.{IsSized};
 ghost use Rattle.sb_forms.specs.Pages.{zeros};
 
 use crate::Keys;
+use sb_bytes::{PAGE_LEN, splice};
 use sb_value::{Names, Str, Tuple};
 use std::alloc::{AllocError, Global};
 use std::marker::Model;
@@ -64,7 +66,7 @@ impl Held {
         Ok(Held {
             number,
             given: Vec::new(alloc),
-            work: vec![in alloc; 0; 4096]?,
+            work: vec![in alloc; 0; PAGE_LEN]?,
             state: Use::Fresh,
         })
     }
@@ -110,18 +112,18 @@ impl Held {
     /// Writes the bytes over those from the offset on.
     pub fn edit(&mut self, offset: usize, bytes: &[u8]) -> Result<(), AllocError>
         requires { offset + length bytes.now ≤ length self.old.1.now }
-        ensures ok { OnOk result (self.new ≡ (self.old.0, record self.old.1 { now = spliced offset bytes.now self.old.1.now })) }
+        ensures ok { OnOk result (self.new ≡ (self.old.0, record self.old.1 { now = splice offset bytes.now self.old.1.now })) }
         ensures err { OnErr result (self.new ≡ self.old) }
         ensures bytes { All (λ b. b < 256) bytes.now }
     {
         match self.state {
             Use::Given => {
                 let mut work = self.given.as_slice().to_vec(*self.given.allocator())?;
-                overwrite(&mut work, offset, bytes);
+                splice(&mut work, offset, bytes);
                 self.work = work;
                 self.state = Use::Edited;
             }
-            Use::Edited | Use::Taken => overwrite(&mut self.work, offset, bytes),
+            Use::Edited | Use::Taken => splice(&mut self.work, offset, bytes),
             Use::Freed | Use::Fresh => {}
         }
         Ok(())
@@ -161,13 +163,6 @@ fn clear(page: &mut [u8])
     ensures { page.new ≡ replicate (length page.old) 0 }
 {
     page.fill(0);
-}
-
-fn overwrite(page: &mut [u8], offset: usize, bytes: &[u8])
-    requires { offset + length bytes.now ≤ length page.old }
-    ensures { page.new ≡ spliced offset bytes.now page.old }
-{
-    page[offset..offset + bytes.len()].copy_from_slice(bytes);
 }
 
 /// The answer to a find: the record keys of the rows of a relation whose columns have these values.

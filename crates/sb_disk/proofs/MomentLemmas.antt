@@ -1,7 +1,8 @@
 -- How a run of calls goes on, and what a crash in it may leave.
 use Rattle.std.proofs.Common.{◌≡◌, inl, inr, ⊎_elim, ℕ, ◌+◌, ◌<◌, ◌≤◌, Option, Some, None, Result, Ok, Err, OnOk, OnErr, List, [], ◌∷◌, length, refl, sym, ◌∙◌, subst, arith}
 use Rattle.std.proofs.lemmas.Bool.{cases_lt}
-use Rattle.sb_disk.specs.Disk.{Range, Moment, Story, Covered, Leaves, WhereTold, splice, after_write, after_sync, after_failed_sync, wrote, synced, WriteFault, TornWrite, IdleWrite, LateWrite, SyncFault, LostSync, LateSync, FailedWrite, FailedSync, Mounted}
+use Rattle.sb_bytes.specs.Bytes.{splice}
+use Rattle.sb_disk.specs.Disk.{Range, Moment, Story, Covered, Leaves, WhereTold, after_write, after_sync, after_failed_sync, wrote, synced, WriteFault, TornWrite, IdleWrite, LateWrite, SyncFault, LostSync, LateSync, FailedWrite, FailedSync, Mounted}
 use Rattle.sb_disk.specs.Moments.{moment, contents, LeftAt, MayLeave, LeavesOnly, LeavesNow, LeavesTorn, IsSettled, Within, Sized, Step, Write, Sync, RanOk, RanErr, AllAlong, AllWithin}
 use Rattle.sb_disk.proofs.RangeLemmas.{AgreesBut-more, AgreesBut-then, AgreesBut-twice, AgreesBut-uncovered, splice-AgreesBut}
 

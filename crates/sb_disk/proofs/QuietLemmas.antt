@@ -1,6 +1,7 @@
 -- Writes in a zone that a reading doesn't see.
 use Rattle.std.proofs.Common.{◌≡◌, ⊎_elim, ℕ, ◌+◌, ◌<◌, ◌≤◌, Option, Some, List, length, get_or, sym, ◌∙◌}
-use Rattle.sb_disk.specs.Disk.{Story, Leaves, splice, after_write, after_sync, wrote}
+use Rattle.sb_bytes.specs.Bytes.{splice}
+use Rattle.sb_disk.specs.Disk.{Story, Leaves, after_write, after_sync, wrote}
 use Rattle.sb_disk.specs.Moments.{LeavesOnly, LeavesTorn}
 use Rattle.sb_disk.specs.Quiet.{IsQuiet, Ignores}
 use Rattle.sb_disk.proofs.RangeLemmas.{splice-AgreesBut}

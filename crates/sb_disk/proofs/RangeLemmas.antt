@@ -1,9 +1,10 @@
 -- Bytes that agree but for some ranges.
 use Rattle.std.proofs.Common.{◌≡◌, inl, inr, ⊎_elim, ℕ, ◌+◌, ◌-◌, ◌<◌, ◌≤◌, List, [], ◌∷◌, ◌++◌, length, get_or, take, drop, refl, sym, ◌∙◌, ap, arith, length-append, length-drop}
-use Rattle.std.proofs.lemmas.List.{length-take, get_or_append_left, get_or-append_right, get_or-take, get_or-drop, ext_get_or, take_at, drop_at}
+use Rattle.std.proofs.lemmas.List.{length-take, get_or_append_left, get_or-append_right, get_or-take, get_or-drop, ext_get_or}
 use Rattle.std.proofs.lemmas.Bool.{cases_lt}
-use Rattle.std.proofs.lemmas.Grind.{common_steps}
-use Rattle.sb_disk.specs.Disk.{Range, Covered, AgreesBut, splice}
+use Rattle.sb_bytes.specs.Bytes.{splice}
+use Rattle.sb_bytes.proofs.BytesLaws.{length-splice, splice_parts}
+use Rattle.sb_disk.specs.Disk.{Range, Covered, AgreesBut}
 use Rattle.sb_disk.specs.Moments.{Sure}
 
 -- bytes that agree at each place of a range are the same there
@@ -48,14 +49,7 @@ AgreesBut-then range ranges old middle new first second = record {
   bytes = λ i out. first.bytes i (λ covered. ⊎_elim (λ here. out (inl here)) (λ none. absurd none) covered) ∙ second.bytes i out;
 }
 
--- ---- bytes put in place of others
-pub length-splice : (at : ℕ) (bytes old : List ℕ) → at + length bytes ≤ length old → length (splice at bytes old) ≡ length old
-length-splice at bytes old fits = omega (arith, length-append (take at old ++ bytes) (drop (at + length bytes) old), length-append (take at old) bytes, length-take at old, length-drop (at + length bytes) old)
-
-splice_parts : (at : ℕ) (bytes old : List ℕ) → splice at bytes old ≡ take at old ++ (bytes ++ drop (at + length bytes) old)
-splice_parts at bytes old = grind (arith, common_steps)
-
--- elsewhere all is as it was
+-- ---- bytes written over others: elsewhere all is as it was
 pub splice-AgreesBut : (at : ℕ) (bytes old : List ℕ) → at + length bytes ≤ length old → AgreesBut (record { start = at; len = length bytes } ∷ []) old (splice at bytes old)
 splice-AgreesBut at bytes old fits = record {
   size = sym (length-splice at bytes old fits);
@@ -85,11 +79,3 @@ splice-AgreesBut at bytes old fits = record {
         (λ in_front. below i in_front)
         (λ from. ⊎_elim (λ (to : i < at + length bytes). absurd (out from to)) (λ (behind : at + length bytes ≤ i). above i (i - (at + length bytes)) (omega arith)) (cases_lt i (at + length bytes)))
         (cases_lt i at)
-
--- there the new bytes stand
-pub slice-splice : (at : ℕ) (bytes old : List ℕ) → at ≤ length old → take (length bytes) (drop at (splice at bytes old)) ≡ bytes
-slice-splice at bytes old fits =
-    let front : length (take at old) ≡ at = omega (arith, length-take at old) in
-    ap (λ (l : List ℕ). take (length bytes) (drop at l)) (splice_parts at bytes old)
-    ∙ ap (λ (l : List ℕ). take (length bytes) l) (drop_at (take at old) (bytes ++ drop (at + length bytes) old) at front)
-    ∙ take_at bytes (drop (at + length bytes) old) (length bytes) refl

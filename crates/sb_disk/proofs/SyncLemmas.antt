@@ -1,6 +1,7 @@
 -- A byte that is not pending is as it was when the disk was last synced.
 use Rattle.std.proofs.Common.{◌≡◌, inl, inr, ℕ, Option, Some, None, List, [], ◌∷◌, length, get_or, refl, sym, ◌∙◌, ap, subst}
-use Rattle.sb_disk.specs.Disk.{Range, Moment, Story, Covered, AgreesBut, Leaves, splice, after_write, after_sync, after_failed_sync, wrote, synced, WriteFault, TornWrite, IdleWrite, LateWrite, SyncFault, LostSync, LateSync, FailedWrite, FailedSync}
+use Rattle.sb_bytes.specs.Bytes.{splice}
+use Rattle.sb_disk.specs.Disk.{Range, Moment, Story, Covered, AgreesBut, Leaves, after_write, after_sync, after_failed_sync, wrote, synced, WriteFault, TornWrite, IdleWrite, LateWrite, SyncFault, LostSync, LateSync, FailedWrite, FailedSync}
 use Rattle.sb_disk.specs.Moments.{Within}
 use Rattle.sb_disk.specs.Syncs.{WroteRange, SameRanges, IsSince, AtSync, AfterSync, IsAnchored, unless_pending, at_last_sync, last_synced}
 use Rattle.sb_disk.proofs.RangeLemmas.{AgreesBut-none, AgreesBut-same, splice-AgreesBut}

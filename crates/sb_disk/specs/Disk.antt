@@ -1,5 +1,6 @@
 -- What a disk tells of its bytes and its moments, and what its calls make of that.
-use Rattle.std.specs.Prelude.{◌≡◌, ◌⊎◌, ℕ, ◌+◌, ◌-◌, ◌^◌, ◌<◌, ◌≤◌, min, Option, Some, None, List, [], ◌∷◌, ◌++◌, length, slice_index, take, drop, Result, OnOk}
+use Rattle.std.specs.Prelude.{◌≡◌, ◌⊎◌, ℕ, ◌+◌, ◌-◌, ◌^◌, ◌<◌, ◌≤◌, min, Option, Some, None, List, [], ◌∷◌, length, slice_index, take, drop, Result, OnOk}
+use Rattle.sb_bytes.specs.Bytes.{splice}
 
 -- so many bytes from a place on
 pub record Range : Type 0 where
@@ -42,10 +43,6 @@ abbrev pub Leaves : Moment → List ℕ → Type 0
 Leaves moment image = AgreesBut moment.written moment.reads image
 
 -- ---- what the calls make of a story
--- these bytes at a place, and the old ones elsewhere
-abbrev pub splice : ℕ → List ℕ → List ℕ → List ℕ
-splice at bytes old = take at old ++ bytes ++ drop (at + length bytes) old
-
 -- a call more, a write of so many bytes, after which a read gives these
 abbrev pub after_write : ℕ → ℕ → List ℕ → Story → Story
 after_write at count reads s = record {

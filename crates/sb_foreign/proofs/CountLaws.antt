@@ -23,7 +23,8 @@ use Rattle.sb_ctx.specs.Attachment.{StandsOn, IsChangeOf}
 use Rattle.sb_ctx.specs.AttachAnswers.{Ends, MayEnd, Built, Changed, Changes, Looks, Costs, Holds, Prepared, Spends, content_over, content_over_rows, NotNew}
 use Rattle.sb_ctx.specs.Laws.{IsAttachment, HoldContent}
 use Rattle.sb_ctx.specs.Sized.{IsCtx}
-use Rattle.sb_ctx.specs.View.{View, HeldPages, AreSomeOf, page_of, given_at, dropped, spliced, HoldsPart, edits_of, stored}
+use Rattle.sb_bytes.specs.Bytes.{splice}
+use Rattle.sb_ctx.specs.View.{View, HeldPages, AreSomeOf, page_of, given_at, dropped, HoldsPart, edits_of, stored}
 use Rattle.sb_ctx.proofs.ViewLaws.{stored-clean, stored-same, given-page, dropped-with_page}
 use Rattle.sb_ctx.proofs.AuthorLaws.{foreign_rule, rows_at-with_rows, length-with_row, length-without_row, length-moved_row, edits_of-one, edits_of-none, page_count-one, page_count-written, given_at-page, relation_at-changed}
 use Rattle.sb_foreign.specs.declared.count.Step.{Step}
@@ -123,14 +124,14 @@ Holds-count : (inst : Instance) (P : Pages) (rows buckets : ℕ) → IsCount ins
 Holds-count inst P rows buckets is = subst (λ n. Holds count inst P (counted_with rows n)) (sym is.none) (Holds-formed inst P rows is.few is.there)
 
 -- ---- the page that is written
-written_page : (page : List ℕ) (rows : ℕ) → 8 ≤ length page → rows ≤ 281474976710656 → count_in (spliced 0 (to_be_bytes w64 rows) page) ≡ Some rows
+written_page : (page : List ℕ) (rows : ℕ) → 8 ≤ length page → rows ≤ 281474976710656 → count_in (splice 0 (to_be_bytes w64 rows) page) ≡ Some rows
 written_page page rows long few =
     ap (λ b. cond (b && nat_le (number_in now) 281474976710656) (Some (number_in now)) None) (test 8 (length now) room)
     ∙ ap (λ n. cond (nat_le n 281474976710656) (Some n) None) number
     ∙ ap (λ b. cond b (Some rows) None) (test rows 281474976710656 few)
   where
     now : List ℕ
-    now = spliced 0 (to_be_bytes w64 rows) page
+    now = splice 0 (to_be_bytes w64 rows) page
 
     test : (a b : ℕ) → a ≤ b → nat_le a b ≡ true
     test a b less = grind (arith, nat_tests)
@@ -159,7 +160,7 @@ IsCount-written inst step old new P rows buckets clean part written is few =
     let given : P inst.root ≡ written.page = given-page old P inst.root written.page clean part written.held in
     let long = long_page written.page written.rows written.count in
     let same : written.rows ≡ rows = same_Some written.rows rows (sym written.count ∙ ap count_in (sym given) ∙ is.there) in
-    let bytes = spliced 0 (to_be_bytes w64 (stepped step written.rows)) written.page in
+    let bytes = splice 0 (to_be_bytes w64 (stepped step written.rows)) written.page in
     let now : count_in bytes ≡ Some (stepped step rows) = written_page written.page (stepped step written.rows) long.0 (subst (λ n. stepped step n ≤ 281474976710656) (sym same) few) ∙ ap (λ n. Some (stepped step n)) same in
     let held = ap is_some written.held in
     subst (λ (v : View). IsCount inst (stored v P) (stepped step rows) buckets) (sym written.is) (record {
@@ -170,10 +171,10 @@ IsCount-written inst step old new P rows buckets clean part written is few =
 
 edits-written : (inst : Instance) (step : Step) (old new : View) (P : Pages) (rows buckets : ℕ) → dropped old ≡ old → HoldsPart old P → IsCtx new → IsWritten inst.root step old new → IsCount inst P rows buckets → edits_of new ≤ 1
 edits-written inst step old new P rows buckets clean part ctx written is =
-    let bytes = spliced 0 (to_be_bytes w64 (stepped step written.rows)) written.page in
+    let bytes = splice 0 (to_be_bytes w64 (stepped step written.rows)) written.page in
     subst (λ (v : View). edits_of v ≤ 1) (sym written.is) (edits_of-one old P inst.root bytes clean part (some_page (P inst.root) rows is.there) some (subst IsCtx written.is ctx))
   where
-    some : spliced 0 (to_be_bytes w64 (stepped step written.rows)) written.page ≢ []
+    some : splice 0 (to_be_bytes w64 (stepped step written.rows)) written.page ≢ []
     some none = omega (arith, ap length none, length-append (to_be_bytes w64 (stepped step written.rows)) (drop 8 written.page))
 
 -- ---- calls
@@ -225,7 +226,7 @@ Changes-stepped inst c step old new made other clean may steps ends spends = by 
           spends = spends;
         }
     by move.Done steps spends = record {
-      given = ap dropped steps.is ∙ dropped-with_page old inst.root (spliced 0 (to_be_bytes w64 (stepped step steps.rows)) steps.page) ∙ clean;
+      given = ap dropped steps.is ∙ dropped-with_page old inst.root (splice 0 (to_be_bytes w64 (stepped step steps.rows)) steps.page) ∙ clean;
       asks = tt;
       broken = tt;
       ends = may;

@@ -29,7 +29,8 @@ use Rattle.sb_ctx.specs.declared.moves.Move.TheVariants as move
 use Rattle.sb_ctx.specs.Laws.{IsMethod, HoldRows}
 use Rattle.sb_ctx.specs.Sized.{IsCtx}
 use Rattle.sb_ctx.specs.MethodAnswers.{Changes, Looks, Holds, Before, NextIs, IsRowOf, Spends, is_above, row_above}
-use Rattle.sb_ctx.specs.View.{View, page_of, room_of, dropped, with_page, spliced, HoldsPart, stored}
+use Rattle.sb_bytes.specs.Bytes.{splice}
+use Rattle.sb_ctx.specs.View.{View, page_of, room_of, dropped, with_page, HoldsPart, stored}
 use Rattle.sb_ctx.proofs.BoundLaws.{IsBoundless, Spends-boundless, Changes-idle, Changes-memory, page_count-few}
 use Rattle.sb_ctx.proofs.ViewLaws.{dropped-with_page, given-page, stored-same, room_of-page}
 use Rattle.sb_foreign.specs.Strips.{row_in, rows_from, strip_of, is_byte, is_strip, is_int, is_numbers, strip, free_place, IsPlaced}
@@ -210,12 +211,12 @@ put_byte place byte [] = []
 put_byte zero byte (b ∷ bytes) = byte ∷ bytes
 put_byte (suc place) byte (b ∷ bytes) = b ∷ put_byte place byte bytes
 
-spliced-put : (place byte : ℕ) (page : List ℕ) → place < length page → spliced place (byte ∷ []) page ≡ put_byte place byte page
-spliced-put place byte [] less = absurd (omega (arith, less))
-spliced-put zero byte (b ∷ page) less = refl
-spliced-put (suc place) byte (b ∷ page) less =
+splice-put : (place byte : ℕ) (page : List ℕ) → place < length page → splice place (byte ∷ []) page ≡ put_byte place byte page
+splice-put place byte [] less = absurd (omega (arith, less))
+splice-put zero byte (b ∷ page) less = refl
+splice-put (suc place) byte (b ∷ page) less =
     let later : suc place + 1 ≡ suc (place + 1) = omega arith in
-    ap (λ n. (take (suc place) (b ∷ page) ++ byte ∷ []) ++ drop n (b ∷ page)) later ∙ ap (λ l. b ∷ l) (spliced-put place byte page (omega arith))
+    ap (λ n. (take (suc place) (b ∷ page) ++ byte ∷ []) ++ drop n (b ∷ page)) later ∙ ap (λ l. b ∷ l) (splice-put place byte page (omega arith))
 
 take-put : (n place byte : ℕ) (page : List ℕ) → place < n → take n (put_byte place byte page) ≡ put_byte place byte (take n page)
 take-put zero place byte page less = absurd (omega (arith, less))
@@ -281,13 +282,13 @@ none_free n place (b ∷ bytes) is =
       | false ↦ λ at. ap (λ o. cond (is_eq o) (Some (Int (pos b) ∷ [])) (row_at (rows_from (suc n) bytes) (place ∷ []))) (above place n (omega (arith, at))) ∙ none_free (suc n) place bytes (omega (arith, at))
     ] is
 
-strip-after : (place byte : ℕ) (page : List ℕ) → place < length (strip_of page) → strip_of (spliced place (byte ∷ []) page) ≡ put_byte place byte (strip_of page)
+strip-after : (place byte : ℕ) (page : List ℕ) → place < length (strip_of page) → strip_of (splice place (byte ∷ []) page) ≡ put_byte place byte (strip_of page)
 strip-after place byte page within =
-    let long = length-take 100 page in ap strip_of (spliced-put place byte page (omega (arith, long, within))) ∙ take-put 100 place byte page (omega (arith, long, within))
+    let long = length-take 100 page in ap strip_of (splice-put place byte page (omega (arith, long, within))) ∙ take-put 100 place byte page (omega (arith, long, within))
 
 pub Changes-inserted : (inst : Instance) (row : Row) (old new : View) (page : List ℕ) (key : Key) (place byte : ℕ) → dropped old ≡ old → page_of old inst.root ≡ Some page →
     place ≡ free_place (strip_of page) → place < length (strip_of page) → key ≡ place ∷ [] → 0 < byte → byte < 256 → row ≡ Int (pos byte) ∷ [] →
-    IfSome (page_of old inst.root) (λ page. new ≡ with_page inst.root (spliced place (byte ∷ []) page) old) → Changes strip inst (call.Insert row) old new (move.Key key)
+    IfSome (page_of old inst.root) (λ page. new ≡ with_page inst.root (splice place (byte ∷ []) page) old) → Changes strip inst (call.Insert row) old new (move.Key key)
 Changes-inserted inst row old new page key place byte clean held free within is_key positive small is_row made = record {
   given = given;
   asks = tt;
@@ -300,7 +301,7 @@ Changes-inserted inst row old new page key place byte clean held free within is_
       let bytes : is_strip (strip_of page) ≡ true = ap (λ (l : List ℕ). is_strip (strip_of l)) (sym at_root) ∙ formed.bytes in
       let those : rows ≡ rows_from 0 (strip_of page) = formed.those ∙ ap (λ (l : List ℕ). rows_from 0 (strip_of l)) at_root in
       let after : strip_of (stored new P inst.root) ≡ put_byte place byte (strip_of page) =
-      ap (λ (v : View). strip_of (stored v P inst.root)) now ∙ ap strip_of (stored-same old P inst.root (spliced place (byte ∷ []) page) (ap is_some held)) ∙ strip-after place byte page within in (
+      ap (λ (v : View). strip_of (stored v P inst.root)) now ∙ ap strip_of (stored-same old P inst.root (splice place (byte ∷ []) page) (ap is_some held)) ∙ strip-after place byte page within in (
         ap (λ (k : Key). is_record_key k && is_none (row_at rows k)) is_key ∙ ap (λ (r : Rows). is_none (row_at r (place ∷ []))) those ∙ ap is_none (none_free 0 place (strip_of page) (omega (arith, free))),
         subst (Holds strip inst (stored new P))
             (ap (rows_from 0) after ∙ ap (λ n. rows_from 0 (put_byte n byte (strip_of page))) free
@@ -316,15 +317,15 @@ Changes-inserted inst row old new page key place byte clean held free within is_
     taken : (byte : ℕ) → 0 < byte → byte == 0 ≡ false
     taken byte positive = grind (arith, nat_tests)
 
-    now : new ≡ with_page inst.root (spliced place (byte ∷ []) page) old
+    now : new ≡ with_page inst.root (splice place (byte ∷ []) page) old
     now = by (page_of old inst.root) held made
       where
-        by : (o : Option (List ℕ)) → o ≡ Some page → IfSome o (λ page. new ≡ with_page inst.root (spliced place (byte ∷ []) page) old) → new ≡ with_page inst.root (spliced place (byte ∷ []) page) old
+        by : (o : Option (List ℕ)) → o ≡ Some page → IfSome o (λ page. new ≡ with_page inst.root (splice place (byte ∷ []) page) old) → new ≡ with_page inst.root (splice place (byte ∷ []) page) old
         by None is made = cc
-        by (Some l) is made = made ∙ ap (λ (l : List ℕ). with_page inst.root (spliced place (byte ∷ []) l) old) (same_Some l page is)
+        by (Some l) is made = made ∙ ap (λ (l : List ℕ). with_page inst.root (splice place (byte ∷ []) l) old) (same_Some l page is)
 
     given : dropped new ≡ old
-    given = ap dropped now ∙ dropped-with_page old inst.root (spliced place (byte ∷ []) page) ∙ clean
+    given = ap dropped now ∙ dropped-with_page old inst.root (splice place (byte ∷ []) page) ∙ clean
 
 -- ---- the first place, as it is counted
 pub free_place-counted : (bytes : List ℕ) → length (take_while (λ byte. not (byte == 0)) bytes) ≡ free_place bytes

@@ -8,7 +8,8 @@ use Rattle.sb_ctx.specs.declared.instance.Instance.{Instance}
 use Rattle.sb_ctx.specs.declared.moves.Move.{Move}
 use Rattle.sb_ctx.specs.declared.moves.Move.TheVariants.{Done, Need, Broken, NoMemory}
 use Rattle.sb_ctx.specs.Attachment.{Attachment, plain_attachment}
-use Rattle.sb_ctx.specs.View.{View, page_of, spliced, with_page}
+use Rattle.sb_bytes.specs.Bytes.{splice}
+use Rattle.sb_ctx.specs.View.{View, page_of, with_page}
 use Rattle.sb_foreign.specs.declared.count.Step.{Step}
 use Rattle.sb_foreign.specs.declared.count.Step.TheVariants.{Up, Down}
 
@@ -61,7 +62,7 @@ pub record IsWritten (root : ℕ) (step : Step) (old new : View) : Type 0 where
   pub rows : ℕ
   pub held : page_of old root ≡ Some page
   pub count : count_in page ≡ Some rows
-  pub is : new ≡ with_page root (spliced 0 (to_be_bytes w64 (stepped step rows)) page) old
+  pub is : new ≡ with_page root (splice 0 (to_be_bytes w64 (stepped step rows)) page) old
 
 -- the page isn't held, or has no count, and all stays; or it is written
 abbrev pub Steps : ℕ → Step → View → View → Move → Type 0

@@ -9,7 +9,8 @@ use Rattle.sb_node.specs.declared.head.Head.{Head}
 use Rattle.sb_node.specs.Page.{Node, has_form, node_in, node_of, with_head, Becomes}
 use Rattle.sb_node.proofs.Edited.{node_of-form}
 use Rattle.sb_node.proofs.Runs.{form_size}
-use Rattle.sb_ctx.specs.View.{View, page_of, room_of, spliced, with_page, stored}
+use Rattle.sb_bytes.specs.Bytes.{splice}
+use Rattle.sb_ctx.specs.View.{View, page_of, room_of, with_page, stored}
 use Rattle.sb_ctx.proofs.ViewLaws.{dropped-with_page, page_of-with_page, room_of-page, stored-page, stored-with_page}
 use Rattle.sb_heap.specs.Broken.{held_node}
 use Rattle.sb_heap.specs.Held.{IsHeadAt}
@@ -25,13 +26,13 @@ pub some_none : (x : Node) → Some x ≡ None → ⊥
 some_none x e = cc
 
 -- ---- a page that is written whole
-pub edited : (c new : View) (n : ℕ) (bytes : List ℕ) → room_of c n ≡ 4096 → length bytes ≡ 4096 → IfSome (page_of c n) (λ page. new ≡ with_page n (spliced 0 bytes page) c) → new ≡ with_page n bytes c
+pub edited : (c new : View) (n : ℕ) (bytes : List ℕ) → room_of c n ≡ 4096 → length bytes ≡ 4096 → IfSome (page_of c n) (λ page. new ≡ with_page n (splice 0 bytes page) c) → new ≡ with_page n bytes c
 edited c new n bytes whole long is = by (page_of c n) whole is
   where
     room : Option (List ℕ) → ℕ
     room o = elim o [ None ↦ 0 | Some page ↦ length page ]
 
-    by : (o : Option (List ℕ)) → room o ≡ 4096 → IfSome o (λ page. new ≡ with_page n (spliced 0 bytes page) c) → new ≡ with_page n bytes c
+    by : (o : Option (List ℕ)) → room o ≡ 4096 → IfSome o (λ page. new ≡ with_page n (splice 0 bytes page) c) → new ≡ with_page n bytes c
     by None whole is = absurd (omega arith)
     by (Some page) whole is =
         is ∙ ap (λ (l : List ℕ). with_page n l c) (ap (λ (l : List ℕ). bytes ++ l) (drop_all (0 + length bytes) page (omega arith)) ∙ append-nil bytes)
@@ -88,7 +89,7 @@ whole-written c n bytes long m is = ap room (page_of-with_page c n m bytes) ∙ 
     by true (Some page) is = long
     by false o is = is
 
-pub Made-written : (c new : View) (n : ℕ) (bytes : List ℕ) → room_of c n ≡ 4096 → has_form bytes ≡ true → IfSome (page_of c n) (λ page. new ≡ with_page n (spliced 0 bytes page) c) → Made (put_node n (node_of bytes)) 1 c new (Ok tt)
+pub Made-written : (c new : View) (n : ℕ) (bytes : List ℕ) → room_of c n ≡ 4096 → has_form bytes ≡ true → IfSome (page_of c n) (λ page. new ≡ with_page n (splice 0 bytes page) c) → Made (put_node n (node_of bytes)) 1 c new (Ok tt)
 Made-written c new n bytes room form is =
     let changed = edited c new n bytes room (form_size bytes form) is in
     subst (λ (v : View). Made (put_node n (node_of bytes)) 1 c v (Ok tt)) (sym changed) (record {

@@ -19,9 +19,10 @@ use crate::keys::{key_of, slot_bytes};
 use crate::list::{Turn, take_turn, turn_of};
 use crate::page::{copied, free_slot, heap_page, is_page, put_page, put_row, start_page};
 use crate::stop::Stop;
+use sb_bytes::PAGE_LEN;
 use sb_codec::encode_tuple;
 use sb_ctx::{Ctx, Instance};
-use sb_node::{Head, PAGE_SIZE, room};
+use sb_node::{Head, room};
 use sb_value::{RecKey, Tuple};
 use std::alloc::Global;
 
@@ -115,7 +116,7 @@ fn fresh_spot(alloc: Global, ctx: &mut Ctx, root: u32, row: &[u8]) -> Result<Spo
     ensures given { dropped ctx.new ≡ dropped ctx.old }
     ensures edits { edits_of ctx.new ≤ edits_of ctx.old + 2 }
 {
-    let mut bytes = [0; PAGE_SIZE];
+    let mut bytes = [0; PAGE_LEN];
     start_page(&mut bytes, row);
     let bytes = copied(alloc, &bytes)?;
     match ctx.fresh() {

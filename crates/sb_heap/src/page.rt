@@ -13,14 +13,13 @@ ghost use Rattle.sb_heap.specs.Spots.{with_row_in};
 
 use crate::keys::slot_bytes;
 use crate::stop::Stop;
+use sb_bytes::{MOST_PAGES, PAGE_LEN};
 use sb_ctx::Ctx;
-use sb_node::{Entries, Head, PAGE_SIZE, add, clear, form, kind, place, room, set_head};
+use sb_node::{Entries, Head, add, clear, form, kind, place, room, set_head};
 use std::alloc::{AllocError, Global};
 
 /// The bytes that any row has room in with its slot: 1,000 of its spelling at most, and 6 of the entry around it.
 pub const ANY_ROW: u16 = 1006;
-
-const MOST_PAGES: u32 = 65536;
 
 /// A held page of a heap, and its head.
 pub fn heap_page(ctx: &Ctx, n: u32) -> Result<(&[u8], Head), Stop>
@@ -140,10 +139,10 @@ pub fn prepare_root(ctx: &mut Ctx, root: u32) -> Result<(), Stop>
     let Some(page) = ctx.page(root) else {
         return Err(Stop::Need(root));
     };
-    if page.len() != PAGE_SIZE {
+    if page.len() != PAGE_LEN {
         return Err(Stop::Broken(root));
     }
-    let mut bytes = [0; PAGE_SIZE];
+    let mut bytes = [0; PAGE_LEN];
     clear(&mut bytes, kind::HEAP, 1);
     let head = Head {
         kind: kind::HEAP,

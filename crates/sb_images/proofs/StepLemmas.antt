@@ -2,9 +2,11 @@
 use Rattle.std.proofs.Common.{◌≡◌, ◌⊎◌, inl, inr, ⊎_elim, ℕ, suc, zero, ◌+◌, ◌<◌, ◌≤◌, true, List, [], ◌∷◌, ◌++◌, length, take, drop, refl, sym, ◌∙◌, ap, subst, arith, append_assoc}
 use Rattle.std.proofs.lemmas.Bool.{cases_order, cases_eq}
 use Rattle.std.proofs.lemmas.List.{append-nil}
-use Rattle.sb_disk.specs.Disk.{Range, Story, AgreesBut, splice, after_write, after_sync}
+use Rattle.sb_bytes.specs.Bytes.{splice}
+use Rattle.sb_bytes.proofs.BytesLaws.{slice-splice}
+use Rattle.sb_disk.specs.Disk.{Range, Story, AgreesBut, after_write, after_sync}
 use Rattle.sb_disk.specs.Moments.{Sure}
-use Rattle.sb_disk.proofs.RangeLemmas.{AgreesBut-slice, splice-AgreesBut, slice-splice}
+use Rattle.sb_disk.proofs.RangeLemmas.{AgreesBut-slice, splice-AgreesBut}
 use Rattle.sb_journal.specs.Chunks.{bytes_of}
 use Rattle.sb_journal.specs.State.{State, Sound, Stands, chunks_of, pending_of, pending_chunk, room_of, Appended, Forced, Closed, after_append, after_force, after_close}
 use Rattle.sb_journal.proofs.ChunkLemmas.{chunks_from_kept}

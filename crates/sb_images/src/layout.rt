@@ -4,8 +4,9 @@ ghost use Rattle.std.specs.Prelude.{◌≡◌, ◌↔◌, IsTrue};
 ghost use Rattle.sb_images.specs.Layout.{IsGeometry, geometry_of, need, gates_of, log_of, place_of};
 ghost use Rattle.sb_journal.specs.View.{range_of};
 
+use sb_bytes::{MOST_PAGES, PAGE_LEN};
 use sb_journal::{MAX_GATES, Region};
-use sb_log::{Geometry, PAGE_LEN};
+use sb_log::Geometry;
 
 /// The gates of the chunks of a store: as many as a journal may have.
 pub const GATES: u32 = MAX_GATES as u32;
@@ -15,9 +16,6 @@ pub const GATES_START: u64 = PAGE_LEN as u64;
 
 /// Where the log begins, behind the gates.
 pub const LOG_START: u64 = GATES_START + GATES as u64;
-
-/// The most pages that a store may have.
-pub const MOST_PAGES: u32 = 65_536;
 
 /// Whether a store may have these sizes.
 pub fn is_geometry(g: Geometry) -> bool

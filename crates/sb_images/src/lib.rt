@@ -6,9 +6,8 @@ mod layout;
 
 pub use laws::{one_geometry, restores_one_way};
 pub use layout::{
-    GATES, GATES_START, LOG_START, MOST_PAGES, gate_region, is_geometry, log_region, need, place_of,
+    GATES, GATES_START, LOG_START, gate_region, is_geometry, log_region, need, place_of,
 };
-pub use sb_log::PAGE_LEN;
 
 #[cfg(test)]
 mod tests;

@@ -1,9 +1,11 @@
 -- What a crash leaves of an append.
 use Rattle.std.proofs.Common.{◌≡◌, inl, inr, ⊎_elim, ℕ, ◌+◌, ◌<◌, ◌≤◌, Option, Some, None, false, List, [], ◌∷◌, ◌++◌, length, get_or, take, drop, sym, ◌∙◌, ap, subst, arith}
 use Rattle.std.proofs.lemmas.List.{drop-drop}
-use Rattle.sb_disk.specs.Disk.{Range, Story, AgreesBut, WhereTold, splice, after_write, wrote, FailedWrite}
+use Rattle.sb_bytes.specs.Bytes.{splice}
+use Rattle.sb_bytes.proofs.BytesLaws.{slice-splice}
+use Rattle.sb_disk.specs.Disk.{Range, Story, AgreesBut, WhereTold, after_write, wrote, FailedWrite}
 use Rattle.sb_disk.specs.Moments.{LeavesOnly, LeavesTorn, Sure}
-use Rattle.sb_disk.proofs.RangeLemmas.{AgreesBut-slice, AgreesBut-more, splice-AgreesBut, slice-splice}
+use Rattle.sb_disk.proofs.RangeLemmas.{AgreesBut-slice, AgreesBut-more, splice-AgreesBut}
 use Rattle.sb_disk.proofs.MomentLemmas.{started, on_write, on_failed_write}
 use Rattle.sb_journal.specs.Chunks.{ReadsAs, bytes_of}
 use Rattle.sb_journal.specs.State.{State, chunks_of, pending_of, Lies, Sound, Stands, StandsOn, IsKept, IsKeptOn, Appended, after_append}

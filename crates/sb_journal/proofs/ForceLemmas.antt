@@ -3,9 +3,11 @@ use Rattle.std.proofs.Common.{◌≡◌, ◌≢◌, inl, inr, ⊎_elim, ℕ, suc
 use Rattle.std.proofs.lemmas.List.{length-take, drop-drop, get_or-drop, get_or-take, length_push}
 use Rattle.std.proofs.lemmas.Bool.{cases_eq}
 use Rattle.std.specs.Int.{to_be_bytes, w32}
-use Rattle.sb_disk.specs.Disk.{Range, Story, AgreesBut, WhereTold, splice, after_write, after_sync, wrote, synced}
+use Rattle.sb_bytes.specs.Bytes.{splice}
+use Rattle.sb_bytes.proofs.BytesLaws.{slice-splice}
+use Rattle.sb_disk.specs.Disk.{Range, Story, AgreesBut, WhereTold, after_write, after_sync, wrote, synced}
 use Rattle.sb_disk.specs.Moments.{LeavesOnly, LeavesTorn, Sure, Step, RanOk, RanErr, AllAlong, AllWithin}
-use Rattle.sb_disk.proofs.RangeLemmas.{same_slice, AgreesBut-slice, splice-AgreesBut, slice-splice}
+use Rattle.sb_disk.proofs.RangeLemmas.{same_slice, AgreesBut-slice, splice-AgreesBut}
 use Rattle.sb_disk.proofs.MomentLemmas.{started, ran_ok, ran_err}
 use Rattle.sb_journal.specs.Sealing.{sealing}
 use Rattle.sb_journal.specs.Chunks.{ReadsAs, bytes_of, chunks_from}

@@ -1,6 +1,7 @@
 -- A write outside the regions of a journal, as that of a page.
 use Rattle.std.proofs.Common.{◌≡◌, inl, inr, ⊎_elim, ℕ, ◌+◌, ◌≤◌, Option, Some, None, List, [], ◌∷◌, length, sym, subst, arith}
-use Rattle.sb_disk.specs.Disk.{Range, Story, AgreesBut, splice, after_write, after_idle, after_sync, after_failed_sync, wrote, synced, WriteFault, TornWrite, IdleWrite, LateWrite, SyncFault, LostSync, LateSync, FailedWrite, FailedSync}
+use Rattle.sb_bytes.specs.Bytes.{splice}
+use Rattle.sb_disk.specs.Disk.{Range, Story, AgreesBut, after_write, after_idle, after_sync, after_failed_sync, wrote, synced, WriteFault, TornWrite, IdleWrite, LateWrite, SyncFault, LostSync, LateSync, FailedWrite, FailedSync}
 use Rattle.sb_disk.specs.Moments.{LeavesTorn, Sure}
 use Rattle.sb_disk.proofs.RangeLemmas.{splice-AgreesBut}
 use Rattle.sb_journal.specs.Chunks.{ReadsAs, bytes_of}

@@ -1,9 +1,11 @@
 -- Zeros over a range, in one write and a sync.
 use Rattle.std.proofs.Common.{◌≡◌, ℕ, suc, zero, ◌+◌, ◌-◌, ◌≤◌, Option, Some, None, List, length, get_or, drop, replicate, refl, sym, ◌∙◌, ap, subst, arith}
 use Rattle.std.proofs.lemmas.List.{get_or-take, get_or-drop, length-replicate}
-use Rattle.sb_disk.specs.Disk.{Fits, Story, WhereTold, splice, after_write, after_sync, wrote, synced, FailedWrite}
+use Rattle.sb_bytes.specs.Bytes.{splice}
+use Rattle.sb_bytes.proofs.BytesLaws.{slice-splice}
+use Rattle.sb_disk.specs.Disk.{Fits, Story, WhereTold, after_write, after_sync, wrote, synced, FailedWrite}
 use Rattle.sb_disk.specs.Moments.{LeavesOnly, LeavesTorn, Within}
-use Rattle.sb_disk.proofs.RangeLemmas.{AgreesBut-more, splice-AgreesBut, slice-splice}
+use Rattle.sb_disk.proofs.RangeLemmas.{AgreesBut-more, splice-AgreesBut}
 use Rattle.sb_disk.proofs.MomentLemmas.{started, on_write, on_failed_write}
 use Rattle.sb_journal.specs.Closing.{Zeroed}
 

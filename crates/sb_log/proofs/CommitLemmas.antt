@@ -2,8 +2,8 @@
 use Rattle.std.proofs.Common.{◌≡◌, ⊎_elim, ℕ, ◌+◌, ◌≤◌, Bool, true, false, cond, ◌&&◌, ◌||◌, ◌==◌, List, [], ◌∷◌, ◌++◌, length, refl, sym, ◌∙◌, ap, subst, arith}
 use Rattle.std.proofs.lemmas.Bool.{eqb-true, ne_eqb, both_ways, and_parts}
 use Rattle.std.proofs.Math.Bool.{or-false}
-use Rattle.sb_disk.specs.Disk.{splice}
-use Rattle.sb_disk.proofs.RangeLemmas.{length-splice}
+use Rattle.sb_bytes.specs.Bytes.{splice}
+use Rattle.sb_bytes.proofs.BytesLaws.{length-splice}
 use Rattle.sb_log.specs.Records.{Change, Record}
 use Rattle.sb_log.specs.Standing.{keep, standing, committed}
 use Rattle.sb_log.specs.Restored.{base, over, counting, restored}

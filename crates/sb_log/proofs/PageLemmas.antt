@@ -3,7 +3,7 @@ use Rattle.std.proofs.Common.{◌≡◌, ℕ, suc, ◌+◌, ◌≤◌, Bool, tru
 use Rattle.std.proofs.lemmas.Bool.{eq-eqb, ne_eqb}
 use Rattle.std.proofs.Math.Bool.{or-true}
 use Rattle.std.proofs.lemmas.List.{append-nil}
-use Rattle.sb_disk.specs.Disk.{splice}
+use Rattle.sb_bytes.specs.Bytes.{splice}
 use Rattle.sb_log.specs.Records.{Change, Record, Changed, Back}
 use Rattle.sb_log.specs.Standing.{keep, standing, committed, count_of}
 use Rattle.sb_log.specs.Restored.{over}

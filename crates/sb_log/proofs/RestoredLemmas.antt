@@ -5,7 +5,7 @@ use Rattle.std.proofs.Math.Bool.{or_assoc, or-false}
 use Rattle.std.proofs.lemmas.List.{append-nil}
 use Rattle.std.proofs.lemmas.List.Elements.{filter-append}
 use Rattle.std.proofs.lemmas.Grind.{common_steps}
-use Rattle.sb_disk.specs.Disk.{splice}
+use Rattle.sb_bytes.specs.Bytes.{splice}
 use Rattle.sb_log.specs.Records.{Change, Record, Begin, Image, Changed, Back, Commit}
 use Rattle.sb_log.specs.Standing.{keep, stood_all, standing, committed}
 use Rattle.sb_log.specs.Restored.{base, over, counting, restored, imaged, IsCoveredBehind, IsHarmless, AreHarmless}

@@ -2,9 +2,10 @@
 use Rattle.std.proofs.Common.{◌≡◌, ◌⊎◌, inl, inr, ⊎_elim, ℕ, ◌+◌, ◌-◌, ◌<◌, ◌≤◌, List, [], ◌∷◌, length, get_or, take, drop, sym, ◌∙◌, ap, subst, arith}
 use Rattle.std.proofs.lemmas.List.{get_or-take, get_or-drop, ext_get_or}
 use Rattle.std.proofs.lemmas.Bool.{cases_lt}
-use Rattle.sb_disk.specs.Disk.{splice}
+use Rattle.sb_bytes.specs.Bytes.{splice}
+use Rattle.sb_bytes.proofs.BytesLaws.{slice-splice, length-splice}
 use Rattle.sb_disk.specs.Moments.{Sure}
-use Rattle.sb_disk.proofs.RangeLemmas.{splice-AgreesBut, slice-splice, length-splice}
+use Rattle.sb_disk.proofs.RangeLemmas.{splice-AgreesBut}
 
 -- a place in a range, or off it
 abbrev pub IsWithin : ℕ → ℕ → ℕ → Type 0

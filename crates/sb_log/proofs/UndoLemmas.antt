@@ -1,7 +1,8 @@
 -- A change is undone among those of other transactions.
 use Rattle.std.proofs.Common.{◌≡◌, ◌⊎◌, inl, inr, ⊎_elim, ℕ, ◌+◌, ◌≤◌, Bool, true, List, [], ◌∷◌, ◌++◌, length, take, drop, refl, sym, ◌∙◌, ap, subst, arith}
-use Rattle.sb_disk.specs.Disk.{splice}
-use Rattle.sb_disk.proofs.RangeLemmas.{splice-AgreesBut, length-splice, AgreesBut-slice}
+use Rattle.sb_bytes.specs.Bytes.{splice}
+use Rattle.sb_bytes.proofs.BytesLaws.{length-splice}
+use Rattle.sb_disk.proofs.RangeLemmas.{splice-AgreesBut, AgreesBut-slice}
 use Rattle.sb_log.specs.Records.{Change}
 use Rattle.sb_log.specs.Standing.{NoneOf}
 use Rattle.sb_log.specs.Restored.{over}

@@ -1,6 +1,6 @@
 -- What a log makes of the pages of a disk.
 use Rattle.std.specs.Prelude.{◌≡◌, ℕ, Bool, true, false, cond, ◌&&◌, ◌||◌, ◌==◌, List, [], ◌∷◌, ◌++◌, filter}
-use Rattle.sb_disk.specs.Disk.{splice}
+use Rattle.sb_bytes.specs.Bytes.{splice}
 use Rattle.sb_log.specs.Records.{Change, Record, Begin, Image, Changed, Back, Commit}
 use Rattle.sb_log.specs.Standing.{standing, committed}
 

@@ -1,6 +1,6 @@
 -- Changes of a page that can be undone.
 use Rattle.std.specs.Prelude.{◌≡◌, ◌⊎◌, ℕ, ◌+◌, ◌≤◌, Bool, true, List, [], ◌∷◌, length, take, drop}
-use Rattle.sb_disk.specs.Disk.{splice}
+use Rattle.sb_bytes.specs.Bytes.{splice}
 use Rattle.sb_log.specs.Records.{Change}
 
 -- their ranges don't overlap

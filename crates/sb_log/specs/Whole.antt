@@ -1,6 +1,6 @@
 -- The log, the active transactions, the pages of the disk and the pages now.
 use Rattle.std.specs.Prelude.{ℕ, ◌<◌, cond, ◌==◌, List, ◌++◌}
-use Rattle.sb_disk.specs.Disk.{splice}
+use Rattle.sb_bytes.specs.Bytes.{splice}
 use Rattle.sb_log.specs.Records.{Change, Record}
 use Rattle.sb_log.specs.Restored.{base, IsCovered, AreHarmless}
 use Rattle.sb_log.specs.Views.{Active, AreActive, IsPage}

@@ -10,7 +10,7 @@ mod tags;
 mod writing;
 
 pub use counting::{BadAt, count_records};
-pub use geometry::{Geometry, PAGE_LEN};
+pub use geometry::Geometry;
 pub use laws::{bad_in_one_place, one_record, one_row_of_records, own_changes_stand};
 pub use reading::read_rec;
 pub use record::Rec;

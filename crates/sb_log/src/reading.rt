@@ -4,10 +4,9 @@ ghost use Rattle.std.specs.Prelude.{◌≡◌, ◌↔◌, ◌<◌, ◌≤◌, �
 ghost use Rattle.sb_log.specs.Records.{Record, Begins};
 ghost use Rattle.sb_log.specs.Rec.{record_of, IsRead, Answers};
 
-use crate::geometry::PAGE_LEN;
 use crate::record::Rec;
 use crate::tags;
-use sb_bytes::{get_u16, get_u32};
+use sb_bytes::{PAGE_LEN, get_u16, get_u32};
 
 /// The record of this kind in front, from the bytes behind its first one, and its length with that one.
 fn begin_of(rest: &[u8]) -> Option<(Rec<'_>, usize)>

@@ -3,8 +3,10 @@ use Rattle.std.proofs.Common.{◌≡◌, Bool, true, false, cond, ◌==◌, Opti
 use Rattle.std.proofs.lemmas.List.{length-take, get_or-take, get_or-drop, ext_get_or, reverse-append}
 use Rattle.std.proofs.lemmas.Bool.{cases_lt}
 use Rattle.std.proofs.lemmas.Bool.Decides.{nat_tests}
-use Rattle.sb_disk.specs.Disk.{Story, IsIn, AgreesBut, splice, after_write, WriteFault, TornWrite}
-use Rattle.sb_disk.proofs.RangeLemmas.{length-splice, splice-AgreesBut, slice-splice}
+use Rattle.sb_bytes.specs.Bytes.{splice}
+use Rattle.sb_bytes.proofs.BytesLaws.{length-splice, slice-splice}
+use Rattle.sb_disk.specs.Disk.{Story, IsIn, AgreesBut, after_write, WriteFault, TornWrite}
+use Rattle.sb_disk.proofs.RangeLemmas.{splice-AgreesBut}
 use Rattle.sb_memdisk.specs.declared.past.Entry.{Entry}
 use Rattle.sb_memdisk.specs.declared.past.Lull.{Lull}
 use Rattle.sb_memdisk.specs.declared.past.Stop.{Stop}

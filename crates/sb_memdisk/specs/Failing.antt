@@ -1,7 +1,8 @@
 -- When the calls of a memory disk fail, and what they leave then.
 use Rattle.std.specs.Prelude.{◌≡◌, ℕ, ◌+◌, ◌-◌, ◌^◌, ◌<◌, ◌==◌, ◌||◌, min, nat_lt, nat_le, cond, Bool, true, false, Option, Some, None, List, length, take, Result, is_err, IsErr, OnErr}
 use Rattle.std.specs.List.{list_any}
-use Rattle.sb_disk.specs.Disk.{Story, splice, after_write, after_idle}
+use Rattle.sb_bytes.specs.Bytes.{splice}
+use Rattle.sb_disk.specs.Disk.{Story, after_write, after_idle}
 use Rattle.sb_memdisk.specs.declared.past.Stop.{Stop}
 use Rattle.sb_memdisk.specs.State.{State}
 

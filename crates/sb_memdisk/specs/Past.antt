@@ -1,6 +1,7 @@
 -- The story that a memory disk's bytes and its list of writes tell.
 use Rattle.std.specs.Prelude.{◌≡◌, ◌<◌, ◌≤◌, Vec, vec_capacity, ℕ, zero, suc, List, [], ◌∷◌, length, take, reverse}
-use Rattle.sb_disk.specs.Disk.{Story, splice, after_write, after_sync, after_idle}
+use Rattle.sb_bytes.specs.Bytes.{splice}
+use Rattle.sb_disk.specs.Disk.{Story, after_write, after_sync, after_idle}
 use Rattle.sb_memdisk.specs.declared.past.Lull.{Lull}
 use Rattle.sb_memdisk.specs.declared.past.Entry.{Entry}
 

@@ -5,7 +5,7 @@ ghost use Rattle.sb_disk.specs.Disk.{Story, after_idle};
 ghost use Rattle.sb_memdisk.specs.Failing.{has_stopped, torn_len};
 ghost use Rattle.sb_memdisk.specs.Past.{after_lull, IsReady, IsStored};
 
-use sb_disk::splice;
+use sb_bytes::splice;
 use std::alloc::{AllocError, Global};
 use std::mem;
 

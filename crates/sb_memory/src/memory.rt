@@ -8,14 +8,12 @@ ghost use Rattle.sb_memory.specs.Contents.{Grows, IsNextFrom, Keeps, nothing, sl
 ghost use Rattle.sb_memory.specs.Writes.{written, AreAmong, ArePagesTo};
 
 use crate::slots::{Slot, Write, exchange_all, has_owner, make_room};
+use sb_bytes::PAGE_LEN;
 use std::alloc::{AllocError, Global};
 use std::marker::Model;
 
 /// How many pages there are at most.
 pub const MOST_PAGES: u32 = 16384;
-
-/// How many bytes a page has.
-pub const PAGE_LEN: usize = 4096;
 
 /// The catalogue's owner, and its root.
 pub fn catalogue() -> (u16, u32)

@@ -6,8 +6,9 @@ ghost use Rattle.sb_memory.specs.Contents.{Keeps, slots, pages_of};
 ghost use Rattle.sb_drive.specs.Stores.{bytes_in};
 ghost use Rattle.sb_memory.specs.Stores.{Adds, IsPageIn, MayWrite, slot_of};
 
-use crate::memory::{MOST_PAGES, Memory, PAGE_LEN};
+use crate::memory::{MOST_PAGES, Memory};
 use crate::slots::{Slot, Write};
+use sb_bytes::PAGE_LEN;
 use sb_ctx::Ctx;
 use std::alloc::{AllocError, Global};
 

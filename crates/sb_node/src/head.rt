@@ -6,10 +6,8 @@ ghost use Rattle.sb_node.specs.Entries.{is_below};
 ghost use Rattle.sb_node.specs.Writes.{HasFields};
 
 use crate::entries::{after_of, key_of};
-use sb_bytes::{get_u16, get_u32, put_u16, put_u32};
+use sb_bytes::{PAGE_LEN, get_u16, get_u32, put_u16, put_u32};
 
-/// The bytes of a page.
-pub const PAGE_SIZE: usize = 4096;
 /// The bytes that a page has for entries.
 pub const CAPACITY: u16 = 4072;
 
@@ -118,7 +116,7 @@ fn read_head(page: &[u8]) -> Head
 fn has_form_of(page: &[u8]) -> bool
     ensures { result ≡ has_form page.now }
 {
-    if page.len() != PAGE_SIZE {
+    if page.len() != PAGE_LEN {
         return false;
     }
     let used = get_u16(page, USED_AT);

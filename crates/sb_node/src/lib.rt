@@ -15,7 +15,7 @@ mod walk;
 
 pub use edits::{add, cut, move_tail};
 pub use entries::{entry, place};
-pub use head::{CAPACITY, Head, PAGE_SIZE, clear, form, room, set_head};
+pub use head::{CAPACITY, Head, clear, form, room, set_head};
 pub use laws::head_counts;
 pub use walk::Entries;
 

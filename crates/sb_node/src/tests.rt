@@ -4,6 +4,7 @@ ghost use Rattle.std.specs.Prelude.{◌≡◌, ◌+◌, ◌≤◌, length, true}
 ghost use Rattle.sb_node.specs.Page.{has_form};
 
 use super::*;
+use sb_bytes::PAGE_LEN;
 
 /// A leaf with the entries "a" to the bytes 1 and 2, and "bc" to no bytes.
 const LEAF: [u8; 37] = [
@@ -11,8 +12,8 @@ const LEAF: [u8; 37] = [
     2, 0, 2, 0, 0, b'b', b'c',
 ];
 
-fn leaf() -> [u8; PAGE_SIZE] {
-    let mut page = [0u8; PAGE_SIZE];
+fn leaf() -> [u8; PAGE_LEN] {
+    let mut page = [0u8; PAGE_LEN];
     page[..37].copy_from_slice(&LEAF);
     page
 }
@@ -71,7 +72,7 @@ fn entries_are_read(rt: HostRuntime) {
 
 #[test]
 fn a_page_is_made(rt: HostRuntime) {
-    let mut page = [5; PAGE_SIZE];
+    let mut page = [5; PAGE_LEN];
     clear(&mut page, 3, 1);
     let head = Head {
         kind: 2,
@@ -103,7 +104,7 @@ fn an_entry_is_cut(rt: HostRuntime) {
 #[test]
 fn a_tail_is_moved(rt: HostRuntime) {
     let mut page = leaf();
-    let mut other = [0; PAGE_SIZE];
+    let mut other = [0; PAGE_LEN];
     clear(&mut other, kind::TREE_LEAF, 0);
     if form(&page).is_some_and(|head| head.count == 2) {
         move_tail(&mut page, 1, &mut other);
@@ -115,7 +116,7 @@ fn a_tail_is_moved(rt: HostRuntime) {
 
 #[test]
 fn a_full_page_has_no_room(rt: HostRuntime) {
-    let mut page = [0; PAGE_SIZE];
+    let mut page = [0; PAGE_LEN];
     clear(&mut page, kind::HEAP, 0);
     let value = [7; 4063];
     assert!(rt; put(&mut page, b"", b""));
@@ -130,6 +131,6 @@ fn other_bytes_have_not_the_form(rt: HostRuntime) {
     page[28] = b'x';
     assert!(rt; form(&page).is_none());
     assert!(rt; form(&LEAF).is_none());
-    let zeros = [0; PAGE_SIZE];
+    let zeros = [0; PAGE_LEN];
     assert!(rt; form(&zeros).is_some_and(|head| head.count == 0));
 }

@@ -1,10 +1,12 @@
 -- What runs that write pages make of the disk: the journal stands, the pages written are there, and the others are as they were.
 use Rattle.std.proofs.Common.{◌≡◌, ◌⊎◌, inl, inr, ⊎_elim, ℕ, ◌+◌, ◌<◌, ◌≤◌, Option, Some, None, List, [], ◌∷◌, length, take, drop, refl, sym, ◌∙◌, ap, subst, arith}
 use Rattle.std.proofs.lemmas.Bool.{cases_eq, cases_order}
-use Rattle.sb_disk.specs.Disk.{Story, AgreesBut, WhereTold, splice, after_write, after_sync, wrote}
+use Rattle.sb_bytes.specs.Bytes.{splice}
+use Rattle.sb_bytes.proofs.BytesLaws.{slice-splice}
+use Rattle.sb_disk.specs.Disk.{Story, AgreesBut, WhereTold, after_write, after_sync, wrote}
 use Rattle.sb_disk.specs.Moments.{Sized, RanOk, RanErr, moment}
 use Rattle.sb_disk.proofs.MomentLemmas.{Sized-wrote}
-use Rattle.sb_disk.proofs.RangeLemmas.{splice-AgreesBut, slice-splice}
+use Rattle.sb_disk.proofs.RangeLemmas.{splice-AgreesBut}
 use Rattle.sb_journal.specs.State.{State, Lies, Sound, StandsOn}
 use Rattle.sb_journal.proofs.RegionLemmas.{none_sure, Ready}
 use Rattle.sb_journal.proofs.ForeignLemmas.{StandsOn-wrote, StandsOn-FailedWrite, StandsOn-synced, StandsOn-FailedSync}

@@ -1,6 +1,7 @@
 -- A pool over a store: what the calls of the journal and of the pool make of both.
 use Rattle.std.proofs.Common.{◌≡◌, ◌⊎◌, ⊎_elim, ℕ, ◌<◌, ◌≤◌, true, false, cond, ◌==◌, Option, Some, None, List, [], ◌∷◌, ◌++◌, refl, sym, ◌∙◌, ap, subst}
-use Rattle.sb_disk.specs.Disk.{Story, WhereTold, splice}
+use Rattle.sb_bytes.specs.Bytes.{splice}
+use Rattle.sb_disk.specs.Disk.{Story, WhereTold}
 use Rattle.sb_disk.specs.Moments.{Sure}
 use Rattle.sb_journal.specs.State.{used_of, Appended, Forced, Closed}
 use Rattle.sb_journal.specs.State as journal

@@ -1,7 +1,8 @@
 -- What becomes of the pages of a pool when one of them is written.
 use Rattle.std.proofs.Common.{◌≡◌, ◌⊎◌, inl, inr, ⊎_elim, ℕ, ◌<◌, Bool, true, cond, Option, Some, None, IsSome, List, refl, sym, ◌∙◌, ap, subst}
 use Rattle.std.proofs.lemmas.Bool.{cases_eq, eq-eqb, ne_eqb, false≢true}
-use Rattle.sb_disk.specs.Disk.{Story, splice}
+use Rattle.sb_bytes.specs.Bytes.{splice}
+use Rattle.sb_disk.specs.Disk.{Story}
 use Rattle.sb_journal.specs.State as journal
 use Rattle.sb_log.specs.declared.geometry.Geometry.{Geometry}
 use Rattle.sb_images.specs.Layout.{page_at}

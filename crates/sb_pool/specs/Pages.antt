@@ -1,6 +1,7 @@
 -- What a pool over a disk says of the pages of a store.
 use Rattle.std.specs.Prelude.{◌≡◌, ℕ, ◌<◌, ◌≤◌, false, cond, ◌==◌, Option, Some, None, List}
-use Rattle.sb_disk.specs.Disk.{Story, WhereTold, splice}
+use Rattle.sb_bytes.specs.Bytes.{splice}
+use Rattle.sb_disk.specs.Disk.{Story, WhereTold}
 use Rattle.sb_disk.specs.Moments.{contents}
 use Rattle.sb_journal.specs.State.{used_of}
 use Rattle.sb_journal.specs.State as journal

@@ -3,12 +3,12 @@
 ghost use Rattle.std.specs.Prelude.{◌≡◌, ◌+◌, ◌≤◌, None, length, map, replicate, IfOk, OnOk, OnErr};
 ghost use Rattle.std.specs.List.{All};
 ghost use Rattle.sb_disk.specs.Causes.{HasCause};
-ghost use Rattle.sb_disk.specs.Disk.{splice};
+ghost use Rattle.sb_bytes.specs.Bytes.{splice};
 ghost use Rattle.sb_pool.specs.Frames.{IsFrame, held_of, IsLoaded, put_out, HasFailed};
 ghost use Rattle.sb_pool.specs.State.{cleaned};
 
-use sb_disk::{Disk, Failed, splice};
-use sb_images::PAGE_LEN;
+use sb_bytes::{PAGE_LEN, splice};
+use sb_disk::{Disk, Failed};
 use std::alloc::{AllocError, Global};
 
 /// What a frame has of its page: nothing, the page as the disk has it, or the page as it is to be written.

@@ -2,7 +2,8 @@
 use Rattle.std.proofs.Common.{◌≡◌, inl, inr, ⊎_elim, ℕ, ◌<◌, ◌≤◌, true, false, Option, Some, None, is_some, Result, Ok, Err, OnOk, OnErr, List, [], ◌∷◌, length, get_or, take, drop, refl, sym, ◌∙◌, ap, subst, arith}
 use Rattle.std.proofs.lemmas.Bool.{cases_eq, cases_lt}
 use Rattle.std.proofs.lemmas.List.{get_or-take, ext_get_or}
-use Rattle.sb_disk.specs.Disk.{Range, Story, Fits, WhereTold, AgreesBut, Reads, splice, wrote, synced}
+use Rattle.sb_bytes.specs.Bytes.{splice}
+use Rattle.sb_disk.specs.Disk.{Range, Story, Fits, WhereTold, AgreesBut, Reads, wrote, synced}
 use Rattle.sb_disk.specs.Moments.{LeavesOnly, LeavesTorn, IsSettled, Sized, Sure, Step, Write, Sync, RanOk, RanErr, AllAlong, AllWithin}
 use Rattle.sb_disk.proofs.RangeLemmas.{AgreesBut-slice, AgreesBut-byte, splice-AgreesBut}
 use Rattle.sb_disk.proofs.MomentLemmas.{started, weaker, ran_ok, ran_err, IsSettled-LeavesNow, IsSettled-none}

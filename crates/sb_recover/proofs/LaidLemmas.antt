@@ -1,9 +1,11 @@
 -- What the writes of a new store leave of a disk.
 use Rattle.std.proofs.Common.{◌≡◌, ◌⊎◌, inl, inr, ℕ, ◌+◌, ◌-◌, ◌*◌, ◌/◌, ◌%◌, ◌<◌, ◌≤◌, Option, Some, None, Result, Ok, OnOk, OnErr, List, [], ◌∷◌, length, get_or, take, drop, refl, sym, ◌∙◌, ap, subst, arith}
 use Rattle.std.proofs.lemmas.List.{get_or-take, get_or-drop}
-use Rattle.sb_disk.specs.Disk.{Range, Story, Fits, WhereTold, splice, after_write, after_sync, wrote, synced, FailedWrite}
+use Rattle.sb_bytes.specs.Bytes.{splice}
+use Rattle.sb_bytes.proofs.BytesLaws.{slice-splice}
+use Rattle.sb_disk.specs.Disk.{Range, Story, Fits, WhereTold, after_write, after_sync, wrote, synced, FailedWrite}
 use Rattle.sb_disk.specs.Moments.{LeavesOnly, LeavesTorn, Within, Sure}
-use Rattle.sb_disk.proofs.RangeLemmas.{AgreesBut-more, AgreesBut-slice, AgreesBut-byte, slice-splice}
+use Rattle.sb_disk.proofs.RangeLemmas.{AgreesBut-more, AgreesBut-slice, AgreesBut-byte}
 use Rattle.sb_disk.proofs.MomentLemmas.{started, weaker, and_then, on_write_call}
 use Rattle.sb_journal.proofs.RegionLemmas.{none_sure, sure_more}
 use Rattle.sb_log.specs.declared.geometry.Geometry.{Geometry}

@@ -1,9 +1,11 @@
 -- How a run of writes of pages goes on, and what a crash in it leaves.
 use Rattle.std.proofs.Common.{◌≡◌, inl, inr, ⊎_elim, ℕ, ◌+◌, ◌*◌, ◌<◌, ◌≤◌, Option, Some, None, List, [], ◌∷◌, length, take, drop, refl, sym, ◌∙◌, ap, subst, arith}
 use Rattle.std.proofs.lemmas.Bool.{cases_lt}
-use Rattle.sb_disk.specs.Disk.{Range, Story, Fits, WhereTold, AgreesBut, IsIn, splice, after_write, after_sync, wrote, FailedWrite}
+use Rattle.sb_bytes.specs.Bytes.{splice}
+use Rattle.sb_bytes.proofs.BytesLaws.{slice-splice}
+use Rattle.sb_disk.specs.Disk.{Range, Story, Fits, WhereTold, AgreesBut, IsIn, after_write, after_sync, wrote, FailedWrite}
 use Rattle.sb_disk.specs.Moments.{LeavesOnly, LeavesTorn, Within, Sure}
-use Rattle.sb_disk.proofs.RangeLemmas.{AgreesBut-more, AgreesBut-slice, splice-AgreesBut, slice-splice}
+use Rattle.sb_disk.proofs.RangeLemmas.{AgreesBut-more, AgreesBut-slice, splice-AgreesBut}
 use Rattle.sb_disk.proofs.MomentLemmas.{started, on_write, on_failed_write}
 use Rattle.sb_journal.proofs.RegionLemmas.{none_sure, sure_more}
 use Rattle.sb_recover.specs.Laying.{IsWithin, AreLaid, Lays}

@@ -4,8 +4,9 @@ use Rattle.std.proofs.lemmas.List.{length-set, take_more, reverse-append}
 use Rattle.std.specs.Ordering.{nat_cmp}
 use Rattle.std.specs.BTreeSet.{contains_by}
 use Rattle.std.proofs.lemmas.Bool.{both_ways, eq-eqb, ne_eqb, cases_eq, cases_Bool}
-use Rattle.sb_disk.specs.Disk.{Story, Reads, splice}
-use Rattle.sb_disk.proofs.RangeLemmas.{length-splice}
+use Rattle.sb_bytes.specs.Bytes.{splice}
+use Rattle.sb_bytes.proofs.BytesLaws.{length-splice}
+use Rattle.sb_disk.specs.Disk.{Story, Reads}
 use Rattle.sb_log.specs.declared.geometry.Geometry.{Geometry}
 use Rattle.sb_log.specs.Records.{Change, Record, AreRecords, Spells}
 use Rattle.sb_log.specs.Standing.{standing, committed}

@@ -1,10 +1,12 @@
 -- Pages are written one after another.
 use Rattle.std.proofs.Common.{◌≡◌, ◌⊎◌, inl, ⊎_elim, ℕ, ◌+◌, ◌<◌, ◌≤◌, true, Option, Some, None, Result, OnOk, OnErr, List, [], ◌∷◌, length, take, drop, get_or, refl, sym, ◌∙◌, ap, subst, arith, Vec, Global}
 use Rattle.std.proofs.lemmas.Bool.{cases_eq, cases_lt}
-use Rattle.sb_disk.specs.Disk.{Range, Story, Covered, AgreesBut, WhereTold, Fits, wrote, synced, splice, after_write, FailedWrite, FailedSync}
+use Rattle.sb_bytes.specs.Bytes.{splice}
+use Rattle.sb_bytes.proofs.BytesLaws.{slice-splice}
+use Rattle.sb_disk.specs.Disk.{Range, Story, Covered, AgreesBut, WhereTold, Fits, wrote, synced, after_write, FailedWrite, FailedSync}
 use Rattle.sb_disk.specs.Moments.{IsSettled, LeavesOnly, LeavesTorn, Within}
 use Rattle.sb_disk.proofs.MomentLemmas.{started, on_write, on_failed_write, on_sync_call, IsSettled-LeavesNow}
-use Rattle.sb_disk.proofs.RangeLemmas.{same_slice, splice-AgreesBut, slice-splice}
+use Rattle.sb_disk.proofs.RangeLemmas.{same_slice, splice-AgreesBut}
 use Rattle.sb_log.specs.declared.geometry.Geometry.{Geometry}
 use Rattle.sb_images.specs.Layout.{need, place_of, page_at}
 use Rattle.sb_images.proofs.LayoutLemmas.{page_within}

@@ -4,8 +4,7 @@ ghost use Rattle.std.specs.Prelude.{◌≡◌, ◌*◌, ◌<◌, ◌≤◌, leng
 ghost use Rattle.sb_recover.specs.FirstPages.{super_page, first_owner, owner_entries, free_page, first_page};
 ghost use Rattle.sb_images.specs.Layout.{geometry_of};
 
-use sb_bytes::{put_u16, put_u32, put_u64};
-use sb_images::PAGE_LEN;
+use sb_bytes::{PAGE_LEN, put_u16, put_u32, put_u64};
 
 /// The pages whose owners one page of the owner table has.
 const ENTRIES: u32 = 2048;

@@ -13,8 +13,9 @@ ghost use Rattle.sb_recover.specs.SuperPage.{IsNoStore};
 use crate::OpenFault;
 use crate::laying::lay;
 use crate::super_page::{OPEN, found_in};
+use sb_bytes::PAGE_LEN;
 use sb_disk::{Disk, Failed};
-use sb_images::{PAGE_LEN, need};
+use sb_images::need;
 use sb_log::Geometry;
 use std::alloc::Global;
 

@@ -9,8 +9,9 @@ ghost use Rattle.sb_recover.specs.FirstPages.{free_page, first_page};
 ghost use Rattle.sb_recover.specs.Laying.{AreLaid, IsLaid, behind_gate};
 
 use crate::first_pages::{fill_first, fill_free, fill_super};
+use sb_bytes::PAGE_LEN;
 use sb_disk::{Disk, Failed};
-use sb_images::{GATES, GATES_START, LOG_START, PAGE_LEN};
+use sb_images::{GATES, GATES_START, LOG_START};
 use sb_log::Geometry;
 
 /// The pages that the gates take.

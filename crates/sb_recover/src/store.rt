@@ -7,8 +7,8 @@ ghost use Rattle.sb_recover.specs.Geometries.{IsStoreIn, NoStoreErr};
 
 use crate::OpenFault;
 use crate::super_page::found_in;
+use sb_bytes::PAGE_LEN;
 use sb_disk::Disk;
-use sb_images::PAGE_LEN;
 use sb_log::Geometry;
 
 /// The sizes of the store that the disk holds.

@@ -4,8 +4,8 @@ ghost use Rattle.std.specs.Prelude.{◌≡◌, ◌↔◌, ℕ, List, IsTrue, len
 ghost use Rattle.sb_images.specs.Layout.{name_of_store, super_of};
 ghost use Rattle.sb_recover.specs.SuperPage.{Finds};
 
-use sb_bytes::{get_u16, get_u32, get_u64};
-use sb_images::{PAGE_LEN, is_geometry, need};
+use sb_bytes::{PAGE_LEN, get_u16, get_u32, get_u64};
+use sb_images::{is_geometry, need};
 use sb_log::Geometry;
 
 /// What the gate of a store holds.

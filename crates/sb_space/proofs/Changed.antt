@@ -3,8 +3,9 @@ use Rattle.std.proofs.Common.{◌≡◌, ⊎_elim, ℕ, ◌+◌, ◌<◌, ◌≤
 use Rattle.std.proofs.lemmas.Bool.{false≢true}
 use Rattle.std.proofs.lemmas.List.{length-take, length-drop}
 use Rattle.std.proofs.lemmas.List.Elements.{All-append, All-take, All-drop}
-use Rattle.sb_disk.specs.Disk.{Story, Range, splice}
-use Rattle.sb_disk.proofs.RangeLemmas.{length-splice}
+use Rattle.sb_bytes.specs.Bytes.{splice}
+use Rattle.sb_bytes.proofs.BytesLaws.{length-splice}
+use Rattle.sb_disk.specs.Disk.{Story, Range}
 use Rattle.sb_forms.specs.Pages.{IsWhole}
 use Rattle.sb_log.specs.declared.geometry.Geometry.{Geometry}
 use Rattle.sb_pool.specs.Pages.{with_bytes}

@@ -1,9 +1,9 @@
 -- What changes of an entry of the table, and of a page, make of the pages by their owners.
 use Rattle.std.proofs.Common.{◌≡◌, ◌≢◌, ◌⊎◌, ℕ, ◌+◌, ◌*◌, ◌/◌, ◌%◌, ◌<◌, ◌≤◌, nat_lt, ◌==◌, Bool, true, false, cond, List, [], ◌∷◌, length, Result, Ok, Err, inl, inr, refl, sym, ap, subst, ◌∙◌, arith}
 use Rattle.std.proofs.lemmas.Bool.{false≢true, eqb-true, eq-eqb, ltb-true, ltb-false}
+use Rattle.sb_bytes.specs.Bytes.{splice}
 use Rattle.sb_bytes.specs.Field.{number_at, with_number}
 use Rattle.sb_bytes.proofs.FieldLaws.{reads_back, leaves_others}
-use Rattle.sb_disk.specs.Disk.{splice}
 use Rattle.sb_drive.specs.Slots.{Slots, nobodys, with_slot}
 use Rattle.sb_drive.specs.declared.space.SpaceFault.{SpaceFault}
 use Rattle.sb_drive.specs.Spaces.{UnlessDown, Wanted}

@@ -2,7 +2,7 @@
 use Rattle.std.proofs.Common.{◌≡◌, ℕ, suc, ◌+◌, ◌-◌, ◌<◌, ◌≤◌, List, [], ◌∷◌, ◌++◌, length, take, drop, slice_index_or, drop-drop, sym, ap, ◌∙◌, arith}
 use Rattle.std.proofs.lemmas.List.{take_more, length-take, length-drop, append_assoc, take-append-drop}
 use Rattle.std.proofs.Math.Seq.{drop-cons}
-use Rattle.sb_disk.specs.Disk.{splice}
+use Rattle.sb_bytes.specs.Bytes.{splice}
 
 -- one byte more is the same
 pub take-further : (a b : List ℕ) (i : ℕ) → i < length a → length a ≡ length b → take i a ≡ take i b → slice_index_or a i 0 ≡ slice_index_or b i 0 → take (i + 1) a ≡ take (i + 1) b

@@ -1,8 +1,8 @@
 -- What a page that is rewritten, and an entry that is, make of the pages by their owners.
 use Rattle.std.proofs.Common.{◌≡◌, ◌≢◌, ℕ, ◌*◌, ◌/◌, ◌%◌, ◌<◌, ◌≤◌, nat_lt, ◌==◌, Bool, true, false, cond, List, [], ◌∷◌, Result, Ok, Err, refl, sym, ap, subst, ◌∙◌, arith}
 use Rattle.std.proofs.lemmas.Bool.{false≢true, eqb-true, eq-eqb, ltb-true, ltb-false}
+use Rattle.sb_bytes.specs.Bytes.{splice}
 use Rattle.sb_bytes.specs.Field.{number_at}
-use Rattle.sb_disk.specs.Disk.{splice}
 use Rattle.sb_drive.specs.Slots.{Slots, nobodys, with_slot}
 use Rattle.sb_drive.specs.declared.space.SpaceFault.{SpaceFault}
 use Rattle.sb_drive.specs.Spaces.{UnlessDown, Wanted}

@@ -11,7 +11,7 @@ use Rattle.sb_disk.proofs.MomentLemmas.{and_then}
 use Rattle.sb_forms.specs.Pages.{IsWhole}
 use Rattle.sb_images.specs.Images.{Restores}
 use Rattle.sb_log.specs.declared.geometry.Geometry.{Geometry}
-use Rattle.sb_disk.specs.Disk.{splice}
+use Rattle.sb_bytes.specs.Bytes.{splice}
 use Rattle.sb_txn.specs.Book.{Undo}
 use Rattle.sb_txn.specs.Clauses.{LeavesWanted, Grows, unwound}
 use Rattle.sb_txn.specs.Parts.{Parts, parts}

@@ -19,9 +19,9 @@ use crate::changing::TABLE;
 use crate::durable::Durable;
 use crate::entries::clear_owner;
 use crate::owners::ENTRIES;
+use sb_bytes::PAGE_LEN;
 use sb_disk::Disk;
 use sb_drive::SpaceFault;
-use sb_images::PAGE_LEN;
 use std::alloc::{AllocError, Global};
 
 /// How many numbers of owners there are.

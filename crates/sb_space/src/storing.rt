@@ -12,10 +12,10 @@ ghost use Rattle.sb_space.specs.Works.{HasPages, Serves};
 
 use crate::durable::Durable;
 use crate::owners::FIRST_OWNER;
+use sb_bytes::{MOST_PAGES, PAGE_LEN};
 use sb_ctx::Ctx;
 use sb_disk::Disk;
 use sb_drive::SpaceFault;
-use sb_images::{MOST_PAGES, PAGE_LEN};
 
 impl<D: Disk> Durable<'_, D> {
     /// Stores the pages that were taken, those that were edited, and those that were freed.

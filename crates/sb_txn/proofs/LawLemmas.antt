@@ -1,8 +1,8 @@
 -- Undos give back what was there.
 use Rattle.std.proofs.Common.{◌≡◌, inl, inr, ⊎_elim, ℕ, ◌+◌, ◌≤◌, ◌==◌, Bool, true, false, cond, List, [], ◌∷◌, ◌++◌, length, map, refl, sym, ◌∙◌, ap, subst, arith}
 use Rattle.std.proofs.lemmas.Bool.{eqb-true}
-use Rattle.sb_disk.specs.Disk.{splice}
-use Rattle.sb_disk.proofs.RangeLemmas.{length-splice}
+use Rattle.sb_bytes.specs.Bytes.{splice}
+use Rattle.sb_bytes.proofs.BytesLaws.{length-splice}
 use Rattle.sb_log.proofs.SpliceLemmas.{splice-back, splice-swap}
 use Rattle.sb_pool.specs.Pages.{with_bytes}
 use Rattle.sb_txn.specs.Book.{Undo}

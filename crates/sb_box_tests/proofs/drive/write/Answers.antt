@@ -1,9 +1,10 @@
 use Rattle.std.proofs.Common.{List, ℕ, IsSome, [], ◌∷◌, ◌∙◌, rules}
-use Rattle.sb_ctx.specs.View.{page_of, spliced}
+use Rattle.sb_bytes.specs.Bytes.{splice}
+use Rattle.sb_ctx.specs.View.{page_of}
 use Rattle.sb_memory.proofs.TestLemmas.{given-edit, is_some-given}
 use Rattle.sb_box_tests.proofs.drive.write.Goals as goal
 
 pub returns-in-Ok-clause-given : goal.returns-in-Ok-clause-given
 returns-in-Ok-clause-given c =
     let held : IsSome (page_of c.args.ctx.now c.args.n) = search rules in
-    given-edit c.args.ctx.now c.edit.new.self c.args.n (spliced 0 (c.args.byte ∷ [])) held c.in-Ok.ensures.ok ∙ c.requires.unchanged
+    given-edit c.args.ctx.now c.edit.new.self c.args.n (splice 0 (c.args.byte ∷ [])) held c.in-Ok.ensures.ok ∙ c.requires.unchanged

@@ -19,18 +19,18 @@ no_page bytes other = by (has_form bytes) refl
     by true form = absurd (other (form_size bytes form))
     by false form = ap (λ (f : Bool). elim (cond f (Some (node_in bytes)) None) [ None ↦ true | Some n ↦ nat_lt 16 n.head.level ]) form
 
-pub returns-then-page-ne-PAGE_SIZE-clause-broken : goal.returns-then-page-ne-PAGE_SIZE-clause-broken
-returns-then-page-ne-PAGE_SIZE-clause-broken c =
-    let amiss = ap is_no_root (sym c.in-Some.ensures) ∙ no_page c.in-Some.page.now c.if-page-ne-PAGE_SIZE.true in
+pub returns-then-page-ne-PAGE_LEN-clause-broken : goal.returns-then-page-ne-PAGE_LEN-clause-broken
+returns-then-page-ne-PAGE_LEN-clause-broken c =
+    let amiss = ap is_no_root (sym c.in-Some.ensures) ∙ no_page c.in-Some.page.now c.if-page-ne-PAGE_LEN.true in
     no_root_breaks (Unit {0}) (page_of c.args.ctx.now) c.args.root (stop.Broken c.args.root) (refl, amiss)
 
 pub returns-in-Ok-clause-given : goal.returns-in-Ok-clause-given
 returns-in-Ok-clause-given c =
-    let room = room_of-page c.args.ctx.now c.args.root c.in-Some.page.now (sym c.in-Some.ensures) ∙ c.if-page-ne-PAGE_SIZE.false in
+    let room = room_of-page c.args.ctx.now c.args.root c.in-Some.page.now (sym c.in-Some.ensures) ∙ c.if-page-ne-PAGE_LEN.false in
     edit_given c.args.ctx.now c.edit.new.self c.args.root c.clear.new.page room (form_size c.clear.new.page c.clear.ensures.form) c.in-Ok.ensures.ok
 
 pub returns-in-Ok-clause-edits : goal.returns-in-Ok-clause-edits
 returns-in-Ok-clause-edits c =
-    let room = room_of-page c.args.ctx.now c.args.root c.in-Some.page.now (sym c.in-Some.ensures) ∙ c.if-page-ne-PAGE_SIZE.false in
+    let room = room_of-page c.args.ctx.now c.args.root c.in-Some.page.now (sym c.in-Some.ensures) ∙ c.if-page-ne-PAGE_LEN.false in
     let long = form_size c.clear.new.page c.clear.ensures.form in
     omega (arith, ap edits_of (edited c.args.ctx.now c.edit.new.self c.args.root c.clear.new.page room long c.in-Ok.ensures.ok), edits-whole c.args.ctx.now c.args.root c.clear.new.page room long)

@@ -3,8 +3,8 @@ use Rattle.std.proofs.lemmas.List.{with_items_is}
 use Rattle.std.specs.Vec.{with_items}
 use Rattle.std.specs.Ordering.{nat_cmp}
 use Rattle.std.specs.BTreeSet.{contains_by}
-use Rattle.sb_disk.specs.Disk.{splice}
-use Rattle.sb_disk.proofs.RangeLemmas.{length-splice}
+use Rattle.sb_bytes.specs.Bytes.{splice}
+use Rattle.sb_bytes.proofs.BytesLaws.{length-splice}
 use Rattle.sb_recover.specs.Changes.{change_of}
 use Rattle.sb_recover.specs.Frames.{texts, AreFrames, ChangedOn}
 use Rattle.sb_recover.proofs.FrameLemmas.{length-texts, texts-set, frame_at-texts}

@@ -1,5 +1,6 @@
 use Rattle.std.proofs.Common.{◌≡◌, ℕ, ◌<◌, [], ◌∷◌, length, sym, subst, IfSome}
-use Rattle.sb_ctx.specs.View.{page_of, spliced, with_page}
+use Rattle.sb_bytes.specs.Bytes.{splice}
+use Rattle.sb_ctx.specs.View.{page_of, with_page}
 use Rattle.sb_ctx.proofs.BoundLaws.{Changes-memory, Changes-need}
 use Rattle.sb_foreign.specs.Strips.{strip, strip_of}
 use Rattle.sb_foreign.proofs.StripLaws.{boundless_strip, Changes-inserted, Changes-unwritten, room-strip}
@@ -14,7 +15,7 @@ pub returns-in-Ok-edit : goal.returns-in-Ok-edit
 returns-in-Ok-edit c =
     Changes-inserted c.args.inst.now c.args.tuple.now c.args.ctx.now c.edit.new.self c.in-Some-page.page.now c.in-Ok.key c.in-Some-find_free.place c.in-Some.byte
     c.requires.clean.unchanged (sym c.in-Some-page.ensures) c.in-Some-find_free.ensures.place c.in-Some-find_free.ensures.within c.in-Ok.ensures c.in-Some.ensures.some c.in-Some.ensures.small c.in-Some.ensures.row
-    (subst (λ (n : ℕ). IfSome (page_of c.args.ctx.now c.args.inst.now.root) (λ page. c.edit.new.self ≡ with_page c.args.inst.now.root (spliced n (c.in-Some.byte ∷ []) page) c.args.ctx.now)) c.from.ensures c.in-Ok-edit.ensures.ok)
+    (subst (λ (n : ℕ). IfSome (page_of c.args.ctx.now c.args.inst.now.root) (λ page. c.edit.new.self ≡ with_page c.args.inst.now.root (splice n (c.in-Some.byte ∷ []) page) c.args.ctx.now)) c.from.ensures c.in-Ok-edit.ensures.ok)
 
 pub returns-in_default : goal.returns-in_default
 returns-in_default c = Changes-memory strip _ _ _ boundless_strip c.requires.clean.unchanged

@@ -1,7 +1,8 @@
 use Rattle.std.proofs.Common.{rules, List, sym, arith, subst, true, ◌<◌, IsTrue, nat_le, ◌||◌, ◌+◌, ◌-◌, ◌^◌, Bool, cond, ◌==◌, ◌≡◌, ℕ, length, take, drop, ◌++◌, reverse, ◌∙◌, ap}
 use Rattle.std.proofs.lemmas.List.{take_at}
 use Rattle.std.specs.List.{list_any}
-use Rattle.sb_disk.specs.Disk.{splice, after_write, after_idle}
+use Rattle.sb_bytes.specs.Bytes.{splice}
+use Rattle.sb_disk.specs.Disk.{after_write, after_idle}
 use Rattle.sb_memdisk.specs.declared.past.Entry.{Entry}
 use Rattle.sb_memdisk.specs.State.{State}
 use Rattle.sb_memdisk.specs.Past.{story_after, IsStored}

@@ -1,6 +1,6 @@
 use Rattle.std.proofs.Common.{rules, ◌≡◌, ◌<◌, ◌≤◌, ℕ, List, Option, Result, Ok, Err, OnOk, ◌++◌, length, map, get_or, set, refl, sym, ◌∙◌, ap, subst, arith}
 use Rattle.std.specs.Result.{IsErrAnd}
-use Rattle.sb_disk.specs.Disk.{splice}
+use Rattle.sb_bytes.specs.Bytes.{splice}
 use Rattle.sb_journal.specs.State.{used_of}
 use Rattle.sb_log.specs.declared.geometry.Geometry.{Geometry}
 use Rattle.sb_pool.specs.declared.frame.Content.TheVariants.{Dirty}

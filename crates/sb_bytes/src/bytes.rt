@@ -1,7 +1,7 @@
 //! Bytes over bytes.
 
 ghost use Rattle.std.specs.Prelude.{◌≡◌, ◌+◌, ◌≤◌, length};
-ghost use Rattle.sb_disk.specs.Disk.{splice};
+ghost use Rattle.sb_bytes.specs.Bytes.{splice};
 
 /// Puts the new bytes over those that stand from a place on.
 pub fn splice(bytes: &mut [u8], at: usize, new: &[u8])
