@@ -14,7 +14,7 @@ use Rattle.sb_forms.specs.Pages.{Pages}
 use Rattle.sb_ctx.specs.declared.instance.Instance.{Instance}
 use Rattle.sb_ctx.specs.declared.calls.AttachCall.TheVariants as call
 use Rattle.sb_ctx.specs.declared.moves.Move.{Move}
-use Rattle.sb_ctx.specs.declared.moves.Move.TheVariants.{Done, Acts, Need, Fresh, After, Find, Veto, NoRecord, Duplicate, Range, Key as Keyed, Row as Rowed, Entry, Sums, End, Broken, NoMemory}
+use Rattle.sb_ctx.specs.declared.moves.Move.TheVariants.{Done, Acts, Need, Fresh, After, Find, Veto, NoRecord, Duplicate, Range, Key as Keyed, Row as Rowed, Entry, Sums, Hits, End, Broken, NoMemory}
 use Rattle.sb_ctx.specs.View.{View, FoundIn}
 use Rattle.sb_ctx.specs.Attachment.{Attachment, StandsOn}
 use Rattle.sb_ctx.specs.AttachAnswers.{Admitted as AdmittedBy, Answers, BeforeChange, Changed, Holds, content_over}
@@ -50,6 +50,7 @@ IsVerdict-final c (Keyed key) is = absurd is.may
 IsVerdict-final c (Rowed key row) is = absurd is.may
 IsVerdict-final c (Entry first second) is = absurd is.may
 IsVerdict-final c (Sums sums) is = absurd is.may
+IsVerdict-final c (Hits keys) is = absurd is.may
 IsVerdict-final c End is = absurd is.may
 IsVerdict-final c (Broken page) is = absurd is.last
 IsVerdict-final c NoMemory is = absurd is.last
@@ -71,6 +72,7 @@ Changed-answers box inst rule db buckets c view P after (Keyed key) stands befor
 Changed-answers box inst rule db buckets c view P after (Rowed key row) stands before is answers = absurd is
 Changed-answers box inst rule db buckets c view P after (Entry first second) stands before is answers = absurd is
 Changed-answers box inst rule db buckets c view P after (Sums sums) stands before is answers = absurd is
+Changed-answers box inst rule db buckets c view P after (Hits keys) stands before is answers = absurd is
 Changed-answers box inst rule db buckets c view P after End stands before is answers = absurd is
 Changed-answers box inst rule db buckets c view P after (Broken page) stands before is answers = absurd is
 Changed-answers box inst rule db buckets c view P after NoMemory stands before is answers = absurd is
@@ -153,6 +155,7 @@ Judged-changed m root s t x c inst move asks next kept others is says = by move 
     by (Rowed key row) is says = absurd is
     by (Entry first second) is says = absurd is
     by (Sums sums) is says = absurd is
+    by (Hits keys) is says = absurd is
     by End is says = absurd is
     by (Broken page) is says = absurd is
     by NoMemory is says = absurd is

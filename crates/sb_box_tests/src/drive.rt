@@ -9,7 +9,7 @@ ghost use Rattle.sb_ctx.specs.View.{IsClean, dropped};
 ghost use Rattle.sb_memory.specs.Examples.{IsPlain, IsMade, IsFindOrNoMemory};
 ghost use Rattle.sb_memory.specs.Contents.{slots};
 ghost use Rattle.sb_drive.specs.Spaces.{HoldsOf};
-ghost use Rattle.sb_relation.specs.Images.{no_image};
+ghost use Rattle.sb_relation.specs.Foreign.{plain_rules};
 
 use sb_ctx::{AttachCall, Attachment, Ctx, Instance, Keys, MethodCall, Move, StorageMethod};
 use sb_memory::{DriveFault, Memory, drive_attachment, drive_method};
@@ -138,12 +138,7 @@ fn write(ctx: &mut Ctx, n: u32, byte: u8) -> Move
 struct Marker {}
 
 impl Attachment for Marker {
-    ghost attachment = { λ _. record (plain_attachment (record {
-      code = 1000;
-      fits = λ schema desc. true;
-      admits = λ desc db name change. true;
-      image = λ desc schema rows. no_image;
-    }) (λ inst P. None)) {
+    ghost attachment = { λ _. record (plain_attachment (plain_rules 1000) (λ inst P. None)) {
       may_break = λ inst held n. is_some (held n);
     } };
 
@@ -196,6 +191,10 @@ impl Attachment for Marker {
     }
 
     fn sums(&self, _alloc: Global, _ctx: &mut Ctx, _inst: &Instance) -> Move {
+        Move::NoMemory
+    }
+
+    fn seek(&self, _alloc: Global, _ctx: &mut Ctx, _inst: &Instance, _query: &Tuple) -> Move {
         Move::NoMemory
     }
 }

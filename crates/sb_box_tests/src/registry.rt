@@ -1,7 +1,7 @@
 //! What no clause says: that calls succeed while memory lasts. And which boxes are refused, with codes from outside.
 
 ghost use Rattle.std.specs.Prelude.{◌≡◌, ◌+◌, true, Some, None};
-ghost use Rattle.sb_relation.specs.Images.{no_image};
+ghost use Rattle.sb_relation.specs.Foreign.{plain_rules};
 ghost use Rattle.sb_ctx.specs.Attachment.{plain_attachment};
 ghost use Rattle.sb_ctx.specs.Method.{plain_method};
 
@@ -80,12 +80,7 @@ struct Plain {
 }
 
 impl Attachment for Plain {
-    ghost attachment = { λ a. plain_attachment (record {
-      code = 1000 + a.number;
-      fits = λ schema desc. true;
-      admits = λ desc db name change. true;
-      image = λ desc schema rows. no_image;
-    }) (λ inst P. None) };
+    ghost attachment = { λ a. plain_attachment (plain_rules (1000 + a.number)) (λ inst P. None) };
 
     fn code(&self) -> u16 {
         1000 + u16::from(self.number)
@@ -136,6 +131,10 @@ impl Attachment for Plain {
     }
 
     fn sums(&self, _alloc: Global, _ctx: &mut Ctx, _inst: &Instance) -> Move {
+        Move::NoMemory
+    }
+
+    fn seek(&self, _alloc: Global, _ctx: &mut Ctx, _inst: &Instance, _query: &Tuple) -> Move {
         Move::NoMemory
     }
 }

@@ -7,7 +7,7 @@ ghost use Rattle.std.specs.Prelude.{◌≡◌, codes, ◌∷◌, [], IfOk};
 ghost use Rattle.sb_rule.specs.Spelling.{rule_spelling, IsStorableRule};
 ghost use Rattle.sb_ctx.specs.declared.instance.Instance.{Instance as Seen};
 ghost use Rattle.sb_ctx.specs.View.{IsClean};
-ghost use Rattle.sb_ctx.specs.Attachment.{IsInstance, MayHold, MayMeet};
+ghost use Rattle.sb_ctx.specs.Attachment.{IsInstance, IsQuery, MayHold, MayMeet};
 ghost use Rattle.sb_rules.specs.Checks.{check};
 ghost use Rattle.sb_rules.specs.Examples.{numbers, not_negative};
 
@@ -85,6 +85,7 @@ enum Reply {
     Veto,
     End,
     NoSums,
+    NoHits,
     /// The rows of `r` whose `k` is -1 are asked for.
     Find,
     /// The row of -1 is left for the commit, alone.
@@ -141,6 +142,13 @@ fn reply_of(made: &Move) -> Reply {
                 Reply::Other
             }
         }
+        Move::Hits(keys) => {
+            if keys.as_slice().is_empty() {
+                Reply::NoHits
+            } else {
+                Reply::Other
+            }
+        }
         Move::Find {
             relation,
             columns,
@@ -178,13 +186,33 @@ fn summed<A: Attachment>(attachment: &A, alloc: Global, inst: &Instance) -> Repl
     reply_of(&attachment.sums(alloc, &mut Ctx::new(alloc), inst))
 }
 
-/// Whether it is prepared without a page, and has no entry and no sums.
-fn keeps_nothing<A: Attachment>(attachment: &A, alloc: Global, inst: &Instance) -> bool
+/// Four numbers.
+fn query(alloc: Global) -> Result<Tuple, AllocError>
+    ensures { IfOk result IsQuery }
+{
+    let numbers = vec![in alloc; Value::Int(1), Value::Int(1), Value::Int(5), Value::Int(5)]?;
+    Ok(Tuple::from_vec(numbers))
+}
+
+fn hits<A: Attachment>(attachment: &A, alloc: Global, inst: &Instance) -> Result<Reply, AllocError>
     requires { IsInstance (A.attachment attachment.now) inst.now }
 {
-    prepared(attachment, alloc, inst) == Reply::Done
+    let query = query(alloc)?;
+    Ok(reply_of(&attachment.seek(alloc, &mut Ctx::new(alloc), inst, &query)))
+}
+
+/// Whether it is prepared without a page, and has no entry, no sums and no hits.
+fn keeps_nothing<A: Attachment>(
+    attachment: &A,
+    alloc: Global,
+    inst: &Instance,
+) -> Result<bool, AllocError>
+    requires { IsInstance (A.attachment attachment.now) inst.now }
+{
+    let kept = prepared(attachment, alloc, inst) == Reply::Done
         && first_entry(attachment, alloc, inst) == Reply::End
-        && summed(attachment, alloc, inst) == Reply::NoSums
+        && summed(attachment, alloc, inst) == Reply::NoSums;
+    Ok(kept && hits(attachment, alloc, inst)? == Reply::NoHits)
 }
 
 /// Whether it has the code, and fits the instance.
@@ -195,7 +223,7 @@ fn is_of<A: Attachment>(attachment: &A, inst: &Instance, code: u16) -> bool {
 fn is_without_pages(alloc: Global) -> Result<bool, AllocError> {
     let inst = instance(alloc, false)?;
     let check = Check::new();
-    Ok(is_of(&check, &inst, 5) && keeps_nothing(&check, alloc, &inst))
+    Ok(is_of(&check, &inst, 5) && keeps_nothing(&check, alloc, &inst)?)
 }
 
 #[test]

@@ -19,7 +19,7 @@ use Rattle.sb_catalog.proofs.Parts.{one_rule}
 use Rattle.sb_ctx.specs.declared.instance.Instance.{Instance}
 use Rattle.sb_ctx.specs.declared.calls.AttachCall.TheVariants as call
 use Rattle.sb_ctx.specs.declared.moves.Move.{Move}
-use Rattle.sb_ctx.specs.declared.moves.Move.TheVariants.{Done, Acts, Need, Fresh, After, Find, Veto, NoRecord, Duplicate, Range, Key as Keyed, Row as Rowed, Entry, Sums, End, Broken, NoMemory}
+use Rattle.sb_ctx.specs.declared.moves.Move.TheVariants.{Done, Acts, Need, Fresh, After, Find, Veto, NoRecord, Duplicate, Range, Key as Keyed, Row as Rowed, Entry, Sums, Hits, End, Broken, NoMemory}
 use Rattle.sb_ctx.specs.View.{View}
 use Rattle.sb_ctx.specs.Attachment.{Attachment, MayHold, StandsOn}
 use Rattle.sb_ctx.specs.AttachAnswers.{AreBuilt as AreSome, Answers, BeforeBuild, Built, Holds, admits_built, content_with, first_content, pages_of_new}
@@ -100,6 +100,7 @@ IsDone-prepared (Keyed key) is = absurd is.may
 IsDone-prepared (Rowed key row) is = absurd is.may
 IsDone-prepared (Entry first second) is = absurd is.may
 IsDone-prepared (Sums sums) is = absurd is.may
+IsDone-prepared (Hits keys) is = absurd is.may
 IsDone-prepared End is = absurd is.may
 IsDone-prepared (Broken page) is = absurd is.last
 IsDone-prepared NoMemory is = absurd is.last
@@ -125,6 +126,7 @@ IsBuilding-final key row (Keyed k) is = absurd is.may
 IsBuilding-final key row (Rowed k r) is = absurd is.may
 IsBuilding-final key row (Entry first second) is = absurd is.may
 IsBuilding-final key row (Sums sums) is = absurd is.may
+IsBuilding-final key row (Hits keys) is = absurd is.may
 IsBuilding-final key row End is = absurd is.may
 IsBuilding-final key row (Broken page) is = absurd is.last
 IsBuilding-final key row NoMemory is = absurd is.last
@@ -145,6 +147,7 @@ Built-answers box inst rule db built buckets key row view P after (Keyed k) is s
 Built-answers box inst rule db built buckets key row view P after (Rowed k r) is stands before answers = absurd is
 Built-answers box inst rule db built buckets key row view P after (Entry first second) is stands before answers = absurd is
 Built-answers box inst rule db built buckets key row view P after (Sums sums) is stands before answers = absurd is
+Built-answers box inst rule db built buckets key row view P after (Hits keys) is stands before answers = absurd is
 Built-answers box inst rule db built buckets key row view P after End is stands before answers = absurd is
 Built-answers box inst rule db built buckets key row view P after (Broken page) is stands before answers = absurd is
 Built-answers box inst rule db built buckets key row view P after NoMemory is stands before answers = absurd is
@@ -170,6 +173,7 @@ has_built box inst rule db built row after (Keyed key) is made = absurd is
 has_built box inst rule db built row after (Rowed key r) is made = absurd is
 has_built box inst rule db built row after (Entry first second) is made = absurd is
 has_built box inst rule db built row after (Sums sums) is made = absurd is
+has_built box inst rule db built row after (Hits keys) is made = absurd is
 has_built box inst rule db built row after End is made = absurd is
 has_built box inst rule db built row after (Broken page) is made = absurd is
 has_built box inst rule db built row after NoMemory is made = absurd is

@@ -1,14 +1,17 @@
 -- A box that sets itself no bounds keeps to them.
-use Rattle.std.proofs.Common.{◌≡◌, ℕ, ◌+◌, ◌≤◌, ◌<◌, Bool, true, false, cond, not, ◌&&◌, List, [], ◌∷◌, length, filter, Some, None, sym, ap, subst, ◌∙◌, arith, ◌==◌, max, slice_get, suc, refl, true≢false, bytes_eq, nat_le}
+use Rattle.std.proofs.Common.{◌≡◌, ℕ, ◌+◌, ◌≤◌, ◌<◌, Bool, true, false, cond, not, ◌&&◌, List, [], ◌∷◌, length, filter, Some, None, sym, ap, subst, ◌∙◌, arith, ◌==◌, max, slice_get, suc, refl, true≢false, bytes_eq, nat_le, All}
 use Rattle.std.specs.List.{range_with_len}
 use Rattle.std.proofs.lemmas.Bool.{cond-false}
 use Rattle.std.proofs.lemmas.Bool.Decides.{nat_tests}
 use Rattle.std.proofs.lemmas.List.{length-map, nil_from_length}
+use Rattle.std.proofs.lemmas.List.Elements.{All-nil}
 use Rattle.std.proofs.lemmas.List.Filters.{length-filter_both}
 use Rattle.std.proofs.lemmas.List.FromFn.{length-range_with_len}
+use Rattle.sb_value.specs.declared.value.Value.{Value}
 use Rattle.sb_relation.specs.Content.{Content}
-use Rattle.sb_relation.specs.Db.{Rows}
+use Rattle.sb_relation.specs.Db.{Key, Rows}
 use Rattle.sb_relation.specs.Fits.{is_empty}
+use Rattle.sb_relation.specs.Keys.{is_record_key}
 use Rattle.sb_forms.specs.Pages.{Pages, page_numbers, page_count}
 use Rattle.sb_ctx.specs.declared.instance.Instance.{Instance}
 use Rattle.sb_ctx.specs.declared.calls.MethodCall.{MethodCall}
@@ -23,7 +26,7 @@ use Rattle.sb_ctx.specs.declared.calls.AttachCall.TheVariants as call
 use Rattle.sb_ctx.specs.Method.{Method, boundless}
 use Rattle.sb_ctx.specs.MethodAnswers.{Answers, AsksFor, Changes, HasRoom, IsBroken, IsOnPath, MayEnd, most_pages, rows_after, Spends}
 use Rattle.sb_ctx.specs.Attachment.{Attachment}
-use Rattle.sb_ctx.specs.AttachAnswers.{Answers as AnswersFor, AsksFor as AsksForAttached, Changes as ChangesFor, Costs, IsBroken as IsBrokenFor, MayEnd as MayEndFor, IsOnPath as IsOnPathFor, most_pages as most_pages_for, Spends as SpendsFor}
+use Rattle.sb_ctx.specs.AttachAnswers.{Answers as AnswersFor, AsksFor as AsksForAttached, Changes as ChangesFor, Costs, IsBroken as IsBrokenFor, MayEnd as MayEndFor, IsOnPath as IsOnPathFor, Looks as LooksFor, most_pages as most_pages_for, Spends as SpendsFor}
 use Rattle.sb_ctx.proofs.ViewLaws.{HoldsPart-from_dropped, stored-clean}
 
 -- ---- rising numbers below a bound are no more than it
@@ -188,6 +191,7 @@ Spends-boundless_for a inst c P old new made is given ctx part = by c
     by (call.Late entry) = λ rule db stands buckets before. IsOnPath-boundless_for a inst (call.Late entry) P made is
     by (call.NextEntry low above) = λ formed. IsOnPath-boundless_for a inst (call.NextEntry low above) P made is
     by call.Sums = λ formed. IsOnPath-boundless_for a inst call.Sums P made is
+    by (call.Seek query) = λ formed. IsOnPath-boundless_for a inst (call.Seek query) P made is
 
 -- ---- changing calls that make nothing, and answer over the pages as they are
 pub Changes-idle : (m : Method) (inst : Instance) (c : MethodCall) (old : View) (made : Move) → IsBoundless m → dropped old ≡ old → AsksFor old made → IsBroken m inst old made → MayEnd inst c made
@@ -230,3 +234,15 @@ Changes-need_for a inst c old n is clean none = Changes-idle_for a inst c old (m
 
 pub Changes-fresh_for : (a : Attachment) (inst : Instance) (c : AttachCall) (old : View) → IsBoundlessFor a → dropped old ≡ old → free_page old ≡ None → ChangesFor a inst c old old move.Fresh
 Changes-fresh_for a inst c old is clean none = Changes-idle_for a inst c old move.Fresh is clean none tt tt (λ P part. tt)
+
+-- a search of a box that finds no row in any content
+pub Looks-no_hits : (a : Attachment) (inst : Instance) (query : List Value) (old : View) (keys : List Key) → ((content : Content) → a.hits content query ≡ []) → keys ≡ [] → LooksFor a inst (call.Seek query) old old (move.Hits keys)
+Looks-no_hits a inst query old keys none is = record {
+  same = refl;
+  reads = tt;
+  asks = tt;
+  broken = tt;
+  ends = subst (λ (ks : List Key). All (λ k. is_record_key k ≡ true) ks) (sym is) (All-nil (λ k. is_record_key k ≡ true));
+  answers = λ P part content holds. ap move.Hits (is ∙ sym (none content));
+  spends = λ P part formed. tt;
+}

@@ -1,5 +1,5 @@
 -- What the calls of an attachment answer, and what they make of the pages.
-use Rattle.std.specs.Prelude.{◌≡◌, ℕ, ◌+◌, ◌<◌, ◌≤◌, ◌==◌, max, Bool, true, false, cond, not, ◌&&◌, List, [], length, Option, Some, None}
+use Rattle.std.specs.Prelude.{◌≡◌, ℕ, ◌+◌, ◌<◌, ◌≤◌, ◌==◌, max, Bool, true, false, cond, not, ◌&&◌, List, [], length, All, Option, Some, None}
 use Rattle.std.specs.Ordering.{is_lt}
 use Rattle.std.specs.List.{find as first}
 use Rattle.sb_value.specs.Order.{bytes_cmp}
@@ -21,7 +21,7 @@ use Rattle.sb_ctx.specs.declared.instance.Instance.{Instance}
 use Rattle.sb_ctx.specs.declared.calls.AttachCall.{AttachCall}
 use Rattle.sb_ctx.specs.declared.calls.AttachCall.TheVariants as call
 use Rattle.sb_ctx.specs.declared.moves.Move.{Move}
-use Rattle.sb_ctx.specs.declared.moves.Move.TheVariants.{Done, Acts, Need, Fresh, After, Find as Finds, Veto, Entry as Entered, Sums as Summed, End, Broken, NoMemory}
+use Rattle.sb_ctx.specs.declared.moves.Move.TheVariants.{Done, Acts, Need, Fresh, After, Find as Finds, Veto, Entry as Entered, Sums as Summed, Hits, End, Broken, NoMemory}
 use Rattle.sb_ctx.specs.View.{View, given_at, found_of, dropped, edits_of, HoldsPart, FoundIn, stored}
 use Rattle.sb_ctx.specs.Sized.{IsCtx}
 use Rattle.sb_ctx.specs.MethodAnswers.{HasRoom, AsksFor as AsksForPages}
@@ -56,6 +56,7 @@ MayEnd (call.Late entry) Veto = Unit {0}
 MayEnd (call.NextEntry low above) (Entered first second) = is_record_key second ≡ true
 MayEnd (call.NextEntry low above) End = Unit {0}
 MayEnd call.Sums (Summed sums) = Unit {0}
+MayEnd (call.Seek query) (Hits keys) = All (λ k. is_record_key k ≡ true) keys
 MayEnd c move = ⊥
 
 -- ---- contents
@@ -190,6 +191,7 @@ Ends a inst (call.Late entry) c P after move = OverDb a inst (λ rule db.
     (buckets : ℕ) → BeforeLate a inst rule db buckets c P → Late a inst rule db entry move)
 Ends a inst (call.NextEntry low above) c P after move = (content : Content) → Holds a inst P content → NextIs (first (is_entry_above low above) content.entries) move
 Ends a inst call.Sums c P after move = (content : Content) → Holds a inst P content → move ≡ Summed content.sums
+Ends a inst (call.Seek query) c P after move = (content : Content) → Holds a inst P content → move ≡ Hits (a.hits content query)
 
 -- when an instance is prepared, no page of a new one is called broken
 abbrev pub NotNew : Attachment → Instance → AttachCall → Pages → Type 0
@@ -233,6 +235,7 @@ Spends a inst (call.Changed change) c P new move = OverDb a inst (λ rule db. (b
 Spends a inst (call.Late entry) c P new move = OverDb a inst (λ rule db. (buckets : ℕ) → BeforeLate a inst rule db buckets c P → IsOnPath a inst (call.Late entry) P move)
 Spends a inst (call.NextEntry low above) c P new move = IsFormed a inst P → IsOnPath a inst (call.NextEntry low above) P move
 Spends a inst call.Sums c P new move = IsFormed a inst P → IsOnPath a inst call.Sums P move
+Spends a inst (call.Seek query) c P new move = IsFormed a inst P → IsOnPath a inst (call.Seek query) P move
 
 -- A changing call: what was given stays as it was given, it asks only for what isn't held, it ends in one of its ways, and over all pages of which it holds a part it answers as the database says.
 pub record Changes (a : Attachment) (inst : Instance) (call : AttachCall) (old new : View) (move : Move) : Type 0 where
@@ -248,6 +251,7 @@ abbrev pub Reads : AttachCall → Move → Type 0
 Reads call Fresh = ⊥
 Reads (call.NextEntry low above) (Finds relation columns values) = ⊥
 Reads call.Sums (Finds relation columns values) = ⊥
+Reads (call.Seek query) (Finds relation columns values) = ⊥
 Reads call move = Unit {0}
 
 -- A reading call: the same, and it makes nothing of the pages.

@@ -1,5 +1,7 @@
 -- What a box of an attachment means, and the conditions of its calls.
-use Rattle.std.specs.Prelude.{◌≡◌, ◌≢◌, ℕ, ◌==◌, Bool, true, false, not, ◌||◌, [], Option, Some, None, IfSome}
+use Rattle.std.specs.Prelude.{◌≡◌, ◌≢◌, ℕ, ◌==◌, Bool, true, false, not, ◌||◌, List, [], ◌∷◌, Option, Some, None, IfSome}
+use Rattle.sb_value.specs.declared.value.Value.{Value}
+use Rattle.sb_value.specs.declared.value.Value.TheVariants.{Int}
 use Rattle.sb_value.specs.Fits.{Fits}
 use Rattle.sb_rule.specs.declared.change.Change.{Change}
 use Rattle.sb_rule.specs.declared.change.Change.TheVariants as change
@@ -8,7 +10,7 @@ use Rattle.sb_rule.specs.declared.rule.Rule.TheVariants.{JoinIndex}
 use Rattle.sb_rule.specs.Bound.{row_before, row_after}
 use Rattle.sb_rule.specs.Spelling.{SpellsRule}
 use Rattle.sb_relation.specs.Content.{Content}
-use Rattle.sb_relation.specs.Db.{Name, Row, Rows, Relation, Db, relation_at, row_at}
+use Rattle.sb_relation.specs.Db.{Name, Key, Row, Rows, Relation, Db, relation_at, row_at}
 use Rattle.sb_relation.specs.Fits.{MayStand}
 use Rattle.sb_relation.specs.Foreign.{AttachRules}
 use Rattle.sb_relation.specs.Keys.{is_record_key}
@@ -19,25 +21,32 @@ use Rattle.sb_ctx.specs.declared.calls.AttachCall.{AttachCall}
 use Rattle.sb_ctx.specs.View.{HeldPages}
 use Rattle.sb_ctx.specs.Method.{boundless}
 
--- What it is known by apart from pages; the content of an instance's pages, where they are formed; and which of the pages that a call was given it may call broken. Over formed pages: how many pages a content takes at most, how many a call edits at most between two contents, and which ones a call may ask for.
+-- What it is known by apart from pages; the content of an instance's pages, where they are formed; the record keys that a query finds in a content; and which of the pages that a call was given it may call broken. Over formed pages: how many pages a content takes at most, how many a call edits at most between two contents, and which ones a call may ask for.
 pub record Attachment : Type 0 where
   pub rules : AttachRules
   pub content : Instance → Pages → Option Content
+  pub hits : Content → List Value → List Key
   pub may_break : Instance → HeldPages → ℕ → Bool
   pub bound : Content → ℕ
   pub cost : AttachCall → Content → Content → ℕ
   pub path : Instance → Pages → AttachCall → ℕ → Bool
 
--- an attachment that calls no page broken and sets itself no bounds; a record with other members may be made of it
+-- an attachment without searches that calls no page broken and sets itself no bounds; a record with other members may be made of it
 abbrev pub plain_attachment : AttachRules → (Instance → Pages → Option Content) → Attachment
 plain_attachment rules content = record {
   rules = rules;
   content = content;
+  hits = λ content query. [];
   may_break = λ inst held n. false;
   bound = λ content. boundless;
   cost = λ c before after. boundless;
   path = λ inst P c n. true;
 }
+
+-- four numbers
+abbrev pub IsQuery : List Value → Type 0
+IsQuery (Int a ∷ Int b ∷ Int c ∷ Int d ∷ []) = Unit {0}
+IsQuery values = ⊥
 
 -- whether instances of a code have pages of their own: all but those of check, refers and trigger
 abbrev pub keeps_pages : ℕ → Bool

@@ -3,10 +3,10 @@
 ghost use Rattle.std.specs.Prelude.{◌≡◌, true, option_map};
 ghost use Rattle.sb_relation.specs.Keys.{is_record_key};
 ghost use Rattle.sb_ctx.specs.View.{IsClean};
-ghost use Rattle.sb_ctx.specs.Attachment.{Attachment as Meaning, IsInstance, MayHold, MayMeet};
+ghost use Rattle.sb_ctx.specs.Attachment.{Attachment as Meaning, IsInstance, IsQuery, MayHold, MayMeet};
 ghost use Rattle.sb_ctx.specs.AttachAnswers.{Changes, Looks};
 ghost use Rattle.sb_ctx.specs.Laws.{IsAttachment};
-ghost use Rattle.sb_ctx.specs.declared.calls.AttachCall.TheVariants.{Prepare, Build, Changed, Late, NextEntry, Sums};
+ghost use Rattle.sb_ctx.specs.declared.calls.AttachCall.TheVariants.{Prepare, Build, Changed, Late, NextEntry, Sums, Seek};
 
 use crate::{Ctx, Instance, Move};
 use sb_relation::Change;
@@ -80,4 +80,11 @@ pub trait Attachment: Drop {
         requires clean { IsClean ctx.old }
         requires inst { IsInstance (attachment self.now) inst.now }
         ensures { Looks (attachment self.now) inst.now Sums ctx.old ctx.new result };
+
+    /// The record keys of the rows that a query of four numbers finds, rising: Hits. A box without searches finds none.
+    fn seek(&self, alloc: Global, ctx: &mut Ctx, inst: &Instance, query: &Tuple) -> Move
+        requires clean { IsClean ctx.old }
+        requires inst { IsInstance (attachment self.now) inst.now }
+        requires query { IsQuery query.now }
+        ensures { Looks (attachment self.now) inst.now (Seek query.now) ctx.old ctx.new result };
 }

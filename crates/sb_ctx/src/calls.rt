@@ -23,4 +23,5 @@ pub enum AttachCall {
     Late(Bytes),
     NextEntry(RecKey, Option<(RecKey, RecKey)>),
     Sums,
+    Seek(Tuple),
 }

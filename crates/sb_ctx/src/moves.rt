@@ -1,6 +1,6 @@
 //! What boxed calls answer.
 
-use crate::{Actions, Checks};
+use crate::{Actions, Checks, Keys};
 use sb_relation::Sums;
 use sb_value::{Names, RecKey, Str, Tuple};
 
@@ -35,6 +35,8 @@ pub enum Move {
     Row(RecKey, Tuple),
     Entry(RecKey, RecKey),
     Sums(Sums),
+    /// The record keys of the rows that a search finds.
+    Hits(Keys),
     End,
     /// A held page isn't of its form.
     Broken(u32),

@@ -45,6 +45,7 @@ Ends-found a inst (calls.Changed change) c d P after move same ends = λ rule db
 Ends-found a inst (calls.Late entry) c d P after move same ends = λ rule db stands buckets before. ends rule db stands buckets (record { found = FoundIn-same c d db same before.found; content = before.content })
 Ends-found a inst (calls.NextEntry low above) c d P after move same ends = ends
 Ends-found a inst calls.Sums c d P after move same ends = ends
+Ends-found a inst (calls.Seek query) c d P after move same ends = ends
 
 pub Answers-found : (a : Attachment) (inst : Instance) (call : AttachCall) (c d : View) (P after : Pages) (move : Move) → c.found ≡ d.found → Answers a inst call c P after move → Answers a inst call d P after move
 Answers-found a inst call c d P after (Need n) same answers = tt
@@ -63,6 +64,7 @@ Spends-found a inst (calls.Changed change) c d P new move same spends = λ rule 
 Spends-found a inst (calls.Late entry) c d P new move same spends = λ rule db stands buckets before. spends rule db stands buckets (record { found = FoundIn-same c d db same before.found; content = before.content })
 Spends-found a inst (calls.NextEntry low above) c d P new move same spends = spends
 Spends-found a inst calls.Sums c d P new move same spends = spends
+Spends-found a inst (calls.Seek query) c d P new move same spends = spends
 
 -- ---- a fresh page that is asked for
 pub IsAsking-asked : (a : Attachment) (inst : Instance) (call : AttachCall) (old handed c : View) (move : Move) → move ≡ Fresh → old.found ≡ handed.found → Changes a inst call old c move → IsAsking a inst call handed c

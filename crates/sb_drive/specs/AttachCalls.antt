@@ -8,7 +8,7 @@ use Rattle.sb_ctx.specs.declared.calls.AttachCall.TheVariants as call
 use Rattle.sb_ctx.specs.declared.moves.Move.{Move}
 use Rattle.sb_ctx.specs.declared.moves.Move.TheVariants.{Need, Fresh}
 use Rattle.sb_ctx.specs.View.{View, HeldPages, AreSomeOf, IsClean, dropped, edits_of, fresh_pages, holds_fresh, page_of}
-use Rattle.sb_ctx.specs.Attachment.{Attachment, MayHold, MayMeet}
+use Rattle.sb_ctx.specs.Attachment.{Attachment, IsQuery, MayHold, MayMeet}
 use Rattle.sb_ctx.specs.AttachAnswers.{Answers, AsksFor, Changes, MayEnd, NotNew, Spends}
 use Rattle.sb_drive.specs.declared.space.SpaceFault.{SpaceFault}
 use Rattle.sb_drive.specs.declared.space.SpaceFault.TheVariants as space
@@ -20,6 +20,7 @@ use Rattle.sb_drive.specs.Spaces.{HoldsOf, LeadsWithin, Wanted}
 abbrev pub Fits : Attachment → Instance → AttachCall → Type 0
 Fits a inst (call.Build key row) = MayHold a inst row × (is_record_key key ≡ true)
 Fits a inst (call.Changed change) = MayMeet a inst change
+Fits a inst (call.Seek query) = IsQuery query
 Fits a inst c = Unit {0}
 
 -- a call that makes nothing of the pages
@@ -27,6 +28,7 @@ abbrev pub IsReading : AttachCall → Type 0
 IsReading (call.Late entry) = Unit {0}
 IsReading (call.NextEntry low above) = Unit {0}
 IsReading call.Sums = Unit {0}
+IsReading (call.Seek query) = Unit {0}
 IsReading c = ⊥
 
 -- A find is handed up: nothing is stored, and the space keeps the pages that it has; the Ctx may be given the answer and the call made again, and

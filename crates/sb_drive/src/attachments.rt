@@ -89,7 +89,10 @@ impl<'a> BoxCall for AttachmentOn<'a, &'a dyn Attachment> {
     fn is_reading(&self) -> bool {
         matches!(
             self.call,
-            AttachCall::Late(_) | AttachCall::NextEntry(_, _) | AttachCall::Sums
+            AttachCall::Late(_)
+                | AttachCall::NextEntry(_, _)
+                | AttachCall::Sums
+                | AttachCall::Seek(_)
         )
     }
 }
@@ -118,5 +121,6 @@ fn make_call(
             boxed.next_entry(alloc, ctx, inst, low, after.as_ref())
         }
         AttachCall::Sums => boxed.sums(alloc, ctx, inst),
+        AttachCall::Seek(query) => boxed.seek(alloc, ctx, inst, query),
     }
 }

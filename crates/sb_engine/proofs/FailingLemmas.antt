@@ -19,7 +19,7 @@ use Rattle.sb_forms.specs.Pages.{Pages}
 use Rattle.sb_ctx.specs.declared.instance.Instance.{Instance}
 use Rattle.sb_ctx.specs.declared.calls.AttachCall.TheVariants as call
 use Rattle.sb_ctx.specs.declared.moves.Move.{Move}
-use Rattle.sb_ctx.specs.declared.moves.Move.TheVariants.{Done, Acts, Need, Fresh, After, Find, Veto, NoRecord, Duplicate, Range, Key as Keyed, Row as Rowed, Entry as Entered, Sums, End, Broken, NoMemory}
+use Rattle.sb_ctx.specs.declared.moves.Move.TheVariants.{Done, Acts, Need, Fresh, After, Find, Veto, NoRecord, Duplicate, Range, Key as Keyed, Row as Rowed, Entry as Entered, Sums, Hits, End, Broken, NoMemory}
 use Rattle.sb_ctx.specs.View.{View}
 use Rattle.sb_ctx.specs.Attachment.{Attachment, StandsOn}
 use Rattle.sb_ctx.specs.AttachAnswers.{Answers, BeforeLate, Holds, content_over}
@@ -155,6 +155,7 @@ tells_said box inst rule db entry buckets view P after (Keyed key) stands before
 tells_said box inst rule db entry buckets view P after (Rowed key row) stands before is says = absurd is.may
 tells_said box inst rule db entry buckets view P after (Entered first second) stands before is says = absurd is.may
 tells_said box inst rule db entry buckets view P after (Sums sums) stands before is says = absurd is.may
+tells_said box inst rule db entry buckets view P after (Hits keys) stands before is says = absurd is.may
 tells_said box inst rule db entry buckets view P after End stands before is says = absurd is.may
 tells_said box inst rule db entry buckets view P after (Broken page) stands before is says = absurd is.last
 tells_said box inst rule db entry buckets view P after NoMemory stands before is says = absurd is.last

@@ -5,6 +5,7 @@ use Rattle.std.proofs.lemmas.Bool.Decides.{nat_tests}
 use Rattle.std.proofs.lemmas.Nat.{from_be_bytes-to_be_bytes_8}
 use Rattle.std.proofs.lemmas.Option.{same_Some}
 use Rattle.sb_value.specs.declared.schema.Column.{Column}
+use Rattle.sb_value.specs.declared.value.Value.{Value}
 use Rattle.sb_rule.specs.declared.change.Change.{Change}
 use Rattle.sb_rule.specs.declared.change.Change.TheVariants as change
 use Rattle.sb_rule.specs.declared.rule.Rule.{Rule}
@@ -29,7 +30,7 @@ use Rattle.sb_ctx.proofs.ViewLaws.{stored-clean, stored-same, given-page, droppe
 use Rattle.sb_ctx.proofs.AuthorLaws.{foreign_rule, rows_at-with_rows, length-with_row, length-without_row, length-moved_row, edits_of-one, edits_of-none, page_count-one, page_count-written, given_at-page, relation_at-changed}
 use Rattle.sb_foreign.specs.declared.count.Step.{Step}
 use Rattle.sb_foreign.specs.declared.count.Step.TheVariants.{Up, Down}
-use Rattle.sb_foreign.specs.Counts.{number_in, count_in, counted, has_no_count, count, stepped, IsWritten, Steps}
+use Rattle.sb_foreign.specs.Counts.{number_in, count_in, count_of, counted, has_no_count, count, stepped, IsWritten, Steps}
 use Rattle.sb_foreign.proofs.WatchedLaws.{root_of_new}
 
 -- ---- formed pages
@@ -100,7 +101,7 @@ foreign inst rule db stands = foreign_rule 1002 inst.desc rule (omega arith) sta
 
 -- so many rows, in so many buckets
 abbrev counted_with : ℕ → ℕ → Content
-counted_with rows buckets = record { entries = []; sums = pos rows ∷ []; counts = []; buckets = buckets }
+counted_with rows buckets = record { entries = []; sums = pos rows ∷ []; counts = count_of rows ∷ []; buckets = buckets }
 
 -- what the pages hold over so many rows
 pub record IsCount (inst : Instance) (P : Pages) (rows buckets : ℕ) : Type 0 where
@@ -329,17 +330,24 @@ Changes-prepared inst old clean = record {
   spends = λ ctx P part new rule db stands. record { path = tt; room = tt; edits = omega (arith, edits_of-none old P clean ctx part) };
 }
 
--- ---- sums
-pub Looks-broken : (inst : Instance) (old : View) (page : List ℕ) → dropped old ≡ old → page_of old inst.root ≡ Some page → count_in page ≡ None → Looks count inst call.Sums old old (move.Broken inst.root)
-Looks-broken inst old page clean held none = record {
+-- ---- sums and searches
+Looks-broken : (inst : Instance) (c : AttachCall) (old : View) (page : List ℕ) → ((P : Pages) → NotNew count inst c P) → ((P : Pages) → Spends count inst c old P old (move.Broken inst.root))
+    → dropped old ≡ old → page_of old inst.root ≡ Some page → count_in page ≡ None → Looks count inst c old old (move.Broken inst.root)
+Looks-broken inst c old page other spends clean held none = record {
   same = refl;
   reads = tt;
   asks = ap is_some held;
   broken = (λ i. eq-eqb inst.root inst.root refl i && has_no_count (given_at-page old inst.root page clean held i)) ∙ ap is_none none;
   ends = tt;
-  answers = λ P part. tt;
-  spends = λ P part formed. tt;
+  answers = λ P part. other P;
+  spends = λ P part. spends P;
 }
+
+pub Looks-sums_broken : (inst : Instance) (old : View) (page : List ℕ) → dropped old ≡ old → page_of old inst.root ≡ Some page → count_in page ≡ None → Looks count inst call.Sums old old (move.Broken inst.root)
+Looks-sums_broken inst old page clean held none = Looks-broken inst call.Sums old page (λ P. tt) (λ P formed. tt) clean held none
+
+pub Looks-seek_broken : (inst : Instance) (query : List Value) (old : View) (page : List ℕ) → dropped old ≡ old → page_of old inst.root ≡ Some page → count_in page ≡ None → Looks count inst (call.Seek query) old old (move.Broken inst.root)
+Looks-seek_broken inst query old page clean held none = Looks-broken inst (call.Seek query) old page (λ P. tt) (λ P formed. tt) clean held none
 
 pub Looks-sums : (inst : Instance) (old : View) (page : List ℕ) (rows : ℕ) → dropped old ≡ old → page_of old inst.root ≡ Some page → count_in page ≡ Some rows → Looks count inst call.Sums old old (move.Sums (pos rows ∷ []))
 Looks-sums inst old page rows clean held is = record {

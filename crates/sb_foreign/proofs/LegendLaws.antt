@@ -25,7 +25,7 @@ use Rattle.sb_foreign.proofs.WatchedLaws.{Keeps-new, HoldContent-always, IsAlway
 
 -- the content over any rows
 abbrev legend_content : Content
-legend_content = content_of legend_image 0
+legend_content = content_of legend_image [] 0
 
 -- its entries rise
 pub IsAttachment-legend : IsAttachment legend

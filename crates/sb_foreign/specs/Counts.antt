@@ -1,8 +1,8 @@
 -- An attachment of another author: how many rows there are, in the first 8 bytes of its one page.
-use Rattle.std.specs.Prelude.{◌≡◌, ℕ, ◌+◌, ◌-◌, ◌^◌, min, ◌==◌, nat_le, Bool, true, false, cond, ◌&&◌, List, [], ◌∷◌, length, take, Option, Some, None, option_map, is_none, pos}
+use Rattle.std.specs.Prelude.{◌≡◌, ℕ, ◌+◌, ◌-◌, ◌^◌, min, ◌==◌, nat_le, Bool, false, cond, ◌&&◌, List, [], ◌∷◌, length, take, Option, Some, None, option_map, is_none, pos}
 use Rattle.std.specs.Int.{from_be_bytes, to_be_bytes, w64}
 use Rattle.sb_relation.specs.Content.{Content}
-use Rattle.sb_relation.specs.Foreign.{AttachRules}
+use Rattle.sb_relation.specs.Foreign.{Count, AttachRules, plain_rules}
 use Rattle.sb_forms.specs.Pages.{Pages, page_count}
 use Rattle.sb_ctx.specs.declared.instance.Instance.{Instance}
 use Rattle.sb_ctx.specs.declared.moves.Move.{Move}
@@ -21,9 +21,13 @@ number_in page = from_be_bytes w64 (take 8 page)
 abbrev pub count_in : List ℕ → Option ℕ
 count_in page = cond (nat_le 8 (length page) && nat_le (number_in page) (2 ^ 48)) (Some (number_in page)) None
 
--- no entries and one sum
+-- all rows are one group, where no value is told from another
+abbrev pub count_of : ℕ → Count
+count_of rows = record { group = []; value = pos 0; rows = rows }
+
+-- no entries, one sum and one count
 abbrev pub counted : ℕ → Content
-counted rows = record { entries = []; sums = pos rows ∷ []; counts = []; buckets = 0 }
+counted rows = record { entries = []; sums = pos rows ∷ []; counts = count_of rows ∷ []; buckets = 0 }
 
 -- the root alone, with a count
 abbrev pub counted_in : Instance → Pages → Option Content
@@ -35,11 +39,9 @@ has_no_count None = false
 has_no_count (Some page) = is_none (count_in page)
 
 abbrev pub count_rules : AttachRules
-count_rules = record {
-  code = 1002;
-  fits = λ schema desc. true;
-  admits = λ desc db name c. true;
+count_rules = record (plain_rules 1002) {
   image = λ desc schema rows. record { entries = []; sums = pos (length rows) ∷ [] };
+  counts = λ desc schema rows. count_of (length rows) ∷ [];
 }
 
 -- one page, of which a call edits at most that one, and asks for no other

@@ -4,8 +4,7 @@ use Rattle.sb_value.specs.declared.value.Value.TheVariants.{Int}
 use Rattle.sb_relation.specs.Changes.{of_new}
 use Rattle.sb_relation.specs.Content.{Content, no_content}
 use Rattle.sb_relation.specs.Db.{Row}
-use Rattle.sb_relation.specs.Foreign.{AttachRules}
-use Rattle.sb_relation.specs.Images.{no_image}
+use Rattle.sb_relation.specs.Foreign.{AttachRules, plain_rules}
 use Rattle.sb_forms.specs.Pages.{Pages}
 use Rattle.sb_ctx.specs.declared.instance.Instance.{Instance}
 use Rattle.sb_ctx.specs.Attachment.{Attachment, plain_attachment}
@@ -22,7 +21,7 @@ abbrev pub nothing_kept : Instance → Pages → Option Content
 nothing_kept = always no_content
 
 abbrev pub limit_rules : AttachRules
-limit_rules = record { code = 1000; fits = λ schema desc. length desc == 1; admits = λ desc db name c. of_new c (λ key new. is_within desc new); image = λ desc schema rows. no_image }
+limit_rules = record (plain_rules 1000) { fits = λ schema desc. length desc == 1; admits = λ desc db name c. of_new c (λ key new. is_within desc new) }
 
 abbrev pub limit : Attachment
 limit = plain_attachment limit_rules nothing_kept

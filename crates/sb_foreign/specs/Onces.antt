@@ -4,8 +4,7 @@ use Rattle.std.specs.List.{list_all, list_any}
 use Rattle.sb_value.specs.declared.value.Value.TheVariants.{Int}
 use Rattle.sb_relation.specs.Changes.{of_new}
 use Rattle.sb_relation.specs.Db.{Name, Row, Db}
-use Rattle.sb_relation.specs.Foreign.{AttachRules}
-use Rattle.sb_relation.specs.Images.{no_image}
+use Rattle.sb_relation.specs.Foreign.{AttachRules, plain_rules}
 use Rattle.sb_ctx.specs.declared.moves.Move.{Move}
 use Rattle.sb_ctx.specs.declared.moves.Move.TheVariants.{Done, Find, Veto, NoMemory}
 use Rattle.sb_ctx.specs.Attachment.{Attachment, plain_attachment}
@@ -25,11 +24,9 @@ abbrev pub is_once : Db → Name → Row → Bool
 is_once db relation row = nat_le (length (keys_with db relation (codes "k" ∷ []) row)) 1
 
 abbrev pub once_rules : AttachRules
-once_rules = record {
-  code = 1001;
+once_rules = record (plain_rules 1001) {
   fits = λ schema desc. nat_lt (length desc) 8;
   admits = λ desc db name c. of_new c (λ key new. list_all (is_once db name) (asked desc new));
-  image = λ desc schema rows. no_image;
 }
 
 abbrev pub once : Attachment

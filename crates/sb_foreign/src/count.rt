@@ -3,7 +3,7 @@
 ghost use Rattle.std.specs.Prelude.{◌≡◌, ◌∷◌, [], pos, IfOk};
 ghost use Rattle.sb_foreign.specs.Counts.{count, count_in, stepped, Steps};
 
-use sb_ctx::{Attachment, Ctx, Instance, Move};
+use sb_ctx::{Attachment, Ctx, Instance, Keys, Move};
 use sb_relation::{Change, Sums};
 use sb_value::{Bytes, RecKey, Schema, Tuple};
 use std::alloc::{AllocError, Global};
@@ -81,6 +81,17 @@ impl Attachment for Count {
         match sums_of(alloc, rows) {
             Ok(sums) => Move::Sums(sums),
             Err(_) => Move::NoMemory,
+        }
+    }
+
+    fn seek(&self, alloc: Global, ctx: &mut Ctx, inst: &Instance, _query: &Tuple) -> Move {
+        let root = inst.root;
+        let Some(page) = ctx.page(root) else {
+            return Move::Need(root);
+        };
+        match count_in(page) {
+            Some(_) => Move::Hits(Keys::new(alloc)),
+            None => Move::Broken(root),
         }
     }
 }

@@ -6,7 +6,7 @@ ghost use Rattle.sb_relation.specs.Images.{is_before};
 ghost use Rattle.sb_ctx.specs.AttachAnswers.{is_entry_above};
 ghost use Rattle.sb_foreign.specs.Legends.{entry_of, legend};
 
-use sb_ctx::{Attachment, Ctx, Instance, Move};
+use sb_ctx::{Attachment, Ctx, Instance, Keys, Move};
 use sb_relation::{Change, Sums};
 use sb_value::{Bytes, RecKey, Schema, Tuple};
 use std::alloc::{AllocError, Global};
@@ -78,6 +78,10 @@ impl Attachment for Legend {
 
     fn sums(&self, alloc: Global, _ctx: &mut Ctx, _inst: &Instance) -> Move {
         Move::Sums(Sums::from_vec(Vec::new(alloc)))
+    }
+
+    fn seek(&self, alloc: Global, _ctx: &mut Ctx, _inst: &Instance, _query: &Tuple) -> Move {
+        Move::Hits(Keys::new(alloc))
     }
 }
 

@@ -4,7 +4,7 @@ ghost use Rattle.std.specs.Prelude.{◌≡◌};
 ghost use Rattle.sb_foreign.specs.Limits.{limit, is_within};
 
 use crate::watched::{new_row, verdict};
-use sb_ctx::{Attachment, Ctx, Instance, Move};
+use sb_ctx::{Attachment, Ctx, Instance, Keys, Move};
 use sb_relation::{Change, Sums};
 use sb_value::{Bytes, RecKey, Schema, Tuple, Value};
 use std::alloc::Global;
@@ -63,6 +63,10 @@ impl Attachment for Limit {
 
     fn sums(&self, alloc: Global, _ctx: &mut Ctx, _inst: &Instance) -> Move {
         Move::Sums(Sums::from_vec(Vec::new(alloc)))
+    }
+
+    fn seek(&self, alloc: Global, _ctx: &mut Ctx, _inst: &Instance, _query: &Tuple) -> Move {
+        Move::Hits(Keys::new(alloc))
     }
 }
 

@@ -5,7 +5,7 @@ ghost use Rattle.sb_ctx.specs.AttachAnswers.{AsksFor};
 ghost use Rattle.sb_foreign.specs.Onces.{once, number_row, asked, known_once, AreOnce, Stops, Judges};
 
 use crate::watched::new_row;
-use sb_ctx::{Attachment, Ctx, Instance, Move};
+use sb_ctx::{Attachment, Ctx, Instance, Keys, Move};
 use sb_relation::{Change, Sums};
 use sb_value::{Bytes, Names, RecKey, Schema, Str, Tuple, Value};
 use std::alloc::{AllocError, Global};
@@ -68,6 +68,10 @@ impl Attachment for Once {
 
     fn sums(&self, alloc: Global, _ctx: &mut Ctx, _inst: &Instance) -> Move {
         Move::Sums(Sums::from_vec(Vec::new(alloc)))
+    }
+
+    fn seek(&self, alloc: Global, _ctx: &mut Ctx, _inst: &Instance, _query: &Tuple) -> Move {
+        Move::Hits(Keys::new(alloc))
     }
 }
 

@@ -3,6 +3,7 @@
 
 ghost use Rattle.std.specs.Prelude.{◌≡◌, true, All, OnOk, IfOk};
 ghost use Rattle.sb_relation.specs.Keys.{is_record_key};
+ghost use Rattle.sb_ctx.specs.Attachment.{IsQuery};
 ghost use Rattle.sb_ctx.specs.View.{IsClean};
 ghost use Rattle.sb_foreign.specs.Counts.{count};
 ghost use Rattle.sb_foreign.specs.Examples.{IsExample, Keeps, Watches, MayBeHeld, MayBeMet};
@@ -87,6 +88,7 @@ enum Reply {
     Asks(Option<i64>),
     Entry(Option<u8>, usize),
     Sum(Option<i128>),
+    Hits(usize),
     Other,
 }
 
@@ -109,6 +111,7 @@ fn reply_of(answer: Move) -> Reply {
         Move::Find { values, .. } => Reply::Asks(number_in(&values)),
         Move::Entry(first, second) => Reply::Entry(first.as_slice().first().copied(), second.len()),
         Move::Sums(sums) => Reply::Sum(sums.as_slice().first().copied()),
+        Move::Hits(keys) => Reply::Hits(keys.as_slice().len()),
         _ => Reply::Other,
     }
 }
@@ -346,6 +349,28 @@ fn sums<A: Attachment>(attachment: &A, alloc: Global, ctx: &mut Ctx, inst: &Inst
     reply_of(attachment.sums(alloc, ctx, inst))
 }
 
+/// Four numbers.
+fn query(alloc: Global) -> Result<Tuple, AllocError>
+    ensures { IfOk result IsQuery }
+{
+    let numbers = vec![in alloc; Value::Int(1), Value::Int(1), Value::Int(5), Value::Int(5)]?;
+    Ok(Tuple::from_vec(numbers))
+}
+
+/// What a search over page 3 with these bytes answers.
+fn hits<A: Attachment>(
+    attachment: &A,
+    alloc: Global,
+    inst: &Instance,
+    front: &[u8],
+) -> Result<Reply, AllocError>
+    requires { Watches (A.attachment attachment.now) inst.now }
+{
+    let query = query(alloc)?;
+    let mut ctx = page(alloc, front)?;
+    Ok(reply_of(attachment.seek(alloc, &mut ctx, inst, &query)))
+}
+
 /// What is answered for the least entry.
 fn first_entry<A: Attachment>(attachment: &A, alloc: Global, inst: &Instance) -> Reply
     requires { Watches (A.attachment attachment.now) inst.now }
@@ -390,6 +415,7 @@ fn rows_above_the_limit_are_vetoed(rt: HostRuntime) -> Result<(), Fail> {
     let alloc = rt.alloc();
     let inst = limit_instance(alloc)?;
     assert!(rt; keeps(&Limit {}, alloc, &inst, Reply::Sum(None)));
+    assert!(rt; hits(&Limit {}, alloc, &inst, &[])? == Reply::Hits(0));
     assert_eq!(rt; first_other(&Limit {}, alloc, &inst, &LIMITED)?, None);
     Ok(())
 }
@@ -415,6 +441,7 @@ fn eight_numbers_stand_once(rt: HostRuntime) -> Result<(), Fail> {
     let alloc = rt.alloc();
     let inst = once_instance(alloc)?;
     assert!(rt; keeps(&Once {}, alloc, &inst, Reply::Sum(None)));
+    assert!(rt; hits(&Once {}, alloc, &inst, &[])? == Reply::Hits(0));
     assert_eq!(rt; first_other(&Once {}, alloc, &inst, &KNOWN)?, None);
     Ok(())
 }
@@ -493,6 +520,8 @@ fn a_count_is_summed(rt: HostRuntime) -> Result<(), Fail> {
     let alloc = rt.alloc();
     let inst = count_instance(alloc)?;
     assert_eq!(rt; first_other_sum(&Count {}, alloc, &inst, &COUNTS)?, None);
+    assert!(rt; hits(&Count {}, alloc, &inst, TWO)? == Reply::Hits(0));
+    assert!(rt; hits(&Count {}, alloc, &inst, &[1])? == Reply::Broken(3));
     Ok(())
 }
 
@@ -568,6 +597,7 @@ fn two_entries_follow(rt: HostRuntime) -> Result<(), Fail> {
     let inst = legend_instance(alloc)?;
     assert!(rt; begins_with(&Legend {}, alloc, &inst, Reply::Entry(Some(1), 0)));
     assert!(rt; sums(&Legend {}, alloc, &mut Ctx::new(alloc), &inst) == Reply::Sum(None));
+    assert!(rt; hits(&Legend {}, alloc, &inst, &[])? == Reply::Hits(0));
     assert_eq!(rt; first_other(&Legend {}, alloc, &inst, &ADMITTED)?, None);
     assert_eq!(rt;
         first_other_entry(&Legend {}, alloc, &inst, &ENTRIES)?,

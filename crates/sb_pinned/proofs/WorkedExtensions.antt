@@ -4,7 +4,7 @@ use Rattle.sb_rule.specs.declared.change.Change.TheVariants.{Insert}
 use Rattle.sb_rule.specs.declared.rule.Rule.TheVariants.{Foreign}
 use Rattle.sb_relation.specs.Db.{Db}
 use Rattle.sb_relation.specs.Fits.{is_empty, method_fits, rule_fits}
-use Rattle.sb_relation.specs.Foreign.{Boxes, method_rules, attach_rules}
+use Rattle.sb_relation.specs.Foreign.{Boxes, plain_rules, method_rules, attach_rules}
 use Rattle.sb_relation.specs.Images.{image}
 use Rattle.sb_relation.specs.Rules.{admits, holds}
 use Rattle.sb_fold.specs.declared.refusal.Refusal.TheVariants.{Mistyped}
@@ -23,8 +23,8 @@ boxes = record {
       ∷ record { code = 1001; durable = false; fits = λ schema key. not (is_empty key) }
       ∷ [];
   attachments =
-      record { code = 1000; fits = λ schema desc. is_empty desc; admits = λ desc db name c. false; image = λ desc schema rows. record { entries = []; sums = pos 1000 ∷ [] } }
-      ∷ record { code = 1001; fits = λ schema desc. not (is_empty desc); admits = λ desc db name c. true; image = λ desc schema rows. record { entries = []; sums = pos 1001 ∷ [] } }
+      record (plain_rules 1000) { fits = λ schema desc. is_empty desc; admits = λ desc db name c. false; image = λ desc schema rows. record { entries = []; sums = pos 1000 ∷ [] } }
+      ∷ record (plain_rules 1001) { fits = λ schema desc. not (is_empty desc); image = λ desc schema rows. record { entries = []; sums = pos 1001 ∷ [] } }
       ∷ [];
 }
 

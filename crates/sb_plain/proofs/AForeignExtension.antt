@@ -6,6 +6,7 @@ use Rattle.sb_value.specs.declared.value.Value.TheVariants.{Text}
 use Rattle.sb_rule.specs.Bound.{row_after}
 use Rattle.sb_rule.specs.declared.rule.Rule.TheVariants.{Foreign}
 use Rattle.sb_relation.specs.Db.{Row, int_column}
+use Rattle.sb_relation.specs.Foreign.{plain_rules}
 use Rattle.sb_fold.specs.Extensions.{Extensions}
 use Rattle.sb_plain.specs.declared.command.Command.TheVariants as command
 use Rattle.sb_plain.specs.State.{State}
@@ -19,8 +20,7 @@ abbrev extensions : Extensions
 extensions = record {
   boxes = record {
     methods = record { code = 1001; durable = false; fits = λ schema key. true } ∷ [];
-    attachments = record {
-      code = 1000;
+    attachments = record (plain_rules 1000) {
       fits = λ schema desc. nat_le 1 (length desc);
       admits = λ desc db name c. is_short (slice_index desc 0) (row_after c);
       image = λ desc schema rows. record { entries = []; sums = pos (length rows) ∷ [] };

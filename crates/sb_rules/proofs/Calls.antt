@@ -13,6 +13,7 @@ use Rattle.sb_rule.specs.declared.rule.Rule.TheVariants.{Check}
 use Rattle.sb_relation.specs.Changes.{changed, of_new}
 use Rattle.sb_relation.specs.Content.{no_content}
 use Rattle.sb_relation.specs.Db.{Name, Key, Row, Db, rows_at, schema_at, values_in}
+use Rattle.sb_relation.specs.Foreign.{plain_rules}
 use Rattle.sb_relation.specs.Rules.{holds, entry_of, entry_fails, has_values}
 use Rattle.sb_relation.specs.Lawful.{IsRow}
 use Rattle.sb_forms.specs.Pages.{Pages}
@@ -23,7 +24,7 @@ use Rattle.sb_ctx.specs.declared.moves.Move.TheVariants.{Done, Veto, NoMemory}
 use Rattle.sb_ctx.specs.View.{View, IsClean, FoundIn, found_of}
 use Rattle.sb_ctx.specs.Attachment.{StandsOn}
 use Rattle.sb_ctx.specs.AttachAnswers.{Answers, Ends, AsksFor, Reads, MayEnd, Changes, Looks, Changed, Built, BeforeBuild, BeforeChange, first_content}
-use Rattle.sb_rules.specs.Pageless.{rules_of, IsOrMemory}
+use Rattle.sb_rules.specs.Pageless.{IsOrMemory}
 use Rattle.sb_rules.specs.Checks.{check, AreNames, Keeps, verdict_of, queued, asked, IsAsked}
 use Rattle.sb_rules.proofs.Entries.{fails_at, none_fails, whole_fails, none_stands_so, no_keys, found_keys}
 use Rattle.sb_rules.proofs.Meaning.{AsksNoPage, changes, looks, Looks-memory}
@@ -200,7 +201,7 @@ late_by inst pred deferred entry row names c P keys t is keeps are known failed 
         ∙ none_stands_so inst.schema pred entry names row failed.tuple failed.spelled (rows_at db inst.relation) (rows_are check inst rule db stands).each
         (not_true (list_any (λ r. has_values inst.schema names (values_in inst.schema row names) r.1) (rows_at db inst.relation)) (sym (some rule db stands before.found) ∙ is))
     by false is = λ rule db stands buckets before.
-        ap (λ r. holds (Some (rules_of 5)) db inst.relation r) (keeps rule stands.spelled)
+        ap (λ r. holds (Some (plain_rules 5)) db inst.relation r) (keeps rule stands.spelled)
         ∙ ap (λ s. list_all (λ row. truth s None (Some row.1) pred) (rows_at db inst.relation)) (schema_is check inst rule db stands)
         ∙ whole_fails inst.schema pred names row are failed.fits failed.fails (rows_at db inst.relation) (rows_are check inst rule db stands).each
         (not_false (list_any (λ r. has_values inst.schema names (values_in inst.schema row names) r.1) (rows_at db inst.relation)) (sym (some rule db stands before.found) ∙ is))

@@ -12,7 +12,7 @@ use Rattle.sb_relation.specs.Lawful.{AreRows}
 use Rattle.sb_ctx.specs.declared.instance.Instance.{Instance}
 use Rattle.sb_value.specs.Order.{bytes_cmp}
 use Rattle.sb_ctx.specs.Attachment.{IsInstance, AreLawful}
-use Rattle.sb_rules.specs.Pageless.{rules_of}
+use Rattle.sb_relation.specs.Foreign.{plain_rules}
 use Rattle.sb_rules.specs.Checks.{check}
 use Rattle.sb_rules.specs.Triggers.{trigger}
 use Rattle.sb_rules.specs.Examples.{numbers, not_negative, staff, depts, hires}
@@ -27,9 +27,9 @@ first_there name r = ap (λ o. cond (is_eq o) (Some r) None) (tied_itself nat_li
 no_rows : (schema : List Column) → AreRows schema []
 no_rows schema = record { rising = tt; keys = All-nil _; each = All-nil _; few = omega arith }
 
-may_stand : (db : Db) (deferred : Bool) (schema : List Column) → schema ≡ numbers → MayStand (Some (rules_of 5)) db schema (Check not_negative deferred)
+may_stand : (db : Db) (deferred : Bool) (schema : List Column) → schema ≡ numbers → MayStand (Some (plain_rules 5)) db schema (Check not_negative deferred)
 may_stand db deferred schema is =
-    subst (λ s. MayStand (Some (rules_of 5)) db s (Check not_negative deferred)) (sym is) (record { there = refl; named = refl; fits = refl })
+    subst (λ s. MayStand (Some (plain_rules 5)) db s (Check not_negative deferred)) (sym is) (record { there = refl; named = refl; fits = refl })
 
 -- the first relation, or one of the others
 rows_of : (t : Bool) (first r : Relation) (others : Option Relation) → AreRows first.schema first.rows → (others ≡ Some r → AreRows r.schema r.rows)
@@ -79,9 +79,9 @@ staff_there : (name : Name) → name ≡ codes "e" → relation_at two name ≡ 
 unfolding two
 staff_there name is = ap (relation_at two) is
 
-hires_stand : (deferred : Bool) (schema : List Column) → schema ≡ staff → MayStand (Some (rules_of 7)) two schema (hires deferred)
+hires_stand : (deferred : Bool) (schema : List Column) → schema ≡ staff → MayStand (Some (plain_rules 7)) two schema (hires deferred)
 unfolding two
-hires_stand deferred schema is = subst (λ s. MayStand (Some (rules_of 7)) two s (hires deferred)) (sym is) (record { there = refl; named = refl; fits = refl })
+hires_stand deferred schema is = subst (λ s. MayStand (Some (plain_rules 7)) two s (hires deferred)) (sym is) (record { there = refl; named = refl; fits = refl })
 
 pub IsInstance-staff : (inst : Instance) (deferred : Bool) → inst.relation ≡ codes "e" → inst.code ≡ 7 → inst.key ≡ [] → inst.owner ≡ 0 → inst.schema ≡ staff → inst.desc ≡ rule_spelling (hires deferred)
     → IsStorableRule (hires deferred) → IsInstance trigger inst

@@ -155,6 +155,7 @@ spends code inst c old P move none clean ctx part = by c
     by (call.Late entry) = λ rule db stands buckets before. on_path code inst (call.Late entry) P move none
     by (call.NextEntry low above) = λ formed. on_path code inst (call.NextEntry low above) P move none
     by call.Sums = λ formed. on_path code inst call.Sums P move none
+    by (call.Seek query) = λ formed. on_path code inst (call.Seek query) P move none
 
 pub changes : (code : ℕ) (inst : Instance) (c : AttachCall) (old : View) (move : Move) → IsClean old → AsksNoPage move → AsksFor old move → MayEnd c move
     → ((P : Pages) → Answers (pageless code) inst c old P P move) → Changes (pageless code) inst c old old move

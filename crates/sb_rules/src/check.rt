@@ -6,7 +6,7 @@ use crate::keeping::check_kept;
 use crate::rows::new_row;
 use crate::testing::{none_stands, queue, verdict};
 use sb_codec::decode_tuple;
-use sb_ctx::{Attachment, Ctx, Instance, Move};
+use sb_ctx::{Attachment, Ctx, Instance, Keys, Move};
 use sb_pred::eval;
 use sb_relation::{Change, Sums};
 use sb_value::{Bytes, RecKey, Schema, Tuple};
@@ -95,5 +95,9 @@ impl Attachment for Check {
 
     fn sums(&self, alloc: Global, _ctx: &mut Ctx, _inst: &Instance) -> Move {
         Move::Sums(Sums::from_vec(Vec::new(alloc)))
+    }
+
+    fn seek(&self, alloc: Global, _ctx: &mut Ctx, _inst: &Instance, _query: &Tuple) -> Move {
+        Move::Hits(Keys::new(alloc))
     }
 }

@@ -4,7 +4,7 @@ ghost use Rattle.sb_rules.specs.Triggers.{trigger};
 
 use crate::acting::{act, meets};
 use crate::keeping::trigger_kept;
-use sb_ctx::{Attachment, Ctx, Instance, Move};
+use sb_ctx::{Attachment, Ctx, Instance, Keys, Move};
 use sb_relation::{Change, Sums, bind};
 use sb_value::{Bytes, RecKey, Schema, Tuple};
 use std::alloc::Global;
@@ -77,5 +77,9 @@ impl Attachment for Trigger {
 
     fn sums(&self, alloc: Global, _ctx: &mut Ctx, _inst: &Instance) -> Move {
         Move::Sums(Sums::from_vec(Vec::new(alloc)))
+    }
+
+    fn seek(&self, alloc: Global, _ctx: &mut Ctx, _inst: &Instance, _query: &Tuple) -> Move {
+        Move::Hits(Keys::new(alloc))
     }
 }

@@ -7,7 +7,7 @@ use Rattle.sb_pred.specs.Typing.{term_kind, is_well_typed}
 use Rattle.sb_rule.specs.declared.rule.Rule.{Rule}
 use Rattle.sb_rule.specs.declared.rule.Rule.TheVariants.{TreeIndex, HashIndex, JoinIndex, Stats, Check, Refers, Trigger, Foreign}
 use Rattle.sb_rule.specs.declared.rule.Side.TheVariants.{Main, Mirror}
-use Rattle.sb_relation.specs.Content.{Content, content_of}
+use Rattle.sb_relation.specs.Content.{Content, content_of, foreign_counts}
 use Rattle.sb_relation.specs.Db
 use Rattle.sb_relation.specs.Db.{Name, Rows, Relation, Db, relation_at, schema_at, rows_at, values_in}
 use Rattle.sb_relation.specs.Fits.{relation_of, other_relations, first_missing, places_in, pred_places, action_places, first_unnamed, kinds_at, are_one_kind, has_old, has_new, action_fits, MayStand}
@@ -141,26 +141,26 @@ pub content_over-alike : (box : Attachment) (inst : Instance) (rule : Rule) (db 
 content_over-alike box inst (TreeIndex columns unique) db after buckets own others =
     let schema = schema_at-alike db after inst.relation own in
     let rows = rows_at-alike db after inst.relation own in
-    λ i. content_of (entries_only (index_entries (schema i) columns (rows i))) buckets
+    λ i. content_of (entries_only (index_entries (schema i) columns (rows i))) [] buckets
 content_over-alike box inst (HashIndex columns) db after buckets own others =
     let schema = schema_at-alike db after inst.relation own in
     let rows = rows_at-alike db after inst.relation own in
-    λ i. content_of (entries_only (index_entries (schema i) columns (rows i))) buckets
+    λ i. content_of (entries_only (index_entries (schema i) columns (rows i))) [] buckets
 content_over-alike box inst (JoinIndex Main columns other names) db after buckets own others =
-    ap (λ (es : List Entry). content_of (entries_only es) buckets) (join_entries-alike db after inst.relation columns other names own (All-head (IsAlike db after) other [] others))
+    ap (λ (es : List Entry). content_of (entries_only es) [] buckets) (join_entries-alike db after inst.relation columns other names own (All-head (IsAlike db after) other [] others))
 content_over-alike box inst (JoinIndex Mirror columns other names) db after buckets own others =
-    ap (λ (es : List Entry). content_of (entries_only es) buckets) (join_entries-alike db after other names inst.relation columns (All-head (IsAlike db after) other [] others) own)
+    ap (λ (es : List Entry). content_of (entries_only es) [] buckets) (join_entries-alike db after other names inst.relation columns (All-head (IsAlike db after) other [] others) own)
 content_over-alike box inst (Stats column low width) db after buckets own others =
     let schema = schema_at-alike db after inst.relation own in
     let rows = rows_at-alike db after inst.relation own in
-    λ i. content_of (record { entries = []; sums = stats_sums low width (column_ints (schema i) column (rows i)) }) buckets
+    λ i. content_of (record { entries = []; sums = stats_sums low width (column_ints (schema i) column (rows i)) }) [] buckets
 content_over-alike box inst (Check pred deferred) db after buckets own others = refl
 content_over-alike box inst (Refers side columns other names mode deferred) db after buckets own others = refl
 content_over-alike box inst (Trigger on pred act deferred) db after buckets own others = refl
 content_over-alike box inst (Foreign code desc) db after buckets own others =
     let schema = schema_at-alike db after inst.relation own in
     let rows = rows_at-alike db after inst.relation own in
-    λ i. content_of (foreign_image (Some box.rules) desc (schema i) (rows i)) buckets
+    λ i. content_of (foreign_image (Some box.rules) desc (schema i) (rows i)) (foreign_counts (Some box.rules) desc (schema i) (rows i)) buckets
 
 -- ---- where all relations are alike, their rows are lawful too
 pub AreLawful-alike : (db after : Db) → ((name : Name) → IsAlike db after name) → AreLawful db → AreLawful after

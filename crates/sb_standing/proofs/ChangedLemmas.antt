@@ -11,7 +11,7 @@ use Rattle.sb_rule.specs.declared.change.Change.{Change}
 use Rattle.sb_rule.specs.declared.rule.Rule.{Rule}
 use Rattle.sb_rule.specs.declared.rule.Rule.TheVariants.{TreeIndex, HashIndex, JoinIndex, Stats, Check, Refers, Trigger, Foreign}
 use Rattle.sb_relation.specs.Changes.{changed, changed_rows, with_change}
-use Rattle.sb_relation.specs.Content.{content_of, page_content}
+use Rattle.sb_relation.specs.Content.{content_of, foreign_counts, page_content}
 use Rattle.sb_relation.specs.Db.{Name, Rows, Relation, Db, relation_at, with_relation, rows_at, schema_at}
 use Rattle.sb_relation.specs.Fits.{MayStand, relation_of, other_relations, first_unnamed, places_in, pred_places, action_places, rule_places, are_one_kind, kinds_at, rule_fits}
 use Rattle.sb_relation.specs.Foreign.{AttachRules}
@@ -139,13 +139,13 @@ StandsOn-changed box inst rule db name c stands lawful = record {
 pub page_content-alike : (box : Option AttachRules) (before after : Db) (name : Name) (rule : Rule) (buckets : ℕ) → is_join rule ≡ false → schema_at after name ≡ schema_at before name → rows_at after name ≡ rows_at before name →
     page_content box after name rule buckets ≡ page_content box before name rule buckets
 page_content-alike box before after name (JoinIndex side columns other others) buckets is schema rows = absurd (true≢false is)
-page_content-alike box before after name (TreeIndex columns unique) buckets is schema rows = λ i. content_of (entries_only (index_entries (schema i) columns (rows i))) buckets
-page_content-alike box before after name (HashIndex columns) buckets is schema rows = λ i. content_of (entries_only (index_entries (schema i) columns (rows i))) buckets
-page_content-alike box before after name (Stats column low width) buckets is schema rows = λ i. content_of (record { entries = []; sums = stats_sums low width (column_ints (schema i) column (rows i)) }) buckets
+page_content-alike box before after name (TreeIndex columns unique) buckets is schema rows = λ i. content_of (entries_only (index_entries (schema i) columns (rows i))) [] buckets
+page_content-alike box before after name (HashIndex columns) buckets is schema rows = λ i. content_of (entries_only (index_entries (schema i) columns (rows i))) [] buckets
+page_content-alike box before after name (Stats column low width) buckets is schema rows = λ i. content_of (record { entries = []; sums = stats_sums low width (column_ints (schema i) column (rows i)) }) [] buckets
 page_content-alike box before after name (Check pred deferred) buckets is schema rows = refl
 page_content-alike box before after name (Refers side columns other others mode deferred) buckets is schema rows = refl
 page_content-alike box before after name (Trigger on pred act deferred) buckets is schema rows = refl
-page_content-alike box before after name (Foreign code desc) buckets is schema rows = λ i. content_of (foreign_image box desc (schema i) (rows i)) buckets
+page_content-alike box before after name (Foreign code desc) buckets is schema rows = λ i. content_of (foreign_image box desc (schema i) (rows i)) (foreign_counts box desc (schema i) (rows i)) buckets
 
 -- a rule of another relation has the same content
 pub content_over-changed : (box : Attachment) (inst : Instance) (rule : Rule) (db : Db) (name : Name) (c : Change) (buckets : ℕ) → (inst.relation ≡ name → ⊥) → is_join rule ≡ false →

@@ -131,7 +131,7 @@ fn late_of_nothing(alloc: Global, inst: &Instance) -> Reply
 fn makes_nothing(alloc: Global) -> Result<bool, AllocError> {
     let inst = instance(alloc, false)?;
     let trigger = Trigger::new();
-    if !is_of(&trigger, &inst, 7) || !keeps_nothing(&trigger, alloc, &inst) {
+    if !is_of(&trigger, &inst, 7) || !keeps_nothing(&trigger, alloc, &inst)? {
         return Ok(false);
     }
     let built = built_row(alloc, &inst, 150)?;

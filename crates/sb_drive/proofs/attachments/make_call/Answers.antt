@@ -1,5 +1,5 @@
 use Rattle.std.proofs.Common.{ap, sym, ◌∙◌}
-use Rattle.sb_ctx.specs.declared.calls.AttachCall.TheVariants.{Late, NextEntry, Sums}
+use Rattle.sb_ctx.specs.declared.calls.AttachCall.TheVariants.{Late, NextEntry, Sums, Seek}
 use Rattle.sb_drive.proofs.AttachLemmas.{Changes-Looks-is}
 use Rattle.sb_drive.proofs.attachments.make_call.Goals as goal
 
@@ -17,3 +17,8 @@ pub returns-in-Sums-clause-changes : goal.returns-in-Sums-clause-changes
 returns-in-Sums-clause-changes g c =
     Changes-Looks-is ((goal.Attachment-dyn g c.args.boxed.now).attachment c.args.boxed.now.1) c.args.inst.now c.args.call.now Sums c.args.ctx.now c.sums.new.ctx c.sums.result
     c.in-Sums.is c.requires.clean c.sums.ensures
+
+pub returns-in-Seek-clause-changes : goal.returns-in-Seek-clause-changes
+returns-in-Seek-clause-changes g c =
+    Changes-Looks-is ((goal.Attachment-dyn g c.args.boxed.now).attachment c.args.boxed.now.1) c.args.inst.now c.args.call.now (Seek c.in-Seek.query) c.args.ctx.now c.seek.new.ctx c.seek.result
+    c.in-Seek.is c.requires.clean c.seek.ensures

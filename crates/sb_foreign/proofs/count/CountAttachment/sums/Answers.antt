@@ -3,11 +3,11 @@ use Rattle.sb_ctx.specs.declared.calls.AttachCall.TheVariants as call
 use Rattle.sb_ctx.specs.declared.moves.Move.TheVariants as move
 use Rattle.sb_ctx.specs.AttachAnswers.{Looks}
 use Rattle.sb_foreign.specs.Counts.{count}
-use Rattle.sb_foreign.proofs.CountLaws.{Looks-broken, Looks-sums}
+use Rattle.sb_foreign.proofs.CountLaws.{Looks-sums, Looks-sums_broken}
 use Rattle.sb_foreign.proofs.count.CountAttachment.sums.Goals as goal
 
 pub returns-in_default-count_in : goal.returns-in_default-count_in
-returns-in_default-count_in c = Looks-broken c.args.inst.now c.args.ctx.now c.in-Some.page.now c.requires.clean.unchanged (sym c.in-Some.ensures) (sym c.in_default-count_in.ensures)
+returns-in_default-count_in c = Looks-sums_broken c.args.inst.now c.args.ctx.now c.in-Some.page.now c.requires.clean.unchanged (sym c.in-Some.ensures) (sym c.in_default-count_in.ensures)
 
 pub returns-in-Ok : goal.returns-in-Ok
 returns-in-Ok c =
