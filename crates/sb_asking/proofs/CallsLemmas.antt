@@ -15,7 +15,7 @@ use Rattle.sb_ctx.specs.Attachment.{Attachment}
 use Rattle.sb_ctx.specs.AttachAnswers.{Answers}
 use Rattle.sb_ctx.proofs.DrivingLaws.{FoundIn-nothing, FoundIn-with_found, HoldsPart-nothing, HoldsPart-with_found, IsClean-nothing, IsClean-with_found}
 use Rattle.sb_drive.specs.declared.space.SpaceFault.{SpaceFault}
-use Rattle.sb_drive.specs.declared.space.SpaceFault.TheVariants.{Fault, DataFull, TempFull, LogFull, GatesFull, Damaged, Down, NoMemory}
+use Rattle.sb_drive.specs.declared.space.SpaceFault.TheVariants.{Fault, DataFull, TempFull, Damaged, Down, NoMemory}
 use Rattle.sb_drive.specs.Slots.{AreWhole, Slots, owned}
 use Rattle.sb_drive.specs.Spaces.{HoldsOf, IsReadFault, IsRefused, Leaves, UnlessDown, Wanted}
 use Rattle.sb_drive.specs.Turns.{IsEnd}
@@ -91,11 +91,6 @@ pub Works-no_memory : {S T : Type 0} (Has : Wanted → Slots → S → Type 0) (
 Works-no_memory {S} {T} Has Leads Fails Durable Total owner old new r is stays leads has =
     Works-passed {T = T} Has Leads Fails Durable Total owner old new r NoMemory is
     (Works-looked {T = T} Has Leads Fails Durable Total owner old new NoMemory stays (record { same = has; leads = leads; fault = tt; refused = inl leads }))
-
--- what follows from a refusal is so of it
-pub IfErr-then : {T : Type 0} (r : Result T SpaceFault) (P Q : SpaceFault → Type 0) → ((e : SpaceFault) → P e → Q e) → IfErr r P → IfErr r Q
-IfErr-then (Ok x) P Q then so = tt
-IfErr-then (Err e) P Q then so = then e so
 
 -- ---- answers to finds
 -- the keys of an answer are record keys

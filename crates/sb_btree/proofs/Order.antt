@@ -8,19 +8,15 @@ use Rattle.std.proofs.lemmas.Cmp.{nat_list_cmp_total}
 use Rattle.std.specs.FinMap.{slice_cmp-IsAntisymmetric, nat_cmp-IsAntisymmetric}
 use Rattle.std.specs.FinMap.Entries.{find}
 use Rattle.std.proofs.lemmas.Bool.{false_from_ne_true}
+use Rattle.sb_value.proofs.Truths.{is_lt-less}
 use Rattle.sb_node.specs.Entries.{Entry, key_cmp, is_below}
 
 pub same_key : (x y : List ℕ) → key_cmp x y ≡ Equal → x ≡ y
 same_key x y e = slice_cmp-IsAntisymmetric nat_cmp-IsAntisymmetric x y e
 
-by_lt : (o : Ordering) → is_lt o ≡ true → o ≡ Less
-by_lt Less e = refl
-by_lt Equal e = absurd (cc)
-by_lt Greater e = absurd (cc)
-
 pub below-less : (x y : List ℕ) → is_below x y ≡ true → key_cmp x y ≡ Less
 unfolding is_below
-below-less x y e = by_lt (key_cmp x y) e
+below-less x y e = is_lt-less (key_cmp x y) e
 
 pub less-below : (x y : List ℕ) → key_cmp x y ≡ Less → is_below x y ≡ true
 unfolding is_below

@@ -40,14 +40,6 @@ pub OnOk-then : {T E : Type 0} (r : Result T E) (P Q : Type 0) → (P → Q) →
 OnOk-then (Ok x) P Q then so = then so
 OnOk-then (Err e) P Q then so = tt
 
-pub IfOk-then : {T E : Type 0} (r : Result T E) (P Q : T → Type 0) → ((x : T) → P x → Q x) → IfOk r P → IfOk r Q
-IfOk-then (Ok x) P Q then so = then x so
-IfOk-then (Err e) P Q then so = tt
-
-pub IfErr-then : {T E : Type 0} (r : Result T E) (P Q : E → Type 0) → ((e : E) → P e → Q e) → IfErr r P → IfErr r Q
-IfErr-then (Ok x) P Q then so = tt
-IfErr-then (Err e) P Q then so = then e so
-
 pub IfErr-both : {T E : Type 0} (r : Result T E) (P Q R : E → Type 0) → ((e : E) → P e → Q e → R e) → IfErr r P → IfErr r Q → IfErr r R
 IfErr-both (Ok x) P Q R then first second = tt
 IfErr-both (Err e) P Q R then first second = then e first second

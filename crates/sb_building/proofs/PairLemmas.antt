@@ -8,9 +8,9 @@ use Rattle.sb_rule.specs.declared.rule.Rule.TheVariants.{TreeIndex, HashIndex, J
 use Rattle.sb_relation.specs.Build.{main_of, mirror_name, mirror_of, with_attached}
 use Rattle.sb_relation.specs.Db.{Name, Attached, Relation, Db, relation_at}
 use Rattle.sb_relation.proofs.RuleLaws.{mirrors-mirror}
-use Rattle.sb_fold.specs.Building.{rule_at, without_attached, without_mirror, without_rule}
+use Rattle.sb_fold.specs.Building.{rule_at, without_attached, without_mirror, without_rule, HasMirror}
 use Rattle.sb_fold.specs.Fold.{attachments_at}
-use Rattle.sb_deferred.specs.Complete.{AreMirrored, HasMirror}
+use Rattle.sb_deferred.specs.Complete.{AreMirrored}
 use Rattle.sb_engine.specs.Working.{ArePaired, HasMainOf}
 use Rattle.sb_building.specs.Attaching.{new_attached}
 use Rattle.sb_building.proofs.NameLemmas.{All-attached, All-left, IsLeft, found-all, rule_at-left, rule_at-new, rule_at-still}

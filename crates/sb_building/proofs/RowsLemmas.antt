@@ -1,5 +1,5 @@
 -- Rows of which the first ones are built, and the next one.
-use Rattle.std.proofs.Common.{◌≡◌, ℕ, suc, ◌<◌, ◌≤◌, ◌^◌, Bool, true, false, cond, ◌&&◌, List, [], ◌∷◌, ◌++◌, length, get_or, All, Option, Some, None, T, refl, sym, ap, subst, ◌∙◌, arith, length-append, append_assoc, append-nil, ◌+◌, is_lt, is_eq, Ordering, Less, Equal, Greater}
+use Rattle.std.proofs.Common.{◌≡◌, ℕ, ◌<◌, ◌≤◌, ◌^◌, Bool, true, false, cond, ◌&&◌, List, [], ◌∷◌, ◌++◌, length, All, Option, Some, None, T, refl, sym, ap, subst, ◌∙◌, arith, length-append, append_assoc, append-nil, ◌+◌, is_lt, is_eq, Less, Greater}
 use Rattle.std.specs.Ordering.{ordering_reverse}
 use Rattle.std.specs.FinMap.Entries.{is_sorted, below_all, by_order}
 use Rattle.std.proofs.lemmas.Cmp.{nat_list_cmp_total, tied_itself}
@@ -7,6 +7,7 @@ use Rattle.std.proofs.lemmas.List.{get_or_append_left}
 use Rattle.std.proofs.lemmas.List.Elements.{All-head, All-tail}
 use Rattle.sb_value.specs.declared.schema.Column.{Column}
 use Rattle.sb_value.specs.Order.{bytes_cmp}
+use Rattle.sb_value.proofs.Truths.{T-parts, T-less}
 use Rattle.sb_relation.specs.Db.{Key, Row, Rows, row_at, with_row}
 use Rattle.sb_relation.specs.Keys.{is_record_key}
 use Rattle.sb_relation.specs.Lawful.{IsRow, AreRows}
@@ -16,19 +17,10 @@ use Rattle.sb_rows.proofs.ScansLemmas.{rows_above-all, rows_above-next, rows_abo
 use Rattle.sb_ctx.specs.MethodAnswers.{row_above}
 use Rattle.sb_building.specs.Building.{IsNext}
 
-parts : (a b : Bool) → T (a && b) → T a × T b
-parts true b h = (tt, h)
-parts false b h = absurd h
-
-less : (o : Ordering) → T (is_lt o) → o ≡ Less
-less Less h = refl
-less Equal h = absurd h
-less Greater h = absurd h
-
 -- ---- keys in front are lesser ones
 lesser : (x : Key) (built : Rows) (row : Key × Row) (rest : Rows) → T (below_all bytes_cmp x (built ++ row ∷ rest)) → bytes_cmp x row.0 ≡ Less
-lesser x [] row rest below = less (bytes_cmp x row.0) (parts (is_lt (bytes_cmp x row.0)) (below_all bytes_cmp x rest) below).0
-lesser x (y ∷ built) row rest below = lesser x built row rest (parts (is_lt (bytes_cmp x y.0)) (below_all bytes_cmp x (built ++ row ∷ rest)) below).1
+lesser x [] row rest below = T-less (bytes_cmp x row.0) (T-parts (is_lt (bytes_cmp x row.0)) (below_all bytes_cmp x rest) below).0
+lesser x (y ∷ built) row rest below = lesser x built row rest (T-parts (is_lt (bytes_cmp x y.0)) (below_all bytes_cmp x (built ++ row ∷ rest)) below).1
 
 greater : (x : Key) (built : Rows) (row : Key × Row) (rest : Rows) → T (below_all bytes_cmp x (built ++ row ∷ rest)) → bytes_cmp row.0 x ≡ Greater
 greater x built row rest below = nat_list_cmp_total.antisymm row.0 x ∙ ap ordering_reverse (lesser x built row rest below)
@@ -37,20 +29,20 @@ greater x built row rest below = nat_list_cmp_total.antisymm row.0 x ∙ ap orde
 pub with_row-next : (built : Rows) (row : Key × Row) (rest : Rows) → T (is_sorted bytes_cmp (built ++ row ∷ rest)) → with_row built row.0 row.1 ≡ built ++ row ∷ []
 with_row-next [] row rest rises = refl
 with_row-next (x ∷ built) row rest rises =
-    let rising = parts (below_all bytes_cmp x.0 (built ++ row ∷ rest)) (is_sorted bytes_cmp (built ++ row ∷ rest)) rises in
+    let rising = T-parts (below_all bytes_cmp x.0 (built ++ row ∷ rest)) (is_sorted bytes_cmp (built ++ row ∷ rest)) rises in
     ap (λ o. by_order o ((row.0, row.1) ∷ x ∷ built) ((x.0, row.1) ∷ built) (x ∷ with_row built row.0 row.1)) (greater x.0 built row rest rising.0)
     ∙ ap (λ (rows : Rows). x ∷ rows) (with_row-next built row rest rising.1)
 
 row_at-next : (built : Rows) (row : Key × Row) (rest : Rows) → T (is_sorted bytes_cmp (built ++ row ∷ rest)) → row_at (built ++ row ∷ rest) row.0 ≡ Some row.1
 row_at-next [] row rest rises = ap (λ o. cond (is_eq o) (Some row.1) (row_at rest row.0)) (tied_itself nat_list_cmp_total row.0)
 row_at-next (x ∷ built) row rest rises =
-    let rising = parts (below_all bytes_cmp x.0 (built ++ row ∷ rest)) (is_sorted bytes_cmp (built ++ row ∷ rest)) rises in
+    let rising = T-parts (below_all bytes_cmp x.0 (built ++ row ∷ rest)) (is_sorted bytes_cmp (built ++ row ∷ rest)) rises in
     ap (λ o. cond (is_eq o) (Some x.1) (row_at (built ++ row ∷ rest) row.0)) (greater x.0 built row rest rising.0) ∙ row_at-next built row rest rising.1
 
 row_at-new : (built : Rows) (row : Key × Row) (rest : Rows) → T (is_sorted bytes_cmp (built ++ row ∷ rest)) → row_at built row.0 ≡ None
 row_at-new [] row rest rises = refl
 row_at-new (x ∷ built) row rest rises =
-    let rising = parts (below_all bytes_cmp x.0 (built ++ row ∷ rest)) (is_sorted bytes_cmp (built ++ row ∷ rest)) rises in
+    let rising = T-parts (below_all bytes_cmp x.0 (built ++ row ∷ rest)) (is_sorted bytes_cmp (built ++ row ∷ rest)) rises in
     ap (λ o. cond (is_eq o) (Some x.1) (row_at built row.0)) (greater x.0 built row rest rising.0) ∙ row_at-new built row rest rising.1
 
 row_at-front : (built rest : Rows) (k : Key) (r : Row) → row_at built k ≡ Some r → row_at (built ++ rest) k ≡ Some r
@@ -67,7 +59,7 @@ below_all-front x [] rest below = tt
 below_all-front x (y ∷ built) rest below = both (is_lt (bytes_cmp x y.0)) (below_all bytes_cmp x built) (first.0) (below_all-front x built rest first.1)
   where
     first : T (is_lt (bytes_cmp x y.0)) × T (below_all bytes_cmp x (built ++ rest))
-    first = parts (is_lt (bytes_cmp x y.0)) (below_all bytes_cmp x (built ++ rest)) below
+    first = T-parts (is_lt (bytes_cmp x y.0)) (below_all bytes_cmp x (built ++ rest)) below
 
     both : (a b : Bool) → T a → T b → T (a && b)
     both true b p q = q
@@ -78,7 +70,7 @@ is_sorted-front [] rest rises = tt
 is_sorted-front (x ∷ built) rest rises = both (below_all bytes_cmp x.0 built) (is_sorted bytes_cmp built) (below_all-front x.0 built rest first.0) (is_sorted-front built rest first.1)
   where
     first : T (below_all bytes_cmp x.0 (built ++ rest)) × T (is_sorted bytes_cmp (built ++ rest))
-    first = parts (below_all bytes_cmp x.0 (built ++ rest)) (is_sorted bytes_cmp (built ++ rest)) rises
+    first = T-parts (below_all bytes_cmp x.0 (built ++ rest)) (is_sorted bytes_cmp (built ++ rest)) rises
 
     both : (a b : Bool) → T a → T b → T (a && b)
     both true b p q = q

@@ -1,15 +1,17 @@
 -- Kinds of columns, terms and values.
-use Rattle.std.proofs.Common.{◌≡◌, ℕ, suc, ◌+◌, Bool, true, false, cond, List, [], ◌∷◌, length, Option, Some, None, option_map, option_and_then, map, refl, sym, ap, ◌∙◌, arith}
-use Rattle.std.specs.Prelude.{pos, not, nat_lt, is_some}
-use Rattle.std.specs.List.{flat_map, position, position_or_len, slice_get}
+use Rattle.std.proofs.Common.{◌≡◌, ℕ, suc, Bool, true, false, cond, List, [], ◌∷◌, Option, Some, None, option_map, option_and_then, map, refl, sym, ap, ◌∙◌}
+use Rattle.std.specs.Prelude.{pos, is_some}
+use Rattle.std.specs.List.{flat_map, position, slice_get}
 use Rattle.std.specs.Str.{bytes_eq}
-use Rattle.std.proofs.lemmas.Bool.{and_parts, le-leb}
+use Rattle.std.proofs.lemmas.Bool.{and_parts}
 use Rattle.sb_value.specs.declared.value.Value.{Value}
 use Rattle.sb_value.specs.declared.value.Value.TheVariants.{Int, Text}
 use Rattle.sb_value.specs.declared.schema.Kind.{Kind}
 use Rattle.sb_value.specs.declared.schema.Kind.TheVariants as kind
 use Rattle.sb_value.specs.declared.schema.Column.{Column}
 use Rattle.sb_value.specs.Fits.{Fits, kind_of, is_of_kind, first_misfit}
+use Rattle.sb_value.proofs.FitsLemmas.{misfit_parts, misfit_none}
+use Rattle.sb_value.proofs.Searches.{position-cons}
 use Rattle.sb_pred.specs.declared.predicate.Op.TheVariants.{Eq}
 use Rattle.sb_pred.specs.declared.predicate.Term.{Term}
 use Rattle.sb_pred.specs.declared.predicate.Term.TheVariants.{Const, New, Old}
@@ -86,14 +88,6 @@ bound_kind schema c fits t k is =
     ap (λ (o : Option Value). term_kind [] false false (constant_or t o)) found.there ∙ ap (λ (x : Kind). Some x) found.kinded
 
 -- ---- rows
-parts_fit : (b : Bool) (rest : Option ℕ) → cond b (option_map suc rest) (Some 0) ≡ None → (b ≡ true) × (rest ≡ None)
-parts_fit true None e = (refl, refl)
-parts_fit true (Some n) e = absurd (cc)
-parts_fit false rest e = absurd (cc)
-
-fit_both : (b : Bool) (rest : Option ℕ) → b ≡ true → rest ≡ None → cond b (option_map suc rest) (Some 0) ≡ None
-fit_both b rest e f = ap (λ (t : Bool). cond t (option_map suc rest) (Some 0)) e ∙ ap (option_map suc) f
-
 of_kind : (k : Kind) (v : Value) → Some k ≡ Some (kind_of v) → is_of_kind k v ≡ true
 of_kind kind.Int (Int n) e = refl
 of_kind kind.Text (Text s) e = refl
@@ -107,7 +101,7 @@ values_fit [] (t ∷ terms) e = absurd (cc)
 values_fit (c ∷ cs) [] e = absurd (cc)
 values_fit (c ∷ cs) (Const v ∷ terms) e =
     let parts = and_parts (is_one_kind (Some c.kind) (Some (kind_of v))) (are_one_kind (map (λ x. Some x.kind) cs) (map (term_kind [] false false) terms)) e in
-    fit_both (is_of_kind c.kind v) (first_misfit cs (flat_map const_of terms)) (of_kind c.kind v (same_kind (Some c.kind) (kind_of v) parts.0)) (values_fit cs terms parts.1)
+    misfit_none (is_of_kind c.kind v) (first_misfit cs (flat_map const_of terms)) (of_kind c.kind v (same_kind (Some c.kind) (kind_of v) parts.0)) (values_fit cs terms parts.1)
 values_fit (c ∷ cs) (New name ∷ terms) e =
     absurd (no_kind c.kind (and_parts (is_one_kind (Some c.kind) None) (are_one_kind (map (λ x. Some x.kind) cs) (map (term_kind [] false false) terms)) e).0)
   where
@@ -120,23 +114,6 @@ values_fit (c ∷ cs) (Old name ∷ terms) e =
     no_kind k h = let one = one_kind (Some k) None h in absurd (cc)
 
 -- ---- a row with another value in a column
-less_less : (a b : ℕ) → nat_lt (1 + a) (suc b) ≡ nat_lt a b
-less_less a b = grind arith
-
--- the place of the first that passes, by whether the first of all does
-position_step : {X : Type 0} (p : X → Bool) (x : X) (xs : List X) → position p (x ∷ xs) ≡ cond (p x) (Some 0) (option_map suc (position p xs))
-position_step p x xs = of_test (p x)
-  where
-    of_less : (b : Bool) (n : ℕ) → cond b (Some (1 + n)) None ≡ option_map suc (cond b (Some n) None)
-    of_less true n = ap (λ (m : ℕ). Some m) (omega arith)
-    of_less false n = refl
-
-    of_test : (b : Bool) → (cond (nat_lt (cond (not b) (1 + position_or_len p xs) 0) (suc (length xs))) (Some (cond (not b) (1 + position_or_len p xs) 0)) None) ≡ cond b (Some 0) (option_map suc (position p xs))
-    of_test true = ap (λ (t : Bool). cond t (Some 0) None) (le-leb 1 (suc (length xs)) (omega arith))
-    of_test false =
-        ap (λ (t : Bool). cond t (Some (1 + position_or_len p xs)) None) (less_less (position_or_len p xs) (length xs))
-        ∙ of_less (nat_lt (position_or_len p xs) (length xs)) (position_or_len p xs)
-
 abbrev kind_at : List Column → Option ℕ → Option Kind
 kind_at schema place = option_map (λ c. c.kind) (option_and_then (λ i. slice_get schema i) place)
 
@@ -148,13 +125,13 @@ pub with_value_fits : (schema : List Column) (column : Name) (v : Value) (row : 
 with_value_fits [] column v row kinds fits = fits
 with_value_fits (c ∷ cs) column v [] kinds fits = absurd (cc)
 with_value_fits (c ∷ cs) column v (w ∷ row) kinds fits =
-    of_test (bytes_eq c.name column) (ap (kind_at (c ∷ cs)) (sym (position_step (λ x. bytes_eq x.name column) c cs)) ∙ kinds)
-    (λ k. with_value_fits cs column v row k (parts_fit (is_of_kind c.kind w) (first_misfit cs row) fits).1)
+    of_test (bytes_eq c.name column) (ap (kind_at (c ∷ cs)) (sym (position-cons (λ x. bytes_eq x.name column) c cs)) ∙ kinds)
+    (λ k. with_value_fits cs column v row k (misfit_parts (is_of_kind c.kind w) (first_misfit cs row) fits).1)
   where
     parts : (is_of_kind c.kind w ≡ true) × (first_misfit cs row ≡ None)
-    parts = parts_fit (is_of_kind c.kind w) (first_misfit cs row) fits
+    parts = misfit_parts (is_of_kind c.kind w) (first_misfit cs row) fits
 
     of_test : (b : Bool) → kind_at (c ∷ cs) (cond b (Some 0) (option_map suc (position (λ x. bytes_eq x.name column) cs))) ≡ Some (kind_of v)
         → (column_kind cs column ≡ Some (kind_of v) → first_misfit cs (with_value cs column v row) ≡ None) → first_misfit (c ∷ cs) (cond b (v ∷ row) (w ∷ with_value cs column v row)) ≡ None
-    of_test true its rest = fit_both (is_of_kind c.kind v) (first_misfit cs row) (of_kind c.kind v its) parts.1
-    of_test false its rest = fit_both (is_of_kind c.kind w) (first_misfit cs (with_value cs column v row)) parts.0 (rest (sym (kind_behind c cs (position (λ x. bytes_eq x.name column) cs)) ∙ its))
+    of_test true its rest = misfit_none (is_of_kind c.kind v) (first_misfit cs row) (of_kind c.kind v its) parts.1
+    of_test false its rest = misfit_none (is_of_kind c.kind w) (first_misfit cs (with_value cs column v row)) parts.0 (rest (sym (kind_behind c cs (position (λ x. bytes_eq x.name column) cs)) ∙ its))

@@ -5,17 +5,16 @@ ghost use Rattle.std.specs.Int.{to_be_bytes, w16, w32};
 ghost use Rattle.std.specs.List.{flat_map};
 ghost use Rattle.sb_value.specs.declared.schema.Kind.{Kind as Sort};
 ghost use Rattle.sb_pred.specs.Reading.{Finds};
-ghost use Rattle.sb_pred.specs.Spelling.{name_spelling, IsStorableName};
 ghost use Rattle.sb_rule.specs.Reading.{AreSoMany};
-ghost use Rattle.sb_rule.specs.Spelling.{names_spelling, IsShortList};
+ghost use Rattle.sb_rule.specs.Spelling.{IsShortList};
 ghost use Rattle.sb_catalog.specs.declared.descriptor.Descriptor.{Descriptor as Description};
 ghost use Rattle.sb_catalog.specs.Descriptors.{short_spelling, long_spelling, instance_spelling, kind_byte, column_spelling, columns_spelling, counted_spelling, attached_spelling, attachments_spelling, descriptor_spelling, IsInstance, IsLimit, IsStorableColumn, IsCountedRule, IsStorableAttached, IsStorableDescriptor};
 ghost use Rattle.sb_catalog.specs.Reading.{IsShortNumber, IsLongNumber, IsType, type_spelling};
 
 use crate::{Attached, AttachedList, Descriptor};
 use sb_pred::name_of;
-use sb_rule::{Rule, read_rule};
-use sb_value::{Column, Kind, Names, Schema};
+use sb_rule::{Rule, names_of, read_rule};
+use sb_value::{Column, Kind, Schema};
 use std::alloc::{AllocError, Global};
 
 /// The number in the first 2 bytes, where there are as many.
@@ -129,30 +128,6 @@ fn columns_of(alloc: Global, bytes: &[u8]) -> Result<Option<(Schema, &[u8])>, Al
         return Ok(None);
     };
     take_columns(alloc, *count, rest)
-}
-
-fn take_names(alloc: Global, count: u8, bytes: &[u8]) -> Result<Option<(Names, &[u8])>, AllocError>
-    ensures { IfOk result (λ r. Finds (AreSoMany count IsStorableName) (flat_map name_spelling) bytes.now r) }
-{
-    let mut names = Vec::new(alloc);
-    let mut rest = bytes;
-    for _ in 0..count {
-        let Some((name, after)) = name_of(alloc, rest)? else {
-            return Ok(None);
-        };
-        names.push(name)?;
-        rest = after;
-    }
-    Ok(Some((Names::from_vec(names), rest)))
-}
-
-fn names_of(alloc: Global, bytes: &[u8]) -> Result<Option<(Names, &[u8])>, AllocError>
-    ensures { IfOk result (λ r. Finds (IsShortList IsStorableName) names_spelling bytes.now r) }
-{
-    let [count, rest @ ..] = bytes else {
-        return Ok(None);
-    };
-    take_names(alloc, *count, rest)
 }
 
 /// A rule of this code behind the number of its bytes.

@@ -7,6 +7,7 @@ use Rattle.std.proofs.lemmas.Bool.{and_parts, cond-true, cond-false}
 use Rattle.std.proofs.lemmas.Bool.Decides.{nat_tests}
 use Rattle.std.proofs.lemmas.Option.{same_Some}
 use Rattle.std.proofs.lemmas.Cmp.{nat_cmp_total}
+use Rattle.sb_value.proofs.Truths.{T-true}
 use Rattle.sb_ctx.specs.View.{HeldPage, bytes_put}
 use Rattle.sb_ctx.specs.Held.{Entries, page_in, with_bytes, each, Rises}
 
@@ -95,10 +96,6 @@ is_sorted-bytes_put n bytes (e ∷ held) =
       | false ↦ λ i. below_all-bytes_put e.0 n bytes held i && is_sorted-bytes_put n bytes held i
     ]
 
-from_T : (b : Bool) → T b → b ≡ true
-from_T true h = refl
-from_T false h = absurd h
-
 below_at : (n : ℕ) (held : Entries) → below_all nat_cmp n held ≡ true → (i : ℕ) (e : ℕ × HeldPage) → slice_get held i ≡ Some e → n < e.0
 below_at n [] below i e is = cc
 below_at n (x ∷ held) below zero e is =
@@ -112,10 +109,10 @@ below_at n (x ∷ held) below (suc i) e is = below_at n held (and_parts (is_lt (
 
 -- the first number is below the others, and these rise too
 pub Rises-below : (x : ℕ × HeldPage) (held : Entries) → Rises (x ∷ held) → (i : ℕ) (e : ℕ × HeldPage) → slice_get held i ≡ Some e → x.0 < e.0
-Rises-below x held rises = below_at x.0 held (and_parts (below_all nat_cmp x.0 held) (is_sorted nat_cmp held) (from_T _ rises)).0
+Rises-below x held rises = below_at x.0 held (and_parts (below_all nat_cmp x.0 held) (is_sorted nat_cmp held) (T-true _ rises)).0
 
 pub Rises-tail : (x : ℕ × HeldPage) (held : Entries) → Rises (x ∷ held) → Rises held
-Rises-tail x held rises = subst T (sym (and_parts (below_all nat_cmp x.0 held) (is_sorted nat_cmp held) (from_T _ rises)).1) tt
+Rises-tail x held rises = subst T (sym (and_parts (below_all nat_cmp x.0 held) (is_sorted nat_cmp held) (T-true _ rises)).1) tt
 
 -- so each entry is found by its number
 pub page_in-place : (held : Entries) (i : ℕ) (e : ℕ × HeldPage) → Rises held → slice_get held i ≡ Some e → page_in held e.0 ≡ Some e.1

@@ -1,5 +1,5 @@
 -- What the author of a box cites of a Ctx, and of the pages of which it holds a part.
-use Rattle.std.proofs.Common.{◌≡◌, ℕ, ◌<◌, ◌==◌, Bool, true, false, cond, ◌&&◌, List, [], ◌∷◌, length, Option, Some, None, option_map, IsSome, slice_get, refl, sym, ap, subst, ◌∙◌, eq-eqb, ne_eqb, eqb-true, All, suc, true≢false}
+use Rattle.std.proofs.Common.{◌≡◌, ℕ, ◌<◌, ◌==◌, Bool, true, false, cond, ◌&&◌, List, [], ◌∷◌, length, Option, Some, None, option_map, IsSome, slice_get, refl, sym, ap, subst, ◌∙◌, eq-eqb, ne_eqb, eqb-true, All, suc, true≢false, IfSome}
 use Rattle.std.specs.List.{find as first}
 use Rattle.std.proofs.lemmas.Bool.{and_parts, and_right, cond-true, cond-false}
 use Rattle.std.proofs.lemmas.Option.{same_Some}
@@ -47,6 +47,13 @@ next_of-with_page c n bytes low = refl
 -- ---- what was given stays
 pub dropped-with_page : (c : View) (n : ℕ) (bytes : List ℕ) → dropped (with_page n bytes c) ≡ dropped c
 dropped-with_page c n bytes = ap (λ (held : Entries). record c { held = held }) (each-bytes_put as_given n bytes (λ h. refl) c.held)
+
+pub given-edit : (c new : View) (n : ℕ) (f : List ℕ → List ℕ) → IsSome (page_of c n) → IfSome (page_of c n) (λ page. new ≡ with_page n (f page) c) → dropped new ≡ dropped c
+given-edit c new n f held made = by (page_of c n) held made
+  where
+    by : (o : Option (List ℕ)) → IsSome o → IfSome o (λ page. new ≡ with_page n (f page) c) → dropped new ≡ dropped c
+    by None held made = cc
+    by (Some page) held made = ap dropped made ∙ dropped-with_page c n (f page)
 
 pub dropped-dropped : (c : View) → dropped (dropped c) ≡ dropped c
 dropped-dropped c = ap (λ (held : Entries). record c { held = held }) (each-each as_given as_given c.held)

@@ -22,10 +22,10 @@ use Rattle.sb_relation.specs.Build.{mirror_name, mirror_of}
 use Rattle.sb_relation.specs.Changes.{changed, changed_rows, with_change}
 use Rattle.sb_relation.specs.Db.{Name, Key, Row, Rows, Attached, Relation, Db, relation_at, with_relation, schema_at, values_in}
 use Rattle.sb_relation.specs.Rules.{has_values, has_row_with, values_at, late_checks, entry_of}
-use Rattle.sb_fold.specs.Building.{rule_at}
+use Rattle.sb_fold.specs.Building.{rule_at, HasMirror}
 use Rattle.sb_fold.specs.Fold.{attachments_at, queue_late}
 use Rattle.sb_fold.specs.Outcome.{Queue}
-use Rattle.sb_deferred.specs.Complete.{is_waiting, IsWaiting, is_either_waiting, tells_of, HasMirror, AreMirrored, IsChangeOf}
+use Rattle.sb_deferred.specs.Complete.{is_waiting, IsWaiting, is_either_waiting, tells_of, AreMirrored, IsChangeOf}
 use Rattle.sb_deferred.specs.CompleteLaws.{CompleteAfterAChange, MirroredAfterAChange}
 use Rattle.sb_deferred.proofs.RelationLemmas.{rows_of, schema_of, attachments_of, relation_same, relation_other, rule_found, changed_is}
 use Rattle.sb_deferred.proofs.RowLemmas.{IsOfOld, any_changed, all_changed}

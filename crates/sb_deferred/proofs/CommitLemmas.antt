@@ -5,6 +5,7 @@ use Rattle.std.specs.List.{find}
 use Rattle.std.proofs.lemmas.Bool.{true≢false, false_from_ne_true, and_parts, not-true}
 use Rattle.std.proofs.lemmas.List.Elements.{All-nil, All-cons, All-head, All-tail, All-weaker}
 use Rattle.std.proofs.lemmas.List.Folds.{Any-from_list_any}
+use Rattle.sb_value.proofs.Searches.{find-none}
 use Rattle.sb_rule.specs.declared.rule.Rule.{Rule}
 use Rattle.sb_relation.specs.Build.{mirror_name, mirror_of}
 use Rattle.sb_relation.specs.Db.{Name, Attached, Relation, Db, relation_at}
@@ -13,11 +14,12 @@ use Rattle.sb_fold.specs.Extensions.{Extensions, box_of}
 use Rattle.sb_fold.specs.Finish.{is_tested_late, fails_late, first_failing}
 use Rattle.sb_fold.specs.Fold.{attachments_at}
 use Rattle.sb_fold.specs.Outcome.{Entry, Queue, is_entry}
-use Rattle.sb_deferred.specs.Complete.{IsWaiting, TellsOf, HasMirror}
+use Rattle.sb_fold.specs.Building.{HasMirror}
+use Rattle.sb_deferred.specs.Complete.{IsWaiting, TellsOf}
 use Rattle.sb_deferred.specs.CompleteLaws.{CompleteAtFirst, NoneFails, NoneFailsOf, NothingFails, NoEntryFails, NothingFailsAtAll}
 use Rattle.sb_deferred.specs.Entries.{entry_same}
 use Rattle.sb_deferred.specs.Waiting.{nothing, check_of}
-use Rattle.sb_deferred.proofs.RelationLemmas.{attachments_of, none_found, rule_found, all_at}
+use Rattle.sb_deferred.proofs.RelationLemmas.{attachments_of, rule_found, all_at}
 use Rattle.sb_deferred.proofs.RowLemmas.{each_found}
 use Rattle.sb_deferred.proofs.TellingLemmas.{tells_passing, holds_told}
 
@@ -35,7 +37,7 @@ all_pass ext db ((name, r) ∷ others) e = of_found (find (fails_late ext db nam
   where
     of_found : (found : Option Attached) → find (fails_late ext db name) r.attachments ≡ found → failing_or (first_failing ext db others) name found ≡ None
         → (first_failing ext db others ≡ None → All (λ e. Passes ext db e.0 e.1) others) → All (λ e. Passes ext db e.0 e.1) ((name, r) ∷ others)
-    of_found None is none rest = All-cons (λ e. Passes ext db e.0 e.1) (name, r) others (none_found (fails_late ext db name) r.attachments is) (rest none)
+    of_found None is none rest = All-cons (λ e. Passes ext db e.0 e.1) (name, r) others (find-none (fails_late ext db name) r.attachments is) (rest none)
     of_found (Some a) is none rest = absurd (cc)
 
 none_where_all_pass : {A : Type 0} (test : A → Bool) (items : List A) → All (λ a. test a ≡ false) items → find test items ≡ None

@@ -6,7 +6,7 @@ use Rattle.std.specs.Str.{bytes_eq}
 use Rattle.std.specs.Ordering.{is_eq, eq_by_cmp}
 use Rattle.std.specs.FinMap.Entries as entries
 use Rattle.std.proofs.lemmas.Cmp.{tied_itself, nat_list_cmp_total}
-use Rattle.std.proofs.lemmas.List.Elements.{All-nil, All-cons, All-head, All-tail}
+use Rattle.std.proofs.lemmas.List.Elements.{All-head, All-tail}
 use Rattle.std.proofs.lemmas.Map.Text.{is_eq-slice_cmp}
 use Rattle.std.proofs.lemmas.Option.{same_Some}
 use Rattle.sb_value.specs.declared.schema.Column.{Column}
@@ -72,15 +72,6 @@ all_found {A = A} P test (x ∷ xs) a all e = by (test x) refl e (all_found P te
     by : (b : Bool) → test x ≡ b → cond b (Some x) (find test xs) ≡ Some a → (find test xs ≡ Some a → P a × (test a ≡ true)) → P a × (test a ≡ true)
     by true is found rest = let same : x ≡ a = same_Some x a found in (subst P same (All-head P x xs all), ap test (sym same) ∙ is)
     by false is found rest = rest found
-
--- where none is found, each fails the test
-pub none_found : {A : Type 0} (test : A → Bool) (items : List A) → find test items ≡ None → All (λ a. test a ≡ false) items
-none_found test [] e = All-nil _
-none_found test (x ∷ xs) e = by (test x) refl e (none_found test xs)
-  where
-    by : (b : Bool) → test x ≡ b → cond b (Some x) (find test xs) ≡ None → (find test xs ≡ None → All (λ a. test a ≡ false) xs) → All (λ a. test a ≡ false) (x ∷ xs)
-    by true is none rest = absurd (cc)
-    by false is none rest = All-cons (λ a. test a ≡ false) x xs is (rest none)
 
 -- what holds of each attachment of a relation holds of the one with a name
 pub rule_found : (P : Attached → Type 0) (db : Db) (relation label : Name) (a : Attached) → All P (attachments_at db relation) → rule_at db relation label ≡ Some a → P a × (a.name ≡ label)

@@ -1,5 +1,5 @@
 -- When what waits tells which deferred rules may fail.
-use Rattle.std.specs.Prelude.{◌≡◌, ℕ, Bool, true, ◌||◌, List, All, Option, Some, None}
+use Rattle.std.specs.Prelude.{◌≡◌, ℕ, Bool, true, ◌||◌, List, All, Some, None}
 use Rattle.std.specs.List.{list_any, list_all}
 use Rattle.sb_codec.specs.Tuples.{tuple_spelling}
 use Rattle.sb_pred.specs.Tree.{Tree}
@@ -12,7 +12,7 @@ use Rattle.sb_rule.specs.declared.rule.Rule.TheVariants.{Check, Refers}
 use Rattle.sb_relation.specs.Build.{mirror_name, mirror_of}
 use Rattle.sb_relation.specs.Db.{Name, Rows, Attached, Db, row_at, rows_at, schema_at}
 use Rattle.sb_relation.specs.Rules.{has_row_with, values_at}
-use Rattle.sb_fold.specs.Building.{rule_at}
+use Rattle.sb_fold.specs.Building.{HasMirror}
 use Rattle.sb_fold.specs.Fold.{attachments_at}
 use Rattle.sb_fold.specs.Outcome.{Queue, is_entry}
 use Rattle.sb_deferred.specs.Waiting.{check_of}
@@ -55,10 +55,6 @@ abbrev pub IsComplete : Db → Queue → Type 0
 IsComplete db q = (relation : Name) → All (TellsOf db q relation) (attachments_at db relation)
 
 -- ---- mirrors stand in pairs
-abbrev pub HasMirror : Db → Name → Option (Name × Rule) → Type 0
-HasMirror db label None = Unit {0}
-HasMirror db label (Some (other, rule)) = (a : Attached) × (rule_at db other label ≡ Some a) × (a.rule ≡ rule)
-
 -- each main instance of two sides has its mirror on the other relation
 abbrev pub AreMirrored : Db → Type 0
 AreMirrored db = (relation : Name) → All (λ a. HasMirror db (mirror_name relation a.name) (mirror_of relation a.rule)) (attachments_at db relation)

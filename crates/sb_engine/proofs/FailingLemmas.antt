@@ -1,5 +1,5 @@
 -- What entries that wait tell of the rules of relations that are kept.
-use Rattle.std.proofs.Common.{◌≡◌, ℕ, zero, suc, ◌<◌, ◌≤◌, Bool, true, false, true≢false, cond, not, ◌&&◌, List, [], ◌∷◌, map, length, All, Option, Some, None, option_map, Result, Ok, Err, IfErr, refl, sym, ap, ◌∙◌, subst, arith}
+use Rattle.std.proofs.Common.{◌≡◌, ℕ, zero, suc, ◌<◌, ◌≤◌, Bool, true, false, true≢false, cond, not, ◌&&◌, List, [], ◌∷◌, map, length, All, Option, Some, None, option_map, refl, sym, ap, ◌∙◌, subst, arith}
 use Rattle.std.specs.List.{find, slice_get}
 use Rattle.std.proofs.lemmas.Bool.{and_from, or_left, or_right}
 use Rattle.std.proofs.lemmas.List.{length-map}
@@ -12,7 +12,7 @@ use Rattle.sb_rule.specs.declared.rule.Rule.TheVariants.{TreeIndex, HashIndex, J
 use Rattle.sb_relation.specs.Build.{mirror_name, mirror_of}
 use Rattle.sb_relation.specs.Content.{Content}
 use Rattle.sb_relation.specs.Db
-use Rattle.sb_relation.specs.Db.{Name, Relation, relation_at}
+use Rattle.sb_relation.specs.Db.{Name, Relation}
 use Rattle.sb_relation.specs.Foreign.{AttachRules}
 use Rattle.sb_relation.specs.Rules.{entry_fails, holds}
 use Rattle.sb_forms.specs.Pages.{Pages}
@@ -33,7 +33,6 @@ use Rattle.sb_deferred.specs.Entries.{entry_same}
 use Rattle.sb_deferred.specs.Waiting.{check_of}
 use Rattle.sb_deferred.proofs.CommitLemmas.{nothing-fails}
 use Rattle.sb_registry.specs.Boxes.{Meanings, attachment_of}
-use Rattle.sb_drive.specs.declared.space.SpaceFault.{SpaceFault}
 use Rattle.sb_drive.specs.Slots.{Slots, owned}
 use Rattle.sb_drive.specs.Spaces.{Leaves, Wanted}
 use Rattle.sb_catalog.specs.declared.descriptor.Attached.{Attached}
@@ -314,8 +313,3 @@ pub not_own : (relation : Name) (d : Attached) (a : Db.Attached) (x e : Entry) �
 not_own relation d a x e alike same other own =
     let moved : is_own relation d.name d.rule x ≡ is_own relation a.name a.rule e = λ j. is_own relation (alike.name j) (alike.rule j) (same j) in
     true≢false (sym own ∙ sym moved ∙ other)
-
--- what follows from a refusal is so of it
-pub IfErr-so : {T : Type 0} (r : Result T SpaceFault) (P Q : SpaceFault → Type 0) → ((e : SpaceFault) → P e → Q e) → IfErr r P → IfErr r Q
-IfErr-so (Ok x) P Q then so = tt
-IfErr-so (Err e) P Q then so = then e so

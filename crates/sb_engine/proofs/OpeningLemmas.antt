@@ -1,10 +1,10 @@
 -- What opening a relation tells of those that are kept.
-use Rattle.std.proofs.Common.{◌≡◌, ℕ, zero, suc, ◌<◌, Bool, true, false, true≢false, cond, ◌&&◌, List, [], ◌∷◌, ◌++◌, length, get_or, All, Option, Some, None, option_map, is_some, is_none, IfSome, Bor, refl, sym, ap, ◌∙◌, subst, bytes_eq, arith}
+use Rattle.std.proofs.Common.{◌≡◌, ℕ, zero, suc, ◌<◌, Bool, true, false, true≢false, cond, ◌&&◌, List, [], ◌∷◌, ◌++◌, length, get_or, Option, Some, None, option_map, is_some, is_none, IfSome, Bor, refl, sym, ap, ◌∙◌, subst, bytes_eq, arith}
 use Rattle.std.specs.Option.{option_copied}
-use Rattle.std.specs.List.{find}
 use Rattle.sb_value.specs.declared.schema.Column.{Column}
 use Rattle.sb_value.specs.Equal.{bytes_same}
 use Rattle.sb_value.specs.Fits.{Fits}
+use Rattle.sb_value.proofs.Truths.{is_none-none}
 use Rattle.sb_pred.specs.Typing.{term_kind}
 use Rattle.sb_rule.specs.declared.action.Action.{Action}
 use Rattle.sb_relation.specs.Db.{Name, Key, Row, Relation, Db, relation_at, schema_at}
@@ -16,7 +16,6 @@ use Rattle.sb_cascade.specs.Wishes as cascade
 use Rattle.sb_cascade.specs.Fitting.{IsFitting, IsFittingWish, WishFits}
 use Rattle.sb_cascade.proofs.Wishing.{wishes-fit}
 use Rattle.sb_registry.specs.Boxes.{Meanings}
-use Rattle.sb_catalog.specs.declared.descriptor.Descriptor.{Descriptor}
 use Rattle.sb_standing.specs.Tables.{Kept, db_of, kept_at}
 use Rattle.sb_standing.proofs.KeptLemmas.{itself_name, relation_at-kept, relation_at-there}
 use Rattle.sb_opened.specs.declared.relation.OpenRelation.{OpenRelation}
@@ -35,10 +34,6 @@ same_there f h None None is = refl
 same_there f h None (Some y) is = absurd (cc)
 same_there f h (Some x) None is = absurd (cc)
 same_there f h (Some x) (Some y) is = refl
-
-none_is : {A : Type 0} (o : Option A) → is_none o ≡ true → o ≡ None
-none_is None is = refl
-none_is (Some x) is = absurd (true≢false (sym is))
 
 both : (a b : Bool) → (a && b) ≡ true → (a ≡ true) × (b ≡ true)
 both true b is = (refl, is)
@@ -88,7 +83,7 @@ pub may_do : (opened : List OpenRelation) (a : Action) (one : OpenRelation) → 
     → (is_none (first_unnamed (action_places one.descriptor.schema [] a)) && action_fits one.descriptor.schema (term_kind [] false false) a) ≡ true → MayDo opened a
 may_do opened a one at test =
     let parts = both (is_none (first_unnamed (action_places one.descriptor.schema [] a))) (action_fits one.descriptor.schema (term_kind [] false false) a) test in
-    record { one = one; at = at; named = none_is (first_unnamed (action_places one.descriptor.schema [] a)) parts.0; fits = parts.1 }
+    record { one = one; at = at; named = is_none-none (first_unnamed (action_places one.descriptor.schema [] a)) parts.0; fits = parts.1 }
 
 -- the relation of one that fits is kept
 pub fitting_kept : (kept : List Kept) (name : Name) → first_missing (db_of kept) (name ∷ []) ≡ None → is_some (kept_at kept name) ≡ true

@@ -1,32 +1,13 @@
 -- A row with another value in a column.
-use Rattle.std.proofs.Common.{◌≡◌, ◌≤◌, ℕ, zero, suc, ◌+◌, Bool, true, false, not, List, [], ◌∷◌, length, Option, Some, None, option_map, Result, Ok, Err, IfOk, refl, sym, ap, ◌∙◌, arith, set}
-use Rattle.std.specs.Prelude.{cond, nat_lt}
-use Rattle.std.specs.List.{position, position_or_len}
+use Rattle.std.proofs.Common.{◌≡◌, ℕ, zero, suc, Bool, true, false, List, [], ◌∷◌, Option, Some, None, option_map, refl, sym, ap, ◌∙◌, set}
+use Rattle.std.specs.Prelude.{cond}
 use Rattle.std.specs.Str.{bytes_eq}
-use Rattle.std.proofs.lemmas.Bool.{le-leb}
 use Rattle.sb_value.specs.declared.value.Value.{Value}
 use Rattle.sb_value.specs.declared.schema.Column.{Column}
+use Rattle.sb_value.proofs.Searches.{position-cons}
 use Rattle.sb_pred.specs.Columns.{place_of}
 use Rattle.sb_relation.specs.Db.{Name, Row}
 use Rattle.sb_fold.specs.Wishes.{with_value}
-
--- ---- places
-less_less : (a b : ℕ) → nat_lt (1 + a) (suc b) ≡ nat_lt a b
-less_less a b = grind arith
-
--- the place of the first that passes, by whether the first of all does
-position_step : {X : Type 0} (p : X → Bool) (x : X) (xs : List X) → position p (x ∷ xs) ≡ cond (p x) (Some 0) (option_map suc (position p xs))
-position_step p x xs = of_test (p x)
-  where
-    of_less : (b : Bool) (n : ℕ) → cond b (Some (1 + n)) None ≡ option_map suc (cond b (Some n) None)
-    of_less true n = ap (λ (m : ℕ). Some m) (omega arith)
-    of_less false n = refl
-
-    of_test : (b : Bool) → (cond (nat_lt (cond (not b) (1 + position_or_len p xs) 0) (suc (length xs))) (Some (cond (not b) (1 + position_or_len p xs) 0)) None) ≡ cond b (Some 0) (option_map suc (position p xs))
-    of_test true = ap (λ (t : Bool). cond t (Some 0) None) (le-leb 1 (suc (length xs)) (omega arith))
-    of_test false =
-        ap (λ (t : Bool). cond t (Some (1 + position_or_len p xs)) None) (less_less (position_or_len p xs) (length xs))
-        ∙ of_less (nat_lt (position_or_len p xs) (length xs)) (position_or_len p xs)
 
 -- ---- the row with a value at a place
 abbrev set_at : Option ℕ → Row → Value → Row
@@ -46,7 +27,7 @@ with_value-set : (schema : List Column) (column : Name) (v : Value) (row : Row) 
 with_value-set [] column v row = refl
 with_value-set (c ∷ cs) column v [] = sym (set_none (place_of (c ∷ cs) column) v)
 with_value-set (c ∷ cs) column v (w ∷ row) =
-    of_test (bytes_eq c.name column) (with_value-set cs column v row) ∙ ap (λ (o : Option ℕ). set_at o (w ∷ row) v) (sym (position_step (λ x. bytes_eq x.name column) c cs))
+    of_test (bytes_eq c.name column) (with_value-set cs column v row) ∙ ap (λ (o : Option ℕ). set_at o (w ∷ row) v) (sym (position-cons (λ x. bytes_eq x.name column) c cs))
   where
     of_test : (b : Bool) → with_value cs column v row ≡ set_at (place_of cs column) row v → cond b (v ∷ row) (w ∷ with_value cs column v row) ≡ set_at (cond b (Some 0) (option_map suc (place_of cs column))) (w ∷ row) v
     of_test true rest = refl
@@ -54,8 +35,3 @@ with_value-set (c ∷ cs) column v (w ∷ row) =
 
 pub with_value-at : (schema : List Column) (column : Name) (v : Value) (row new : Row) (o : Option ℕ) → o ≡ place_of schema column → new ≡ set_at o row v → new ≡ with_value schema column v row
 with_value-at schema column v row new o is set = set ∙ ap (λ (p : Option ℕ). set_at p row v) is ∙ sym (with_value-set schema column v row)
-
--- what is so of a result, and what follows from it
-pub IfOk-so : {A E : Type 0} (r : Result A E) (P Q : A → Type 0) → ((x : A) → P x → Q x) → IfOk r P → IfOk r Q
-IfOk-so (Ok x) P Q so is = so x is
-IfOk-so (Err e) P Q so is = tt

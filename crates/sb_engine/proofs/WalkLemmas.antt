@@ -1,5 +1,5 @@
 -- Relations one after the other, in the order of their names.
-use Rattle.std.proofs.Common.{◌≡◌, ℕ, ◌+◌, ◌^◌, ◌<◌, ◌≤◌, nat_lt, Bool, true, false, cond, ◌&&◌, List, [], ◌∷◌, map, length, Option, Some, None, option_map, T, refl, sym, ap, ◌∙◌, subst, arith, is_lt, Ordering, Less, Equal, Greater}
+use Rattle.std.proofs.Common.{◌≡◌, ℕ, ◌+◌, ◌^◌, ◌<◌, ◌≤◌, nat_lt, Bool, true, false, cond, List, [], ◌∷◌, map, length, Option, Some, None, option_map, T, refl, sym, ap, ◌∙◌, subst, arith, is_lt, Ordering, Less, Equal, Greater}
 use Rattle.std.specs.List.{find}
 use Rattle.std.specs.Ordering.{ordering_reverse}
 use Rattle.std.specs.FinMap.Entries.{is_sorted, below_all}
@@ -8,6 +8,7 @@ use Rattle.std.proofs.lemmas.Cmp.{nat_list_cmp_total, tied_itself}
 use Rattle.std.proofs.lemmas.List.{length-map}
 use Rattle.std.proofs.lemmas.Option.{same_Some}
 use Rattle.sb_value.specs.Order.{bytes_cmp}
+use Rattle.sb_value.proofs.Truths.{T-parts, is_lt-less, T-less}
 use Rattle.sb_node.specs.Entries.{Entry}
 use Rattle.sb_node.specs.Page.{has_form, node_of}
 use Rattle.sb_forms.specs.Pages.{Pages}
@@ -34,18 +35,6 @@ use Rattle.sb_engine.specs.Failing.{first_late}
 use Rattle.sb_engine.specs.Working.{IsOpened}
 
 -- ---- relations behind a name
-parts : (a b : Bool) → T (a && b) → T a × T b
-parts true b h = (tt, h)
-parts false b h = absurd h
-
-less : (o : Ordering) → T (is_lt o) → o ≡ Less
-less Less h = refl
-less Equal h = absurd h
-less Greater h = absurd h
-
-less_is : (o : Ordering) → is_lt o ≡ true → o ≡ Less
-less_is o is = less o (subst T (sym is) tt)
-
 above-all : (db : Database) → above None db ≡ db
 above-all [] = refl
 above-all (e ∷ db) = ap (λ (l : Database). e ∷ l) (above-all db)
@@ -55,15 +44,15 @@ above-low : (low : Option Name) (name : Name) (db : Database) → is_above low n
 above-low None name db up below = above-all db
 above-low (Some low) name [] up below = refl
 above-low (Some low) name (e ∷ db) up below =
-    let both = parts (is_lt (bytes_cmp name e.0)) (below_all bytes_cmp name db) below in
-    let over = nat_list_cmp_total.trans low name e.0 (less_is (bytes_cmp low name) up) (less (bytes_cmp name e.0) both.0) in
+    let both = T-parts (is_lt (bytes_cmp name e.0)) (below_all bytes_cmp name db) below in
+    let over = nat_list_cmp_total.trans low name e.0 (is_lt-less (bytes_cmp low name) up) (T-less (bytes_cmp name e.0) both.0) in
     ap (λ (o : Ordering). cond (is_lt o) (e ∷ above (Some low) db) (above (Some low) db)) over ∙ ap (λ (l : Database). e ∷ l) (above-low (Some low) name db up both.1)
 
 above-behind : (name : Name) (db : Database) → T (below_all bytes_cmp name db) → above (Some name) db ≡ db
 above-behind name [] below = refl
 above-behind name (e ∷ db) below =
-    let both = parts (is_lt (bytes_cmp name e.0)) (below_all bytes_cmp name db) below in
-    ap (λ (o : Ordering). cond (is_lt o) (e ∷ above (Some name) db) (above (Some name) db)) (less (bytes_cmp name e.0) both.0) ∙ ap (λ (l : Database). e ∷ l) (above-behind name db both.1)
+    let both = T-parts (is_lt (bytes_cmp name e.0)) (below_all bytes_cmp name db) below in
+    ap (λ (o : Ordering). cond (is_lt o) (e ∷ above (Some name) db) (above (Some name) db)) (T-less (bytes_cmp name e.0) both.0) ∙ ap (λ (l : Database). e ∷ l) (above-behind name db both.1)
 
 above-not : (name : Name) (e : Name × Relation) (db : Database) (o : Ordering) → bytes_cmp name e.0 ≡ o → is_lt o ≡ false → above (Some name) (e ∷ db) ≡ above (Some name) db
 above-not name e db o is lt = ap (λ (b : Bool). cond b (e ∷ above (Some name) db) (above (Some name) db)) (ap is_lt is ∙ lt)
@@ -72,8 +61,8 @@ above-not name e db o is lt = ap (λ (b : Bool). cond b (e ∷ above (Some name)
 below-found : (name : Name) (low : Option Name) (kept : List Kept) (k : Kept) → T (below_all bytes_cmp name (db_of kept)) → first_above low kept ≡ Some k → bytes_cmp name k.name ≡ Less
 below-found name low [] k below is = absurd (cc)
 below-found name low (x ∷ kept) k below is =
-    let both = parts (is_lt (bytes_cmp name x.name)) (below_all bytes_cmp name (db_of kept)) below in
-    by (is_above low x.name) is (less (bytes_cmp name x.name) both.0) (below-found name low kept k both.1)
+    let both = T-parts (is_lt (bytes_cmp name x.name)) (below_all bytes_cmp name (db_of kept)) below in
+    by (is_above low x.name) is (T-less (bytes_cmp name x.name) both.0) (below-found name low kept k both.1)
   where
     by : (b : Bool) → cond b (Some x) (first_above low kept) ≡ Some k → bytes_cmp name x.name ≡ Less → (first_above low kept ≡ Some k → bytes_cmp name k.name ≡ Less) → bytes_cmp name k.name ≡ Less
     by true is first rest = subst (λ (y : Kept). bytes_cmp name y.name ≡ Less) (same_Some x k is) first
@@ -83,7 +72,7 @@ below-found name low (x ∷ kept) k below is =
 pub above-next : (low : Option Name) (kept : List Kept) (k : Kept) → T (is_sorted bytes_cmp (db_of kept)) → first_above low kept ≡ Some k → above low (db_of kept) ≡ (k.name, k.relation) ∷ above (Some k.name) (db_of kept)
 above-next low [] k rises is = absurd (cc)
 above-next low (x ∷ kept) k rises is =
-    let both = parts (below_all bytes_cmp x.name (db_of kept)) (is_sorted bytes_cmp (db_of kept)) rises in
+    let both = T-parts (below_all bytes_cmp x.name (db_of kept)) (is_sorted bytes_cmp (db_of kept)) rises in
     by (is_above low x.name) refl is both.0 (above-next low kept k both.1)
   where
     e : Name × Relation

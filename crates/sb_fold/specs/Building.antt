@@ -1,5 +1,5 @@
 -- Relations and attachments that come and go.
-use Rattle.std.specs.Prelude.{ℕ, ◌+◌, ◌*◌, max, Bool, true, false, not, cond, List, [], ◌∷◌, ◌++◌, Option, Some, None, map, filter, length}
+use Rattle.std.specs.Prelude.{◌≡◌, ℕ, ◌+◌, ◌*◌, max, Bool, true, false, not, cond, List, [], ◌∷◌, ◌++◌, Option, Some, None, map, filter, length}
 use Rattle.std.specs.List.{list_any, find}
 use Rattle.std.specs.Str.{bytes_eq}
 use Rattle.std.specs.FinMap.Entries.{where_key}
@@ -85,6 +85,11 @@ build ext relation name rule =
 -- ---- what goes
 abbrev pub rule_at : Db → Name → Name → Option Attached
 rule_at db relation name = find (λ a. bytes_eq a.name name) (attachments_at db relation)
+
+-- where there is to be a mirror, it stands on the other relation under this label
+abbrev pub HasMirror : Db → Name → Option (Name × Rule) → Type 0
+HasMirror db label None = Unit {0}
+HasMirror db label (Some (other, rule)) = (a : Attached) × (rule_at db other label ≡ Some a) × (a.rule ≡ rule)
 
 abbrev pub without_attached : Db → Name → Name → Db
 without_attached db relation name = elim (relation_at db relation) [

@@ -1,5 +1,5 @@
 -- Rows that bytes spell, and bytes that rows are spelled by.
-use Rattle.std.proofs.Common.{◌≡◌, ℕ, nat_lt, nat_le, true, not, ◌&&◌, List, length, Option, Some, None, is_none, refl, ap, sym, ◌∙◌, subst, true≢false}
+use Rattle.std.proofs.Common.{◌≡◌, ℕ, nat_lt, nat_le, true, not, ◌&&◌, List, length, is_none, ap, sym, ◌∙◌, subst}
 use Rattle.std.specs.List.{list_all}
 use Rattle.std.specs.Str.{bytes_eq}
 use Rattle.std.proofs.lemmas.Bool.{and_parts, ltb-true, lt-ltb, leb-true, le-leb, not-true}
@@ -7,6 +7,7 @@ use Rattle.std.proofs.lemmas.List.Elements.{All-from_recursion, recursion_from_A
 use Rattle.sb_value.specs.declared.schema.Column.{Column}
 use Rattle.sb_value.specs.Equal.{bytes_same}
 use Rattle.sb_value.specs.Fits.{first_misfit}
+use Rattle.sb_value.proofs.Truths.{is_none-none}
 use Rattle.sb_codec.specs.Tuples.{tuple_spelling}
 use Rattle.sb_value.specs.Spelling.{IsStorable}
 use Rattle.sb_relation.specs.Db.{Row}
@@ -18,10 +19,6 @@ use Rattle.sb_forms.proofs.Spelled.{row_in-spelling, row_in-stored, texts_stored
 pub record SpellsRow (schema : List Column) (bytes : List ℕ) : Type 0 where
   pub value_is : bytes ≡ tuple_spelling (row_in bytes)
   pub is_row : IsRow schema (row_in bytes)
-
-none_from : {A : Type 0} (o : Option A) → is_none o ≡ true → o ≡ None
-none_from None e = refl
-none_from (Some a) e = absurd (true≢false (sym e))
 
 pub row_of_bytes : (schema : List Column) (bytes : List ℕ) → is_row_in schema bytes ≡ true → SpellsRow schema bytes
 row_of_bytes schema bytes is =
@@ -46,7 +43,7 @@ row_of_bytes schema bytes is =
           few = leb-true (length row) 16 three.1;
           storable = All-from_recursion IsStorable row (row_in-stored bytes same four.1);
         };
-        fits = none_from (first_misfit schema row) five.1;
+        fits = is_none-none (first_misfit schema row) five.1;
         short = not-true (is_long_row schema row) six.1;
       };
     }

@@ -13,6 +13,7 @@ use Rattle.std.proofs.lemmas.Bool.{and_parts, and_from}
 use Rattle.std.proofs.lemmas.Cmp.{nat_list_cmp_total}
 use Rattle.std.proofs.lemmas.Map.Text.{is_eq-slice_cmp}
 use Rattle.std.specs.FinMap.Entries.{by_order as order_of}
+use Rattle.sb_value.proofs.Truths.{is_some-none}
 use Rattle.sb_node.specs.Entries.{Entry, key_cmp, without, place_of, lesser}
 use Rattle.sb_node.specs.Page.{has_form, node_in}
 use Rattle.sb_node.proofs.Placed.{by_order, place_from, scanned}
@@ -106,15 +107,11 @@ some_from : {X : Type 0} (o : Option X) → is_some o ≡ true → (x : X) × (o
 some_from None e = absurd (true≢false (sym e))
 some_from (Some x) e = (x, refl)
 
-none_from : {X : Type 0} (o : Option X) → is_some o ≡ false → o ≡ None
-none_from None e = refl
-none_from (Some x) e = absurd (true≢false e)
-
 pub found_at : (key : List ℕ) (es : List Entry) (i : ℕ) → place_of key es ≡ Ok i → (value : List ℕ) × (find key_cmp key es ≡ Some value)
 found_at key es i place = some_from (find key_cmp key es) (tested (is_some (find key_cmp key es)) (lesser key es) i place)
 
 pub none_at : (key : List ℕ) (es : List Entry) (i : ℕ) → place_of key es ≡ Err i → find key_cmp key es ≡ None
-none_at key es i place = none_from (find key_cmp key es) (untested (is_some (find key_cmp key es)) (lesser key es) i place)
+none_at key es i place = is_some-none (find key_cmp key es) (untested (is_some (find key_cmp key es)) (lesser key es) i place)
 
 pub not_there : (key : List ℕ) (es : List Entry) (i : ℕ) → find key_cmp key es ≡ None → place_of key es ≡ Ok i → ⊥
 not_there key es i none place = true≢false (sym (tested (is_some (find key_cmp key es)) (lesser key es) i place) ∙ ap is_some none)

@@ -10,7 +10,7 @@ use Rattle.sb_forms.specs.Read.{has}
 use Rattle.sb_forms.specs.HeapPages.{heap_rows, first_of, after_of, before_of}
 use Rattle.sb_ctx.specs.declared.calls.MethodCall.{MethodCall}
 use Rattle.sb_ctx.specs.declared.calls.MethodCall.TheVariants.{Prepare, Insert, Delete, Update, Get, Next}
-use Rattle.sb_ctx.specs.Method.{Method}
+use Rattle.sb_ctx.specs.Method.{Method, plain_method}
 use Rattle.sb_heap.specs.Broken.{breaks}
 
 -- durable; that its relations have no key is a matter of its code
@@ -75,9 +75,7 @@ heap_path root P c n = not (nat_eq n 0) && has n (path_pages root P c)
 
 -- ---- the box
 abbrev pub heap_method : Method
-heap_method = record {
-  rules = heap_rules;
-  read = λ inst P. heap_rows inst.root inst.schema P;
+heap_method = record (plain_method heap_rules (λ inst P. heap_rows inst.root inst.schema P)) {
   may_break = λ inst held n. breaks inst.schema inst.root held n;
   bound = plain_bound;
   cost = λ c rows. heap_cost c;

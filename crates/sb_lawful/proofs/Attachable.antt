@@ -7,26 +7,27 @@ use Rattle.std.specs.Str.{bytes_eq}
 use Rattle.std.proofs.lemmas.Bool.{and_from, and_right, or_parts, or_from, or_left, cond-true, cond-false}
 use Rattle.std.proofs.lemmas.List.Elements.{All-head, All-tail, All-weaker}
 use Rattle.sb_value.specs.Equal.{bytes_same}
+use Rattle.sb_value.proofs.Searches.{find-none}
 use Rattle.sb_rule.specs.declared.rule.Rule.{Rule}
 use Rattle.sb_relation.specs.Build.{mirror_name, mirror_of, with_rule}
 use Rattle.sb_relation.specs.Db.{Name, Attached, Db, relation_at}
 use Rattle.sb_relation.specs.Fits.{other_relations, first_missing}
 use Rattle.sb_relation.specs.Limits.{is_large_rule, is_crowded, has_large_descriptor, attached_at}
-use Rattle.sb_fold.specs.Building.{rule_at, without_attached, without_mirror, without_rule}
+use Rattle.sb_fold.specs.Building.{rule_at, without_attached, without_mirror, without_rule, HasMirror}
 use Rattle.sb_fold.specs.Extensions.{Extensions}
 use Rattle.sb_fold.specs.Fold.{attachments_at}
 use Rattle.sb_plain.specs.declared.command.Command.TheVariants as command
-use Rattle.sb_plain.specs.Lawful.{MayBe, MayBeAttached, HasMirror}
+use Rattle.sb_plain.specs.Lawful.{MayBe, MayBeAttached}
 use Rattle.sb_plain.specs.Printing.{is_mirror}
 use Rattle.sb_plain.specs.Refusing.{some_where, rule_twice}
-use Rattle.sb_lawful.proofs.Items.{none_found, found_name, itself, AreApart, Weight}
+use Rattle.sb_lawful.proofs.Items.{found_name, itself, AreApart, Weight}
 use Rattle.sb_lawful.proofs.Places.{IsAlike, weight_at, one, attached_is}
 use Rattle.sb_lawful.proofs.Sparing.{is_at, gone_rule, gone_mirror, spared_attached, spared_rule, alike_spared, rule_spared, spared_apart, weight_without}
 use Rattle.sb_lawful.proofs.Standing.{MayStay, may_stay, IsWithin, partner, AreWithin, within_same, partner_has, mirror_weight, ThereIn, alike_with, weight_with, crowd, large, HasOneMore, within_of, of_within}
 
 -- ---- what an attach is tested for
 pub all_there : (db : Db) (names : List Name) → first_missing db names ≡ None → All (ThereIn db) names
-all_there db names e = none_found (λ name. is_none (relation_at db name)) names e
+all_there db names e = find-none (λ name. is_none (relation_at db name)) names e
 
 -- the relation of a rule is there, and its mirror's
 pub record IsTied (db : Db) (name : Name) (rule : Rule) : Type 0 where

@@ -11,21 +11,22 @@ use Rattle.std.proofs.lemmas.Option.{same_Some}
 use Rattle.sb_value.specs.declared.schema.Column.{Column}
 use Rattle.sb_value.specs.Equal.{bytes_same}
 use Rattle.sb_value.specs.Order.{bytes_cmp}
+use Rattle.sb_value.proofs.Searches.{find-none}
 use Rattle.sb_rule.specs.declared.rule.Rule.{Rule}
 use Rattle.sb_rule.specs.declared.rule.Rule.TheVariants.{TreeIndex, HashIndex, JoinIndex, Stats, Check, Refers, Trigger, Foreign}
 use Rattle.sb_relation.specs.Build.{mirror_name, mirror_of, with_instance, with_attached, with_mirror, with_rule}
 use Rattle.sb_relation.specs.Db.{Name, Key, Row, Rows, Attached, Relation, Db, relation_at}
 use Rattle.sb_relation.specs.Fits.{other_relations}
 use Rattle.sb_relation.specs.Lawful.{is_long_for}
-use Rattle.sb_fold.specs.Building.{rule_at, has_long_row}
+use Rattle.sb_fold.specs.Building.{rule_at, has_long_row, HasMirror}
 use Rattle.sb_fold.specs.Extensions.{Extensions}
 use Rattle.sb_fold.specs.Fold.{attachments_at}
 use Rattle.sb_plain.specs.declared.command.Command.TheVariants as command
-use Rattle.sb_plain.specs.Lawful.{MayBe, HasMirror, IsMirrorOf}
+use Rattle.sb_plain.specs.Lawful.{MayBe, IsMirrorOf}
 use Rattle.sb_plain.specs.Printing.{is_mirror}
 use Rattle.sb_plain.specs.Refusing.{some_where, rule_twice}
 use Rattle.sb_lawful.specs.Laws.{IsFreeFor, IsMirrorFree, AttachedIsLawful}
-use Rattle.sb_lawful.proofs.Items.{is_named, found_name, none_found, same_or_apart, instance_in_order, instance_apart, any_instance, Weight}
+use Rattle.sb_lawful.proofs.Items.{is_named, found_name, same_or_apart, instance_in_order, instance_apart, any_instance, Weight}
 use Rattle.sb_lawful.proofs.Places.{with_items, IsAlike, weight_at, attachments_in}
 use Rattle.sb_lawful.proofs.Adding.{IsAdded, new_of, is_added, sorted_added, rule_new, rule_kept, rule_was}
 use Rattle.sb_lawful.proofs.Standing.{MayStay, may_stay, IsWithin, partner, AreWithin, within_same, mirror_weight, ThereIn, still_there, alike_with, weight_with}
@@ -75,7 +76,7 @@ made_more ext name label rule db db' is new short made k q there = by (same_or_a
     more = record {
       created = own.created;
       in_order = instance_in_order one is.old.attachments own.in_order;
-      apart = instance_apart one is.old.attachments (none_found (is_named label) is.old.attachments (sym (ap (find (is_named label)) (attachments_in db name is.old is.there)) ∙ new)) own.apart;
+      apart = instance_apart one is.old.attachments (find-none (is_named label) is.old.attachments (sym (ap (find (is_named label)) (attachments_in db name is.old is.there)) ∙ new)) own.apart;
       rising = own.rising;
       rows = λ j d below.
           let row : Key × Row = get_or is.old.rows j d in

@@ -2,6 +2,7 @@
 use Rattle.std.proofs.Common.{◌≡◌, ℕ, Bool, true, false, not, List, [], ◌∷◌, Option, Some, None, option_map, refl, sym, ap, subst, ◌∙◌, arith}
 use Rattle.std.specs.Prelude.{All}
 use Rattle.std.proofs.lemmas.List.Elements.{All-nil, All-cons}
+use Rattle.std.proofs.lemmas.Bool.{not-false}
 use Rattle.sb_value.specs.declared.schema.Column.{Column}
 use Rattle.sb_relation.specs.Db.{Name, Key, Attached, Db, with_relation}
 use Rattle.sb_fold.specs.declared.refusal.Refusal.{Refusal}
@@ -36,10 +37,6 @@ none_mapped : {A : Type 0} (f : A → Refusal) (o : Option A) → option_map f o
 none_mapped f None e = refl
 none_mapped f (Some x) e = absurd (cc)
 
-it_fits : (b : Bool) → not b ≡ false → b ≡ true
-it_fits true e = refl
-it_fits false e = absurd (cc)
-
 module _ (ext : Extensions) (s : State) (c : Command) (none : refused ext s c ≡ None) where
   all_none : All (λ o. o ≡ None) (tests ext s c)
   all_none = none_of_them (tests ext s c) none
@@ -57,7 +54,7 @@ module _ (ext : Extensions) (s : State) (c : Command) (none : refused ext s c �
   is_unused = none_mapped (λ user. refusal.InUse user.0 user.1) (first_use (view s) c) (all_none 6 None (omega arith))
 
   pub is_kinded : is_well_kinded ext (view s) c ≡ true
-  is_kinded = it_fits (is_well_kinded ext (view s) c) (none_where (not (is_well_kinded ext (view s) c)) refusal.Mistyped (all_none 7 None (omega arith)))
+  is_kinded = not-false (is_well_kinded ext (view s) c) (none_where (not (is_well_kinded ext (view s) c)) refusal.Mistyped (all_none 7 None (omega arith)))
 
   pub is_alike : is_mixed ext (view s) c ≡ false
   is_alike = none_where (is_mixed ext (view s) c) refusal.Mixed (all_none 8 None (omega arith))

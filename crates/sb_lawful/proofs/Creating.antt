@@ -13,10 +13,10 @@ use Rattle.sb_rule.specs.declared.rule.Rule.{Rule}
 use Rattle.sb_relation.specs.Build.{mirror_name, mirror_of}
 use Rattle.sb_relation.specs.Db.{Name, Attached, Relation, Db, relation_at, with_relation}
 use Rattle.sb_relation.specs.Fits.{other_relations}
-use Rattle.sb_fold.specs.Building.{rule_at}
+use Rattle.sb_fold.specs.Building.{rule_at, HasMirror}
 use Rattle.sb_fold.specs.Extensions.{Extensions}
 use Rattle.sb_fold.specs.Fold.{attachments_at}
-use Rattle.sb_plain.specs.Lawful.{HasMirror, IsMirrorOf}
+use Rattle.sb_plain.specs.Lawful.{IsMirrorOf}
 use Rattle.sb_plain.specs.Refusing.{some_where, first_twice}
 use Rattle.sb_lawful.specs.Laws.{CreatedIsLawful}
 use Rattle.sb_lawful.proofs.Items.{same_or_apart, weight, is_named}

@@ -9,6 +9,7 @@ use Rattle.std.proofs.lemmas.List.Elements.{All-nil, All-cons}
 use Rattle.std.proofs.lemmas.Option.{same_Some}
 use Rattle.sb_value.specs.Equal.{bytes_same}
 use Rattle.sb_value.specs.Order.{bytes_cmp}
+use Rattle.sb_value.proofs.Searches.{find-none}
 use Rattle.sb_rule.specs.declared.rule.Rule.{Rule}
 use Rattle.sb_rule.specs.declared.rule.Rule.TheVariants.{TreeIndex, HashIndex, JoinIndex, Stats, Check, Refers, Trigger, Foreign}
 use Rattle.sb_rule.specs.declared.rule.Side.TheVariants.{Main, Mirror}
@@ -22,7 +23,7 @@ use Rattle.sb_plain.specs.Printing.{is_mirror}
 use Rattle.sb_plain.specs.Refusing.{ties_to, first_attached}
 use Rattle.sb_plain.proofs.SoundLemmas.{all_at}
 use Rattle.sb_lawful.specs.Laws.{DroppedIsLawful}
-use Rattle.sb_lawful.proofs.Items.{none_found, same_or_apart, each_found}
+use Rattle.sb_lawful.proofs.Items.{same_or_apart, each_found}
 use Rattle.sb_lawful.proofs.Places.{relation_without, rule_found}
 use Rattle.sb_lawful.proofs.Sparing.{Places, spare, gone_mirrors, spared_mirrors, sorted_mirrors}
 use Rattle.sb_lawful.proofs.Placing.{IsWellPlaced, all_apart, to_places, of_places}
@@ -39,7 +40,7 @@ none_of is_meant ((name, r) ∷ db) e = by (find (is_meant name) r.attachments) 
   where
     by : (o : Option Attached) → find (is_meant name) r.attachments ≡ o → (elim o as (λ _. Option (Name × Name)) [ None ↦ first_attached is_meant db | Some a ↦ Some (name, a.name) ]) ≡ None
         → (first_attached is_meant db ≡ None → All (λ x. All (λ a. is_meant x.0 a ≡ false) x.1.attachments) db) → All (λ x. All (λ a. is_meant x.0 a ≡ false) x.1.attachments) ((name, r) ∷ db)
-    by None is none rest = All-cons (λ x. All (λ a. is_meant x.0 a ≡ false) x.1.attachments) (name, r) db (none_found (is_meant name) r.attachments is) (rest none)
+    by None is none rest = All-cons (λ x. All (λ a. is_meant x.0 a ≡ false) x.1.attachments) (name, r) db (find-none (is_meant name) r.attachments is) (rest none)
     by (Some a) is none rest = absurd (cc)
 
 -- an attachment of another relation names this one

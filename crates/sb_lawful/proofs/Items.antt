@@ -49,14 +49,6 @@ found_name label (x ∷ items) a e = by (bytes_eq x.name label) refl e (found_na
     by true same is rest = ap (λ (y : Attached). y.name) (sym (same_Some x a is)) ∙ (bytes_same x.name label).0 same
     by false differs is rest = rest is
 
-pub none_found : {A : Type 0} (test : A → Bool) (items : List A) → find test items ≡ None → All (λ a. test a ≡ false) items
-none_found test [] e = All-nil _
-none_found test (x ∷ items) e = by (test x) refl e (none_found test items)
-  where
-    by : (b : Bool) → test x ≡ b → cond b (Some x) (find test items) ≡ None → (find test items ≡ None → All (λ a. test a ≡ false) items) → All (λ a. test a ≡ false) (x ∷ items)
-    by true is none rest = absurd (cc)
-    by false is none rest = All-cons (λ a. test a ≡ false) x items is (rest none)
-
 pub all_found : {A : Type 0} (test : A → Bool) (items : List A) → All (λ a. test a ≡ false) items → find test items ≡ None
 all_found test [] all = refl
 all_found test (x ∷ items) all = cond-false (test x) (Some x) (find test items) (All-head (λ a. test a ≡ false) x items all) ∙ all_found test items (All-tail (λ a. test a ≡ false) x items all)

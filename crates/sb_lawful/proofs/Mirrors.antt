@@ -13,10 +13,9 @@ use Rattle.sb_rule.specs.declared.rule.Side.TheVariants.{Main, Mirror}
 use Rattle.sb_relation.specs.Build.{mirror_name, mirror_of, main_of}
 use Rattle.sb_relation.specs.Db.{Name, Attached, Db}
 use Rattle.sb_relation.proofs.RuleLaws.{mirrors-mirror}
-use Rattle.sb_fold.specs.Building.{rule_at}
+use Rattle.sb_fold.specs.Building.{rule_at, HasMirror}
 use Rattle.sb_fold.specs.Extensions.{Extensions}
 use Rattle.sb_fold.specs.Fold.{attachments_at}
-use Rattle.sb_plain.specs.Lawful.{HasMirror}
 use Rattle.sb_plain.specs.Printing.{is_mirror}
 use Rattle.sb_lawful.proofs.Items.{is_named, found_name}
 use Rattle.sb_lawful.proofs.Sparing.{is_at, gone_mirror, gone_mirrors}

@@ -7,11 +7,11 @@ use Rattle.sb_value.specs.declared.schema.Column.{Column}
 use Rattle.sb_value.specs.Order.{bytes_cmp}
 use Rattle.sb_relation.specs.Build.{mirror_name, mirror_of}
 use Rattle.sb_relation.specs.Db.{Name, Attached, Relation, Db, relation_at}
-use Rattle.sb_fold.specs.Building.{rule_at, without_mirrors, without_relation}
+use Rattle.sb_fold.specs.Building.{rule_at, without_mirrors, without_relation, HasMirror}
 use Rattle.sb_fold.specs.Extensions.{Extensions}
 use Rattle.sb_fold.specs.Fold.{attachments_at}
 use Rattle.sb_plain.specs.declared.command.Command.TheVariants as command
-use Rattle.sb_plain.specs.Lawful.{MayBe, MayBeAttached, HasMirror, IsMirrorOf, is_in_order, IsRowOf, IsLawfulRelation, IsLawful}
+use Rattle.sb_plain.specs.Lawful.{MayBe, MayBeAttached, IsMirrorOf, is_in_order, IsRowOf, IsLawfulRelation, IsLawful}
 use Rattle.sb_plain.specs.Printing.{is_mirror}
 use Rattle.sb_plain.specs.Refusing.{some_where, first_twice}
 use Rattle.sb_plain.proofs.SoundLemmas.{all_at}

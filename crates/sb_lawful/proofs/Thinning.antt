@@ -14,9 +14,9 @@ use Rattle.sb_relation.specs.Db.{Name, Key, Row, Attached, Relation, Db, relatio
 use Rattle.sb_relation.specs.Fits.{other_relations}
 use Rattle.sb_relation.specs.Lawful.{is_long_row, is_long_code, is_long_for}
 use Rattle.sb_relation.specs.Limits.{descriptor_len}
-use Rattle.sb_fold.specs.Building.{rule_at}
+use Rattle.sb_fold.specs.Building.{rule_at, HasMirror}
 use Rattle.sb_fold.specs.Extensions.{Extensions}
-use Rattle.sb_plain.specs.Lawful.{HasMirror, IsMirrorOf, IsRowOf}
+use Rattle.sb_plain.specs.Lawful.{IsMirrorOf, IsRowOf}
 use Rattle.sb_plain.specs.Printing.{is_mirror}
 use Rattle.sb_lawful.proofs.Items.{is_named, find_spared, spared, Weight, weight, weight-filter, filter_apart, filter_in_order, any_filter}
 use Rattle.sb_lawful.proofs.Places.{items_in, with_items, IsAlike, weight_at}

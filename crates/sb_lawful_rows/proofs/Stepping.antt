@@ -1,9 +1,10 @@
 -- Steps of commands on rows, of commits and of commands that work on no database.
-use Rattle.std.proofs.Common.{◌≡◌, ℕ, ◌+◌, Bool, true, false, not, List, [], ◌∷◌, ◌⊎◌, Option, Some, None, option_map, is_none, refl, sym, subst, inl, inr, arith}
+use Rattle.std.proofs.Common.{◌≡◌, ℕ, ◌+◌, Bool, true, false, not, List, [], ◌∷◌, ◌⊎◌, Option, Some, None, option_map, refl, sym, subst, inl, inr, arith}
 use Rattle.std.specs.Prelude.{All, cond}
 use Rattle.std.specs.List.{last_or}
 use Rattle.std.proofs.lemmas.List.Elements.{All-nil, All-cons, All-head, All-tail, All-append}
 use Rattle.sb_value.specs.Fits.{first_misfit}
+use Rattle.sb_value.proofs.Truths.{is_none-none}
 use Rattle.sb_rule.specs.declared.action.Action.{Action}
 use Rattle.sb_relation.specs.Db.{Name, Key, Db, schema_at}
 use Rattle.sb_relation.specs.Fits.{first_missing}
@@ -158,10 +159,6 @@ is_kinded ext s c none = it_fits (is_well_kinded ext (view s) c) refusal.Mistype
 is_there : (ext : Extensions) (s : State) (c : Command) → refused ext s c ≡ None → first_missing (view s) (relations_of c) ≡ None
 is_there ext s c none = none_missing (first_missing (view s) (relations_of c)) (none_of_them (tests ext s c) none 2 None (omega arith))
 
-no_misfit : (o : Option ℕ) → is_none o ≡ true → o ≡ None
-no_misfit None e = refl
-no_misfit (Some n) e = absurd (cc)
-
 -- ---- commands on rows
 module _ (ext : Extensions) (s : State) (picks : List Key) (lawful : HasLawfulDatabases ext (step.if_up s)) where
   start : Going
@@ -181,12 +178,12 @@ module _ (ext : Extensions) (s : State) (picks : List Key) (lawful : HasLawfulDa
 
   row_turn : (c : Command) → IsRowCommand c → first_missing (view s) (relations_of c) ≡ None → is_well_kinded ext (view s) c ≡ true
       → IsLawfulTurn ext (step.carry_out ext (step.if_up s) c picks (step.work_of ext c))
-  row_turn (command.Insert relation values) is there fits = keyed_turn relation (Put values) (is, no_misfit (first_misfit (schema_at (view s) relation) values) fits)
+  row_turn (command.Insert relation values) is there fits = keyed_turn relation (Put values) (is, is_none-none (first_misfit (schema_at (view s) relation) values) fits)
   row_turn (command.Delete relation at) is there fits =
       changing_lawful ext (step.if_up s) picks (step.plainly (first_change ext relation (Remove at))) lawful
       (of_next ext (λ key g. IsLawfulWork ext g) (λ answer g. IsLawfulWork ext g) (first_change ext relation (Remove at) (going_of (step.if_up s) picks))
       (λ _. made step.Plain) (wish_works relation (Remove at) tt) (λ key g left. left))
-  row_turn (command.Update relation at values) is there fits = keyed_turn relation (Replace at values) (is, no_misfit (first_misfit (schema_at (view s) relation) values) fits)
+  row_turn (command.Update relation at values) is there fits = keyed_turn relation (Replace at values) (is, is_none-none (first_misfit (schema_at (view s) relation) values) fits)
   row_turn (command.Act a) is there fits =
       changing_lawful ext (step.if_up s) picks (λ going. continue (λ n. made (step.Counts n)) (act (first_change ext) a going)) lawful
       (of_next ext (λ n g. IsLawfulWork ext g) (λ answer g. IsLawfulWork ext g) (act (first_change ext) a (going_of (step.if_up s) picks)) (λ n. made (step.Counts n))

@@ -3,7 +3,7 @@ use Rattle.std.proofs.Common.{◌≡◌, ℕ, ◌+◌, ◌==◌, Bool, true, fal
 use Rattle.std.specs.Prelude.{All, cond, nat_le, nat_lt, IfSome, ℤ, ◌+ℤ◌}
 use Rattle.std.specs.Int.{to_be_bytes, w64}
 use Rattle.std.specs.List.{list_any}
-use Rattle.std.proofs.lemmas.Bool.{and_parts, ltb-false, le-leb}
+use Rattle.std.proofs.lemmas.Bool.{and_parts, ltb-false, le-leb, or_parts}
 use Rattle.std.proofs.lemmas.Option.{same_Some}
 use Rattle.sb_value.specs.declared.value.Value.{Value}
 use Rattle.sb_value.specs.declared.value.Value.TheVariants.{Int, Text}
@@ -22,7 +22,6 @@ use Rattle.sb_fold.specs.Outcome.{Going, Outcome, Gives, Stopped, NoStep, Work, 
 use Rattle.sb_fold.specs.Wishes.{Wish, Put, Remove, Replace, Raise, Takes, Turns, pick, take_key, key_for, is_long_edit, found, change_of, wished, is_i64, with_value, raised}
 use Rattle.sb_plain.specs.Lawful.{IsRowOf, IsChangeOf}
 use Rattle.sb_plain.proofs.SoundLemmas.{all_at}
-use Rattle.sb_plain.proofs.UniqueLemmas.{or_parts}
 use Rattle.sb_plain.proofs.ValueLemmas.{fits_with, tuple_with, value_kind, storable_int}
 use Rattle.sb_lawful_rows.specs.Work.{IsWishOf, IsLawfulTrail, IsLawfulWork, EndsLawful}
 

@@ -14,14 +14,14 @@ use Rattle.sb_rule.specs.declared.rule.Event.TheVariants as event
 use Rattle.sb_rule.specs.declared.rule.Rule.TheVariants.{Trigger}
 use Rattle.sb_relation.specs.Build.{mirror_name, mirror_of}
 use Rattle.sb_relation.specs.Db.{Key, Rows, Attached, Relation, Db, int_column}
-use Rattle.sb_fold.specs.Building.{without_rule}
+use Rattle.sb_fold.specs.Building.{without_rule, HasMirror}
 use Rattle.sb_fold.specs.Extensions.{Extensions}
 use Rattle.sb_fold.specs.Finish.{finish}
 use Rattle.sb_fold.specs.Fold.{change_within}
 use Rattle.sb_fold.specs.Outcome.{Going, Outcome, Gives, Stopped, NoStep, begun}
 use Rattle.sb_fold.specs.Wishes.{Put}
 use Rattle.sb_plain.specs.declared.command.Command.TheVariants as command
-use Rattle.sb_plain.specs.Lawful.{MayBe, MayBeAttached, HasMirror, IsMirrorOf, IsRowOf, IsLawfulRelation, IsLawful}
+use Rattle.sb_plain.specs.Lawful.{MayBe, MayBeAttached, IsMirrorOf, IsRowOf, IsLawfulRelation, IsLawful}
 use Rattle.sb_plain.specs.Printing.{is_mirror}
 use Rattle.sb_plain.specs.State.{no_queue, none_gone}
 use Rattle.sb_lawful_rows.specs.Storable.{RulePutsStorable}

@@ -9,4 +9,3 @@ pub mod AttachLemmas
 pub mod MemoryLemmas
 pub mod Freeing
 pub mod Memories
-pub mod TestLemmas

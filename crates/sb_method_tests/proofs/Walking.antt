@@ -3,6 +3,7 @@ use Rattle.std.proofs.Common.{◌≡◌, ℕ, zero, suc, ◌+◌, ◌*◌, ◌�
 use Rattle.std.specs.Prelude.{nat_eq, ◌||◌}
 use Rattle.std.specs.List.{find as first}
 use Rattle.std.proofs.lemmas.Bool.Decides.{nat_tests}
+use Rattle.std.proofs.lemmas.Bool.{not-true}
 use Rattle.sb_node.specs.Entries.{Entry}
 use Rattle.sb_forms.specs.Read.{has, is_apart}
 use Rattle.sb_forms.specs.Tree.{Has, Nodes, child_in, items, level_of, nodes}
@@ -53,10 +54,6 @@ differs x z (y ∷ xs) none (inr h) = differs x z xs (back (nat_eq x y) (has x x
     back true b e = absurd (cc)
     back false b e = e
 
-isnt : (b : Bool) → not b ≡ true → b ≡ false
-isnt true e = absurd (cc)
-isnt false e = refl
-
 left : (a b : Bool) → (a && b) ≡ true → a ≡ true
 left true b e = refl
 left false b e = absurd (cc)
@@ -68,7 +65,7 @@ right false b e = absurd (cc)
 pub length-apart : (xs ys : List ℕ) → is_apart xs ≡ true → ((n : ℕ) → Has n xs → has n ys ≡ true) → length xs ≤ length ys
 length-apart [] ys apart among = omega arith
 length-apart (x ∷ xs) ys apart among =
-    let none : has x xs ≡ false = isnt (has x xs) (left (not (has x xs)) (is_apart xs) apart) in
+    let none : has x xs ≡ false = not-true (has x xs) (left (not (has x xs)) (is_apart xs) apart) in
     let rest : length xs ≤ length (without x ys) =
     length-apart xs (without x ys) (right (not (has x xs)) (is_apart xs) apart) (λ n h. has-without x n ys (among n (inr h)) (differs x n xs none h)) in
     let more = length-without x ys (among x (inl refl)) in

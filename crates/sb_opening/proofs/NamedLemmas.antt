@@ -9,6 +9,7 @@ use Rattle.std.proofs.lemmas.List.Elements.{All-cons, All-nil}
 use Rattle.std.proofs.lemmas.List.Folds.{list_any-append}
 use Rattle.std.proofs.lemmas.Option.{same_Some}
 use Rattle.sb_value.specs.Order.{bytes_cmp}
+use Rattle.sb_value.proofs.Truths.{T-parts, is_lt-less, T-less}
 use Rattle.sb_relation.specs.Db.{Name}
 use Rattle.sb_catalog.specs.declared.descriptor.Attached.{Attached}
 use Rattle.sb_catalog.specs.declared.descriptor.Descriptor.{Descriptor}
@@ -21,18 +22,6 @@ use Rattle.sb_opening.specs.Naming.{is_alike, is_named, named_attachment, named_
 abbrev pub kept_above : Option Name → List Kept → List Kept
 kept_above low kept = filter (λ k. is_above low k.name) kept
 
-parts : (a b : Bool) → T (a && b) → T a × T b
-parts true b h = (tt, h)
-parts false b h = absurd h
-
-less : (o : Ordering) → T (is_lt o) → o ≡ Less
-less Less h = refl
-less Equal h = absurd h
-less Greater h = absurd h
-
-less_is : (o : Ordering) → is_lt o ≡ true → o ≡ Less
-less_is o is = less o (subst T (sym is) tt)
-
 above-all : (kept : List Kept) → kept_above None kept ≡ kept
 above-all [] = refl
 above-all (k ∷ kept) = ap (λ (ks : List Kept). k ∷ ks) (above-all kept)
@@ -41,16 +30,16 @@ above-low : (low : Option Name) (name : Name) (kept : List Kept) → is_above lo
 above-low None name kept up below = above-all kept
 above-low (Some low) name [] up below = refl
 above-low (Some low) name (k ∷ kept) up below =
-    let both = parts (is_lt (bytes_cmp name k.name)) (below_all bytes_cmp name (db_of kept)) below in
-    let over = nat_list_cmp_total.trans low name k.name (less_is (bytes_cmp low name) up) (less (bytes_cmp name k.name) both.0) in
+    let both = T-parts (is_lt (bytes_cmp name k.name)) (below_all bytes_cmp name (db_of kept)) below in
+    let over = nat_list_cmp_total.trans low name k.name (is_lt-less (bytes_cmp low name) up) (T-less (bytes_cmp name k.name) both.0) in
     ap (λ (o : Ordering). cond (is_lt o) (k ∷ kept_above (Some low) kept) (kept_above (Some low) kept)) over
     ∙ ap (λ (ks : List Kept). k ∷ ks) (above-low (Some low) name kept up both.1)
 
 above-behind : (name : Name) (kept : List Kept) → T (below_all bytes_cmp name (db_of kept)) → kept_above (Some name) kept ≡ kept
 above-behind name [] below = refl
 above-behind name (k ∷ kept) below =
-    let both = parts (is_lt (bytes_cmp name k.name)) (below_all bytes_cmp name (db_of kept)) below in
-    ap (λ (o : Ordering). cond (is_lt o) (k ∷ kept_above (Some name) kept) (kept_above (Some name) kept)) (less (bytes_cmp name k.name) both.0)
+    let both = T-parts (is_lt (bytes_cmp name k.name)) (below_all bytes_cmp name (db_of kept)) below in
+    ap (λ (o : Ordering). cond (is_lt o) (k ∷ kept_above (Some name) kept) (kept_above (Some name) kept)) (T-less (bytes_cmp name k.name) both.0)
     ∙ ap (λ (ks : List Kept). k ∷ ks) (above-behind name kept both.1)
 
 -- one that isn't behind the name falls away
@@ -61,8 +50,8 @@ above-not name k kept o is lt = ap (λ (b : Bool). cond b (k ∷ kept_above (Som
 below-found : (name : Name) (low : Option Name) (kept : List Kept) (k : Kept) → T (below_all bytes_cmp name (db_of kept)) → first_above low kept ≡ Some k → bytes_cmp name k.name ≡ Less
 below-found name low [] k below is = absurd (cc)
 below-found name low (x ∷ kept) k below is =
-    let both = parts (is_lt (bytes_cmp name x.name)) (below_all bytes_cmp name (db_of kept)) below in
-    by (is_above low x.name) is (less (bytes_cmp name x.name) both.0) (below-found name low kept k both.1)
+    let both = T-parts (is_lt (bytes_cmp name x.name)) (below_all bytes_cmp name (db_of kept)) below in
+    by (is_above low x.name) is (T-less (bytes_cmp name x.name) both.0) (below-found name low kept k both.1)
   where
     by : (b : Bool) → cond b (Some x) (first_above low kept) ≡ Some k → bytes_cmp name x.name ≡ Less → (first_above low kept ≡ Some k → bytes_cmp name k.name ≡ Less) → bytes_cmp name k.name ≡ Less
     by true is first rest = subst (λ (y : Kept). bytes_cmp name y.name ≡ Less) (same_Some x k is) first
@@ -72,7 +61,7 @@ below-found name low (x ∷ kept) k below is =
 above-next : (low : Option Name) (kept : List Kept) (k : Kept) → T (is_sorted bytes_cmp (db_of kept)) → first_above low kept ≡ Some k → kept_above low kept ≡ k ∷ kept_above (Some k.name) kept
 above-next low [] k rises is = absurd (cc)
 above-next low (x ∷ kept) k rises is =
-    let both = parts (below_all bytes_cmp x.name (db_of kept)) (is_sorted bytes_cmp (db_of kept)) rises in
+    let both = T-parts (below_all bytes_cmp x.name (db_of kept)) (is_sorted bytes_cmp (db_of kept)) rises in
     by (is_above low x.name) refl is both.0 (above-next low kept k both.1)
   where
     by : (b : Bool) → is_above low x.name ≡ b → cond b (Some x) (first_above low kept) ≡ Some k → T (below_all bytes_cmp x.name (db_of kept))

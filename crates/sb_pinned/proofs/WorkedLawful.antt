@@ -14,10 +14,11 @@ use Rattle.sb_rule.specs.declared.rule.Rule.TheVariants.{TreeIndex, HashIndex, J
 use Rattle.sb_relation.specs.Build.{mirror_name, mirror_of}
 use Rattle.sb_relation.specs.Db.{Name, Key, Row, Attached, Relation, Db, int_column}
 use Rattle.sb_relation.specs.Rules.{holds}
-use Rattle.sb_fold.specs.Building.{without_rule}
+use Rattle.sb_relation.specs.Laws.{is_foreign}
+use Rattle.sb_fold.specs.Building.{without_rule, HasMirror}
 use Rattle.sb_fold.specs.Extensions.{box_of}
 use Rattle.sb_plain.specs.declared.command.Command.TheVariants as command
-use Rattle.sb_plain.specs.Lawful.{MayBe, MayBeAttached, HasMirror, IsMirrorOf, IsRowOf, IsLawfulRelation, IsLawful, IsSound, IsSoundNow, AllHold, IsLawfulPoint, IsLawfulState, is_foreign, is_in_order, is_deferred}
+use Rattle.sb_plain.specs.Lawful.{MayBe, MayBeAttached, IsMirrorOf, IsRowOf, IsLawfulRelation, IsLawful, IsSound, IsSoundNow, AllHold, IsLawfulPoint, IsLawfulState, is_in_order, is_deferred}
 use Rattle.sb_plain.specs.Printing.{is_mirror}
 use Rattle.sb_plain.specs.State.{State, no_queue, none_gone}
 use Rattle.sb_pinned.proofs.Samples.{int, letters, one, two, slot, key, a, b, r, t, z, numbers, text_column, named, relation, heap, tree}

@@ -29,12 +29,12 @@ use Rattle.sb_relation.specs.Fits.{relation_of, other_relations, first_missing, 
 use Rattle.sb_relation.specs.Foreign.{AttachRules}
 use Rattle.sb_relation.specs.Lawful.{is_long_row, is_long_code, is_long_for}
 use Rattle.sb_relation.specs.Limits.{is_large_rule, is_crowded, has_large_descriptor}
-use Rattle.sb_fold.specs.Building.{rule_at, without_mirrors, without_rule, without_relation}
+use Rattle.sb_fold.specs.Building.{rule_at, without_mirrors, without_rule, without_relation, HasMirror}
 use Rattle.sb_fold.specs.Extensions.{Extensions, box_of}
 use Rattle.sb_fold.specs.Fold.{attachments_at}
 use Rattle.sb_plain.specs.declared.command.Command.TheVariants as command
 use Rattle.sb_plain.specs.Laws.{ChangesLeaveLawful}
-use Rattle.sb_plain.specs.Lawful.{MayBe, MayBeAttached, HasMirror, IsMirrorOf, is_in_order, IsRowOf, IsChangeOf, IsLawfulRelation, IsLawful}
+use Rattle.sb_plain.specs.Lawful.{MayBe, MayBeAttached, IsMirrorOf, is_in_order, IsRowOf, IsChangeOf, IsLawfulRelation, IsLawful}
 use Rattle.sb_plain.specs.Printing.{is_mirror}
 use Rattle.sb_plain.specs.Refusing.{first_twice, some_where, rule_twice, unnamed, differ_in_life, is_mixed_rule}
 use Rattle.sb_plain.proofs.ShapeLemmas.{unbucketed, shape_of, shape, relation_at-shape, shape-with_relation, same_there, same_schema, same_count, same_life, same_size, same_rule, same_without, same_with}

@@ -7,6 +7,7 @@ use Rattle.std.proofs.lemmas.List.Elements.{All-nil, All-cons, All-head, All-tai
 use Rattle.sb_rule.specs.declared.action.Action.{Action}
 use Rattle.sb_relation.specs.Db.{Name, Key, Attached, Relation, Db}
 use Rattle.sb_relation.specs.Rules.{holds}
+use Rattle.sb_relation.specs.Laws.{is_foreign}
 use Rattle.sb_fold.specs.declared.refusal.Refusal.{Refusal}
 use Rattle.sb_fold.specs.Extensions.{Extensions, box_of}
 use Rattle.sb_fold.specs.Finish.{drain_next, drain, first_failing, unless_failing, finish}
@@ -16,7 +17,7 @@ use Rattle.sb_plain.specs.declared.command.Command.{Command}
 use Rattle.sb_plain.specs.declared.command.Command.TheVariants as command
 use Rattle.sb_plain.specs.declared.reply.Reply.TheVariants.{Refused}
 use Rattle.sb_plain.specs.Laws.{IsLeft, OthersLeaveLawful, RefusedLeavesLawful, CommitLeavesLawful}
-use Rattle.sb_plain.specs.Lawful.{IsLawful, IsSound, IsSoundNow, IsLawfulPoint, IsLawfulTransaction, MayBeOpen, IsLawfulState, is_foreign, is_deferred}
+use Rattle.sb_plain.specs.Lawful.{IsLawful, IsSound, IsSoundNow, IsLawfulPoint, IsLawfulTransaction, MayBeOpen, IsLawfulState, is_deferred}
 use Rattle.sb_plain.specs.Refusing.{refused}
 use Rattle.sb_plain.specs.State.{Codes, Point, Transaction, State, db_or_empty, committed, is_point, points_of, points_to, no_queue, none_gone, has_waiting, going_of, with_transaction, with_spent, ended, with_commit}
 use Rattle.sb_plain.specs.Step as step

@@ -3,7 +3,7 @@ use Rattle.std.proofs.Common.{◌≡◌, ℕ, ◌+◌, ◌==◌, Bool, true, fal
 use Rattle.std.specs.Prelude.{All, cond, nat_le, nat_lt, ℤ, ◌+ℤ◌}
 use Rattle.std.specs.Int.{to_be_bytes, w64}
 use Rattle.std.specs.List.{list_any, flat_map}
-use Rattle.std.proofs.lemmas.Bool.{and_parts, ltb-false, le-leb}
+use Rattle.std.proofs.lemmas.Bool.{and_parts, ltb-false, le-leb, or_parts}
 use Rattle.std.proofs.lemmas.List.Elements.{All-head, All-tail}
 use Rattle.std.proofs.lemmas.Option.{same_Some}
 use Rattle.sb_value.specs.declared.schema.Column.{Column}
@@ -36,7 +36,6 @@ use Rattle.sb_plain.specs.Lawful.{IsRowOf, IsChangeOf, IsLawfulRelation, IsLawfu
 use Rattle.sb_plain.proofs.ChangeLemmas.{changes-lawful}
 use Rattle.sb_plain.proofs.SoundLemmas.{all_at}
 use Rattle.sb_plain.proofs.SoundChangeLemmas.{alone_after, schema_after, changes-sound}
-use Rattle.sb_plain.proofs.UniqueLemmas.{or_parts}
 use Rattle.sb_plain.proofs.ValueLemmas.{fits_with, tuple_with, value_kind, storable_int}
 
 -- ---- what work gives

@@ -1,10 +1,11 @@
 -- Steps of commands on one row, of relations whose rules are alone.
-use Rattle.std.proofs.Common.{◌≡◌, ℕ, Bool, true, false, not, List, [], ◌∷◌, Option, Some, None, is_none, refl, sym, ap, ◌∙◌, arith}
+use Rattle.std.proofs.Common.{◌≡◌, Bool, true, false, not, List, [], ◌∷◌, Option, Some, None, refl, sym, ap, ◌∙◌, arith}
 use Rattle.std.specs.Prelude.{All}
 use Rattle.std.proofs.lemmas.Bool.{and_parts}
 use Rattle.std.proofs.lemmas.List.Elements.{All-nil, All-cons}
 use Rattle.sb_value.specs.declared.schema.Column.{Column}
 use Rattle.sb_value.specs.Fits.{kind_of, first_misfit}
+use Rattle.sb_value.proofs.Truths.{is_none-none}
 use Rattle.sb_pred.specs.declared.predicate.Term.TheVariants.{Const}
 use Rattle.sb_pred.specs.Columns.{column_kind}
 use Rattle.sb_rule.specs.declared.action.Action.TheVariants as action
@@ -80,13 +81,9 @@ it_fits false r e = absurd (cc)
 is_kinded : (ext : Extensions) (s : State) (c : Command) → refused ext s c ≡ None → is_well_kinded ext (view s) c ≡ true
 is_kinded ext s c none = it_fits (is_well_kinded ext (view s) c) refusal.Mistyped (none_of_them (tests ext s c) none 7 None (omega arith))
 
-no_misfit : (o : Option ℕ) → is_none o ≡ true → o ≡ None
-no_misfit None e = refl
-no_misfit (Some n) e = absurd (cc)
-
 fits_there : (db : Db) (name : Name) (row : Row) (r : Relation) → relation_at db name ≡ Some r → row_fits db name row ≡ true → first_misfit r.schema row ≡ None
 fits_there db name row r there fits =
-    ap (λ (o : Option Relation). first_misfit (elim o as (λ _. List Column) [ None ↦ [] | Some q ↦ q.schema ]) row) (sym there) ∙ no_misfit (first_misfit (schema_at db name) row) fits
+    ap (λ (o : Option Relation). first_misfit (elim o as (λ _. List Column) [ None ↦ [] | Some q ↦ q.schema ]) row) (sym there) ∙ is_none-none (first_misfit (schema_at db name) row) fits
 
 alone_in : (db : Db) (name : Name) → IsAloneAt db name → All (λ a. is_alone a.rule ≡ true) (attachments_at db name)
 alone_in db name is = of_relation (relation_at db name) refl

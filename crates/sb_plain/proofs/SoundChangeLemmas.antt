@@ -11,6 +11,7 @@ use Rattle.std.proofs.lemmas.Cmp.{tied_itself, nat_list_cmp_total}
 use Rattle.std.proofs.lemmas.List.Elements.{All-nil, All-cons, All-head, All-tail, All-map}
 use Rattle.std.proofs.lemmas.Map.Text.{is_eq-slice_cmp}
 use Rattle.std.proofs.lemmas.Option.{same_Some}
+use Rattle.std.proofs.lemmas.Bool.{not-true}
 use Rattle.sb_value.specs.declared.schema.Column.{Column}
 use Rattle.sb_value.specs.Equal.{bytes_same}
 use Rattle.sb_value.specs.Order.{bytes_cmp}
@@ -27,15 +28,16 @@ use Rattle.sb_relation.specs.Changes.{changed_rows, with_change, changed, of_new
 use Rattle.sb_relation.specs.Db.{Name, Row, Rows, Attached, Relation, Db, relation_at, with_relation, rows_at, schema_at, values_in, without_row}
 use Rattle.sb_relation.specs.Rules.{has_values, is_unique, admits}
 use Rattle.sb_relation.proofs.RuleLaws.{mirrors-mirror}
-use Rattle.sb_fold.specs.Building.{rule_at}
+use Rattle.sb_relation.specs.Laws.{is_foreign}
+use Rattle.sb_fold.specs.Building.{rule_at, HasMirror}
 use Rattle.sb_fold.specs.Extensions.{Extensions, box_of}
 use Rattle.sb_fold.specs.Fold.{attachments_at, vetoing}
 use Rattle.sb_plain.specs.Laws.{ChangesKeepSound}
-use Rattle.sb_plain.specs.Lawful.{HasMirror, IsMirrorOf, IsLawfulRelation, IsLawful, IsSoundNow, AreAlone, is_alone, is_foreign, is_deferred}
+use Rattle.sb_plain.specs.Lawful.{IsMirrorOf, IsLawfulRelation, IsLawful, IsSoundNow, AreAlone, is_alone, is_deferred}
 use Rattle.sb_plain.specs.Printing.{is_mirror}
 use Rattle.sb_plain.proofs.ChangeLemmas.{changed_in}
 use Rattle.sb_plain.proofs.SoundLemmas.{all_found, all_at, attached, HoldsAt}
-use Rattle.sb_plain.proofs.UniqueLemmas.{tied, differs_less, differs_greater, head_of, rest_of, it_isn't, all_put, all_filter, is_other, unique_put, unique_filter}
+use Rattle.sb_plain.proofs.UniqueLemmas.{tied, differs_less, differs_greater, head_of, rest_of, all_put, all_filter, is_other, unique_put, unique_filter}
 
 -- ---- relations after a change of one
 relation_same : (db : Db) (name : Name) (q : Relation) → relation_at (with_relation db name q) name ≡ Some q
@@ -80,11 +82,11 @@ IsMeant rule = (not (is_foreign rule) && not (is_deferred rule)) ≡ true
 
 unique_after : (r : Relation) (columns : List Name) (c : Change) → T (is_sorted bytes_cmp r.rows) → is_unique r.schema columns r.rows ≡ true
     → of_new c (λ key new. not (list_any (is_other r.schema columns key new) (changed_rows r.rows c))) ≡ true → is_unique r.schema columns (changed_rows r.rows c) ≡ true
-unique_after r columns (change.Insert key new) rises unique admitted = unique_put r.schema columns key new r.rows rises unique (it_isn't _ admitted)
+unique_after r columns (change.Insert key new) rises unique admitted = unique_put r.schema columns key new r.rows rises unique (not-true _ admitted)
 unique_after r columns (change.Delete key old) rises unique admitted = unique_filter r.schema columns (λ row. not (bytes_eq row.0 key)) r.rows unique
 unique_after r columns (change.Update from old to new) rises unique admitted =
     unique_put r.schema columns to new (without_row r.rows from) (is_sorted-where_key bytes_cmp (λ k. not (bytes_eq k from)) r.rows rises) (unique_filter r.schema columns (λ row. not (bytes_eq row.0 from)) r.rows unique)
-    (it_isn't _ admitted)
+    (not-true _ admitted)
 
 each_after : (test : Row → Bool) (rows : Rows) (c : Change) → list_all (λ row. test row.1) rows ≡ true → of_new c (λ key new. test new) ≡ true → list_all (λ row. test row.1) (changed_rows rows c) ≡ true
 each_after test rows (change.Insert key new) all admitted = all_put test key new rows all admitted

@@ -8,8 +8,10 @@ use Rattle.std.specs.Ordering.{eq_by_cmp}
 use Rattle.std.proofs.lemmas.List.Elements.{All-nil, All-cons, All-head, All-tail}
 use Rattle.std.proofs.lemmas.Map.Text.{is_eq-slice_cmp}
 use Rattle.std.proofs.lemmas.Option.{same_Some}
+use Rattle.std.proofs.lemmas.Bool.{not-false}
 use Rattle.sb_value.specs.Equal.{bytes_same}
 use Rattle.sb_value.specs.Order.{bytes_cmp}
+use Rattle.sb_value.proofs.Searches.{find-none}
 use Rattle.sb_rule.specs.declared.rule.Side.TheVariants.{Main, Mirror}
 use Rattle.sb_rule.specs.declared.rule.Rule.{Rule}
 use Rattle.sb_rule.specs.declared.rule.Rule.TheVariants.{TreeIndex, HashIndex, JoinIndex, Stats, Check, Refers, Trigger, Foreign}
@@ -17,10 +19,11 @@ use Rattle.sb_relation.specs.Build.{main_of}
 use Rattle.sb_relation.specs.Db.{Name, Attached, Relation, Db, relation_at}
 use Rattle.sb_relation.specs.Rules.{holds}
 use Rattle.sb_relation.proofs.RuleLaws.{mirrors-mirror}
+use Rattle.sb_relation.specs.Laws.{is_foreign}
 use Rattle.sb_fold.specs.Building.{rule_at}
 use Rattle.sb_fold.specs.Extensions.{Extensions, box_of}
 use Rattle.sb_fold.specs.Finish.{is_tested_late, fails_late, first_failing}
-use Rattle.sb_plain.specs.Lawful.{IsMirrorOf, IsLawful, IsSound, IsSoundNow, is_foreign, is_deferred}
+use Rattle.sb_plain.specs.Lawful.{IsMirrorOf, IsLawful, IsSound, IsSoundNow, is_deferred}
 use Rattle.sb_plain.specs.Printing.{is_mirror}
 
 -- ---- lists
@@ -32,15 +35,6 @@ all_found {A = A} P test (x ∷ xs) a all e = of_test (test x) e (all_found P te
     of_test : (b : Bool) → cond b (Some x) (find test xs) ≡ Some a → (find test xs ≡ Some a → P a) → P a
     of_test true is rest = subst P (same_Some x a is) (All-head P x xs all)
     of_test false is rest = rest is
-
--- where none is found, each fails the test
-none_found : {A : Type 0} (test : A → Bool) (items : List A) → find test items ≡ None → All (λ a. test a ≡ false) items
-none_found test [] e = All-nil _
-none_found test (x ∷ xs) e = of_test (test x) refl e (none_found test xs)
-  where
-    of_test : (b : Bool) → test x ≡ b → cond b (Some x) (find test xs) ≡ None → (find test xs ≡ None → All (λ a. test a ≡ false) xs) → All (λ a. test a ≡ false) (x ∷ xs)
-    of_test true is none rest = absurd (cc)
-    of_test false is none rest = All-cons (λ a. test a ≡ false) x xs is (rest none)
 
 -- what holds of each entry under its key holds of the one that is there
 pub all_at : {X : Type 0} (P : List ℕ → X → Type 0) (es : List (List ℕ × X)) (k : List ℕ) (v : X) → All (λ e. P e.0 e.1) es → entries.find bytes_cmp k es ≡ Some v → P k v
@@ -68,7 +62,7 @@ all_pass ext db ((name, r) ∷ others) e = of_found (find (fails_late ext db nam
     of_found : (found : Option Attached) → find (fails_late ext db name) r.attachments ≡ found
         → failing_or (first_failing ext db others) name found ≡ None
         → (first_failing ext db others ≡ None → All (λ e. Passes ext db e.0 e.1) others) → All (λ e. Passes ext db e.0 e.1) ((name, r) ∷ others)
-    of_found None is none rest = All-cons (λ e. Passes ext db e.0 e.1) (name, r) others (none_found (fails_late ext db name) r.attachments is) (rest none)
+    of_found None is none rest = All-cons (λ e. Passes ext db e.0 e.1) (name, r) others (find-none (fails_late ext db name) r.attachments is) (rest none)
     of_found (Some a) is none rest = absurd (cc)
 
 late_at : (ext : Extensions) (db : Db) (other label : Name) (a : Attached) → All (λ e. Passes ext db e.0 e.1) db → rule_at db other label ≡ Some a → fails_late ext db other a ≡ false
@@ -79,10 +73,6 @@ late_at ext db other label a all e = of_relation (relation_at db other) refl e
     of_relation (Some r) is found = all_found (λ x. fails_late ext db other x ≡ false) (λ x. bytes_eq x.name label) r.attachments a (all_at (Passes ext db) db other r all is) found
 
 -- ---- one rule
-it_is : (b : Bool) → not b ≡ false → b ≡ true
-it_is true e = refl
-it_is false e = absurd (cc)
-
 abbrev pub attached : Name → Rule → ℕ → Attached
 attached label rule buckets = record { name = label; rule = rule; buckets = buckets }
 
@@ -97,14 +87,14 @@ of_rule ext db all name label buckets (HashIndex columns) now late mirror ours =
 of_rule ext db all name label buckets (JoinIndex side columns other others) now late mirror ours = now refl
 of_rule ext db all name label buckets (Stats column low width) now late mirror ours = now refl
 of_rule ext db all name label buckets (Check pred false) now late mirror ours = now refl
-of_rule ext db all name label buckets (Check pred true) now late mirror ours = it_is _ late
+of_rule ext db all name label buckets (Check pred true) now late mirror ours = not-false _ late
 of_rule ext db all name label buckets (Refers side columns other others mode false) now late mirror ours = now refl
-of_rule ext db all name label buckets (Refers Main columns other others mode true) now late mirror ours = it_is _ late
+of_rule ext db all name label buckets (Refers Main columns other others mode true) now late mirror ours = not-false _ late
 of_rule ext db all name label buckets (Refers Mirror columns other others mode true) now late mirror ours =
     let main : IsMirrorOf db name (attached label (Refers Mirror columns other others mode true) buckets) = mirror refl in
     let tie : main_of name (Refers Mirror columns other others mode true) ≡ Some (main.other, main.main.rule) = mirrors-mirror main.other name main.main.rule (Refers Mirror columns other others mode true) main.mirror in
     let same : (other, Refers Main others name columns mode true) ≡ (main.other, main.main.rule) = same_Some _ _ tie in
-    it_is _ (subst (λ (m : Name × Rule). (is_tested_late m.1 && not (holds (box_of ext m.1) db m.0 m.1)) ≡ false) (sym same) (late_at ext db main.other main.main.name main.main all main.stands))
+    not-false _ (subst (λ (m : Name × Rule). (is_tested_late m.1 && not (holds (box_of ext m.1) db m.0 m.1)) ≡ false) (sym same) (late_at ext db main.other main.main.name main.main all main.stands))
 of_rule ext db all name label buckets (Trigger on pred act deferred) now late mirror ours = now refl
 of_rule ext db all name label buckets (Foreign code desc) now late mirror ours = absurd (cc)
 

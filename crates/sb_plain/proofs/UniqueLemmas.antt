@@ -7,7 +7,7 @@ use Rattle.std.specs.declared.cmp.Ordering.{Ordering}
 use Rattle.std.specs.declared.cmp.Ordering.TheVariants.{Less, Equal, Greater}
 use Rattle.std.specs.Ordering.{is_eq, is_lt, is_gt}
 use Rattle.std.specs.FinMap.Entries.{by_order, put, is_sorted, below_all, is_sorted-put}
-use Rattle.std.proofs.lemmas.Bool.{and_parts, and_from}
+use Rattle.std.proofs.lemmas.Bool.{and_parts, and_from, not-true, or_parts}
 use Rattle.std.proofs.lemmas.Cmp.{tied_itself, nat_list_cmp_total}
 use Rattle.std.proofs.lemmas.Map.Text.{is_eq-slice_cmp}
 use Rattle.sb_value.specs.declared.schema.Column.{Column}
@@ -17,17 +17,9 @@ use Rattle.sb_relation.specs.Db.{Name, Key, Row, Rows, values_in}
 use Rattle.sb_relation.specs.Rules.{has_values, is_unique}
 
 -- ---- truth values
-pub or_parts : (a b : Bool) → (a || b) ≡ false → (a ≡ false) × (b ≡ false)
-or_parts true b e = absurd (cc)
-or_parts false b e = (refl, e)
-
 neither : (a b : Bool) → a ≡ false → b ≡ false → (a || b) ≡ false
 neither true b e f = e
 neither false b e f = f
-
-pub it_isn't : (b : Bool) → not b ≡ true → b ≡ false
-it_isn't true e = absurd (cc)
-it_isn't false e = refl
 
 unless : (a b : Bool) → a ≡ false → (not a && b) ≡ false → b ≡ false
 unless true b e f = absurd (cc)
@@ -150,7 +142,7 @@ module _ (schema : List Column) (columns : List Name) where
       of_order Greater is sorted alone rest =
           let others = or_parts (is_other k v e) (list_any (is_other k v) (put bytes_cmp k v es)) alone in
           none_and_all (list_any (λ x. like e.1 x.1) (put bytes_cmp k v es)) (is_unique schema columns (put bytes_cmp k v es))
-          (any_put (like e.1) k v es (it_isn't _ parts.0) (like_back e.1 v ∙ unless (bytes_eq e.0 k) (like v e.1) (differs_greater k e.0 is) others.0)) (rest others.1)
+          (any_put (like e.1) k v es (not-true _ parts.0) (like_back e.1 v ∙ unless (bytes_eq e.0 k) (like v e.1) (differs_greater k e.0 is) others.0)) (rest others.1)
 
   pub unique_filter : (p : Key × Row → Bool) (es : Rows) → is_unique schema columns es ≡ true → is_unique schema columns (filter p es) ≡ true
   unique_filter p [] unique = refl
@@ -159,5 +151,5 @@ module _ (schema : List Column) (columns : List Name) where
       of_test : (b : Bool) → is_unique schema columns (filter p es) ≡ true → is_unique schema columns (cond b (e ∷ filter p es) (filter p es)) ≡ true
       of_test true rest =
           none_and_all (list_any (λ x. like e.1 x.1) (filter p es)) (is_unique schema columns (filter p es))
-          (any_filter (λ x. like e.1 x.1) p es (it_isn't _ (and_parts (not (list_any (λ other. like e.1 other.1) es)) (is_unique schema columns es) unique).0)) rest
+          (any_filter (λ x. like e.1 x.1) p es (not-true _ (and_parts (not (list_any (λ other. like e.1 other.1) es)) (is_unique schema columns es) unique).0)) rest
       of_test false rest = rest

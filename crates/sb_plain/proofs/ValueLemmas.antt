@@ -1,9 +1,9 @@
 -- A row with another value in a column.
-use Rattle.std.proofs.Common.{◌≡◌, ◌≤◌, ℕ, zero, suc, ◌+◌, Bool, true, false, not, List, [], ◌∷◌, length, Option, Some, None, option_map, refl, sym, ap, subst, ◌∙◌, arith}
-use Rattle.std.specs.Prelude.{All, cond, nat_lt, option_and_then, ◌^◌, ℤ, pos, negsuc}
-use Rattle.std.specs.List.{position, position_or_len, slice_get}
+use Rattle.std.proofs.Common.{◌≡◌, ◌≤◌, ℕ, zero, suc, Bool, true, false, List, [], ◌∷◌, length, Option, Some, None, option_map, refl, sym, ap, subst, ◌∙◌}
+use Rattle.std.specs.Prelude.{All, cond, option_and_then, ◌^◌, ℤ, pos, negsuc}
+use Rattle.std.specs.List.{position, slice_get}
 use Rattle.std.specs.Str.{bytes_eq}
-use Rattle.std.proofs.lemmas.Bool.{le-leb, ltb-true}
+use Rattle.std.proofs.lemmas.Bool.{ltb-true}
 use Rattle.std.proofs.lemmas.List.Elements.{All-cons, All-head, All-tail}
 use Rattle.std.proofs.lemmas.Option.{same_Some}
 use Rattle.sb_value.specs.declared.value.Value.{Value}
@@ -13,6 +13,8 @@ use Rattle.sb_value.specs.declared.schema.Kind.TheVariants as kind
 use Rattle.sb_value.specs.declared.schema.Column.{Column}
 use Rattle.sb_value.specs.Fits.{kind_of, is_of_kind, first_misfit}
 use Rattle.sb_value.specs.Spelling.{IsStorable}
+use Rattle.sb_value.proofs.FitsLemmas.{misfit_parts, misfit_none}
+use Rattle.sb_value.proofs.Searches.{position-cons}
 use Rattle.sb_codec.specs.Tuples.{IsTuple}
 use Rattle.sb_pred.specs.Columns.{place_of, column_kind, column_value}
 use Rattle.sb_pred.specs.Typing.{is_one_kind}
@@ -31,31 +33,6 @@ same_kind (Some kind.Text) kind.Text e = refl
 same_kind (Some kind.Int) kind.Text e = absurd (cc)
 same_kind (Some kind.Text) kind.Int e = absurd (cc)
 
-misfit_parts : (b : Bool) (rest : Option ℕ) → cond b (option_map suc rest) (Some 0) ≡ None → (b ≡ true) × (rest ≡ None)
-misfit_parts true None e = (refl, refl)
-misfit_parts true (Some n) e = absurd (cc)
-misfit_parts false rest e = absurd (cc)
-
-misfit_none : (b : Bool) (rest : Option ℕ) → b ≡ true → rest ≡ None → cond b (option_map suc rest) (Some 0) ≡ None
-misfit_none b rest e f = ap (λ (t : Bool). cond t (option_map suc rest) (Some 0)) e ∙ ap (option_map suc) f
-
--- the place of the first that passes, by whether the first of all does
-less_less : (a b : ℕ) → nat_lt (1 + a) (suc b) ≡ nat_lt a b
-less_less a b = grind arith
-
-position_step : {X : Type 0} (p : X → Bool) (x : X) (xs : List X) → position p (x ∷ xs) ≡ cond (p x) (Some 0) (option_map suc (position p xs))
-position_step p x xs = of_test (p x)
-  where
-    of_less : (b : Bool) (n : ℕ) → cond b (Some (1 + n)) None ≡ option_map suc (cond b (Some n) None)
-    of_less true n = ap (λ (m : ℕ). Some m) (omega arith)
-    of_less false n = refl
-
-    of_test : (b : Bool) → (cond (nat_lt (cond (not b) (1 + position_or_len p xs) 0) (suc (length xs))) (Some (cond (not b) (1 + position_or_len p xs) 0)) None) ≡ cond b (Some 0) (option_map suc (position p xs))
-    of_test true = ap (λ (t : Bool). cond t (Some 0) None) (le-leb 1 (suc (length xs)) (omega arith))
-    of_test false =
-        ap (λ (t : Bool). cond t (Some (1 + position_or_len p xs)) None) (less_less (position_or_len p xs) (length xs))
-        ∙ of_less (nat_lt (position_or_len p xs) (length xs)) (position_or_len p xs)
-
 -- the kind behind the first column
 abbrev kind_in : List Column → Option ℕ → Option Kind
 kind_in schema place = option_map (λ c. c.kind) (option_and_then (λ i. slice_get schema i) place)
@@ -67,7 +44,7 @@ kind_behind c cs (Some i) = refl
 pub fits_with : (schema : List Column) (column : Name) (v : Value) (row : Row) → column_kind schema column ≡ Some (kind_of v) → first_misfit schema row ≡ None → first_misfit schema (with_value schema column v row) ≡ None
 fits_with [] column v row kinds fits = fits
 fits_with (c ∷ cs) column v [] kinds fits = absurd (cc)
-fits_with (c ∷ cs) column v (w ∷ row) kinds fits = of_test (bytes_eq c.name column) (ap (kind_in (c ∷ cs)) (sym (position_step (λ x. bytes_eq x.name column) c cs)) ∙ kinds) (λ k. fits_with cs column v row k (misfit_parts (is_of_kind c.kind w) (first_misfit cs row) fits).1)
+fits_with (c ∷ cs) column v (w ∷ row) kinds fits = of_test (bytes_eq c.name column) (ap (kind_in (c ∷ cs)) (sym (position-cons (λ x. bytes_eq x.name column) c cs)) ∙ kinds) (λ k. fits_with cs column v row k (misfit_parts (is_of_kind c.kind w) (first_misfit cs row) fits).1)
   where
     parts : (is_of_kind c.kind w ≡ true) × (first_misfit cs row ≡ None)
     parts = misfit_parts (is_of_kind c.kind w) (first_misfit cs row) fits

@@ -13,7 +13,8 @@ use Rattle.sb_rule.specs.declared.rule.Rule.{Rule}
 use Rattle.sb_rule.specs.declared.rule.Rule.TheVariants.{TreeIndex, HashIndex, JoinIndex, Stats, Check, Refers, Trigger, Foreign}
 use Rattle.sb_relation.specs.Build.{mirror_name, mirror_of}
 use Rattle.sb_relation.specs.Db.{Attached, Relation, Db, int_column}
-use Rattle.sb_plain.specs.Lawful.{MayBeAttached, HasMirror, IsMirrorOf, IsRowOf, IsLawfulRelation, IsLawful, IsSound, IsLawfulState, is_alone}
+use Rattle.sb_fold.specs.Building.{HasMirror}
+use Rattle.sb_plain.specs.Lawful.{MayBeAttached, IsMirrorOf, IsRowOf, IsLawfulRelation, IsLawful, IsSound, IsLawfulState, is_alone}
 use Rattle.sb_plain.specs.Printing.{is_mirror}
 use Rattle.sb_plain.proofs.Scripts.{no_extensions, start, int, key, slot}
 

@@ -10,14 +10,15 @@ use Rattle.sb_rule.specs.declared.action.Action.TheVariants as action
 use Rattle.sb_rule.specs.declared.change.Change.{Change}
 use Rattle.sb_rule.specs.declared.change.Change.TheVariants as change
 use Rattle.sb_rule.specs.declared.rule.Rule.{Rule}
-use Rattle.sb_rule.specs.declared.rule.Rule.TheVariants.{Check, Refers, Trigger, Foreign}
+use Rattle.sb_rule.specs.declared.rule.Rule.TheVariants.{Check, Refers, Trigger}
 use Rattle.sb_rule.specs.Spelling.{rule_code}
 use Rattle.sb_relation.specs.Build.{mirror_name, mirror_of}
 use Rattle.sb_relation.specs.Db.{Name, Key, Row, Attached, Relation, Db, relation_at, key_of}
 use Rattle.sb_relation.specs.Keys.{is_record_key}
 use Rattle.sb_relation.specs.Lawful.{IsRow, is_too_long}
+use Rattle.sb_relation.specs.Laws.{is_foreign}
 use Rattle.sb_relation.specs.Rules.{holds}
-use Rattle.sb_fold.specs.Building.{rule_at, without_rule, without_relation}
+use Rattle.sb_fold.specs.Building.{HasMirror, rule_at, without_rule, without_relation}
 use Rattle.sb_fold.specs.Extensions.{Extensions, box_of}
 use Rattle.sb_plain.specs.declared.command.Command.{Command}
 use Rattle.sb_plain.specs.declared.command.Command.TheVariants as command
@@ -48,10 +49,6 @@ abbrev pub MayBeAttached : Extensions → Db → Name → Attached → Type 0
 MayBeAttached ext db name a = is_mirror a.rule ≡ false → MayBe ext (without_rule db name a) (command.Attach name a.name a.rule)
 
 -- ---- mirrors stand in pairs
-abbrev pub HasMirror : Db → Name → Option (Name × Rule) → Type 0
-HasMirror db label None = Unit {0}
-HasMirror db label (Some (other, rule)) = (a : Attached) × (rule_at db other label ≡ Some a) × (a.rule ≡ rule)
-
 -- a mirror is that of a main instance
 pub record IsMirrorOf (db : Db) (name : Name) (a : Attached) : Type 0 where
   pub other : Name
@@ -95,10 +92,6 @@ pub record IsLawful (ext : Extensions) (db : Db) : Type 0 where
   pub relations : All (λ e. IsLawfulRelation ext db e.0 e.1) db
 
 -- ---- sound
-abbrev pub is_foreign : Rule → Bool
-is_foreign (Foreign code desc) = true
-is_foreign _ = false
-
 abbrev pub is_deferred : Rule → Bool
 is_deferred (Check pred deferred) = deferred
 is_deferred (Refers side columns other others mode deferred) = deferred

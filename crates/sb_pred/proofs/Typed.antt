@@ -1,5 +1,5 @@
 -- What the terms of a well-typed comparison give over rows that fit.
-use Rattle.std.proofs.Common.{◌≡◌, ℕ, suc, zero, Bool, true, false, cond, List, [], ◌∷◌, Option, Some, None, option_map, option_and_then, IfSome, IsTrue, is_some, refl, sym, ◌∙◌}
+use Rattle.std.proofs.Common.{◌≡◌, ℕ, suc, zero, true, cond, List, [], ◌∷◌, Option, Some, None, option_map, option_and_then, IfSome, IsTrue, is_some, refl, sym, ◌∙◌}
 use Rattle.std.specs.List.{slice_get}
 use Rattle.sb_value.specs.declared.value.Value.{Value}
 use Rattle.sb_value.specs.declared.value.Value.TheVariants.{Int, Text}
@@ -12,6 +12,7 @@ use Rattle.sb_pred.specs.declared.predicate.Term.{Term}
 use Rattle.sb_pred.specs.declared.predicate.Term.TheVariants.{Const, New, Old}
 use Rattle.sb_pred.specs.Columns.{place_of, column_kind, column_value}
 use Rattle.sb_pred.specs.Tree.{Compare}
+use Rattle.sb_value.proofs.FitsLemmas.{misfit_parts}
 use Rattle.sb_pred.specs.Truth.{term_value, HaveOneKind}
 use Rattle.sb_pred.specs.Typing.{term_kind, is_one_kind, is_well_typed}
 
@@ -19,11 +20,6 @@ use Rattle.sb_pred.specs.Typing.{term_kind, is_one_kind, is_well_typed}
 abbrev pub HasKind : Option Value → Kind → Type 0
 HasKind None k = ⊥
 HasKind (Some v) k = kind_of v ≡ k
-
-no_misfit : (b : Bool) (o : Option ℕ) → cond b (option_map suc o) (Some 0) ≡ None → (b ≡ true) × (o ≡ None)
-no_misfit true None e = (refl, refl)
-no_misfit true (Some n) e = absurd (cc)
-no_misfit false o e = absurd (cc)
 
 kind_from_test : (k : Kind) (v : Value) → is_of_kind k v ≡ true → kind_of v ≡ k
 kind_from_test kind.Int (Int n) e = refl
@@ -37,11 +33,11 @@ value_at : (schema : List Column) (row : List Value) (i : ℕ) (k : Kind) → Fi
 value_at [] row i k f e = absurd (cc)
 value_at (c ∷ cs) [] i k f e = absurd (cc)
 value_at (c ∷ cs) (v ∷ vs) zero k f e =
-    let here : (is_of_kind c.kind v ≡ true) × (first_misfit cs vs ≡ None) = no_misfit (is_of_kind c.kind v) (first_misfit cs vs) f in
+    let here : (is_of_kind c.kind v ≡ true) × (first_misfit cs vs ≡ None) = misfit_parts (is_of_kind c.kind v) (first_misfit cs vs) f in
     let same : c.kind ≡ k = cc in
     kind_from_test c.kind v here.0 ∙ same
 value_at (c ∷ cs) (v ∷ vs) (suc i) k f e =
-    let here : (is_of_kind c.kind v ≡ true) × (first_misfit cs vs ≡ None) = no_misfit (is_of_kind c.kind v) (first_misfit cs vs) f in
+    let here : (is_of_kind c.kind v ≡ true) × (first_misfit cs vs ≡ None) = misfit_parts (is_of_kind c.kind v) (first_misfit cs vs) f in
     value_at cs vs i k here.1 e
 
 value_at_place : (schema : List Column) (row : List Value) (place : Option ℕ) (k : Kind) → Fits schema row

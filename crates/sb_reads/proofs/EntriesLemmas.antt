@@ -1,10 +1,11 @@
 -- Entries that are read one after the other, in rising order.
-use Rattle.std.proofs.Common.{◌≡◌, Bool, true, false, not, ◌&&◌, cond, List, [], ◌∷◌, ◌++◌, map, Option, Some, None, refl, sym, ap, subst, ◌∙◌, append_assoc, append-nil, Ordering, Less, Equal, Greater, is_lt}
+use Rattle.std.proofs.Common.{◌≡◌, Bool, true, false, not, ◌&&◌, cond, List, [], ◌∷◌, ◌++◌, Option, Some, None, refl, sym, ap, subst, ◌∙◌, append_assoc, append-nil, Ordering, Less, Equal, Greater, is_lt}
 use Rattle.std.specs.List.{filter, find}
 use Rattle.std.specs.Cmp.{IsTotalOrder}
 use Rattle.std.specs.Ordering.{is_le, ordering_then, ordering_reverse}
 use Rattle.std.proofs.lemmas.Cmp.{nat_list_cmp_total, alike_right, on_total, then_total, tied_itself}
 use Rattle.sb_value.specs.Order.{bytes_cmp}
+use Rattle.sb_value.proofs.Truths.{is_lt-less}
 use Rattle.sb_relation.specs.Content.{are_rising}
 use Rattle.sb_relation.specs.Db.{Key}
 use Rattle.sb_relation.specs.Images.{Entry, is_before}
@@ -25,11 +26,6 @@ and_true false b is = refl
 and_false : (a b : Bool) → b ≡ false → a && b ≡ false
 and_false true b is = is
 and_false false b is = refl
-
-less : (o : Ordering) → is_lt o ≡ true → o ≡ Less
-less Less is = refl
-less Equal is = absurd (cc)
-less Greater is = absurd (cc)
 
 same_Some : {A : Type 0} (a b : A) → Some a ≡ Some b → a ≡ b
 same_Some a b e = cc
@@ -68,13 +64,13 @@ entry_total : IsTotalOrder entry_cmp
 entry_total = then_total (on_total (λ (e : Entry). e.0) nat_list_cmp_total) (on_total (λ (e : Entry). e.1) nat_list_cmp_total)
 
 before-trans : (a b c : Entry) → is_before a b ≡ true → is_before b c ≡ true → is_before a c ≡ true
-before-trans a b c ab bc = ap is_lt (entry_total.trans a b c (less (entry_cmp a b) ab) (less (entry_cmp b c) bc))
+before-trans a b c ab bc = ap is_lt (entry_total.trans a b c (is_lt-less (entry_cmp a b) ab) (is_lt-less (entry_cmp b c) bc))
 
 before-itself : (a : Entry) → is_before a a ≡ false
 before-itself a = ap is_lt (tied_itself entry_total a)
 
 before-back : (a b : Entry) → is_before a b ≡ true → is_before b a ≡ false
-before-back a b is = ap is_lt (entry_total.antisymm b a ∙ ap ordering_reverse (less (entry_cmp a b) is))
+before-back a b is = ap is_lt (entry_total.antisymm b a ∙ ap ordering_reverse (is_lt-less (entry_cmp a b) is))
 
 -- ---- all behind an entry
 all_after : Entry → List Entry → Bool
@@ -161,7 +157,7 @@ beyond-later None e y beyond before = absurd (cc)
 beyond-later (Some high) e y beyond before = by (bytes_cmp e.0 y.0) refl before
   where
     below : bytes_cmp high e.0 ≡ Less
-    below = less (bytes_cmp high e.0) beyond
+    below = is_lt-less (bytes_cmp high e.0) beyond
 
     by : (o : Ordering) → bytes_cmp e.0 y.0 ≡ o → is_lt (ordering_then o (bytes_cmp e.1 y.1)) ≡ true → is_lt (bytes_cmp high y.0) ≡ true
     by Less is before = ap is_lt (nat_list_cmp_total.trans high e.0 y.0 below is)

@@ -1,9 +1,10 @@
 -- A walk over the relations, each from the name of the one before it.
-use Rattle.std.proofs.Common.{◌≡◌, ℕ, ◌+◌, ◌<◌, ◌≤◌, Bool, true, false, cond, ◌&&◌, T, [], ◌∷◌, length, Option, Some, None, refl, sym, ap, subst, ◌∙◌, arith, is_lt, Ordering, Less, Equal, Greater}
+use Rattle.std.proofs.Common.{◌≡◌, ℕ, ◌+◌, ◌<◌, ◌≤◌, Bool, true, false, cond, T, [], ◌∷◌, length, Option, Some, None, refl, sym, ap, subst, ◌∙◌, arith, is_lt, Less}
 use Rattle.std.specs.Ordering.{ordering_reverse}
 use Rattle.std.specs.FinMap.Entries.{is_sorted, below_all}
 use Rattle.std.proofs.lemmas.Cmp.{nat_list_cmp_total, tied_itself}
 use Rattle.sb_value.specs.Order.{bytes_cmp}
+use Rattle.sb_value.proofs.Truths.{T-parts, T-less, T-true, true-T}
 use Rattle.sb_relation.specs.Db.{Name, Relation, Db}
 use Rattle.sb_plain.specs.declared.command.Command.{Command}
 use Rattle.sb_refusals.specs.declared.uses.Step.{Step}
@@ -11,29 +12,13 @@ use Rattle.sb_refusals.specs.declared.uses.Step.TheVariants.{Used, Unused, End}
 use Rattle.sb_refusals.specs.Catalogue.{is_above, above}
 use Rattle.sb_refusals.specs.Uses.{user_at, user_in, IsStep}
 
-parts : (a b : Bool) → T (a && b) → T a × T b
-parts true b h = (tt, h)
-parts false b h = absurd h
-
-less : (o : Ordering) → T (is_lt o) → o ≡ Less
-less Less h = refl
-less Equal h = absurd h
-less Greater h = absurd h
-
-is_true : (b : Bool) → T b → b ≡ true
-is_true true h = refl
-is_true false h = absurd h
-
-holds : (b : Bool) → b ≡ true → T b
-holds b e = subst T (sym e) tt
-
 -- what is below all is below what stands above a name
 below_first : (x : Name) (low : Option Name) (e : Name × Relation) (rest db : Db) → T (below_all bytes_cmp x db) → above low db ≡ e ∷ rest → bytes_cmp x e.0 ≡ Less
 below_first x low e rest [] h is = cc
 below_first x low e rest (y ∷ db) h is = by (is_above low y.0) refl (λ k. below_first x low e rest db both.1 k)
   where
     both : T (is_lt (bytes_cmp x y.0)) × T (below_all bytes_cmp x db)
-    both = parts (is_lt (bytes_cmp x y.0)) (below_all bytes_cmp x db) h
+    both = T-parts (is_lt (bytes_cmp x y.0)) (below_all bytes_cmp x db) h
 
     first_of : (y e : Name × Relation) (db rest : Db) → y ∷ db ≡ e ∷ rest → y ≡ e
     first_of y e db rest is = cc
@@ -41,15 +26,15 @@ below_first x low e rest (y ∷ db) h is = by (is_above low y.0) refl (λ k. bel
     by : (t : Bool) → is_above low y.0 ≡ t → (above low db ≡ e ∷ rest → bytes_cmp x e.0 ≡ Less) → bytes_cmp x e.0 ≡ Less
     by true t further =
         let here : y ≡ e = first_of y e (above low db) rest (sym (ap (λ b. cond b (y ∷ above low db) (above low db)) t) ∙ is) in
-        subst (λ (z : Name × Relation). bytes_cmp x z.0 ≡ Less) here (less (bytes_cmp x y.0) both.0)
+        subst (λ (z : Name × Relation). bytes_cmp x z.0 ≡ Less) here (T-less (bytes_cmp x y.0) both.0)
     by false t further = further (sym (ap (λ b. cond b (y ∷ above low db) (above low db)) t) ∙ is)
 
 -- all above what is above
 all_above : (x : Name) (db : Db) → T (below_all bytes_cmp x db) → above (Some x) db ≡ db
 all_above x [] h = refl
 all_above x (y ∷ db) h =
-    let both = parts (is_lt (bytes_cmp x y.0)) (below_all bytes_cmp x db) h in
-    ap (λ b. cond b (y ∷ above (Some x) db) (above (Some x) db)) (is_true (is_lt (bytes_cmp x y.0)) both.0) ∙ ap (λ (ys : Db). y ∷ ys) (all_above x db both.1)
+    let both = T-parts (is_lt (bytes_cmp x y.0)) (below_all bytes_cmp x db) h in
+    ap (λ b. cond b (y ∷ above (Some x) db) (above (Some x) db)) (T-true (is_lt (bytes_cmp x y.0)) both.0) ∙ ap (λ (ys : Db). y ∷ ys) (all_above x db both.1)
 
 above_further : (low : Option Name) (x : Name) (db : Db) → is_above low x ≡ true → T (below_all bytes_cmp x db) → above low db ≡ db
 above_further None x db is h = by db
@@ -59,8 +44,8 @@ above_further None x db is h = by db
     by (y ∷ db) = ap (λ (ys : Db). y ∷ ys) (by db)
 above_further (Some low) x [] is h = refl
 above_further (Some low) x (y ∷ db) is h =
-    let both = parts (is_lt (bytes_cmp x y.0)) (below_all bytes_cmp x db) h in
-    let here : bytes_cmp low y.0 ≡ Less = nat_list_cmp_total.trans low x y.0 (less (bytes_cmp low x) (holds (is_lt (bytes_cmp low x)) is)) (less (bytes_cmp x y.0) both.0) in
+    let both = T-parts (is_lt (bytes_cmp x y.0)) (below_all bytes_cmp x db) h in
+    let here : bytes_cmp low y.0 ≡ Less = nat_list_cmp_total.trans low x y.0 (T-less (bytes_cmp low x) (true-T (is_lt (bytes_cmp low x)) is)) (T-less (bytes_cmp x y.0) both.0) in
     ap (λ o. cond (is_lt o) (y ∷ above (Some low) db) (above (Some low) db)) here ∙ ap (λ (ys : Db). y ∷ ys) (above_further (Some low) x db is both.1)
 
 -- above the first one stand the others
@@ -69,7 +54,7 @@ above-first low e rest [] rises is = cc
 above-first low e rest (x ∷ db) rises is = by (is_above low x.0) refl (λ k. above-first low e rest db rising.1 k)
   where
     rising : T (below_all bytes_cmp x.0 db) × T (is_sorted bytes_cmp db)
-    rising = parts (below_all bytes_cmp x.0 db) (is_sorted bytes_cmp db) rises
+    rising = T-parts (below_all bytes_cmp x.0 db) (is_sorted bytes_cmp db) rises
 
     tail_of : (y e : Name × Relation) (db rest : Db) → y ∷ db ≡ e ∷ rest → (y ≡ e) × (db ≡ rest)
     tail_of y e db rest is = (cc, cc)

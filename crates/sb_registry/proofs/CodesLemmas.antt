@@ -7,6 +7,7 @@ use Rattle.std.proofs.lemmas.List.{map-append, drop_more, take_more, take-append
 use Rattle.std.proofs.lemmas.List.Folds.{list_any-append, find_at}
 use Rattle.std.proofs.lemmas.List.Quantifiers.{position-Some}
 use Rattle.std.proofs.lemmas.Option.{slice_get-get_or, cond_some}
+use Rattle.std.proofs.lemmas.Bool.{or_parts}
 use Rattle.sb_registry.specs.Codes.{first_repeat, Goes, Stay}
 
 -- ---- where none passes
@@ -18,17 +19,13 @@ is_some-position_from p i (x ∷ xs) =
 any_from_position : {B : Type 0} (p : B → Bool) (xs : List B) → position p xs ≡ None → list_any p xs ≡ false
 any_from_position p xs e = sym (is_some-position_from p 0 xs) ∙ sym (ap is_some (position_from-zero p xs)) ∙ ap is_some e
 
-both_fail : (t rest : Bool) → (t || rest) ≡ false → (t ≡ false) × (rest ≡ false)
-both_fail true rest e = absurd (cc)
-both_fail false rest e = (refl, e)
-
 each_fails : {B : Type 0} (p : B → Bool) (xs : List B) → list_any p xs ≡ false → AllByRecursion (λ x. p x ≡ false) xs
 each_fails p [] e = tt
-each_fails p (x ∷ xs) e = let h = both_fail (p x) (list_any p xs) e in (h.0, each_fails p xs h.1)
+each_fails p (x ∷ xs) e = let h = or_parts (p x) (list_any p xs) e in (h.0, each_fails p xs h.1)
 
 find_none : {B : Type 0} (p : B → Bool) (xs : List B) → list_any p xs ≡ false → find p xs ≡ None
 find_none p [] e = refl
-find_none p (x ∷ xs) e = let h = both_fail (p x) (list_any p xs) e in ap (λ t. cond t (Some x) (find p xs)) h.0 ∙ find_none p xs h.1
+find_none p (x ∷ xs) e = let h = or_parts (p x) (list_any p xs) e in ap (λ t. cond t (Some x) (find p xs)) h.0 ∙ find_none p xs h.1
 
 -- ---- what is found among the meanings
 find-map : {B M : Type 0} (f : B → M) (p : M → Bool) (xs : List B) → find p (map f xs) ≡ option_map f (find (λ b. p (f b)) xs)

@@ -1,4 +1,3 @@
 pub mod BoxesLemmas
 pub mod CodesLemmas
 pub mod RunsLemmas
-pub mod TestLemmas

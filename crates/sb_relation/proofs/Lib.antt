@@ -5,3 +5,4 @@ mod WorkedKinds
 mod WorkedLimits
 pub mod WorkedRules
 pub mod RuleLaws
+mod ValuesIn

@@ -1,5 +1,5 @@
 -- Rows above a key, read one after the other.
-use Rattle.std.proofs.Common.{◌≡◌, Bool, true, false, cond, ◌&&◌, List, [], ◌∷◌, ◌++◌, map, Option, Some, None, T, ℕ, ◌+◌, ◌<◌, ◌≤◌, length, take, All, arith, length-append, refl, sym, ap, subst, ◌∙◌, append_assoc, append-nil, is_lt, Ordering, Less, Equal, Greater}
+use Rattle.std.proofs.Common.{◌≡◌, Bool, true, false, cond, List, [], ◌∷◌, ◌++◌, map, Option, Some, None, T, ℕ, ◌+◌, ◌<◌, ◌≤◌, length, take, All, arith, length-append, refl, sym, ap, subst, ◌∙◌, append_assoc, append-nil, is_lt, Ordering, Less, Equal, Greater}
 use Rattle.std.specs.List.{filter}
 use Rattle.std.proofs.lemmas.List.{take-append-le, take_all}
 use Rattle.std.proofs.lemmas.List.Elements.{All-append, All-cons, All-nil}
@@ -7,21 +7,10 @@ use Rattle.std.specs.Ordering.{ordering_reverse}
 use Rattle.std.specs.FinMap.Entries.{is_sorted, below_all}
 use Rattle.std.proofs.lemmas.Cmp.{nat_list_cmp_total, tied_itself}
 use Rattle.sb_value.specs.Order.{bytes_cmp}
+use Rattle.sb_value.proofs.Truths.{T-parts, is_lt-less, T-less}
 use Rattle.sb_relation.specs.Db.{Key, Row, Rows}
 use Rattle.sb_ctx.specs.MethodAnswers.{is_above, row_above}
 use Rattle.sb_rows.specs.Scans.{rows_above}
-
-parts : (a b : Bool) → T (a && b) → T a × T b
-parts true b h = (tt, h)
-parts false b h = absurd h
-
-less : (o : Ordering) → T (is_lt o) → o ≡ Less
-less Less h = refl
-less Equal h = absurd h
-less Greater h = absurd h
-
-less_is : (o : Ordering) → is_lt o ≡ true → o ≡ Less
-less_is o is = less o (subst T (sym is) tt)
 
 -- ---- rows above a key
 pub rows_above-all : (rows : Rows) → rows_above None rows ≡ rows
@@ -33,15 +22,15 @@ rows_above-low : (low : Option Key) (key : Key) (rows : Rows) → is_above low k
 rows_above-low None key rows up below = rows_above-all rows
 rows_above-low (Some low) key [] up below = refl
 rows_above-low (Some low) key (y ∷ rows) up below =
-    let both = parts (is_lt (bytes_cmp key y.0)) (below_all bytes_cmp key rows) below in
-    let over = nat_list_cmp_total.trans low key y.0 (less_is (bytes_cmp low key) up) (less (bytes_cmp key y.0) both.0) in
+    let both = T-parts (is_lt (bytes_cmp key y.0)) (below_all bytes_cmp key rows) below in
+    let over = nat_list_cmp_total.trans low key y.0 (is_lt-less (bytes_cmp low key) up) (T-less (bytes_cmp key y.0) both.0) in
     ap (λ o. cond (is_lt o) (y ∷ rows_above (Some low) rows) (rows_above (Some low) rows)) over ∙ ap (λ (ys : Rows). y ∷ ys) (rows_above-low (Some low) key rows up both.1)
 
 rows_above-behind : (key : Key) (rows : Rows) → T (below_all bytes_cmp key rows) → rows_above (Some key) rows ≡ rows
 rows_above-behind key [] below = refl
 rows_above-behind key (y ∷ rows) below =
-    let both = parts (is_lt (bytes_cmp key y.0)) (below_all bytes_cmp key rows) below in
-    ap (λ o. cond (is_lt o) (y ∷ rows_above (Some key) rows) (rows_above (Some key) rows)) (less (bytes_cmp key y.0) both.0) ∙ ap (λ (ys : Rows). y ∷ ys) (rows_above-behind key rows both.1)
+    let both = T-parts (is_lt (bytes_cmp key y.0)) (below_all bytes_cmp key rows) below in
+    ap (λ o. cond (is_lt o) (y ∷ rows_above (Some key) rows) (rows_above (Some key) rows)) (T-less (bytes_cmp key y.0) both.0) ∙ ap (λ (ys : Rows). y ∷ ys) (rows_above-behind key rows both.1)
 
 -- a row whose key isn't above falls away
 rows_above-not : (key : Key) (x : Key × Row) (rows : Rows) (o : Ordering) → bytes_cmp key x.0 ≡ o → is_lt o ≡ false → rows_above (Some key) (x ∷ rows) ≡ rows_above (Some key) rows
@@ -54,8 +43,8 @@ same_row a b e = cc
 below-found : (key : Key) (low : Option Key) (rows : Rows) (row : Key × Row) → T (below_all bytes_cmp key rows) → row_above low rows ≡ Some row → bytes_cmp key row.0 ≡ Less
 below-found key low [] row below is = cc
 below-found key low (y ∷ rows) row below is =
-    let both = parts (is_lt (bytes_cmp key y.0)) (below_all bytes_cmp key rows) below in
-    by (is_above low y.0) is (less (bytes_cmp key y.0) both.0) (below-found key low rows row both.1)
+    let both = T-parts (is_lt (bytes_cmp key y.0)) (below_all bytes_cmp key rows) below in
+    by (is_above low y.0) is (T-less (bytes_cmp key y.0) both.0) (below-found key low rows row both.1)
   where
     by : (b : Bool) → cond b (Some y) (row_above low rows) ≡ Some row → bytes_cmp key y.0 ≡ Less → (row_above low rows ≡ Some row → bytes_cmp key row.0 ≡ Less) → bytes_cmp key row.0 ≡ Less
     by true is first rest = subst (λ (r : Key × Row). bytes_cmp key r.0 ≡ Less) (same_row y row is) first
@@ -65,7 +54,7 @@ below-found key low (y ∷ rows) row below is =
 pub rows_above-next : (low : Option Key) (rows : Rows) (row : Key × Row) → T (is_sorted bytes_cmp rows) → row_above low rows ≡ Some row → rows_above low rows ≡ row ∷ rows_above (Some row.0) rows
 rows_above-next low [] row rises is = cc
 rows_above-next low (x ∷ rows) row rises is =
-    let both = parts (below_all bytes_cmp x.0 rows) (is_sorted bytes_cmp rows) rises in
+    let both = T-parts (below_all bytes_cmp x.0 rows) (is_sorted bytes_cmp rows) rises in
     by (is_above low x.0) refl is both.0 (rows_above-next low rows row both.1)
   where
     by : (b : Bool) → is_above low x.0 ≡ b → cond b (Some x) (row_above low rows) ≡ Some row → T (below_all bytes_cmp x.0 rows) →

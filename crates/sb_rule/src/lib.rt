@@ -15,6 +15,7 @@ pub use action::{Action, Pairs, Terms};
 pub use binding::bind;
 pub use change::Change;
 pub use lengths::{names_len, rule_len, tie_len};
+pub use parts::names_of;
 pub use reading::read_rule;
 pub use rule::{Event, Mode, Rule, Side};
 pub use writing::write_rule;

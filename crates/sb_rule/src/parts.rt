@@ -1,7 +1,7 @@
 //! The parts of rules, read from bytes.
 
-ghost use Rattle.std.specs.Prelude.{◌≡◌, ◌<◌, IfOk, MatchOption, FitsSigned, length, take};
-ghost use Rattle.std.specs.Int.{to_be_bytes, cast_unsigned, w64};
+ghost use Rattle.std.specs.Prelude.{◌≡◌, IfOk, FitsSigned};
+ghost use Rattle.std.specs.Int.{w64};
 ghost use Rattle.std.specs.List.{flat_map};
 ghost use Rattle.sb_pred.specs.Reading.{Finds, IsSmall};
 ghost use Rattle.sb_pred.specs.Spelling.{name_spelling, term_spelling, pred_spelling, IsStorableName, IsStorableTerm};
@@ -10,7 +10,7 @@ ghost use Rattle.sb_rule.specs.Spelling.{number_spelling, names_spelling, terms_
 
 use crate::{Action, Pairs, Terms};
 use sb_pred::{Pred, Term, name_of, read_pred, term_of};
-use sb_value::{Names, Str};
+use sb_value::{Names, Str, int_of};
 use std::alloc::{AllocError, Global};
 
 /// A predicate of at most 32 nodes.
@@ -20,18 +20,6 @@ pub(crate) fn pred_of(alloc: Global, bytes: &[u8]) -> Result<Option<(Pred, &[u8]
     match read_pred(alloc, bytes, 0)? {
         Some((pred, end)) => Ok(Some((pred, &bytes[end..]))),
         None => Ok(None),
-    }
-}
-
-/// The number in the first 8 bytes, where there are as many.
-fn int_of(bytes: &[u8]) -> Option<i64>
-    ensures { MatchOption result (length bytes.now < 8) (λ n. FitsSigned w64 n × (take 8 bytes.now ≡ to_be_bytes w64 (cast_unsigned w64 n))) }
-{
-    match bytes {
-        [a, b, c, d, e, f, g, h, ..] => {
-            Some(i64::from_be_bytes([*a, *b, *c, *d, *e, *f, *g, *h]))
-        }
-        _ => None,
     }
 }
 
@@ -57,7 +45,8 @@ fn take_names(alloc: Global, count: u8, bytes: &[u8]) -> Result<Option<(Names, &
     Ok(Some((Names::from_vec(names), rest)))
 }
 
-pub(crate) fn names_of(alloc: Global, bytes: &[u8]) -> Result<Option<(Names, &[u8])>, AllocError>
+/// Names behind their number, and the bytes behind them; `None` exactly where no names that can be stored stand there.
+pub fn names_of(alloc: Global, bytes: &[u8]) -> Result<Option<(Names, &[u8])>, AllocError>
     ensures { IfOk result (λ r. Finds (IsShortList IsStorableName) names_spelling bytes.now r) }
 {
     let [count, rest @ ..] = bytes else {

@@ -1,6 +1,7 @@
 -- What a check answers to each call is what its rule says.
 use Rattle.std.proofs.Common.{◌≡◌, ℕ, ◌==◌, Bool, true, false, not, ◌||◌, cond, List, [], length, Option, Some, None, inl, inr, refl, ap, sym, ◌∙◌, subst}
 use Rattle.std.specs.List.{list_any, list_all}
+use Rattle.std.proofs.lemmas.Bool.{not-true, not-false}
 use Rattle.sb_codec.specs.Tuples.{IsTuple, tuple_spelling}
 use Rattle.sb_value.specs.Fits.{Fits}
 use Rattle.sb_pred.specs.Tree.{Tree}
@@ -168,15 +169,7 @@ pub Looks-passed : (inst : Instance) (entry : List ℕ) (old : View) (pred : Tre
 Looks-passed inst entry old pred deferred keeps passed = looks 5 inst entry old Done tt tt tt tt (λ P rule db stands buckets before.
     entry_test inst pred deferred entry rule db keeps stands ∙ none_fails inst.schema pred entry passed (rows_at db inst.relation) (rows_are check inst rule db stands).each)
 
--- of the row that the entry spells it doesn't hold: the keys that are found say whether a row has its values
-not_true : (b : Bool) → not b ≡ true → b ≡ false
-not_true false e = refl
-not_true true e = cc
-
-not_false : (b : Bool) → not b ≡ false → b ≡ true
-not_false true e = refl
-not_false false e = cc
-
+-- ---- of the row that the entry spells it doesn't hold: the keys that are found say whether a row has its values
 -- a row that was read of an entry, and fails
 pub record FailsAt (inst : Instance) (pred : Tree) (entry : List ℕ) (row : Row) : Type 0 where
   pub tuple : IsTuple row
@@ -199,12 +192,12 @@ late_by inst pred deferred entry row names c P keys t is keeps are known failed 
     by true is = λ rule db stands buckets before.
         entry_test inst pred deferred entry rule db keeps stands
         ∙ none_stands_so inst.schema pred entry names row failed.tuple failed.spelled (rows_at db inst.relation) (rows_are check inst rule db stands).each
-        (not_true (list_any (λ r. has_values inst.schema names (values_in inst.schema row names) r.1) (rows_at db inst.relation)) (sym (some rule db stands before.found) ∙ is))
+        (not-true (list_any (λ r. has_values inst.schema names (values_in inst.schema row names) r.1) (rows_at db inst.relation)) (sym (some rule db stands before.found) ∙ is))
     by false is = λ rule db stands buckets before.
         ap (λ r. holds (Some (plain_rules 5)) db inst.relation r) (keeps rule stands.spelled)
         ∙ ap (λ s. list_all (λ row. truth s None (Some row.1) pred) (rows_at db inst.relation)) (schema_is check inst rule db stands)
         ∙ whole_fails inst.schema pred names row are failed.fits failed.fails (rows_at db inst.relation) (rows_are check inst rule db stands).each
-        (not_false (list_any (λ r. has_values inst.schema names (values_in inst.schema row names) r.1) (rows_at db inst.relation)) (sym (some rule db stands before.found) ∙ is))
+        (not-false (list_any (λ r. has_values inst.schema names (values_in inst.schema row names) r.1) (rows_at db inst.relation)) (sym (some rule db stands before.found) ∙ is))
 
 late_asked : (inst : Instance) (pred : Tree) (deferred : Bool) (entry : List ℕ) (row : Row) (names : List Name) (old : View) (known : Option (List Key)) → Keeps inst pred deferred
     → AreNames inst.schema names → found_of old inst.relation names (values_in inst.schema row names) ≡ known → FailsAt inst pred entry row

@@ -3,8 +3,7 @@ use Rattle.std.proofs.Common.{zero, suc, ◌≡◌, ℕ, ◌+◌, ◌<◌, ◌�
 use Rattle.std.specs.List.{position_from, filter_map, cons_option, slice_get, IsDistinct, AllByRecursion}
 use Rattle.std.specs.Str.{bytes_eq}
 use Rattle.std.proofs.lemmas.Iterator.Adapters.{position_from-zero}
-use Rattle.std.proofs.lemmas.List.Elements.{All-nil, All-head, All-tail, All-more, All-weaker, All-same, filter_map-append}
-use Rattle.std.proofs.Math.Seq.{take-suc}
+use Rattle.std.proofs.lemmas.List.Elements.{All-nil, All-head, All-tail, All-more, All-weaker, All-same}
 use Rattle.std.proofs.lemmas.List.{take_all}
 use Rattle.std.proofs.lemmas.Option.{slice_get_read}
 use Rattle.sb_value.specs.declared.value.Value.{Value}
@@ -258,13 +257,3 @@ AreNames-all schema i names past so_far = record {
   all = All-same (λ d. is_in names d.name ≡ true) schema (take i schema) (sym (take_all i schema past)) so_far.all;
   named = so_far.named;
 }
-
--- one name more, with the value under it where there is one
-pub values_in-more : (schema : List Column) (row : Row) (names : List Name) (i : ℕ) (name : Name) (o : Option Value) → i < length names → name ≡ get_or names i name
-    → column_value schema (Some row) name ≡ o → values_in schema row (take (i + 1) names) ≡ values_in schema row (take i names) ++ cons_option o []
-values_in-more schema row names i name o within at is =
-    let h : Name → Option Value = column_value schema (Some row) in
-    ap (λ n. filter_map h (take n names)) (add-one i)
-    ∙ ap (filter_map h) (take-suc names i name within ∙ ap (λ n. take i names ++ n ∷ []) (sym at))
-    ∙ filter_map-append h (take i names) (name ∷ [])
-    ∙ ap (λ p. filter_map h (take i names) ++ cons_option p []) is

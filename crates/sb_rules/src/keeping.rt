@@ -1,15 +1,14 @@
 //! What instances keep.
 
 ghost use Rattle.std.specs.Prelude.{◌≡◌, IfOk};
-ghost use Rattle.sb_relation.specs.Db.{values_in};
 ghost use Rattle.sb_ctx.specs.Attachment.{IsInstance};
 ghost use Rattle.sb_rules.specs.Checks.{check, is_in, AreNames, Keeps};
 ghost use Rattle.sb_rules.specs.Triggers.{trigger, KeepsTrigger};
 
 use sb_ctx::Instance;
-use sb_pred::{Pred, column_value};
+use sb_pred::Pred;
 use sb_relation::{Action, Event, Rule, read_rule};
-use sb_value::{Names, Schema, Str, Tuple};
+use sb_value::{Names, Schema, Str};
 use std::alloc::{AllocError, Global};
 
 /// The predicate that each row passes, and whether new rows are tested at the commit.
@@ -77,22 +76,4 @@ pub fn names_of(alloc: Global, schema: &Schema) -> Result<Names, AllocError>
         }
     }
     Ok(Names::from_vec(names))
-}
-
-/// The row's values under these names.
-pub fn values_of(
-    alloc: Global,
-    schema: &Schema,
-    row: &Tuple,
-    names: &Names,
-) -> Result<Tuple, AllocError>
-    ensures { IfOk result (λ values. values ≡ values_in schema.now row.now names.now) }
-{
-    let mut values = Vec::new(alloc);
-    for name in names.as_slice() {
-        if let Some(value) = column_value(schema, row, name) {
-            values.push(value.copy()?)?;
-        }
-    }
-    Ok(Tuple::from_vec(values))
 }

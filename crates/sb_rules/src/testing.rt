@@ -7,9 +7,10 @@ ghost use Rattle.sb_ctx.specs.declared.moves.Move.TheVariants.{Find as Finds};
 ghost use Rattle.sb_rules.specs.Pageless.{IsOrMemory};
 ghost use Rattle.sb_rules.specs.Checks.{verdict_of, queued, IsAsked};
 
-use crate::keeping::{names_of, values_of};
+use crate::keeping::names_of;
 use sb_codec::encode_tuple;
 use sb_ctx::{Actions, Checks, Ctx, Instance, Move};
+use sb_relation::values_of;
 use sb_value::{Names, Tuple};
 use std::alloc::{AllocError, Global};
 

@@ -12,6 +12,7 @@ use Rattle.sb_value.specs.declared.value.Value.{Value}
 use Rattle.sb_value.specs.declared.value.Value.TheVariants.{Int, Text}
 use Rattle.sb_value.specs.Fits.{is_of_kind, first_misfit, is_within, is_short_enough}
 use Rattle.sb_value.specs.Spelling.{IsStorable}
+use Rattle.sb_value.proofs.FitsLemmas.{misfit_parts}
 use Rattle.sb_codec.specs.Tuples.{tuple_spelling}
 use Rattle.sb_pred.specs.declared.predicate.Term.TheVariants.{Const}
 use Rattle.sb_pred.specs.declared.predicate.Term.{Term}
@@ -31,11 +32,6 @@ use Rattle.sb_plain.proofs.SoundLemmas.{all_at}
 use Rattle.sb_said.specs.Written.{IsWrittenValue, IsLimited}
 
 -- ---- texts and their columns
-misfit_parts : (b : Bool) (rest : Option ℕ) → cond b (option_map suc rest) (Some 0) ≡ None → (b ≡ true) × (rest ≡ None)
-misfit_parts true None e = (refl, refl)
-misfit_parts true (Some n) e = absurd (cc)
-misfit_parts false rest e = absurd (cc)
-
 value_short : (c : Column) (v : Value) → IsLimited c → is_within c v ≡ true → IsWrittenValue v → IsStorable v
 value_short c (Int n) limited within written = written
 value_short c (Text s) limited within written = (written, omega (arith, leb-true (length s) c.limit within, limited))

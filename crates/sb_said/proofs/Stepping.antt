@@ -1,5 +1,5 @@
 -- Steps of commands that are written.
-use Rattle.std.proofs.Common.{◌≡◌, ◌<◌, ℕ, Bool, true, false, ◌||◌, List, [], ◌∷◌, length, Option, Some, None, is_none, refl, sym, subst, ◌∙◌}
+use Rattle.std.proofs.Common.{◌≡◌, ◌<◌, ℕ, Bool, true, false, ◌||◌, List, [], ◌∷◌, length, Option, Some, None, refl, sym, subst, ◌∙◌}
 use Rattle.std.specs.Prelude.{All, nat_le, nat_lt}
 use Rattle.std.specs.List.{list_any}
 use Rattle.std.proofs.lemmas.Bool.{true≢false, and_parts, or_parts, ltb-false, leb-true, leb-false}
@@ -7,6 +7,7 @@ use Rattle.std.proofs.lemmas.List.Elements.{All-nil, All-cons, All-head, All-tai
 use Rattle.sb_value.specs.declared.schema.Kind.TheVariants as kind
 use Rattle.sb_value.specs.declared.value.Value.TheVariants.{Int, Text}
 use Rattle.sb_value.specs.Fits.{first_misfit, is_short_enough}
+use Rattle.sb_value.proofs.Truths.{is_none-none}
 use Rattle.sb_codec.specs.Tuples.{IsTuple}
 use Rattle.sb_pred.specs.declared.predicate.Term.{Term}
 use Rattle.sb_pred.specs.declared.predicate.Term.TheVariants.{Const, New, Old}
@@ -147,10 +148,6 @@ rule_short : (rule : Rule) → is_large_rule rule ≡ false → RulePutsWritten 
 rule_short (Trigger on pred act deferred) small written = action_short act (or_parts (nat_lt 32 (node_count pred) || has_long_text pred) (has_long_term act) small).1 written
 rule_short _ small written = tt
 
-no_misfit : (o : Option ℕ) → is_none o ≡ true → o ≡ None
-no_misfit None e = refl
-no_misfit (Some n) e = absurd (cc)
-
 module _ (ext : Extensions) (s : State) (picks : List Key) (within : IsLawfulWithin ext s) where
   abbrev now : State
   now = step.if_up s
@@ -218,7 +215,7 @@ module _ (ext : Extensions) (s : State) (picks : List Key) (within : IsLawfulWit
       of_refused : (first : Option Refusal) → refused ext s (command.Insert relation values) ≡ first → HasLawfulDatabases ext (step.tested ext now (command.Insert relation values) picks first).state
       of_refused (Some r) e = up_lawful
       of_refused None e =
-          of_short e (no_misfit (first_misfit (schema_at (view s) relation) values) (is_kinded ext s (command.Insert relation values) e)) (is_short_enough (schema_at (view s) relation) values) refl
+          of_short e (is_none-none (first_misfit (schema_at (view s) relation) values) (is_kinded ext s (command.Insert relation values) e)) (is_short_enough (schema_at (view s) relation) values) refl
 
   updated : (relation : Name) (at : Key) (values : Row) → IsWrittenRow values → HasLawfulDatabases ext (step.step ext s (command.Update relation at values) picks).state
   updated relation at values row = of_refused (refused ext s (command.Update relation at values)) refl
@@ -233,7 +230,7 @@ module _ (ext : Extensions) (s : State) (picks : List Key) (within : IsLawfulWit
       of_refused : (first : Option Refusal) → refused ext s (command.Update relation at values) ≡ first → HasLawfulDatabases ext (step.tested ext now (command.Update relation at values) picks first).state
       of_refused (Some r) e = up_lawful
       of_refused None e =
-          of_short e (no_misfit (first_misfit (schema_at (view s) relation) values) (is_kinded ext s (command.Update relation at values) e)) (is_short_enough (schema_at (view s) relation) values) refl
+          of_short e (is_none-none (first_misfit (schema_at (view s) relation) values) (is_kinded ext s (command.Update relation at values) e)) (is_short_enough (schema_at (view s) relation) values) refl
 
   -- ---- a column is set to a text that is too long
   module _ (relation column : Name) (t : List ℕ) (pairs : List (Name × Term)) (long : 255 < length t) where

@@ -39,10 +39,6 @@ use Rattle.sb_session.proofs.PointLemmas.{AreInOrder-push, AreInOrder-take, AreS
 use Rattle.sb_session.proofs.Stepped.{Stepped, Stepped-abort, Stepped-begin, Stepped-checkpoint, Stepped-rollback, Stepped-savepoint, at_point}
 use Rattle.sb_session.proofs.StepLemmas.{Steps-down, Steps-exists, Steps-limit, Steps-misplaced, Steps-no_name}
 
-pub none_of : {A : Type 0} (o : Option A) → is_some o ≡ false → o ≡ None
-none_of None is = refl
-none_of (Some x) is = absurd (false≢true (sym is))
-
 -- a session is within a transaction where the state is
 inside_both : (m : Meanings) (place : Place) (want : Wanted) (db : Db) (p : Parts) (o : Option Open) (t : Option PlainTransaction) → IsOpenFor m place want db p o t → is_some t ≡ is_some o
 inside_both m place want db p None None opened = refl

@@ -3,6 +3,7 @@ use Rattle.std.proofs.Common.{◌≡◌, ℕ, ◌==◌, Bool, true, false, cond,
 use Rattle.std.proofs.lemmas.Bool.{false≢true}
 use Rattle.std.specs.List.{find}
 use Rattle.std.proofs.lemmas.List.Elements.{All-cons, All-head, All-map, All-nil, All-same, All-tail}
+use Rattle.sb_value.proofs.Searches.{find-none}
 use Rattle.sb_rule.specs.declared.rule.Rule.{Rule}
 use Rattle.sb_rule.specs.Spelling.{rule_code}
 use Rattle.sb_relation.specs.Db
@@ -21,7 +22,7 @@ use Rattle.sb_opened.specs.Opened.{IsDurable}
 use Rattle.sb_plain.specs.Refusing.{first_attached, first_kept_by}
 use Rattle.sb_vectors.specs.Vectors.{AreSameBoxes, Registers, Retires}
 use Rattle.sb_vectors.proofs.CodesLemmas.{AreSingle}
-use Rattle.sb_session.proofs.MoveLists.{found_more, found_moved, found_without, none_passes}
+use Rattle.sb_session.proofs.MoveLists.{found_more, found_moved, found_without}
 
 abbrev pub method_code : Method → ℕ
 method_code m = m.rules.code
@@ -196,7 +197,7 @@ module _ (code : ℕ) where
   pub unused_method : (m : Meanings) (root : ℕ) (s : Slots) (gone : List ℕ) (kept : List Kept) → Keeps m IsDurable root s gone kept → first_kept_by code (db_of kept) ≡ None
       → All (λ k. (k.descriptor.method == code) ≡ false) kept
   unused_method m root s gone kept keeps none = λ i d h.
-      ap (λ (c : ℕ). c == code) (keeps.tables.each i d h).is.method ∙ unkept kept (none_passes is_kept_by (db_of kept) (none_found (find is_kept_by (db_of kept)) none)) i d h
+      ap (λ (c : ℕ). c == code) (keeps.tables.each i d h).is.method ∙ unkept kept (find-none is_kept_by (db_of kept) (none_found (find is_kept_by (db_of kept)) none)) i d h
 
   -- an attachment of the code
   abbrev has_that_code : Db.Attached → Bool
@@ -210,7 +211,7 @@ module _ (code : ℕ) where
           → (first_attached (λ name a. has_that_code a) (db_of kept) ≡ None → All (λ k. All (λ a. has_that_code a ≡ false) k.relation.attachments) kept)
           → All (λ k. All (λ a. has_that_code a ≡ false) k.relation.attachments) (k ∷ kept)
       by None is rest =
-          All-cons (λ k. All (λ a. has_that_code a ≡ false) k.relation.attachments) k kept (none_passes has_that_code k.relation.attachments is)
+          All-cons (λ k. All (λ a. has_that_code a ≡ false) k.relation.attachments) k kept (find-none has_that_code k.relation.attachments is)
           (rest (sym (ap (λ (o : Option Db.Attached). elim o as (λ c. Option (Name × Name)) [ None ↦ first_attached (λ name a. has_that_code a) (db_of kept) | Some a ↦ Some (k.name, a.name) ]) is) ∙ none))
       by (Some a) is rest =
           absurd (let e : Some (k.name, a.name) ≡ None =

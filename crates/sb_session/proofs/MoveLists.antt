@@ -1,9 +1,8 @@
 -- What is found in lists from which a box goes, and to which it comes.
-use Rattle.std.proofs.Common.{◌≡◌, ℕ, ◌+◌, ◌≤◌, ◌==◌, Bool, true, false, cond, List, [], ◌∷◌, ◌++◌, map, All, Option, Some, None, is_some, refl, sym, ap, ◌∙◌, subst, arith, eqb-true, eq-eqb}
+use Rattle.std.proofs.Common.{◌≡◌, ℕ, ◌+◌, ◌≤◌, ◌==◌, Bool, true, false, cond, List, [], ◌∷◌, ◌++◌, map, Option, Some, None, is_some, refl, sym, ap, ◌∙◌, subst, arith, eqb-true, eq-eqb}
 use Rattle.std.specs.List.{find}
 use Rattle.std.specs.Option.{option_or}
 use Rattle.std.proofs.lemmas.List.{map-append}
-use Rattle.std.proofs.lemmas.List.Elements.{All-cons, All-nil}
 use Rattle.std.proofs.lemmas.List.Folds.{find-append}
 use Rattle.sb_vectors.proofs.CodesLemmas.{AreSingle, times, times-append}
 
@@ -68,12 +67,3 @@ module _ {A : Type 0} (code_in : A → ℕ) where
           (found_single first b last new ∙ sym (found_single front b back old))
       by false not =
           found_without (λ a. code_in a == c) first b last not ∙ ap (find (λ a. code_in a == c)) (sym same) ∙ sym (found_without (λ a. code_in a == c) front b back not)
-
--- ---- where none is found
-pub none_passes : {A : Type 0} (p : A → Bool) (xs : List A) → find p xs ≡ None → All (λ x. p x ≡ false) xs
-none_passes p [] none = All-nil (λ x. p x ≡ false)
-none_passes p (x ∷ xs) none = by (none_passes p xs) (p x) refl
-  where
-    by : (find p xs ≡ None → All (λ y. p y ≡ false) xs) → (t : Bool) → p x ≡ t → All (λ y. p y ≡ false) (x ∷ xs)
-    by rest true is = absurd (let e : Some x ≡ None = sym (ap (λ (t : Bool). cond t (Some x) (find p xs)) is) ∙ none in cc)
-    by rest false is = All-cons (λ y. p y ≡ false) x xs is (rest (sym (ap (λ (t : Bool). cond t (Some x) (find p xs)) is) ∙ none))

@@ -5,8 +5,9 @@ use Rattle.std.proofs.lemmas.List.Elements.{All-weaker}
 use Rattle.sb_rule.specs.declared.rule.Rule.{Rule}
 use Rattle.sb_rule.specs.declared.rule.Rule.TheVariants.{Foreign}
 use Rattle.sb_relation.specs.Db.{Name, Attached, Relation, Db}
+use Rattle.sb_relation.specs.Laws.{is_foreign}
 use Rattle.sb_fold.specs.Extensions.{Extensions}
-use Rattle.sb_plain.specs.Lawful.{IsLawful, IsSound, IsSoundNow, AllHold, MayBeOpen, is_foreign, is_deferred}
+use Rattle.sb_plain.specs.Lawful.{IsLawful, IsSound, IsSoundNow, AllHold, MayBeOpen, is_deferred}
 use Rattle.sb_plain.specs.State.{Transaction}
 use Rattle.sb_plain.proofs.SoundLemmas.{HoldsAt}
 use Rattle.sb_lawful_rows.specs.States as rows

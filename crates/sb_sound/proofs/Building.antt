@@ -6,6 +6,7 @@ use Rattle.std.specs.Str.{bytes_eq}
 use Rattle.std.specs.FinMap.Entries.{where_key}
 use Rattle.std.proofs.lemmas.List.Elements.{All-nil, All-cons, All-head, All-tail, All-filter, All-weaker}
 use Rattle.sb_value.specs.Order.{bytes_cmp}
+use Rattle.sb_value.proofs.Searches.{find-none}
 use Rattle.sb_rule.specs.declared.rule.Side.TheVariants.{Main, Mirror}
 use Rattle.sb_rule.specs.declared.rule.Rule.{Rule}
 use Rattle.sb_rule.specs.declared.rule.Rule.TheVariants.{TreeIndex, HashIndex, JoinIndex, Stats, Check, Refers, Trigger, Foreign}
@@ -21,7 +22,7 @@ use Rattle.sb_plain.specs.Printing.{is_mirror}
 use Rattle.sb_plain.specs.Refusing.{ties_to, first_attached}
 use Rattle.sb_plain.proofs.SoundLemmas.{all_at, HoldsAt}
 use Rattle.sb_deferred.proofs.RelationLemmas.{rows_of, schema_of, attachments_of, relation_same, relation_other, same_read}
-use Rattle.sb_lawful.proofs.Items.{itself, none_found, same_or_apart}
+use Rattle.sb_lawful.proofs.Items.{itself, same_or_apart}
 use Rattle.sb_lawful.proofs.Places.{relation_without}
 use Rattle.sb_lawful.proofs.Sparing.{Places, spare, IsSpared, gone_rule, spared_rule, gone_mirrors, spared_mirrors, items_spared}
 use Rattle.sb_sound.proofs.Holding.{IsOfOurs, HoldsMain, HoldMains, IsSameAt, SameParents, same_parents, ParentsStay, parents_stay, main_stays}
@@ -103,7 +104,7 @@ module _ (ext : Extensions) (meant : Rule → Bool) (of : IsOfOurs meant) where
     where
       by : (o : Option Attached) → find (is_meant name) r.attachments ≡ o → (elim o as (λ _. Option (Name × Name)) [ None ↦ first_attached is_meant db | Some a ↦ Some (name, a.name) ]) ≡ None
           → (first_attached is_meant db ≡ None → All (λ x. All (λ a. is_meant x.0 a ≡ false) x.1.attachments) db) → All (λ x. All (λ a. is_meant x.0 a ≡ false) x.1.attachments) ((name, r) ∷ db)
-      by None is none rest = All-cons (λ x. All (λ a. is_meant x.0 a ≡ false) x.1.attachments) (name, r) db (none_found (is_meant name) r.attachments is) (rest none)
+      by None is none rest = All-cons (λ x. All (λ a. is_meant x.0 a ≡ false) x.1.attachments) (name, r) db (find-none (is_meant name) r.attachments is) (rest none)
       by (Some a) is none rest = absurd (cc)
 
   untied : (db : Db) (name : Name) → first_attached (ties name) db ≡ None → (n : Name) → All (λ a. ties name n a ≡ false) (attachments_at db n)

@@ -14,9 +14,10 @@ use Rattle.sb_relation.specs.Build.{main_of}
 use Rattle.sb_relation.specs.Db.{Name, Key, Row, Attached, Relation, Db, relation_at, rows_at, schema_at, values_in}
 use Rattle.sb_relation.specs.Rules.{has_values, has_row_with, is_unique}
 use Rattle.sb_relation.proofs.RuleLaws.{mirrors-mirror}
+use Rattle.sb_relation.specs.Laws.{is_foreign}
 use Rattle.sb_fold.specs.Extensions.{Extensions}
 use Rattle.sb_fold.specs.Fold.{attachments_at}
-use Rattle.sb_plain.specs.Lawful.{IsMirrorOf, IsLawfulRelation, IsLawful, AllHold, is_foreign, is_deferred}
+use Rattle.sb_plain.specs.Lawful.{IsMirrorOf, IsLawfulRelation, IsLawful, AllHold, is_deferred}
 use Rattle.sb_plain.specs.Printing.{is_mirror}
 use Rattle.sb_plain.proofs.SoundLemmas.{all_at, attached, HoldsAt}
 use Rattle.sb_deferred.proofs.RelationLemmas.{attachments_of, rule_found}

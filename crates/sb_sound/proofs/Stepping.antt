@@ -5,13 +5,14 @@ use Rattle.std.proofs.lemmas.Bool.{and_parts}
 use Rattle.std.proofs.lemmas.List.Elements.{All-nil, All-cons, All-head, All-tail, All-weaker}
 use Rattle.sb_relation.specs.Db.{Key, Db}
 use Rattle.sb_rule.specs.declared.rule.Rule.{Rule}
+use Rattle.sb_relation.specs.Laws.{is_foreign}
 use Rattle.sb_fold.specs.declared.refusal.Refusal.{Refusal}
 use Rattle.sb_fold.specs.Building.{create, drop_relation, build, detach}
 use Rattle.sb_fold.specs.Extensions.{Extensions}
 use Rattle.sb_fold.specs.Outcome.{Outcome, Gives, Stopped, NoStep, Work}
 use Rattle.sb_plain.specs.declared.command.Command.{Command}
 use Rattle.sb_plain.specs.declared.command.Command.TheVariants as command
-use Rattle.sb_plain.specs.Lawful.{IsLawful, IsSound, IsSoundNow, IsLawfulPoint, MayBeOpen, IsLawfulState, is_foreign, is_deferred}
+use Rattle.sb_plain.specs.Lawful.{IsLawful, IsSound, IsSoundNow, IsLawfulPoint, MayBeOpen, IsLawfulState, is_deferred}
 use Rattle.sb_plain.specs.Refusing.{refused}
 use Rattle.sb_plain.specs.State.{Codes, Point, Transaction, State, going_of, with_spent, kept}
 use Rattle.sb_plain.specs.Step as step

@@ -1,7 +1,8 @@
 -- Steps of commands on rows, and of commits, leave a state whose rules hold.
-use Rattle.std.proofs.Common.{◌≡◌, ℕ, true, List, [], ◌∷◌, Option, Some, None, is_none, refl, sym, subst}
+use Rattle.std.proofs.Common.{◌≡◌, true, List, [], ◌∷◌, Option, Some, None, refl, sym, subst}
 use Rattle.std.proofs.lemmas.List.Elements.{All-nil, All-cons, All-append}
 use Rattle.sb_value.specs.Fits.{first_misfit}
+use Rattle.sb_value.proofs.Truths.{is_none-none}
 use Rattle.sb_relation.specs.Db.{Name, Key, Db, schema_at}
 use Rattle.sb_relation.specs.Fits.{first_missing}
 use Rattle.sb_fold.specs.declared.refusal.Refusal.{Refusal}
@@ -80,10 +81,6 @@ pub changing_sound : (ext : Extensions) (s : State) (picks : List Key) (work : W
 changing_sound ext s picks work state given = in_changing ext s picks work s.transaction state state.open_one given
 
 -- ---- commands on rows
-no_misfit : (o : Option ℕ) → is_none o ≡ true → o ≡ None
-no_misfit None e = refl
-no_misfit (Some n) e = absurd (cc)
-
 module _ (ext : Extensions) (s : State) (picks : List Key) (lawful : HasLawfulDatabases ext (step.if_up s)) (state : IsLawfulState ext (step.if_up s)) where
   abbrev start : Going
   start = going_of (step.if_up s) picks
@@ -101,11 +98,11 @@ module _ (ext : Extensions) (s : State) (picks : List Key) (lawful : HasLawfulDa
 
   row_turn : (c : Command) → IsRowCommand c → first_missing (view s) (relations_of c) ≡ None → is_well_kinded ext (view s) c ≡ true
       → IsLawfulState ext (step.carry_out ext (step.if_up s) c picks (step.work_of ext c)).state
-  row_turn (command.Insert relation values) is there fits = keyed_turn relation (Put values) (is, no_misfit (first_misfit (schema_at (view s) relation) values) fits)
+  row_turn (command.Insert relation values) is there fits = keyed_turn relation (Put values) (is, is_none-none (first_misfit (schema_at (view s) relation) values) fits)
   row_turn (command.Delete relation at) is there fits =
       changing_sound ext (step.if_up s) picks (step.plainly (first_change ext relation (Remove at))) state
       (made_next (IsSoundWork ext) (IsSoundWork ext) (first_change ext relation (Remove at) start) (λ _. made step.Plain) (wish_works relation (Remove at) tt) (λ key g sound. sound))
-  row_turn (command.Update relation at values) is there fits = keyed_turn relation (Replace at values) (is, no_misfit (first_misfit (schema_at (view s) relation) values) fits)
+  row_turn (command.Update relation at values) is there fits = keyed_turn relation (Replace at values) (is, is_none-none (first_misfit (schema_at (view s) relation) values) fits)
   row_turn (command.Act a) is there fits =
       changing_sound ext (step.if_up s) picks (λ going. continue (λ n. made (step.Counts n)) (act (first_change ext) a going)) state
       (made_next (IsSoundWork ext) (IsSoundWork ext) (act (first_change ext) a start) (λ n. made (step.Counts n))

@@ -4,7 +4,7 @@ use Rattle.std.specs.Prelude.{All}
 use Rattle.std.specs.List.{find, flat_map, list_any, list_all}
 use Rattle.std.specs.Str.{bytes_eq}
 use Rattle.std.specs.FinMap.Entries.{is_sorted, is_sorted-where_key}
-use Rattle.std.proofs.lemmas.Bool.{and_left, and_right, and_from, or_left, or_right, or_cases}
+use Rattle.std.proofs.lemmas.Bool.{and_left, and_right, and_from, or_left, or_right, or_cases, not-true}
 use Rattle.std.proofs.lemmas.List.Elements.{All-nil, All-cons, All-map}
 use Rattle.std.proofs.lemmas.List.Folds.{list_any-append}
 use Rattle.std.proofs.lemmas.Option.{same_Some}
@@ -28,14 +28,14 @@ use Rattle.sb_relation.specs.Changes.{changed, changed_rows, with_change, of_new
 use Rattle.sb_relation.specs.Db.{Name, Key, Row, Rows, Attached, Relation, Db, relation_at, with_relation, rows_at, schema_at, row_at, values_in, without_row}
 use Rattle.sb_relation.specs.Fits.{kinds_at, are_one_kind}
 use Rattle.sb_relation.specs.Rules.{has_values, has_row_with, values_at, is_unique, admits, cascade, delete_those, follows}
-use Rattle.sb_fold.specs.Building.{rule_at}
+use Rattle.sb_fold.specs.Building.{rule_at, HasMirror}
 use Rattle.sb_fold.specs.Extensions.{Extensions, box_of}
 use Rattle.sb_fold.specs.Fold.{attachments_at, vetoing, following}
 use Rattle.sb_fold.specs.Wishes.{is_match}
 use Rattle.sb_cascade.proofs.Staying.{changed_columns}
-use Rattle.sb_plain.specs.Lawful.{HasMirror, IsLawful}
+use Rattle.sb_plain.specs.Lawful.{IsLawful}
 use Rattle.sb_plain.proofs.SoundLemmas.{attached}
-use Rattle.sb_plain.proofs.UniqueLemmas.{it_isn't, all_put, all_filter, is_other, unique_put, unique_filter}
+use Rattle.sb_plain.proofs.UniqueLemmas.{all_put, all_filter, is_other, unique_put, unique_filter}
 use Rattle.sb_deferred.specs.Complete.{IsChangeOf}
 use Rattle.sb_deferred.proofs.RelationLemmas.{rows_of, schema_of, attachments_of, relation_same, relation_other, rule_found, changed_is}
 use Rattle.sb_deferred.proofs.RowLemmas.{IsOfOld, any_changed}
@@ -81,11 +81,11 @@ admits_all ext db name c (a ∷ items) none = by (admits (box_of ext a.rule) db 
 -- ---- rules that see one relation's rows alone
 unique_after : (schema : List Column) (rows : Rows) (columns : List Name) (c : Change) → T (is_sorted bytes_cmp rows) → is_unique schema columns rows ≡ true
     → of_new c (λ key new. not (list_any (is_other schema columns key new) (changed_rows rows c))) ≡ true → is_unique schema columns (changed_rows rows c) ≡ true
-unique_after schema rows columns (change.Insert key new) rises unique admitted = unique_put schema columns key new rows rises unique (it_isn't _ admitted)
+unique_after schema rows columns (change.Insert key new) rises unique admitted = unique_put schema columns key new rows rises unique (not-true _ admitted)
 unique_after schema rows columns (change.Delete key old) rises unique admitted = unique_filter schema columns (λ row. not (bytes_eq row.0 key)) rows unique
 unique_after schema rows columns (change.Update from old to new) rises unique admitted =
     unique_put schema columns to new (without_row rows from) (is_sorted-where_key bytes_cmp (λ k. not (bytes_eq k from)) rows rises)
-    (unique_filter schema columns (λ row. not (bytes_eq row.0 from)) rows unique) (it_isn't _ admitted)
+    (unique_filter schema columns (λ row. not (bytes_eq row.0 from)) rows unique) (not-true _ admitted)
 
 each_after : (test : Row → Bool) (rows : Rows) (c : Change) → list_all (λ row. test row.1) rows ≡ true → of_new c (λ key new. test new) ≡ true → list_all (λ row. test row.1) (changed_rows rows c) ≡ true
 each_after test rows (change.Insert key new) all admitted = all_put test key new rows all admitted

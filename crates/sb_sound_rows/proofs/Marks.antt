@@ -23,11 +23,12 @@ use Rattle.sb_relation.specs.Db.{Name, Key, Row, Attached, Relation, Db, relatio
 use Rattle.sb_relation.specs.Fits.{kinds_at, are_one_kind}
 use Rattle.sb_relation.specs.Rules.{has_row_with, is_unique, refers_to, values_at}
 use Rattle.sb_relation.proofs.RuleLaws.{mirrors-mirror}
-use Rattle.sb_fold.specs.Building.{without_rule}
+use Rattle.sb_relation.specs.Laws.{is_foreign}
+use Rattle.sb_fold.specs.Building.{without_rule, HasMirror}
 use Rattle.sb_fold.specs.Extensions.{Extensions}
 use Rattle.sb_fold.specs.Fold.{attachments_at}
 use Rattle.sb_fold.specs.Wishes.{Wish, is_match}
-use Rattle.sb_plain.specs.Lawful.{MayBeAttached, HasMirror, IsMirrorOf, IsRowOf, IsLawfulRelation, IsLawful, IsSoundNow, is_foreign, is_deferred}
+use Rattle.sb_plain.specs.Lawful.{MayBeAttached, IsMirrorOf, IsRowOf, IsLawfulRelation, IsLawful, IsSoundNow, is_deferred}
 use Rattle.sb_plain.specs.Printing.{is_mirror}
 use Rattle.sb_plain.proofs.SoundLemmas.{all_at, attached, HoldsAt}
 use Rattle.sb_deferred.proofs.RelationLemmas.{rows_of, schema_of, attachments_of, rule_found}

@@ -8,6 +8,7 @@ use Rattle.std.proofs.lemmas.Bool.{and_parts, ltb-true}
 use Rattle.std.proofs.lemmas.Option.{same_Some}
 use Rattle.sb_value.specs.Equal.{bytes_same}
 use Rattle.sb_value.specs.Order.{bytes_cmp}
+use Rattle.sb_value.proofs.Truths.{is_none-none}
 use Rattle.sb_pred.specs.Columns.{column_value}
 use Rattle.sb_rule.specs.declared.change.Change.{Change}
 use Rattle.sb_rule.specs.declared.change.Change.TheVariants as change
@@ -27,17 +28,13 @@ use Rattle.sb_sound_rows.proofs.Rows.{goes}
 abbrev IsFree : Rows → Option Key → Key → Type 0
 IsFree rows own key = (own ≡ Some key) ⊎ (row_at rows key ≡ None)
 
-none_there : {A : Type 0} (o : Option A) → is_none o ≡ true → o ≡ None
-none_there None is = refl
-none_there (Some x) is = absurd (cc)
-
 freed : (rows : Rows) (own : Option Key) (key : Key) → is_free rows own key ≡ true → IsFree rows own key
-freed rows None key is = inr (none_there (row_at rows key) is)
+freed rows None key is = inr (is_none-none (row_at rows key) is)
 freed rows (Some own) key is = by (bytes_eq own key) refl is
   where
     by : (b : Bool) → bytes_eq own key ≡ b → (b || is_none (row_at rows key)) ≡ true → IsFree rows (Some own) key
     by true same it = inl (ap (λ (k : Key). Some k) ((bytes_same own key).0 same))
-    by false differs it = inr (none_there (row_at rows key) it)
+    by false differs it = inr (is_none-none (row_at rows key) it)
 
 of_pick : (may : Key → Bool) (picks : List Key) (g : Going) → OfGiven (λ key new. may key ≡ true) (pick may picks g)
 of_pick may [] g = tt

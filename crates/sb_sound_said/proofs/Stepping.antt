@@ -1,5 +1,5 @@
 -- Steps of commands that are written leave the rules to hold.
-use Rattle.std.proofs.Common.{◌≡◌, ◌<◌, ℕ, Bool, true, false, ◌||◌, List, [], ◌∷◌, length, Option, Some, None, is_none, refl, sym, subst, ◌∙◌}
+use Rattle.std.proofs.Common.{◌≡◌, ◌<◌, ℕ, Bool, true, false, ◌||◌, List, [], ◌∷◌, length, Option, Some, None, refl, sym, subst, ◌∙◌}
 use Rattle.std.specs.Prelude.{All, nat_le, nat_lt}
 use Rattle.std.specs.List.{list_any}
 use Rattle.std.proofs.lemmas.Bool.{true≢false, and_parts, or_parts, ltb-false, leb-true, leb-false}
@@ -7,6 +7,7 @@ use Rattle.std.proofs.lemmas.List.Elements.{All-nil, All-cons, All-head, All-tai
 use Rattle.sb_value.specs.declared.schema.Kind.TheVariants as kind
 use Rattle.sb_value.specs.declared.value.Value.TheVariants.{Int, Text}
 use Rattle.sb_value.specs.Fits.{first_misfit, is_short_enough}
+use Rattle.sb_value.proofs.Truths.{is_none-none}
 use Rattle.sb_codec.specs.Tuples.{IsTuple}
 use Rattle.sb_pred.specs.declared.predicate.Term.{Term}
 use Rattle.sb_pred.specs.declared.predicate.Term.TheVariants.{Const, New, Old}
@@ -86,10 +87,6 @@ rule_short : (rule : Rule) → is_large_rule rule ≡ false → RulePutsWritten 
 rule_short (Trigger on pred act deferred) small written = action_short act (or_parts (nat_lt 32 (node_count pred) || has_long_text pred) (has_long_term act) small).1 written
 rule_short _ small written = tt
 
-no_misfit : (o : Option ℕ) → is_none o ≡ true → o ≡ None
-no_misfit None e = refl
-no_misfit (Some n) e = absurd (cc)
-
 module _ (ext : Extensions) (s : State) (picks : List Key) (sound : IsSoundWithin ext s) where
   abbrev now : State
   now = step.if_up s
@@ -157,7 +154,7 @@ module _ (ext : Extensions) (s : State) (picks : List Key) (sound : IsSoundWithi
       by : (first : Option Refusal) → refused ext s (command.Insert relation values) ≡ first → IsLawfulState ext (step.tested ext now (command.Insert relation values) picks first).state
       by (Some r) e = up_sound
       by None e =
-          row_sound (command.Insert relation values) relation values (no_misfit (first_misfit (schema_at (view s) relation) values) (is_kinded ext s (command.Insert relation values) e)) (λ tuple. tuple) row e
+          row_sound (command.Insert relation values) relation values (is_none-none (first_misfit (schema_at (view s) relation) values) (is_kinded ext s (command.Insert relation values) e)) (λ tuple. tuple) row e
           (λ long. keyed_halts relation (Put values) (put_halts ext 16 relation values start (at_start relation values long)))
 
   updated : (relation : Name) (at : Key) (values : Row) → IsWrittenRow values → IsLawfulState ext (step.step ext s (command.Update relation at values) picks).state
@@ -166,7 +163,7 @@ module _ (ext : Extensions) (s : State) (picks : List Key) (sound : IsSoundWithi
       by : (first : Option Refusal) → refused ext s (command.Update relation at values) ≡ first → IsLawfulState ext (step.tested ext now (command.Update relation at values) picks first).state
       by (Some r) e = up_sound
       by None e =
-          row_sound (command.Update relation at values) relation values (no_misfit (first_misfit (schema_at (view s) relation) values) (is_kinded ext s (command.Update relation at values) e)) (λ tuple. tuple) row e
+          row_sound (command.Update relation at values) relation values (is_none-none (first_misfit (schema_at (view s) relation) values) (is_kinded ext s (command.Update relation at values) e)) (λ tuple. tuple) row e
           (λ long. keyed_halts relation (Replace at values) (replace_halts ext 16 relation values start at (at_start relation values long)))
 
   -- ---- a column is set to a text that is too long

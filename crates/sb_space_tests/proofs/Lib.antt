@@ -1,1 +1,2 @@
 pub mod Scribing
+pub mod Made

@@ -9,6 +9,7 @@ use Rattle.std.proofs.lemmas.Map.Text.{is_eq-slice_cmp}
 use Rattle.std.proofs.lemmas.Option.{same_Some}
 use Rattle.sb_value.specs.Equal.{bytes_same}
 use Rattle.sb_value.specs.Order.{bytes_cmp}
+use Rattle.sb_value.proofs.Truths.{T-parts}
 use Rattle.sb_rule.specs.declared.change.Change.{Change}
 use Rattle.sb_relation.specs.Buckets.{grown}
 use Rattle.sb_relation.specs.Changes.{changed, changed_rows, with_change}
@@ -22,10 +23,6 @@ use Rattle.sb_standing.proofs.ChangedLemmas.{after_change, relation_at-changed}
 use Rattle.sb_standing.proofs.KeptLemmas.{tied_name, kept_at-name, relation_at-kept}
 
 -- ---- one relation of a name
-both_parts : (a b : Bool) → T (a && b) → T a × T b
-both_parts true b is = (tt, is)
-both_parts false b is = absurd is
-
 below_apart : (o : Ordering) → T (is_lt o) → is_eq o ≡ true → ⊥
 below_apart Less is tied = true≢false (sym tied)
 below_apart Equal is tied = is
@@ -34,7 +31,7 @@ below_apart Greater is tied = is
 none_below : (name : Name) (kept : List Kept) → T (below_all bytes_cmp name (db_of kept)) → All (λ k. bytes_eq k.name name ≡ true → ⊥) kept
 none_below name [] below = All-nil (λ (k : Kept). bytes_eq k.name name ≡ true → ⊥)
 none_below name (k ∷ kept) below =
-    let parts = both_parts (is_lt (bytes_cmp name k.name)) (below_all bytes_cmp name (db_of kept)) below in
+    let parts = T-parts (is_lt (bytes_cmp name k.name)) (below_all bytes_cmp name (db_of kept)) below in
     All-cons (λ (x : Kept). bytes_eq x.name name ≡ true → ⊥) k kept (λ same. below_apart (bytes_cmp name k.name) parts.0 (tied_name name k.name ∙ same)) (none_below name kept parts.1)
 
 pub kept_at-only : (kept : List Kept) (name : Name) (k : Kept) → T (is_sorted bytes_cmp (db_of kept)) → kept_at kept name ≡ Some k → All (λ x. bytes_eq x.name name ≡ true → x ≡ k) kept
@@ -42,7 +39,7 @@ kept_at-only [] name k rising at = absurd (cc)
 kept_at-only (x ∷ kept) name k rising at = by (bytes_eq x.name name) refl (kept_at-only kept name k parts.1) at
   where
     parts : T (below_all bytes_cmp x.name (db_of kept)) × T (is_sorted bytes_cmp (db_of kept))
-    parts = both_parts (below_all bytes_cmp x.name (db_of kept)) (is_sorted bytes_cmp (db_of kept)) rising
+    parts = T-parts (below_all bytes_cmp x.name (db_of kept)) (is_sorted bytes_cmp (db_of kept)) rising
 
     by : (b : Bool) → bytes_eq x.name name ≡ b → (kept_at kept name ≡ Some k → All (λ y. bytes_eq y.name name ≡ true → y ≡ k) kept) → cond b (Some x) (kept_at kept name) ≡ Some k →
         All (λ y. bytes_eq y.name name ≡ true → y ≡ k) (x ∷ kept)

@@ -1,8 +1,9 @@
 -- Rows, changes and roots that the boxes' laws tell of.
-use Rattle.std.proofs.Common.{◌≡◌, ◌≢◌, ℕ, zero, suc, ◌==◌, Bool, true, false, true≢false, ◌||◌, ◌&&◌, cond, is_eq, List, [], ◌∷◌, All, get_or, Option, Some, None, IfSome, refl, sym, ap, subst, ◌∙◌}
+use Rattle.std.proofs.Common.{◌≡◌, ◌≢◌, ℕ, zero, suc, ◌==◌, Bool, true, false, ◌||◌, ◌&&◌, cond, is_eq, List, [], ◌∷◌, All, get_or, Option, Some, None, IfSome, sym, ap, subst, ◌∙◌}
 use Rattle.std.specs.List.{list_any, slice_get}
 use Rattle.std.proofs.lemmas.List.Elements.{All-head, All-tail}
 use Rattle.std.proofs.lemmas.Option.{same_Some}
+use Rattle.std.proofs.lemmas.Bool.{or_parts}
 use Rattle.sb_value.specs.declared.schema.Column.{Column}
 use Rattle.sb_value.specs.Fits.{Fits}
 use Rattle.sb_value.specs.Order.{bytes_cmp}
@@ -10,7 +11,7 @@ use Rattle.sb_rule.specs.declared.change.Change.{Change}
 use Rattle.sb_rule.specs.declared.change.Change.TheVariants as change
 use Rattle.sb_rule.specs.Bound.{row_before, row_after}
 use Rattle.sb_relation.specs.Db
-use Rattle.sb_relation.specs.Db.{Name, Key, Row, Rows, Relation, relation_at, row_at, tree}
+use Rattle.sb_relation.specs.Db.{Key, Row, Rows, Relation, relation_at, row_at, tree}
 use Rattle.sb_relation.specs.Lawful.{IsRow, AreRows, is_long_code, is_long_row, is_long_for, is_too_long}
 use Rattle.sb_ctx.specs.declared.instance.Instance.{Instance}
 use Rattle.sb_ctx.specs.Attachment.{AreLawful, MayHold, MayMeet, IsChangeOf}
@@ -66,19 +67,15 @@ old_fits schema rows (change.Insert key new) are of = tt
 old_fits schema rows (change.Delete key old) are of = (row_at-all (λ (e : Key × Row). IsRow schema e.1) rows key old are.each of).1.fits
 old_fits schema rows (change.Update from old to new) are of = (row_at-all (λ (e : Key × Row). IsRow schema e.1) rows from old are.each of.0).1.fits
 
-neither : (a b : Bool) → (a || b) ≡ false → (a ≡ false) × (b ≡ false)
-neither true b is = absurd (true≢false is)
-neither false b is = (refl, is)
-
 -- no code that an attachment keeps of the row is too long
 none_long : (schema : List Column) (row : Row) (others : List Db.Attached) (i : ℕ) (a : Db.Attached) → list_any (λ x. is_long_for schema row x.rule) others ≡ false → slice_get others i ≡ Some a → is_long_for schema row a.rule ≡ false
 none_long schema row [] i a none at = absurd (cc)
-none_long schema row (x ∷ others) zero a none at = ap (λ (y : Db.Attached). is_long_for schema row y.rule) (sym (same_Some x a at)) ∙ (neither (is_long_for schema row x.rule) (list_any (λ y. is_long_for schema row y.rule) others) none).0
-none_long schema row (x ∷ others) (suc i) a none at = none_long schema row others i a (neither (is_long_for schema row x.rule) (list_any (λ y. is_long_for schema row y.rule) others) none).1 at
+none_long schema row (x ∷ others) zero a none at = ap (λ (y : Db.Attached). is_long_for schema row y.rule) (sym (same_Some x a at)) ∙ (or_parts (is_long_for schema row x.rule) (list_any (λ y. is_long_for schema row y.rule) others) none).0
+none_long schema row (x ∷ others) (suc i) a none at = none_long schema row others i a (or_parts (is_long_for schema row x.rule) (list_any (λ y. is_long_for schema row y.rule) others) none).1 at
 
 last_false : (r : Relation) (row : Row) → is_too_long r row ≡ false → list_any (λ a. is_long_for r.schema row a.rule) r.attachments ≡ false
 last_false r row is =
-    (neither (is_long_row r.schema row || (r.method == tree && is_long_code r.schema r.key row)) (list_any (λ (a : Db.Attached). is_long_for r.schema row a.rule) r.attachments) is).1
+    (or_parts (is_long_row r.schema row || (r.method == tree && is_long_code r.schema r.key row)) (list_any (λ (a : Db.Attached). is_long_for r.schema row a.rule) r.attachments) is).1
 
 some_weaker : {A : Type 0} (o : Option A) (P Q : A → Type 0) → ((x : A) → P x → Q x) → IfSome o P → IfSome o Q
 some_weaker None P Q weaker h = h

@@ -2,12 +2,13 @@
 use Rattle.std.proofs.Common.{◌≡◌, Bool, true, false, cond, not, ◌&&◌, T, List, [], ◌∷◌, map, All, Option, Some, None, Ordering, Less, Equal, Greater, bytes_eq, refl, sym, ap, subst, ◌∙◌, true≢false}
 use Rattle.std.specs.FinMap.Entries.{by_order, put, where_key, below_all, is_sorted, is_sorted-put, is_sorted-where_key}
 use Rattle.std.specs.Ordering.{is_eq, is_lt}
-use Rattle.std.proofs.lemmas.Bool.{and_parts}
+use Rattle.std.proofs.lemmas.Bool.{and_parts, not-true}
 use Rattle.std.proofs.lemmas.Cmp.{nat_list_cmp_total}
 use Rattle.std.proofs.lemmas.List.Elements.{All-head, All-tail, All-cons, All-nil, All-weaker, All-filter, filter_passes}
 use Rattle.std.proofs.lemmas.Map.Text.{is_eq-slice_cmp}
 use Rattle.sb_value.specs.Equal.{bytes_same}
 use Rattle.sb_value.specs.Order.{bytes_cmp}
+use Rattle.sb_value.proofs.Truths.{T-true, true-T}
 use Rattle.sb_node.specs.Entries.{key_cmp}
 use Rattle.sb_relation.specs.Db.{Name, with_relation}
 use Rattle.sb_catalog.specs.Descriptors.{descriptor_spelling}
@@ -102,15 +103,11 @@ entries-without name kept = map-without (λ o. descriptor_spelling o.descriptor)
 pub rising-without : (name : Name) (kept : List Kept) → T (is_sorted bytes_cmp (db_of kept)) → T (is_sorted bytes_cmp (db_of (without_kept name kept)))
 rising-without name kept rising = subst (λ db. T (is_sorted bytes_cmp db)) (sym (db_of-without name kept)) (is_sorted-where_key bytes_cmp (λ n. not (bytes_eq n name)) (db_of kept) rising)
 
-not_true : (b : Bool) → not b ≡ true → b ≡ false
-not_true true is = absurd (true≢false (sym is))
-not_true false is = refl
-
 -- what is so of all is so of those of other names
 pub All-without : (P : Kept → Type 0) (name : Name) (kept : List Kept) → All P kept → All (λ k. (bytes_eq k.name name ≡ false) × P k) (without_kept name kept)
 All-without P name kept all n d h =
     let test : Kept → Bool = λ k. not (bytes_eq k.name name) in
-    (not_true _ (filter_passes test kept n d h), All-filter test P kept all n d h)
+    (not-true _ (filter_passes test kept n d h), All-filter test P kept all n d h)
 
 pub kept_at-without : (name : Name) (kept : List Kept) (n : Name) → bytes_eq n name ≡ false → kept_at (without_kept name kept) n ≡ kept_at kept n
 kept_at-without name [] n apart = refl
@@ -123,18 +120,11 @@ kept_at-without name (o ∷ kept) n apart = by (bytes_eq o.name name) refl (kept
     by false other rest = ap (λ x. cond (bytes_eq o.name n) (Some o) x) rest
 
 -- ---- in the order of names no two have one name
-pub to_true : (b : Bool) → T b → b ≡ true
-to_true true t = refl
-to_true false t = absurd t
-
-pub from_true : (b : Bool) → b ≡ true → T b
-from_true b is = subst T (sym is) tt
-
 -- the first is below all others, and those rise
 pub rising_parts : (k : Kept) (kept : List Kept) → T (is_sorted bytes_cmp (db_of (k ∷ kept))) → T (below_all bytes_cmp k.name (db_of kept)) × T (is_sorted bytes_cmp (db_of kept))
 rising_parts k kept rising =
-    let parts = and_parts (below_all bytes_cmp k.name (db_of kept)) (is_sorted bytes_cmp (db_of kept)) (to_true _ rising) in
-    (from_true _ parts.0, from_true _ parts.1)
+    let parts = and_parts (below_all bytes_cmp k.name (db_of kept)) (is_sorted bytes_cmp (db_of kept)) (T-true _ rising) in
+    (true-T _ parts.0, true-T _ parts.1)
 
 below_other : (a b : Name) → is_lt (bytes_cmp a b) ≡ true → bytes_eq b a ≡ false
 below_other a b less = turned_name a b (by (bytes_cmp a b) refl less)
@@ -146,14 +136,14 @@ below_other a b less = turned_name a b (by (bytes_cmp a b) refl less)
 
 below_parts : (name : Name) (o : Kept) (kept : List Kept) → T (below_all bytes_cmp name (db_of (o ∷ kept))) → (bytes_eq o.name name ≡ false) × T (below_all bytes_cmp name (db_of kept))
 below_parts name o kept below =
-    let parts = and_parts (is_lt (bytes_cmp name o.name)) (below_all bytes_cmp name (db_of kept)) (to_true _ below) in
-    (below_other name o.name parts.0, from_true _ parts.1)
+    let parts = and_parts (is_lt (bytes_cmp name o.name)) (below_all bytes_cmp name (db_of kept)) (T-true _ below) in
+    (below_other name o.name parts.0, true-T _ parts.1)
 
 pub below_less : (a b : Name) (kept : List Kept) → bytes_cmp a b ≡ Less → T (below_all bytes_cmp b (db_of kept)) → T (below_all bytes_cmp a (db_of kept))
 below_less a b [] is below = tt
 below_less a b (o ∷ kept) is below =
-    let parts = and_parts (is_lt (bytes_cmp b o.name)) (below_all bytes_cmp b (db_of kept)) (to_true _ below) in
-    from_true _ (λ i. ap is_lt (nat_list_cmp_total.trans a b o.name is (less (bytes_cmp b o.name) parts.0)) i && to_true _ (below_less a b kept is (from_true _ parts.1)) i)
+    let parts = and_parts (is_lt (bytes_cmp b o.name)) (below_all bytes_cmp b (db_of kept)) (T-true _ below) in
+    true-T _ (λ i. ap is_lt (nat_list_cmp_total.trans a b o.name is (less (bytes_cmp b o.name) parts.0)) i && T-true _ (below_less a b kept is (true-T _ parts.1)) i)
   where
     less : (r : Ordering) → is_lt r ≡ true → r ≡ Less
     less Less e = refl

@@ -1,8 +1,9 @@
 -- What is so where no test refuses a command.
-use Rattle.std.proofs.Common.{◌≡◌, ℕ, ◌==◌, ◌||◌, Bool, true, false, true≢false, cond, List, [], ◌∷◌, ◌++◌, map, Option, Some, None, is_some, is_none, option_map, refl, sym, ap, ◌∙◌, subst}
+use Rattle.std.proofs.Common.{◌≡◌, ℕ, ◌==◌, ◌||◌, Bool, true, false, true≢false, cond, List, [], ◌∷◌, map, Option, Some, None, is_none, option_map, refl, sym}
 use Rattle.std.specs.List.{AllByRecursion, find, list_any}
 use Rattle.std.specs.Option.{option_or}
 use Rattle.std.specs.Prelude.{not}
+use Rattle.std.proofs.lemmas.Bool.{not-false}
 use Rattle.sb_fold.specs.declared.refusal.Refusal.{Refusal}
 use Rattle.sb_fold.specs.declared.refusal.Refusal.TheVariants as refusal
 use Rattle.sb_fold.specs.Extensions.{Extensions}
@@ -37,10 +38,6 @@ pub none_mapped : {A B : Type 0} (f : A → B) (o : Option A) → option_map f o
 none_mapped f None e = refl
 none_mapped f (Some x) e = absurd (cc)
 
-not_false : (b : Bool) → not b ≡ false → b ≡ true
-not_false true e = refl
-not_false false e = absurd (true≢false e)
-
 pub passed : (ext : Extensions) (s : State) (c : Command) → refused ext s c ≡ None → IsPassed ext s c
 passed ext s c e =
     let a = all_none (tests ext s c) e in
@@ -51,7 +48,7 @@ passed ext s c e =
       named = none_mapped refusal.NoName (first_absent s c) a.1.1.1.1.0;
       coded = none_mapped refusal.NoExtension (missing_code s c) a.1.1.1.1.1.0;
       unused = none_mapped (λ (user : Name × Name). refusal.InUse user.0 user.1) (first_use (view s) c) a.1.1.1.1.1.1.0;
-      fits = not_false (is_well_kinded ext (view s) c) (not_refused (not (is_well_kinded ext (view s) c)) refusal.Mistyped a.1.1.1.1.1.1.1.0);
+      fits = not-false (is_well_kinded ext (view s) c) (not_refused (not (is_well_kinded ext (view s) c)) refusal.Mistyped a.1.1.1.1.1.1.1.0);
       alike = not_refused (is_mixed ext (view s) c) refusal.Mixed a.1.1.1.1.1.1.1.1.0;
       within = not_refused (passes_limits s c) refusal.Limit a.1.1.1.1.1.1.1.1.1.0;
     }
@@ -65,21 +62,9 @@ pub not_some : (b : Bool) (name : Name) → some_where b name ≡ None → b ≡
 not_some true name e = absurd (cc)
 not_some false name e = refl
 
-pub is_none_of : {A : Type 0} (o : Option A) → is_some o ≡ false → o ≡ None
-is_none_of None e = refl
-is_none_of (Some x) e = absurd (true≢false e)
-
-pub none_of : {A : Type 0} (o : Option A) → is_none o ≡ true → o ≡ None
-none_of None e = refl
-none_of (Some x) e = absurd (true≢false (sym e))
-
 pub some_of : {A : Type 0} (o : Option A) → is_none o ≡ false → (x : A) × (o ≡ Some x)
 some_of None e = absurd (true≢false e)
 some_of (Some x) e = (x, refl)
-
-pub both_false : (a b : Bool) → (a || b) ≡ false → (a ≡ false) × (b ≡ false)
-both_false true b e = absurd (true≢false e)
-both_false false b e = (refl, e)
 
 -- the first of the names isn't missing, and none of the others is
 pub found_first : {A : Type 0} (at : Name → Option A) (name : Name) (names : List Name) → find (λ n. is_none (at n)) (name ∷ names) ≡ None

@@ -1,56 +1,48 @@
 -- A posed command that no test refuses may be carried out.
-use Rattle.std.proofs.Common.{◌≡◌, ℕ, ◌==◌, ◌||◌, ◌&&◌, Bool, true, false, true≢false, cond, List, [], ◌∷◌, ◌++◌, map, All, Option, Some, None, is_some, is_none, option_map, bytes_eq, refl, sym, ap, ◌∙◌, subst}
-use Rattle.std.specs.List.{find, list_any}
+use Rattle.std.proofs.Common.{◌≡◌, ℕ, ◌||◌, ◌&&◌, Bool, true, false, cond, List, [], ◌∷◌, map, All, Option, Some, None, is_some, is_none, option_map, bytes_eq, refl, sym, ap, ◌∙◌, subst}
+use Rattle.std.specs.List.{find}
 use Rattle.std.specs.Option.{option_or}
 use Rattle.std.specs.Ordering.{eq_by_cmp}
 use Rattle.std.specs.Prelude.{not}
-use Rattle.std.proofs.lemmas.List.Elements.{All-nil, All-cons, All-head, All-tail}
+use Rattle.std.proofs.lemmas.List.Elements.{All-nil, All-head, All-tail}
 use Rattle.std.proofs.lemmas.Map.Text.{is_eq-slice_cmp}
 use Rattle.std.proofs.lemmas.Option.{same_Some}
+use Rattle.std.proofs.lemmas.Bool.{or_parts}
 use Rattle.sb_value.specs.declared.schema.Column.{Column}
 use Rattle.sb_value.specs.Equal.{bytes_same}
 use Rattle.sb_value.specs.Fits.{first_misfit}
 use Rattle.sb_value.specs.Order.{bytes_cmp}
+use Rattle.sb_value.proofs.Truths.{is_none-none, is_some-none}
+use Rattle.sb_value.proofs.Searches.{find-none}
 use Rattle.sb_rule.specs.declared.rule.Rule.{Rule}
 use Rattle.sb_rule.specs.Spelling.{rule_code}
-use Rattle.sb_relation.specs.Build.{main_of, mirror_name, with_rule}
+use Rattle.sb_relation.specs.Build.{main_of, with_rule}
 use Rattle.sb_relation.specs.Db.{Name, Attached, Relation, Db, relation_at, schema_at}
-use Rattle.sb_relation.specs.Fits.{action_places, first_missing, first_unnamed, method_fits, other_relations, places_in, relation_of, rule_fits, rule_places}
+use Rattle.sb_relation.specs.Fits.{action_places, first_unnamed, method_fits, other_relations, places_in, relation_of, rule_fits, rule_places}
 use Rattle.sb_relation.specs.Foreign.{AttachRules, MethodRules}
 use Rattle.sb_relation.specs.Limits.{has_large_descriptor, is_crowded, is_large_rule}
 use Rattle.sb_fold.specs.Building.{rule_at}
 use Rattle.sb_fold.specs.Extensions.{box_of, method_of as rules_of}
 use Rattle.sb_fold.specs.Fold.{attachments_at}
-use Rattle.sb_fold.specs.Outcome.{Going, Queue}
+use Rattle.sb_fold.specs.Outcome.{Going}
 use Rattle.sb_fold.specs.Wishes.{Put, Remove, Replace}
 use Rattle.sb_cascade.specs.Fitting.{IsFitting, IsFittingWish}
-use Rattle.sb_plain.specs.declared.command.Command.{Command}
 use Rattle.sb_plain.specs.declared.command.Command.TheVariants as command
-use Rattle.sb_plain.specs.Refusing.{code_where, first_attached, first_twice, is_misplaced, refused, rule_twice, some_where, ties_to}
-use Rattle.sb_plain.specs.State.{Codes, State, has_code, has_waiting, view}
+use Rattle.sb_plain.specs.Refusing.{code_where, first_attached, first_twice, rule_twice, some_where, ties_to}
+use Rattle.sb_plain.specs.State.{Codes, State, has_code, view}
 use Rattle.sb_ctx.specs.Method.{Method}
 use Rattle.sb_ctx.specs.Attachment.{Attachment}
 use Rattle.sb_registry.specs.Boxes.{Meanings, attachment_of, method_of}
-use Rattle.sb_vectors.specs.Vectors.{codes_in}
 use Rattle.sb_vectors.proofs.BoxLemmas.{method_in_two, rule_in_two}
 use Rattle.sb_engine.specs.Working.{ArePaired, HasMainOf, extensions_of}
-use Rattle.sb_statements.specs.Posed.{HasCodes, IsOfNoMirror, IsPosed, IsPosedRelation, IsPosedRule, IsWhere, TestedMayWork}
+use Rattle.sb_statements.specs.Posed.{HasCodes, IsOfNoMirror, IsPosedRelation, IsPosedRule, IsWhere, TestedMayWork}
 use Rattle.sb_tables.specs.Creation.{MayCreate}
 use Rattle.sb_tables.specs.Removal.{MayDrop}
 use Rattle.sb_building.specs.Attaching.{MayAttach}
 use Rattle.sb_building.specs.Detaching.{MayDetach}
-use Rattle.sb_statements.specs.Statements.{MayWork}
-use Rattle.sb_statements.proofs.PassedLemmas.{IsPassed, both_false, found_first, has_box, is_none_of, no_first, none_mapped, none_of, not_some, passed, some_of}
+use Rattle.sb_statements.proofs.PassedLemmas.{IsPassed, found_first, has_box, no_first, none_mapped, not_some, passed, some_of}
 
 -- ---- lists
-find_none : {A : Type 0} (p : A → Bool) (xs : List A) → find p xs ≡ None → All (λ x. p x ≡ false) xs
-find_none p [] e = All-nil (λ x. p x ≡ false)
-find_none p (x ∷ xs) e = of_test (p x) refl e (λ is. find_none p xs is)
-  where
-    of_test : (b : Bool) → p x ≡ b → cond b (Some x) (find p xs) ≡ None → (find p xs ≡ None → All (λ y. p y ≡ false) xs) → All (λ y. p y ≡ false) (x ∷ xs)
-    of_test true is e rest = absurd (cc)
-    of_test false is e rest = All-cons (λ y. p y ≡ false) x xs is (rest e)
-
 find_all : {A : Type 0} (P : A → Type 0) (p : A → Bool) (xs : List A) (x : A) → All P xs → find p xs ≡ Some x → P x × (p x ≡ true)
 find_all P p [] x all at = absurd (cc)
 find_all P p (y ∷ xs) x all at = of_test (p y) refl at (λ is. find_all P p xs x (All-tail P y xs all) is)
@@ -94,7 +86,7 @@ untied relation ((name, r) ∷ db) none other apart = of_test (eq_by_cmp bytes_c
     of_test true is rest =
         let same : other ≡ name = (bytes_same other name).0 (sym (is_eq-slice_cmp other name) ∙ is) in
         let far : bytes_eq name relation ≡ false = not_itself name relation (λ e. apart (same ∙ e)) in
-        find_none (λ a. ties_to relation a.rule) r.attachments
+        find-none (λ a. ties_to relation a.rule) r.attachments
         (ap (λ (b : Bool). find (λ a. not b && ties_to relation a.rule) r.attachments) (sym far) ∙ parts.0)
     of_test false is rest = rest parts.1
 
@@ -135,7 +127,7 @@ module _ (m : Meanings) (s : State) (g : Going) (is : IsWhere m s g) where
       let new = no_first (some_where (is_some (relation_at (view s) relation)) relation) (option_or (first_twice (map (λ c. c.name) schema)) (first_twice key)) p.new in
       let live = live_method m s method is.codes p.coded in
       record {
-        new = is_none_of (relation_at (view s) relation) (not_some (is_some (relation_at (view s) relation)) relation new.0);
+        new = is_some-none (relation_at (view s) relation) (not_some (is_some (relation_at (view s) relation)) relation new.0);
         box = live.0;
         live = live.1;
         durable = posed.outlives live.0 live.1;
@@ -165,11 +157,11 @@ module _ (m : Meanings) (s : State) (g : Going) (is : IsWhere m s g) where
       let live = live_rule m s (rule_code rule) is.codes p.coded in
       let own : schema_at (view s) relation ≡ there.0.0.schema =
       ap (λ (o : Option Relation). elim o as (λ _. List Column) [ None ↦ [] | Some r ↦ r.schema ]) there.0.1 in
-      let limits = both_false (is_large_rule rule || is_crowded (view s) relation rule) (has_large_descriptor relation rule (with_rule (view s) relation name rule)) p.within in
+      let limits = or_parts (is_large_rule rule || is_crowded (view s) relation rule) (has_large_descriptor relation rule (with_rule (view s) relation name rule)) p.within in
       record {
         own = there.0.0;
         there = there.0.1;
-        new = is_none_of (rule_at (view s) relation name) (not_some (is_some (rule_at (view s) relation name)) name new.0);
+        new = is_some-none (rule_at (view s) relation name) (not_some (is_some (rule_at (view s) relation name)) name new.0);
         box = live.0;
         live = live.1;
         stands = record {
@@ -186,7 +178,7 @@ module _ (m : Meanings) (s : State) (g : Going) (is : IsWhere m s g) where
         named = posed.named;
         label = posed.label;
         short = posed.short;
-        few = (both_false (is_large_rule rule) (is_crowded (view s) relation rule) limits.0).1;
+        few = (or_parts (is_large_rule rule) (is_crowded (view s) relation rule) limits.0).1;
         small = limits.1;
       }
 
@@ -214,13 +206,13 @@ tested-may-work m s g (command.Detach relation name) is posed none =
     subst (λ (db : Db). MayDetach db relation name) is.db (detaches m s g is relation name posed (passed (extensions_of m) s (command.Detach relation name) none))
 tested-may-work m s g (command.Insert relation values) is posed none =
     let p = passed (extensions_of m) s (command.Insert relation values) none in
-    subst (λ (db : Db). IsFittingWish db relation (Put values)) is.db (record { there = p.there; fits = none_of (first_misfit (schema_at (view s) relation) values) p.fits })
+    subst (λ (db : Db). IsFittingWish db relation (Put values)) is.db (record { there = p.there; fits = is_none-none (first_misfit (schema_at (view s) relation) values) p.fits })
 tested-may-work m s g (command.Delete relation at) is posed none =
     let p = passed (extensions_of m) s (command.Delete relation at) none in
     subst (λ (db : Db). IsFittingWish db relation (Remove at)) is.db (record { there = p.there; fits = tt })
 tested-may-work m s g (command.Update relation at values) is posed none =
     let p = passed (extensions_of m) s (command.Update relation at values) none in
-    subst (λ (db : Db). IsFittingWish db relation (Replace at values)) is.db (record { there = p.there; fits = none_of (first_misfit (schema_at (view s) relation) values) p.fits })
+    subst (λ (db : Db). IsFittingWish db relation (Replace at values)) is.db (record { there = p.there; fits = is_none-none (first_misfit (schema_at (view s) relation) values) p.fits })
 tested-may-work m s g (command.Act action) is posed none =
     let p = passed (extensions_of m) s (command.Act action) none in
     subst (λ (db : Db). IsFitting db action) is.db (record {

@@ -18,7 +18,7 @@ use Rattle.sb_forms.specs.Pages.{Pages}
 use Rattle.sb_forms.specs.Read.{read_tree}
 use Rattle.sb_ctx.specs.Laws.{IsMethod}
 use Rattle.sb_ctx.specs.Method.{Method}
-use Rattle.sb_fold.specs.Building.{rule_at}
+use Rattle.sb_fold.specs.Building.{rule_at, HasMirror}
 use Rattle.sb_fold.specs.Fold.{attachments_at}
 use Rattle.sb_drive.specs.declared.space.SpaceFault.{SpaceFault}
 use Rattle.sb_drive.specs.Slots.{Slots, owned}
@@ -38,7 +38,7 @@ use Rattle.sb_standing.proofs.KeptLemmas.{kept_at-no_relation}
 use Rattle.sb_standing.proofs.PagesLemmas.{HasRows-pages}
 use Rattle.sb_standing.proofs.PutLemmas.{All-put, db_of-put}
 use Rattle.sb_standing.proofs.RelationLemmas.{Keeps-created}
-use Rattle.sb_deferred.specs.Complete.{AreMirrored, HasMirror}
+use Rattle.sb_deferred.specs.Complete.{AreMirrored}
 use Rattle.sb_deferred.proofs.RelationLemmas.{all_found, attachments_of, relation_other, relation_same}
 use Rattle.sb_opened.specs.Opened.{IsDurable}
 use Rattle.sb_engine.specs.Refusals.{HasRefusalCause, refusal_of}

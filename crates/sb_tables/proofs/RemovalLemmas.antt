@@ -8,11 +8,11 @@ use Rattle.sb_value.specs.Equal.{bytes_same}
 use Rattle.sb_rule.specs.declared.rule.Rule.{Rule}
 use Rattle.sb_relation.specs.Build.{main_of, mirror_name, mirror_of}
 use Rattle.sb_relation.specs.Db.{Name, Attached, Relation, Db}
-use Rattle.sb_fold.specs.Building.{rule_at, without_mirrors, without_relation}
+use Rattle.sb_fold.specs.Building.{rule_at, without_mirrors, without_relation, HasMirror}
 use Rattle.sb_fold.specs.Fold.{attachments_at}
 use Rattle.sb_fold.specs.Outcome.{Queue}
 use Rattle.sb_plain.specs.Refusing.{ties_to}
-use Rattle.sb_deferred.specs.Complete.{AreMirrored, HasMirror, IsComplete}
+use Rattle.sb_deferred.specs.Complete.{AreMirrored, IsComplete}
 use Rattle.sb_deferred.specs.CompleteLaws.{is_child_of}
 use Rattle.sb_deferred.proofs.CatalogLemmas.{without-relation-complete}
 use Rattle.sb_deferred.proofs.RelationLemmas.{attachments_of, relation_gone, relation_left, rule_found}

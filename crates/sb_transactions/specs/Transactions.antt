@@ -81,7 +81,7 @@ pub record IsFirst (g : Going) : Type 0 where
   pub queue : g.queue ≡ nothing
   pub used : g.used ≡ []
 
--- no owner is to go, no action waits, and each deferred rule holds
+-- no owner is to go, and each deferred rule holds
 pub record IsFinished (m : Meanings) (g : Going) (w : Work) : Type 0 where
   pub gone : w.gone.items ≡ []
   pub holds : first_failing (extensions_of m) g.db g.db ≡ None

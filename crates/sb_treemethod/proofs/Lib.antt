@@ -3,7 +3,6 @@ pub mod RowsOf
 pub mod Few
 pub mod Counted
 pub mod TreeRows
-pub mod Columns
 pub mod Changing
 pub mod Within
 pub mod MethodLaws

@@ -17,7 +17,7 @@ use Rattle.sb_btree.specs.Ways.{is_on_way, is_on_next_ways}
 use Rattle.sb_ctx.specs.declared.calls.MethodCall.{MethodCall}
 use Rattle.sb_ctx.specs.declared.calls.MethodCall.TheVariants as call
 use Rattle.sb_ctx.specs.declared.instance.Instance.{Instance}
-use Rattle.sb_ctx.specs.Method.{Method, code_of}
+use Rattle.sb_ctx.specs.Method.{Method, code_of, plain_method}
 use Rattle.sb_ctx.specs.View.{HeldPages}
 
 -- durable, and for all relations with a key
@@ -48,9 +48,7 @@ has_stray inst held n = leads_to inst.root held n && not (list_all (is_row_entry
 
 -- Its rows are those of the tree at the root, which has at most two pages for each row, and three more.
 abbrev pub tree_method : Method
-tree_method = record {
-  rules = tree_rules;
-  read = λ inst P. tree_rows inst.root inst.schema inst.key P;
+tree_method = record (plain_method tree_rules (λ inst P. tree_rows inst.root inst.schema inst.key P)) {
   may_break = λ inst held n. breaks inst.root held n || has_stray inst held n;
   bound = plain_bound;
   cost = λ c rows. call_cost c (length rows);

@@ -2,14 +2,13 @@
 
 ghost use Rattle.std.specs.Prelude.{◌≡◌, IfOk};
 ghost use Rattle.sb_ctx.specs.Method.{code_of};
-ghost use Rattle.sb_relation.specs.Db.{values_in};
 ghost use Rattle.sb_relation.specs.Lawful.{IsRow};
 ghost use Rattle.sb_treemethod.specs.TreeMethod.{IsEntryOf};
 
 use sb_codec::{encode_tuple, ordered_key};
 use sb_ctx::Instance;
-use sb_pred::column_value;
-use sb_value::{Bytes, Names, RecKey, Schema, Tuple};
+use sb_relation::values_of;
+use sb_value::{Bytes, RecKey, Tuple};
 use std::alloc::{AllocError, Global};
 
 /// The record key of a row, and its spelling.
@@ -27,22 +26,4 @@ pub fn key_of(alloc: Global, inst: &Instance, row: &Tuple) -> Result<RecKey, All
 {
     let values = values_of(alloc, &inst.schema, row, &inst.key)?;
     ordered_key(alloc, &values)
-}
-
-/// The values of a row in the named columns; a column that isn't there has none.
-fn values_of(
-    alloc: Global,
-    schema: &Schema,
-    row: &Tuple,
-    names: &Names,
-) -> Result<Tuple, AllocError>
-    ensures { IfOk result (λ values. values ≡ values_in schema.now row.now names.now) }
-{
-    let mut values = Vec::new(alloc);
-    for name in names.as_slice() {
-        if let Some(value) = column_value(schema, row, name) {
-            values.push(value.copy()?)?;
-        }
-    }
-    Ok(Tuple::from_vec(values))
 }

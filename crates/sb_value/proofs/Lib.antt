@@ -1,3 +1,4 @@
 pub mod FitsLemmas
+pub mod Searches
 pub mod SpellingLemmas
 pub mod Truths

@@ -15,6 +15,6 @@ mod value;
 pub use bytes::{Bytes, RecKey};
 pub use lists::{Names, Schema, Tuple};
 pub use schema::{Column, Kind, TypeFault};
-pub use spelling::{put_value, take_value};
+pub use spelling::{int_of, put_value, take_value};
 pub use text::Str;
 pub use value::Value;

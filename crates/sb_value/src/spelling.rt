@@ -54,7 +54,7 @@ pub fn put_value(value: &Value, out: &mut Bytes) -> Result<(), AllocError>
 }
 
 /// The number in the first 8 bytes, where there are as many.
-fn int_of(bytes: &[u8]) -> Option<i64>
+pub fn int_of(bytes: &[u8]) -> Option<i64>
     ensures { MatchOption result (length bytes.now < 8) (λ n. FitsSigned w64 n × (take 8 bytes.now ≡ to_be_bytes w64 (cast_unsigned w64 n))) }
 {
     match bytes {

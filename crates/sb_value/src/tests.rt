@@ -2,7 +2,8 @@ ghost use Rattle.std.specs.Prelude.{◌≡◌, ◌≤◌, length};
 ghost use Rattle.sb_value.specs.Spelling.{IsShort};
 
 use crate::{
-    Bytes, Column, Kind, Names, RecKey, Schema, Str, Tuple, TypeFault, Value, put_value, take_value,
+    Bytes, Column, Kind, Names, RecKey, Schema, Str, Tuple, TypeFault, Value, int_of, put_value,
+    take_value,
 };
 use std::alloc::Global;
 use std::collections::{BTreeMap, HashMap};
@@ -83,7 +84,9 @@ fn spells_numbers(rt: HostRuntime) {
     for (number, spelling) in NUMBERS.iter() {
         assert!(rt; is_written(&rt, alloc, &Value::Int(*number), spelling));
         assert!(rt; is_read(&rt, alloc, spelling, 0, Value::Int(*number), 9));
+        assert!(rt; int_of(&spelling[1..]) == Some(*number));
     }
+    assert!(rt; int_of(&[0, 0, 0, 0, 0, 0, 0]).is_none());
 }
 
 #[test]

@@ -1,5 +1,5 @@
 -- How long the spelling of a row is, and the ordered code of some columns.
-use Rattle.std.proofs.Common.{◌≡◌, ℕ, suc, ◌*◌, ◌^◌, ◌<◌, ◌≤◌, Bool, true, false, cond, List, [], ◌∷◌, length, get_or, All, Option, Some, None, option_map, refl, ap, arith, length-append}
+use Rattle.std.proofs.Common.{◌≡◌, suc, ◌*◌, ◌^◌, ◌<◌, ◌≤◌, false, List, [], ◌∷◌, length, get_or, All, None, refl, ap, arith, length-append}
 use Rattle.std.specs.List.{flat_map}
 use Rattle.std.proofs.lemmas.List.Elements.{All-head, All-tail}
 use Rattle.sb_value.specs.declared.value.Value.{Value}
@@ -7,17 +7,13 @@ use Rattle.sb_value.specs.declared.value.Value.TheVariants.{Int, Text}
 use Rattle.sb_value.specs.declared.schema.Column.{Column}
 use Rattle.sb_value.specs.Fits.{Fits, first_misfit, is_of_kind}
 use Rattle.sb_value.specs.Spelling.{IsShort, IsStorable, value_spelling}
+use Rattle.sb_value.proofs.FitsLemmas.{misfit_parts}
 use Rattle.sb_codec.specs.Tuples.{tuple_spelling}
 use Rattle.sb_relation.specs.Db.{Row}
 use Rattle.sb_relation.specs.Lawful.{IsRow, is_long_row}
 use Rattle.sb_standing.specs.Tables.{IsWide}
 
 -- ---- rows that fit
-pub misfit_parts : (b : Bool) (rest : Option ℕ) → cond b (option_map suc rest) (Some 0) ≡ None → (b ≡ true) × (rest ≡ None)
-misfit_parts true None e = (refl, refl)
-misfit_parts true (Some n) e = absurd (cc)
-misfit_parts false rest e = absurd (cc)
-
 pub length-fits : (schema : List Column) (row : Row) → first_misfit schema row ≡ None → length row ≡ length schema
 length-fits [] [] fits = refl
 length-fits [] (v ∷ row) fits = absurd (cc)

@@ -1,10 +1,10 @@
 -- A row with another value in a column.
-use Rattle.std.proofs.Common.{◌≡◌, ℕ, zero, suc, ◌+◌, Bool, true, false, true≢false, not, List, [], ◌∷◌, length, Option, Some, None, option_map, refl, sym, ap, ◌∙◌, arith, set, Result, Ok, Err, IfOk, IfErr}
-use Rattle.std.specs.Prelude.{cond, nat_lt, option_and_then, ◌^◌, ℤ, pos, negsuc, ◌+ℤ◌, FitsSigned}
+use Rattle.std.proofs.Common.{◌≡◌, ℕ, zero, suc, ◌+◌, Bool, true, false, true≢false, List, [], ◌∷◌, Option, Some, None, option_map, refl, sym, ap, ◌∙◌, set}
+use Rattle.std.specs.Prelude.{cond, option_and_then, ◌^◌, ℤ, pos, negsuc, ◌+ℤ◌, FitsSigned}
 use Rattle.std.specs.Int.{w64}
-use Rattle.std.specs.List.{position, position_or_len, slice_get}
+use Rattle.std.specs.List.{position, slice_get}
 use Rattle.std.specs.Str.{bytes_eq}
-use Rattle.std.proofs.lemmas.Bool.{le-leb, lt-ltb, ltb-true}
+use Rattle.std.proofs.lemmas.Bool.{lt-ltb, ltb-true}
 use Rattle.std.proofs.lemmas.Option.{same_Some}
 use Rattle.sb_value.specs.declared.value.Value.{Value}
 use Rattle.sb_value.specs.declared.value.Value.TheVariants.{Int, Text}
@@ -12,31 +12,14 @@ use Rattle.sb_value.specs.declared.schema.Kind.{Kind}
 use Rattle.sb_value.specs.declared.schema.Kind.TheVariants as kind
 use Rattle.sb_value.specs.declared.schema.Column.{Column}
 use Rattle.sb_value.specs.Fits.{Fits, kind_of, is_of_kind, first_misfit}
+use Rattle.sb_value.proofs.FitsLemmas.{misfit_parts, misfit_none}
+use Rattle.sb_value.proofs.Searches.{position-cons}
 use Rattle.sb_pred.specs.Columns.{place_of, column_kind, column_value}
 use Rattle.sb_relation.specs.Db.{Name, Row}
 use Rattle.sb_fold.specs.declared.refusal.Refusal.TheVariants.{Range}
 use Rattle.sb_fold.specs.Outcome.{made, refuse}
 use Rattle.sb_fold.specs.Wishes.{is_i64, raised, with_value}
 use Rattle.sb_wishes.specs.Wished.{number_of}
-use Rattle.sb_wishes.proofs.LengthsLemmas.{misfit_parts}
-
--- ---- places
-less_less : (a b : ℕ) → nat_lt (1 + a) (suc b) ≡ nat_lt a b
-less_less a b = grind arith
-
--- the place of the first that passes, by whether the first of all does
-position_step : {X : Type 0} (p : X → Bool) (x : X) (xs : List X) → position p (x ∷ xs) ≡ cond (p x) (Some 0) (option_map suc (position p xs))
-position_step p x xs = of_test (p x)
-  where
-    of_less : (b : Bool) (n : ℕ) → cond b (Some (1 + n)) None ≡ option_map suc (cond b (Some n) None)
-    of_less true n = ap (λ (m : ℕ). Some m) (omega arith)
-    of_less false n = refl
-
-    of_test : (b : Bool) → (cond (nat_lt (cond (not b) (1 + position_or_len p xs) 0) (suc (length xs))) (Some (cond (not b) (1 + position_or_len p xs) 0)) None) ≡ cond b (Some 0) (option_map suc (position p xs))
-    of_test true = ap (λ (t : Bool). cond t (Some 0) None) (le-leb 1 (suc (length xs)) (omega arith))
-    of_test false =
-        ap (λ (t : Bool). cond t (Some (1 + position_or_len p xs)) None) (less_less (position_or_len p xs) (length xs))
-        ∙ of_less (nat_lt (position_or_len p xs) (length xs)) (position_or_len p xs)
 
 -- ---- the row with a value at a place
 abbrev set_at : Option ℕ → Row → Value → Row
@@ -56,7 +39,7 @@ with_value-set : (schema : List Column) (column : Name) (v : Value) (row : Row) 
 with_value-set [] column v row = refl
 with_value-set (c ∷ cs) column v [] = sym (set_none (place_of (c ∷ cs) column) v)
 with_value-set (c ∷ cs) column v (w ∷ row) =
-    of_test (bytes_eq c.name column) (with_value-set cs column v row) ∙ ap (λ (o : Option ℕ). set_at o (w ∷ row) v) (sym (position_step (λ x. bytes_eq x.name column) c cs))
+    of_test (bytes_eq c.name column) (with_value-set cs column v row) ∙ ap (λ (o : Option ℕ). set_at o (w ∷ row) v) (sym (position-cons (λ x. bytes_eq x.name column) c cs))
   where
     of_test : (b : Bool) → with_value cs column v row ≡ set_at (place_of cs column) row v → cond b (v ∷ row) (w ∷ with_value cs column v row) ≡ set_at (cond b (Some 0) (option_map suc (place_of cs column))) (w ∷ row) v
     of_test true rest = refl
@@ -70,9 +53,6 @@ of_its_kind : (v : Value) → is_of_kind (kind_of v) v ≡ true
 of_its_kind (Int n) = refl
 of_its_kind (Text s) = refl
 
-misfit_none : (b : Bool) (rest : Option ℕ) → b ≡ true → rest ≡ None → cond b (option_map suc rest) (Some 0) ≡ None
-misfit_none b rest e f = ap (λ (t : Bool). cond t (option_map suc rest) (Some 0)) e ∙ ap (option_map suc) f
-
 abbrev kind_in : List Column → Option ℕ → Option Kind
 kind_in schema place = option_map (λ c. c.kind) (option_and_then (λ i. slice_get schema i) place)
 
@@ -83,7 +63,7 @@ kind_behind c cs (Some i) = refl
 pub fits_with : (schema : List Column) (column : Name) (v : Value) (row : Row) → column_kind schema column ≡ Some (kind_of v) → first_misfit schema row ≡ None → first_misfit schema (with_value schema column v row) ≡ None
 fits_with [] column v row kinds fits = fits
 fits_with (c ∷ cs) column v [] kinds fits = absurd (cc)
-fits_with (c ∷ cs) column v (w ∷ row) kinds fits = of_test (bytes_eq c.name column) (ap (kind_in (c ∷ cs)) (sym (position_step (λ x. bytes_eq x.name column) c cs)) ∙ kinds) (λ k. fits_with cs column v row k (misfit_parts (is_of_kind c.kind w) (first_misfit cs row) fits).1)
+fits_with (c ∷ cs) column v (w ∷ row) kinds fits = of_test (bytes_eq c.name column) (ap (kind_in (c ∷ cs)) (sym (position-cons (λ x. bytes_eq x.name column) c cs)) ∙ kinds) (λ k. fits_with cs column v row k (misfit_parts (is_of_kind c.kind w) (first_misfit cs row) fits).1)
   where
     parts : (is_of_kind c.kind w ≡ true) × (first_misfit cs row ≡ None)
     parts = misfit_parts (is_of_kind c.kind w) (first_misfit cs row) fits
@@ -148,12 +128,3 @@ raised-range name schema column by row o n is out =
     no : (b : Bool) → is_i64 (n +ℤ by) ≡ b → is_i64 (n +ℤ by) ≡ false
     no true e = absurd (out (fits-is_i64 (n +ℤ by) e))
     no false e = e
-
--- ---- results
-pub IfOk-so : {A E : Type 0} (r : Result A E) (P Q : A → Type 0) → ((x : A) → P x → Q x) → IfOk r P → IfOk r Q
-IfOk-so (Ok x) P Q so is = so x is
-IfOk-so (Err e) P Q so is = tt
-
-pub IfErr-so : {A E : Type 0} (r : Result A E) (P Q : E → Type 0) → ((e : E) → P e → Q e) → IfErr r P → IfErr r Q
-IfErr-so (Ok x) P Q so is = tt
-IfErr-so (Err e) P Q so is = so e is

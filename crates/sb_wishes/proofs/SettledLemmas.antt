@@ -1,15 +1,16 @@
 -- What comes of an edit, by what the storage method answered.
-use Rattle.std.proofs.Common.{◌≡◌, ℕ, ◌<◌, ◌^◌, ◌-◌, ◌+◌, ◌⊎◌, inl, inr, Bool, true, false, true≢false, cond, ◌&&◌, ◌||◌, ◌==◌, List, [], ◌∷◌, ◌++◌, map, All, Option, Some, None, is_none, IfSome, refl, sym, ap, subst, ◌∙◌, append-nil, nat_lt}
+use Rattle.std.proofs.Common.{◌≡◌, ℕ, ◌<◌, ◌^◌, ◌-◌, ◌+◌, ◌⊎◌, inl, inr, Bool, true, false, cond, ◌&&◌, ◌||◌, ◌==◌, List, [], ◌∷◌, ◌++◌, map, All, Option, Some, None, is_none, IfSome, refl, sym, ap, subst, ◌∙◌, append-nil, nat_lt}
 use Rattle.std.specs.List.{list_any}
 use Rattle.std.specs.Int.{to_be_bytes, w64}
 use Rattle.std.specs.Str.{bytes_eq}
-use Rattle.std.proofs.lemmas.Bool.{and_parts, ltb-true}
+use Rattle.std.proofs.lemmas.Bool.{and_parts, ltb-true, or_parts}
 use Rattle.std.proofs.lemmas.Option.{same_Some}
 use Rattle.std.proofs.lemmas.List.Elements.{All-nil, All-cons}
 use Rattle.sb_value.specs.declared.schema.Column.{Column}
 use Rattle.sb_value.specs.Code.{ordered_code}
 use Rattle.sb_value.specs.Equal.{bytes_same}
 use Rattle.sb_value.specs.Fits.{Fits}
+use Rattle.sb_value.proofs.Truths.{is_none-none}
 use Rattle.sb_rule.specs.declared.change.Change.{Change}
 use Rattle.sb_rule.specs.declared.change.Change.TheVariants as change
 use Rattle.sb_rule.specs.declared.rule.Rule.{Rule}
@@ -60,10 +61,6 @@ keys-same : (inst : Instance) (rules : List Attached) (r : Relation) (own : Opti
 keys-same inst rules r own row t = λ i. new_keys (keying_of (sym t.method i)) r.rows own (ordered_code (values_in (sym t.schema i) row (sym t.key i)))
 
 -- what isn't too long may be taken
-or_parts : (a b : Bool) → a || b ≡ false → (a ≡ false) × (b ≡ false)
-or_parts true b e = absurd (true≢false e)
-or_parts false b e = (refl, e)
-
 coded_tree : (b c : Bool) → cond b Coded (cond c Counted Picked) ≡ Coded → b ≡ true
 coded_tree true c e = refl
 coded_tree false true e = absurd (cc)
@@ -90,17 +87,13 @@ none_long-for inst rules row short =
     (or_parts (is_long_row inst.schema row || (inst.code == tree && is_long_code inst.schema inst.key row)) (list_any (λ a. is_long_for inst.schema row a.rule) rules) short).1
 
 -- ---- the key
-none_there : {A : Type 0} (o : Option A) → is_none o ≡ true → o ≡ None
-none_there None is = refl
-none_there (Some x) is = absurd (true≢false (sym is))
-
 is_free-none : (rows : Rows) (own : Option Key) (key : Key) → is_free rows own key ≡ true → (own ≡ Some key) ⊎ (row_at rows key ≡ None)
-is_free-none rows None key is = inr (none_there (row_at rows key) is)
+is_free-none rows None key is = inr (is_none-none (row_at rows key) is)
 is_free-none rows (Some own) key is = by (bytes_eq own key) refl is
   where
     by : (b : Bool) → bytes_eq own key ≡ b → b || is_none (row_at rows key) ≡ true → (Some own ≡ Some key) ⊎ (row_at rows key ≡ None)
     by true e is = inl (ap (λ (k : Key). Some k) ((bytes_same own key).0 e))
-    by false e is = inr (none_there (row_at rows key) is)
+    by false e is = inr (is_none-none (row_at rows key) is)
 
 -- a key that a row got is its own, or no row has it
 free_placed : (keying : Keying) (rows : Rows) (own : Option Key) (code key : Key) (LeavesWith : Key → Type 0) (Same : Type 0)

@@ -1,5 +1,5 @@
 use Rattle.std.proofs.Common.{◌≡◌, ◌∙◌, List, Option, option_map, IfSome, is_none, sym, ap, subst}
-use Rattle.std.proofs.lemmas.Result.{IfOk-weaker}
+use Rattle.std.proofs.lemmas.Result.{IfOk-weaker, IfErr-weaker}
 use Rattle.sb_relation.specs.Db.{Name}
 use Rattle.sb_relation.specs.Fits.{first_unnamed, places_in}
 use Rattle.sb_ctx.specs.View.{keys_with}
@@ -11,7 +11,6 @@ use Rattle.sb_standing.specs.Standing.{StandRules}
 use Rattle.sb_standing.specs.Tables.{Kept, Tables, db_of}
 use Rattle.sb_opened.specs.declared.relation.OpenRelation.{OpenRelation}
 use Rattle.sb_opened.specs.Opened.{IsDurable, IsOpen}
-use Rattle.sb_asking.proofs.CallsLemmas.{IfErr-then}
 use Rattle.sb_asking.proofs.FindsLemmas.{IsAt-opened, keys_with-columnless, keys_with-opened, keys_with-unopened}
 use Rattle.sb_asking.proofs.finds.find_keys.Goals as goal
 
@@ -54,7 +53,7 @@ returns-clause-undamaged g c =
     let o = c.in-Some.opened in
     let name = c.args.relation.now in
     let is_open = subst (λ (x : Option OpenRelation). IfSome x (λ y. IsOpen m y × (y.name ≡ name))) c.in-Some.is c.in_ok-opened.ensures.opened in
-    IfErr-then c.keys_where.result _ (λ e. (want : Wanted) (s : Slots) (kept : List Kept) → g.S.PageSpace.has want s c.args.space.now → Tables m IsDurable c.args.place.root s kept → StandRules m IsDurable (db_of kept) kept → IsSound e)
+    IfErr-weaker c.keys_where.result _ (λ e. (want : Wanted) (s : Slots) (kept : List Kept) → g.S.PageSpace.has want s c.args.space.now → Tables m IsDurable c.args.place.root s kept → StandRules m IsDurable (db_of kept) kept → IsSound e)
     (λ e is want s kept has tables stand.
     let found = sym (ap (option_map (λ (y : OpenRelation). y.descriptor)) c.in-Some.is) ∙ c.in_ok-opened.ensures.found want s kept has tables in
     let at = IsAt-opened m c.args.place.root s kept name o tables is_open.0 is_open.1 found in

@@ -1,6 +1,6 @@
 use Rattle.std.proofs.Common.{refl}
-use Rattle.sb_memory.proofs.TestLemmas.{IsAttached-plain, found-answered}
 use Rattle.sb_box_tests.proofs.drive.finds.Goals as goal
+use Rattle.sb_box_tests.proofs.Boxes.{IsAttached-plain, found-answered}
 
 pub drive_attachment-requires-clause-inst : goal.drive_attachment-requires-clause-inst
 drive_attachment-requires-clause-inst c = IsAttached-plain _ c.args.inst.now refl refl c.requires.inst

@@ -1,7 +1,7 @@
-use Rattle.std.proofs.Common.{List, ℕ, IsSome, [], ◌∷◌, ◌∙◌, rules}
+use Rattle.std.proofs.Common.{IsSome, [], ◌∷◌, ◌∙◌, rules}
 use Rattle.sb_bytes.specs.Bytes.{splice}
 use Rattle.sb_ctx.specs.View.{page_of}
-use Rattle.sb_memory.proofs.TestLemmas.{given-edit, is_some-given}
+use Rattle.sb_ctx.proofs.ViewLaws.{given-edit}
 use Rattle.sb_box_tests.proofs.drive.write.Goals as goal
 
 pub returns-in-Ok-clause-given : goal.returns-in-Ok-clause-given

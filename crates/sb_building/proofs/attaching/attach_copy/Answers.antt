@@ -1,10 +1,11 @@
 use Rattle.std.proofs.Common.{◌≡◌, true≢false, Option, IfSome, IsSome, sym, subst}
+use Rattle.std.proofs.lemmas.Result.{IfOk-weaker, IfErr-weaker}
 use Rattle.sb_rule.specs.declared.rule.Rule.{Rule}
 use Rattle.sb_rule.specs.Spelling.{rule_code}
 use Rattle.sb_drive.specs.declared.space.SpaceFault.TheVariants.{NoMemory}
 use Rattle.sb_drive.proofs.SpacesLemmas.{IfErr-passed}
 use Rattle.sb_catalog.specs.Descriptors.{IsCountedRule}
-use Rattle.sb_building.proofs.CallLemmas.{IfErr-then, IfOk-failed, IfOk-then}
+use Rattle.sb_building.proofs.CallLemmas.{IfOk-failed}
 use Rattle.sb_building.proofs.OpenLemmas.{MayAdd-copy, ended_copy}
 use Rattle.sb_building.proofs.attaching.attach_copy.Goals as goal
 
@@ -30,7 +31,7 @@ pub returns-clause-ended : goal.returns-clause-ended
 returns-clause-ended g c =
     let rule = c.args.rule.now in
     let is = subst (λ (o : Option Rule). IfSome o (λ r. r ≡ rule)) c.in-Some.is c.in_ok-copy.ensures.copy in
-    IfOk-then c.attach_rule.result _ _ (λ end ended x has stores may main counted.
+    IfOk-weaker c.attach_rule.result _ _ (λ end ended x has stores may main counted.
     ended_copy g.S.PageSpace.has (g.B.Boxes.meanings c.args.boxes.now) c.args.place.root x c.args.name.now c.attach_rule.new.space end c.args.relation.now c.in-Some.copy rule is
     (λ adds alone. ended x has stores adds alone) may main) c.attach_rule.ensures.ended
 
@@ -38,7 +39,7 @@ pub returns-clause-refused : goal.returns-clause-refused
 returns-clause-refused g c =
     let rule = c.args.rule.now in
     let is = subst (λ (o : Option Rule). IfSome o (λ r. r ≡ rule)) c.in-Some.is c.in_ok-copy.ensures.copy in
-    IfErr-then c.attach_rule.result _ _ (λ e refused x has stores may.
+    IfErr-weaker c.attach_rule.result _ _ (λ e refused x has stores may.
     refused x has stores (MayAdd-copy (g.B.Boxes.meanings c.args.boxes.now) x c.args.relation.now c.args.name.now c.in-Some.copy rule is may)) c.attach_rule.ensures.refused
 
 -- ---- the rest

@@ -1,10 +1,11 @@
-use Rattle.std.proofs.Common.{◌≡◌, ◌∙◌, ◌≤◌, true≢false, arith, length, Option, option_map, IfSome, sym, ap, subst}
+use Rattle.std.proofs.Common.{◌≡◌, ◌∙◌, true≢false, Option, option_map, IfSome, sym, ap, subst}
+use Rattle.std.proofs.lemmas.Result.{IfOk-weaker, IfErr-weaker}
 use Rattle.sb_drive.proofs.SpacesLemmas.{IfErr-passed}
 use Rattle.sb_opened.specs.declared.relation.OpenRelation.{OpenRelation}
 use Rattle.sb_opened.specs.Opened.{IsOpen}
 use Rattle.sb_engine.specs.Refusals.{HasRefusalCause, refusal_of}
 use Rattle.sb_engine.proofs.RefusedLemmas.{refused_cause}
-use Rattle.sb_building.proofs.CallLemmas.{IfErr-then, IfOk-failed, IfOk-then, leads_later}
+use Rattle.sb_building.proofs.CallLemmas.{IfOk-failed, leads_later}
 use Rattle.sb_building.proofs.EndedLemmas.{store_of}
 use Rattle.sb_building.proofs.OpenLemmas.{caused_named, ended_named, opened_descriptor, opened_none}
 use Rattle.sb_building.proofs.attaching.attach_rule.Goals as goal
@@ -39,7 +40,7 @@ returns-clause-ended g c =
     let relation = c.args.relation.now in
     let one = c.in-Some.one in
     let opened = subst (λ (o : Option OpenRelation). IfSome o (λ q. IsOpen m q × (q.name ≡ relation))) c.in-Some.is c.in_ok-one.ensures.opened in
-    IfOk-then c.attach_to.result _ _ (λ end ended x has stores may main.
+    IfOk-weaker c.attach_to.result _ _ (λ end ended x has stores may main.
     let found = ap (λ (o : Option OpenRelation). option_map (λ (q : OpenRelation). q.descriptor) o) (sym c.in-Some.is) ∙ c.in_ok-one.ensures.found x.want x.slots x.kept has stores.keeps.tables in
     let same = opened_descriptor x.kept relation x.one one.descriptor found stores.there in
     ended_named g.S.PageSpace.has m c.args.place.root x c.args.name.now c.attach_to.new.space end c.args.rule one.name relation opened.1
@@ -51,7 +52,7 @@ returns-clause-refused g c =
     let relation = c.args.relation.now in
     let one = c.in-Some.one in
     let opened = subst (λ (o : Option OpenRelation). IfSome o (λ q. IsOpen m q × (q.name ≡ relation))) c.in-Some.is c.in_ok-one.ensures.opened in
-    IfErr-then c.attach_to.result _ _ (λ e refused x has stores may.
+    IfErr-weaker c.attach_to.result _ _ (λ e refused x has stores may.
     let found = ap (λ (o : Option OpenRelation). option_map (λ (q : OpenRelation). q.descriptor) o) (sym c.in-Some.is) ∙ c.in_ok-one.ensures.found x.want x.slots x.kept has stores.keeps.tables in
     let same = opened_descriptor x.kept relation x.one one.descriptor found stores.there in
     caused_named m c.args.place.root x c.args.name.now c.args.rule (HasRefusalCause g.S.PageSpace.fails (refusal_of e) c.attach_to.new.space) one.name relation opened.1

@@ -1,8 +1,9 @@
 use Rattle.std.proofs.Common.{◌∙◌}
+use Rattle.std.proofs.lemmas.Result.{IfOk-weaker, IfErr-weaker}
 use Rattle.sb_drive.proofs.SpacesLemmas.{IfErr-passed}
 use Rattle.sb_engine.specs.Refusals.{HasRefusalCause, refusal_of}
 use Rattle.sb_engine.proofs.RefusedLemmas.{refused_cause}
-use Rattle.sb_building.proofs.CallLemmas.{IfErr-then, IfOk-failed, IfOk-then, leads_later, leads_then}
+use Rattle.sb_building.proofs.CallLemmas.{IfOk-failed, leads_later, leads_then}
 use Rattle.sb_building.proofs.EndedLemmas.{store_of}
 use Rattle.sb_building.proofs.OpenLemmas.{caused_entry, ended_entry, ended_long, long_found, long_sound}
 use Rattle.sb_building.proofs.attaching.attach_to.Goals as goal
@@ -47,7 +48,7 @@ returns-clause-ended g c =
     let root = c.args.place.root in
     let one = c.args.one in
     let live = c.in_ok-attached.ensures.live in
-    IfOk-then c.build_on.result _ _ (λ end ended x has stores same may main.
+    IfOk-weaker c.build_on.result _ _ (λ end ended x has stores same may main.
     ended_entry hold m root x one.name c.args.label.now c.args.rule c.in_ok-attached.attached c.in_ok-attached.ensures.entry c.in_ok-attached.inst live.box c.begin.new.space c.build_on.new.space end
     (ended live x stores same) may main
     (c.in_ok-attached.ensures.begun live x (store_of hold m root x one.name stores c.has_long_row.new.space (c.in_ok-long.ensures.looks.same x.want x.slots has)) same may)
@@ -60,7 +61,7 @@ returns-clause-refused g c =
     let root = c.args.place.root in
     let one = c.args.one in
     let live = c.in_ok-attached.ensures.live in
-    IfErr-then c.build_on.result _ _ (λ e refused x has stores same may.
+    IfErr-weaker c.build_on.result _ _ (λ e refused x has stores same may.
     caused_entry hold m root x one.name c.args.label.now c.args.rule c.in_ok-attached.attached c.in_ok-attached.ensures.entry c.in_ok-attached.inst live.box c.begin.new.space c.build_on.new.space
     (HasRefusalCause g.S.PageSpace.fails (refusal_of e) c.build_on.new.space)
     (refused live x stores same) may

@@ -1,6 +1,7 @@
 use Rattle.std.proofs.Common.{◌∙◌, sym}
+use Rattle.std.proofs.lemmas.Result.{IfOk-weaker}
 use Rattle.sb_ctx.specs.Attachment.{keeps_pages}
-use Rattle.sb_building.proofs.CallLemmas.{IfErr-both, IfOk-then, unbroken_cause}
+use Rattle.sb_building.proofs.CallLemmas.{IfErr-both, unbroken_cause}
 use Rattle.sb_building.proofs.InstanceLemmas.{IsPlaced-come, IsPlaced-nowhere, OwnsPages-come, OwnsPages-nowhere}
 use Rattle.sb_building.proofs.instances.new_place.Goals as goal
 
@@ -16,11 +17,11 @@ returns-then-not-keeps_pages-clause-leads g c = (0, g.met.S.PageSpace.stays c.ar
 
 pub returns-clause-owns : goal.returns-clause-owns
 returns-clause-owns g c =
-    IfOk-then c.new_instance.result _ _ (λ made high. OwnsPages-come (keeps_pages c.args.code) made.0 (sym c.keeps_pages.ensures ∙ c.if-not-keeps_pages.false) high) c.new_instance.ensures.high
+    IfOk-weaker c.new_instance.result _ _ (λ made high. OwnsPages-come (keeps_pages c.args.code) made.0 (sym c.keeps_pages.ensures ∙ c.if-not-keeps_pages.false) high) c.new_instance.ensures.high
 
 pub returns-clause-placed : goal.returns-clause-placed
 returns-clause-placed g c =
-    IfOk-then c.new_instance.result _ _ (λ made come want s has.
+    IfOk-weaker c.new_instance.result _ _ (λ made come want s has.
     IsPlaced-come g.S.PageSpace.has want s made.0 made.1 c.new_instance.new.self (come want s has) (keeps_pages c.args.code) (sym c.keeps_pages.ensures ∙ c.if-not-keeps_pages.false)) c.new_instance.ensures.made
 
 pub returns-clause-refused : goal.returns-clause-refused

@@ -1,5 +1,6 @@
-use Rattle.std.proofs.Common.{◌≡◌, ◌<◌, List, Some, map, length, true≢false, sym, subst, ◌∙◌}
+use Rattle.std.proofs.Common.{◌≡◌, ◌<◌, Some, map, length, true≢false, sym, subst, ◌∙◌}
 use Rattle.std.specs.FinMap.Entries.{put}
+use Rattle.std.proofs.lemmas.Result.{IfErr-weaker}
 use Rattle.sb_node.specs.Entries.{key_cmp}
 use Rattle.sb_forms.specs.Read.{read_tree}
 use Rattle.sb_drive.specs.Spaces.{Leaves}
@@ -9,7 +10,7 @@ use Rattle.sb_catalog.specs.Descriptors.{descriptor_spelling, IsShortDescriptor}
 use Rattle.sb_catalog.proofs.Storable.{IsShortDescriptor_from_storable}
 use Rattle.sb_standing.specs.Standing.{with_described}
 use Rattle.sb_standing.specs.Tables.{entry_of}
-use Rattle.sb_building.proofs.CallLemmas.{IfErr-then, OnOk-so, OnOk-then}
+use Rattle.sb_building.proofs.CallLemmas.{OnOk-so, OnOk-then}
 use Rattle.sb_building.proofs.PlaceLemmas.{IsSmall-roomy, storable-with}
 use Rattle.sb_building.proofs.placing.place_rule.Goals as goal
 
@@ -34,7 +35,7 @@ returns-clause-storable g c =
 
 pub returns-clause-refused : goal.returns-clause-refused
 returns-clause-refused g c =
-    IfErr-then c.enter.result _ _ (λ e refused x has tree roomy.
+    IfErr-weaker c.enter.result _ _ (λ e refused x has tree roomy.
     refused x.want x.slots (map entry_of x.kept) has tree
     (subst (λ (d : Descriptor). IsSmall c.args.name.now (descriptor_spelling d)) (sym c.in_ok-new.ensures) (IsSmall-roomy c.args.name.now c.args.descriptor c.args.attached roomy))) c.enter.ensures.refused
 

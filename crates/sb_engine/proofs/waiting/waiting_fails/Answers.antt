@@ -1,7 +1,7 @@
 use Rattle.std.proofs.Common.{◌≡◌, Option, Some, IfSome, option_map, sym, ap, ◌∙◌, subst}
 use Rattle.std.specs.List.{slice_get}
 use Rattle.std.proofs.lemmas.Option.{same_Some}
-use Rattle.std.proofs.lemmas.Result.{IfOk-weaker}
+use Rattle.std.proofs.lemmas.Result.{IfOk-weaker, IfErr-weaker}
 use Rattle.sb_fold.specs.Outcome.{Entry}
 use Rattle.sb_deferred.specs.Waiting.{check_of}
 use Rattle.sb_drive.proofs.SpacesLemmas.{IfErr-passed}
@@ -11,7 +11,7 @@ use Rattle.sb_standing.proofs.StandLemmas.{StandRules-keeps}
 use Rattle.sb_opened.specs.declared.relation.OpenRelation.{OpenRelation}
 use Rattle.sb_opened.specs.Opened.{IsDurable, IsOpen}
 use Rattle.sb_engine.specs.Failing.{FailsNowhere}
-use Rattle.sb_engine.proofs.FailingLemmas.{IfErr-so, nowhere_none, nowhere_there}
+use Rattle.sb_engine.proofs.FailingLemmas.{nowhere_none, nowhere_there}
 use Rattle.sb_engine.proofs.OpeningLemmas.{opened_of}
 use Rattle.sb_engine.proofs.waiting.waiting_fails.Goals as goal
 
@@ -45,7 +45,7 @@ pub returns-clause-undamaged : goal.returns-clause-undamaged
 returns-clause-undamaged g c =
     let m = g.B.Boxes.meanings c.args.boxes.now in
     let is_open = subst (λ (o : Option OpenRelation). IfSome o (λ y. IsOpen m y × (y.name ≡ c.in-Some.relation.now))) c.in-Some-2.is c.in_ok-one.ensures.opened in
-    IfErr-so c.named_fails.result _ _ (λ e sound want s gone kept has keeps.
+    IfErr-weaker c.named_fails.result _ _ (λ e sound want s gone kept has keeps.
     let found = sym (ap (λ (o : Option OpenRelation). option_map (λ (y : OpenRelation). y.descriptor) o) c.in-Some-2.is) ∙ c.in_ok-one.ensures.found want s kept has keeps.tables in
     sound want s gone kept (c.in_ok-one.ensures.looks.same want s has) keeps (opened_of m kept c.in-Some-2.one c.in-Some.relation.now is_open.0 is_open.1 found)) c.named_fails.ensures.undamaged
 

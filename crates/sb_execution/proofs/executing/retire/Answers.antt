@@ -1,4 +1,5 @@
 use Rattle.std.proofs.Common.{Err, refl, sym, ap, ◌∙◌, subst}
+use Rattle.sb_value.proofs.Truths.{is_some-none}
 use Rattle.sb_plain.specs.declared.command.Command.{Command}
 use Rattle.sb_plain.specs.declared.command.Command.TheVariants as command
 use Rattle.sb_plain.specs.declared.reply.Reply.{Reply}
@@ -10,7 +11,7 @@ use Rattle.sb_session.specs.declared.session.Session.{Session}
 use Rattle.sb_session.specs.Ends.{Ends, reply_of}
 use Rattle.sb_session.specs.Sessions.{HasFailed, IsFor, Lacks}
 use Rattle.sb_session.proofs.Carried.{IsSame-itself}
-use Rattle.sb_session.proofs.Commands.{Carried-misplaced, none_of}
+use Rattle.sb_session.proofs.Commands.{Carried-misplaced}
 use Rattle.sb_session.proofs.SameBoxes.{same-boxes, same-stays}
 use Rattle.sb_statements.proofs.PassedLemmas.{passed}
 use Rattle.sb_execution.specs.Endings.{Executed}
@@ -50,7 +51,7 @@ returns-in-Ok g c =
     let f = c.retire.new.disk in
     let z = c.retire.new.self in
     let did = c.retire.ensures in
-    let none = none_of x.open (sym c.is_some.ensures ∙ c.if-is_some.false) in
+    let none = is_some-none x.open (sym c.is_some.ensures ∙ c.if-is_some.false) in
     subst (λ (r : Reply). Executed meanings told len faults k d f x z r) (sym c.reply_of.ensures)
     (Executed-tested meanings told len faults k d e x y c.requires.runs c.requires.up none refl refl refl refl c.in-Ok.ensures.passes f z (reply_of c.retire.result) did.disk did.same did.keeps did.runs
     (λ want s for none.
@@ -75,7 +76,7 @@ returns-in-Err g c =
     let did = c.told.ensures in
     let ended = c.in-Err.ensures.refused in
     let result = Err c.in-Err.refusal in
-    let none = none_of x.open (sym c.is_some.ensures ∙ c.if-is_some.false) in
+    let none = is_some-none x.open (sym c.is_some.ensures ∙ c.if-is_some.false) in
     let still = did.current ∙ none in
     Executed-moved meanings told len faults k d e x y c.told.result (same-stays (meanings x.boxes) (meanings y.boxes) (ap meanings did.boxes))
     (keeps_session meanings told len faults k d e x y c.requires.runs c.requires.up space did.space did.boxes did.place result c.told.result did.reply did.down ended.remains)

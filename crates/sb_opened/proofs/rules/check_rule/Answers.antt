@@ -1,24 +1,20 @@
-use Rattle.std.proofs.Common.{◌≡◌, Option, Some, Result, Ok, Err, IfErr, option_copied, option_map, sym, ap, ◌∙◌}
+use Rattle.std.proofs.Common.{◌≡◌, Some, option_copied, option_map, sym, ap, ◌∙◌}
+use Rattle.std.proofs.lemmas.Result.{IfErr-weaker}
 use Rattle.sb_value.specs.Equal.{bytes_same}
 use Rattle.sb_drive.proofs.SpacesLemmas.{IfErr-passed}
-use Rattle.sb_drive.specs.declared.space.SpaceFault.{SpaceFault}
 use Rattle.sb_standing.specs.Tables.{db_of}
 use Rattle.sb_opened.proofs.Entries.{columns-kept}
 use Rattle.sb_opened.proofs.Standing.{Knows-none, Knows-second, columns-own}
 use Rattle.sb_opened.proofs.rules.check_rule.Goals as goal
 
-weaker : {T : Type 0} (r : Result T SpaceFault) (P Q : SpaceFault → Type 0) → ((e : SpaceFault) → P e → Q e) → IfErr r P → IfErr r Q
-weaker (Ok x) P Q then is = tt
-weaker (Err e) P Q then is = then e is
-
 pub returns-in_default-clause-undamaged : goal.returns-in_default-clause-undamaged
 returns-in_default-clause-undamaged g c =
-    weaker c.check_beside.result _ _ (λ e sound want s kept has tables a stands.
+    IfErr-weaker c.check_beside.result _ _ (λ e sound want s kept has tables a stands.
     sound a (db_of kept) (Knows-none (db_of kept) c.args.attached.now.rule _ (sym c.other_relation.ensures.named ∙ ap (λ o. option_copied o) c.in_default.is)) stands) c.check_beside.ensures.undamaged
 
 pub returns-then-eq-clause-undamaged : goal.returns-then-eq-clause-undamaged
 returns-then-eq-clause-undamaged g c =
-    weaker c.check_beside-then-eq.result _ _ (λ e sound want s kept has tables a stands.
+    IfErr-weaker c.check_beside-then-eq.result _ _ (λ e sound want s kept has tables a stands.
     let m = g.B.Boxes.meanings c.args.boxes.now in
     let name = c.args.name.now in
     let same : c.in-Some.other.now ≡ name = (bytes_same c.in-Some.other.now name).0 (sym c.eq.ensures ∙ c.if-eq.true) in
@@ -32,7 +28,7 @@ returns-in_err-descriptor_at-clause-undamaged g c =
 
 pub returns-clause-undamaged : goal.returns-clause-undamaged
 returns-clause-undamaged g c =
-    weaker c.check_beside-2.result _ _ (λ e sound want s kept has tables a stands.
+    IfErr-weaker c.check_beside-2.result _ _ (λ e sound want s kept has tables a stands.
     let m = g.B.Boxes.meanings c.args.boxes.now in
     let other = c.in-Some.other.now in
     let tied = sym c.other_relation.ensures.named ∙ ap (λ o. option_copied o) c.in-Some.is in

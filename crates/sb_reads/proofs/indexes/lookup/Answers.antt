@@ -1,8 +1,8 @@
-use Rattle.std.proofs.Common.{◌≡◌, ◌∙◌, List, [], length, true, false, true≢false, is_some, Option, Some, None, Ok, Err, Bor, option_map, option_copied, refl, sym, ap, subst, arith}
+use Rattle.std.proofs.Common.{◌≡◌, ◌∙◌, List, true, Option, Bor, option_copied, sym, ap}
 use Rattle.std.specs.Prelude.{bytes_eq}
 use Rattle.std.specs.List.{filter, find}
 use Rattle.std.specs.Option.{option_and_then}
-use Rattle.std.proofs.lemmas.Result.{IfOk-weaker}
+use Rattle.std.proofs.lemmas.Result.{IfOk-weaker, IfErr-weaker}
 use Rattle.sb_relation.specs.Db.{Name}
 use Rattle.sb_relation.specs.Rules.{has_values}
 use Rattle.sb_catalog.specs.declared.descriptor.Attached.{Attached}
@@ -11,7 +11,6 @@ use Rattle.sb_plain.specs.declared.reply.Reply.TheVariants.{Rows as Rowed}
 use Rattle.sb_plain.specs.Reading.{index_columns, looked_up}
 use Rattle.sb_plain.specs.Refusing.{is_lookup}
 use Rattle.sb_standing.specs.Tables.{db_of}
-use Rattle.sb_asking.proofs.CallsLemmas.{IfErr-then}
 use Rattle.sb_reads.specs.Stores.{OnOpen, attachment_in, columns_of}
 use Rattle.sb_reads.proofs.ReadsLemmas.{rows-there, schema-there}
 use Rattle.sb_reads.proofs.StoresLemmas.{columns-alike, columns-index, lookup-columns}
@@ -41,6 +40,6 @@ returns-clause-reply g c =
 
 pub returns-clause-undamaged : goal.returns-clause-undamaged
 returns-clause-undamaged g c =
-    IfErr-then c.rows_with.result _ (λ e. OnOpen g.S.PageSpace.has (g.B.Boxes.meanings c.args.boxes.now) c.args.place.root c.args.space.now c.args.opened.now (λ db r.
+    IfErr-weaker c.rows_with.result _ (λ e. OnOpen g.S.PageSpace.has (g.B.Boxes.meanings c.args.boxes.now) c.args.place.root c.args.space.now c.args.opened.now (λ db r.
     is_lookup r.schema (attachment_in r c.args.name.now) c.args.values.now ≡ true → IsSound e))
     (λ e is want s kept r has keeps looks. is want s r.rows has keeps.rows) c.rows_with.ensures.undamaged

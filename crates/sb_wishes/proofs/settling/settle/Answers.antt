@@ -1,18 +1,18 @@
 use Rattle.std.proofs.Common.{sym, subst}
+use Rattle.std.proofs.lemmas.Result.{IfOk-weaker}
 use Rattle.sb_drive.specs.declared.space.SpaceFault.{SpaceFault}
 use Rattle.sb_fold.specs.Wishes.{Adds, Turns}
 use Rattle.sb_wishes.specs.declared.settling.Edit as code
 use Rattle.sb_wishes.specs.declared.settling.Outcome.{Outcome}
 use Rattle.sb_wishes.specs.Edits.{IsEditOf, edit_in, settled}
 use Rattle.sb_wishes.proofs.CarriedLemmas.{ComesOf, ComesOfAll}
-use Rattle.sb_wishes.proofs.RaisedLemmas.{IfOk-so}
 use Rattle.sb_wishes.proofs.settling.settle.Goals as goal
 
 pub returns-in-Adds-clause-comes : goal.returns-in-Adds-clause-comes
 returns-in-Adds-clause-comes g c =
     let m = g.B.Boxes.meanings c.args.boxes.now in
     let name = c.args.table.now.relation in
-    IfOk-so {A = Outcome} {E = SpaceFault} c.add.result
+    IfOk-weaker {X = Outcome} {Y = SpaceFault} c.add.result
     (λ out. ComesOfAll g.S.PageSpace.has g.S.PageSpace.leads m c.args.table.now c.args.rules.now c.args.space.now c.add.new.space (λ r. settled name r (Adds c.in-Adds.new)) out)
     (λ out. ComesOf g.S.PageSpace.has g.S.PageSpace.leads m c.args.table.now c.args.rules.now c.args.space.now c.add.new.space (λ r. IsEditOf r.rows (edit_in c.args.edit)) (λ r. settled name r (edit_in c.args.edit)) out)
     (λ out comes.
@@ -24,7 +24,7 @@ pub returns-in-Turns-clause-comes : goal.returns-in-Turns-clause-comes
 returns-in-Turns-clause-comes g c =
     let m = g.B.Boxes.meanings c.args.boxes.now in
     let name = c.args.table.now.relation in
-    IfOk-so {A = Outcome} {E = SpaceFault} c.turn.result
+    IfOk-weaker {X = Outcome} {Y = SpaceFault} c.turn.result
     (λ out. ComesOf g.S.PageSpace.has g.S.PageSpace.leads m c.args.table.now c.args.rules.now c.args.space.now c.turn.new.space (λ r. IsEditOf r.rows (Turns c.in-Turns.key c.in-Turns.old c.in-Turns.new)) (λ r. settled name r (Turns c.in-Turns.key c.in-Turns.old c.in-Turns.new)) out)
     (λ out. ComesOf g.S.PageSpace.has g.S.PageSpace.leads m c.args.table.now c.args.rules.now c.args.space.now c.turn.new.space (λ r. IsEditOf r.rows (edit_in c.args.edit)) (λ r. settled name r (edit_in c.args.edit)) out)
     (λ out comes.

@@ -1,4 +1,5 @@
 use Rattle.std.proofs.Common.{◌≡◌, IfOk, Option, Result, subst}
+use Rattle.std.proofs.lemmas.Result.{IfOk-weaker, IfErr-weaker}
 use Rattle.sb_cascade.specs.Wishes.{wish_of}
 use Rattle.sb_relation.specs.Db.{Row, Rows}
 use Rattle.sb_fold.specs.Wishes.{edit_of, wished}
@@ -13,7 +14,6 @@ use Rattle.sb_wishes.specs.declared.settling.Outcome.{Outcome}
 use Rattle.sb_wishes.specs.Wished.{row_wished}
 use Rattle.sb_wishes.specs.Edits.{GivesEdit, IsEditOf, edit_in, settled}
 use Rattle.sb_wishes.proofs.CarriedLemmas.{ComesOf, ComesOfAll}
-use Rattle.sb_wishes.proofs.RaisedLemmas.{IfErr-so, IfOk-so}
 use Rattle.sb_wishes.proofs.SettledLemmas.{Comes-later, Comes-unwished, Comes-wished}
 use Rattle.sb_wishes.proofs.WorksLemmas.{Works-later, Works-looked, Works-no_memory}
 use Rattle.sb_wishes.proofs.wishing.carry_out.Goals as goal
@@ -30,7 +30,7 @@ returns-in_err-edit-clause-works g c =
 
 pub returns-in-Ok-clause-comes : goal.returns-in-Ok-clause-comes
 returns-in-Ok-clause-comes g c =
-    IfOk-so {A = Outcome} {E = SpaceFault} c.settle.result
+    IfOk-weaker {X = Outcome} {Y = SpaceFault} c.settle.result
     (λ out. ComesOf g.S.PageSpace.has g.S.PageSpace.leads (g.B.Boxes.meanings c.args.boxes.now) c.args.table.now c.args.rules.now c.find_old.new.space c.settle.new.space (λ r. IsEditOf r.rows (edit_in c.in-Ok.edit)) (λ r. settled c.args.table.now.relation r (edit_in c.in-Ok.edit)) out)
     (λ out. ComesOfAll g.S.PageSpace.has g.S.PageSpace.leads (g.B.Boxes.meanings c.args.boxes.now) c.args.table.now c.args.rules.now c.args.space.now c.settle.new.space (λ r. wished c.args.table.now.relation r (wish_of c.args.wish.now)) out)
     (λ out comes want s r has t h.
@@ -47,7 +47,7 @@ returns-in-Ok-clause-works g c =
 
 pub returns-in-Ok-clause-undamaged : goal.returns-in-Ok-clause-undamaged
 returns-in-Ok-clause-undamaged g c =
-    IfErr-so {A = Outcome} {E = SpaceFault} c.settle.result
+    IfErr-weaker {T = Outcome} {E = SpaceFault} c.settle.result
     (λ e. (want : Wanted) (s : Slots) (rows : Rows) → g.S.PageSpace.has want s c.find_old.new.space → HasRows (g.B.Boxes.meanings c.args.boxes.now) s c.args.table.now rows → IsSound e)
     (λ e. (want : Wanted) (s : Slots) (rows : Rows) → g.S.PageSpace.has want s c.args.space.now → HasRows (g.B.Boxes.meanings c.args.boxes.now) s c.args.table.now rows → IsSound e)
     (λ e is want s rows has h. is want s rows (c.in_ok-old.ensures.looks.same want s has) h)

@@ -3,6 +3,7 @@ use Rattle.std.specs.Prelude.{FitsSigned}
 use Rattle.std.specs.Int.{w64}
 use Rattle.std.proofs.lemmas.Int.{to_z-of_z}
 use Rattle.std.specs.declared.alloc.AllocError.{AllocError}
+use Rattle.std.proofs.lemmas.Result.{IfOk-weaker}
 use Rattle.sb_cascade.specs.declared.wish.Wish as code_wish
 use Rattle.sb_cascade.specs.Wishes.{wish_of}
 use Rattle.sb_relation.specs.Db.{Relation}
@@ -12,7 +13,6 @@ use Rattle.sb_wishes.specs.declared.settling.Edit as code
 use Rattle.sb_wishes.specs.Edits.{GivesEdit, edit_raised}
 use Rattle.sb_wishes.specs.Wished.{row_wished}
 use Rattle.sb_wishes.proofs.CarriedLemmas.{gives_raised}
-use Rattle.sb_wishes.proofs.RaisedLemmas.{IfOk-so}
 use Rattle.sb_wishes.proofs.wishing.edit_of.Goals as goal
 
 pub returns-in-Some-old-2-clause-gives : goal.returns-in-Some-old-2-clause-gives
@@ -20,7 +20,7 @@ returns-in-Some-old-2-clause-gives c =
     let name = c.args.table.now.relation in
     let schema = c.args.table.now.schema in
     let fits : FitsSigned w64 c.in-Raise.by = search rules in
-    IfOk-so {A = Result code.Edit Refusal} {E = AllocError} c.raise.result
+    IfOk-weaker {X = Result code.Edit Refusal} {Y = AllocError} c.raise.result
     (λ found. GivesEdit (edit_raised name schema c.in-Raise.key c.in-Raise.column c.in-Raise.by c.in-Some-old-2.old) found)
     (λ found. (r : Relation) → r.schema ≡ schema → c.args.old ≡ row_wished r.rows (wish_of c.args.wish.now) → GivesEdit (edit_of name r (wish_of c.args.wish.now)) found)
     (λ found gives r same there.

@@ -1,6 +1,6 @@
 use Rattle.std.proofs.Common.{refl}
-use Rattle.sb_memory.proofs.TestLemmas.{Changes-made_for}
 use Rattle.sb_box_tests.proofs.drive.MarkerAttachment.on_change.Goals as goal
+use Rattle.sb_box_tests.proofs.Boxes.{Changes-made_for}
 
 pub returns : goal.returns
 returns c =

@@ -1,6 +1,6 @@
 use Rattle.std.proofs.Common.{refl}
-use Rattle.sb_registry.proofs.TestLemmas.{Changes-no_memory}
+use Rattle.sb_ctx.proofs.BoundLaws.{Changes-memory}
 use Rattle.sb_box_tests.proofs.registry.NumberedStorageMethod.prepare.Goals as goal
 
 pub returns : goal.returns
-returns c = Changes-no_memory _ _ _ _ (record { bound = λ rows. refl; cost = λ call rows. refl; path = λ inst P call n. refl }) tt c.requires.clean
+returns c = Changes-memory _ _ _ _ (record { bound = λ rows. refl; cost = λ call rows. refl; path = λ inst P call n. refl }) c.requires.clean.unchanged

@@ -1,10 +1,11 @@
 use Rattle.std.proofs.Common.{Some, refl, sym, ◌∙◌}
+use Rattle.sb_value.proofs.Truths.{is_some-none}
 use Rattle.sb_plain.specs.declared.command.Command.TheVariants as command
 use Rattle.sb_txn.specs.Parts.{parts}
 use Rattle.sb_txn.proofs.KeepsLemmas.{LeavesWanted-none}
 use Rattle.sb_session.specs.declared.session.Session.{Session}
 use Rattle.sb_session.proofs.Carried.{IsSame-itself}
-use Rattle.sb_session.proofs.Commands.{Carried-begin, Carried-misplaced, none_of}
+use Rattle.sb_session.proofs.Commands.{Carried-begin, Carried-misplaced}
 use Rattle.sb_session.proofs.session.Session.begin.Goals as goal
 
 pub returns-then-self-clause-any_moment : goal.returns-then-self-clause-any_moment
@@ -35,7 +36,7 @@ returns-in-Ok-clause-ends g c =
     let d = c.args.disk.now in
     let y : Session g.row.B.Denot = record { boxes = x.boxes; space = c.begin.new.space; place = x.place; «open» = Some (record { transaction = c.in-Ok.transaction; points = c.new.result }); down = x.down } in
     (Carried-begin meanings told len faults d x c.requires.runs c.if-self.false c.begin.new.disk y c.begin.new.space refl refl refl refl c.in-Ok.transaction
-    (record { transaction = c.in-Ok.transaction; points = c.new.result }) c.in-Ok.ensures.remains (none_of x.open (sym c.is_some.ensures ∙ c.if-is_some.false)) refl refl c.new.ensures.items
+    (record { transaction = c.in-Ok.transaction; points = c.new.result }) c.in-Ok.ensures.remains (is_some-none x.open (sym c.is_some.ensures ∙ c.if-is_some.false)) refl refl c.new.ensures.items
     c.in-Ok.ensures.usable c.in-Ok.ensures.begun c.in-Ok.ensures.at).ends
 
 pub returns-in-Ok-clause-runs : goal.returns-in-Ok-clause-runs
@@ -48,5 +49,5 @@ returns-in-Ok-clause-runs g c =
     let d = c.args.disk.now in
     let y : Session g.row.B.Denot = record { boxes = x.boxes; space = c.begin.new.space; place = x.place; «open» = Some (record { transaction = c.in-Ok.transaction; points = c.new.result }); down = x.down } in
     (Carried-begin meanings told len faults d x c.requires.runs c.if-self.false c.begin.new.disk y c.begin.new.space refl refl refl refl c.in-Ok.transaction
-    (record { transaction = c.in-Ok.transaction; points = c.new.result }) c.in-Ok.ensures.remains (none_of x.open (sym c.is_some.ensures ∙ c.if-is_some.false)) refl refl c.new.ensures.items
+    (record { transaction = c.in-Ok.transaction; points = c.new.result }) c.in-Ok.ensures.remains (is_some-none x.open (sym c.is_some.ensures ∙ c.if-is_some.false)) refl refl c.new.ensures.items
     c.in-Ok.ensures.usable c.in-Ok.ensures.begun c.in-Ok.ensures.at).runs

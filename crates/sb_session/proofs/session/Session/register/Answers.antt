@@ -1,9 +1,10 @@
 use Rattle.std.proofs.Common.{Bool, refl, sym, ◌∙◌, subst}
+use Rattle.sb_value.proofs.Truths.{is_some-none}
 use Rattle.sb_plain.specs.declared.command.Command.TheVariants as command
 use Rattle.sb_session.specs.declared.session.Session.{Session}
 use Rattle.sb_vectors.specs.Vectors.{Registers}
 use Rattle.sb_session.proofs.Carried.{IsSame-itself}
-use Rattle.sb_session.proofs.Commands.{Carried-misplaced, none_of}
+use Rattle.sb_session.proofs.Commands.{Carried-misplaced}
 use Rattle.sb_session.proofs.Moves.{Carried-not_spare, register-step}
 use Rattle.sb_session.proofs.SameBoxes.{registered-same}
 use Rattle.sb_session.proofs.session.Session.register.Goals as goal
@@ -27,7 +28,7 @@ returns-in-Ok-true-clause-ends g c =
     let x = c.args.self.now in
     let d = c.args.disk.now in
     let y : Session g.row.B.Denot = record { boxes = c.register.new.self; space = x.space; place = x.place; «open» = x.open; down = x.down } in
-    let none = none_of x.open (sym c.is_some.ensures ∙ c.if-is_some.false) in
+    let none = is_some-none x.open (sym c.is_some.ensures ∙ c.if-is_some.false) in
     register-step meanings told len faults d x y c.requires.runs c.if-self.false none refl refl refl refl c.args.method c.args.code c.in-Ok-true.ensures.unique (subst (λ (b : Bool). Registers c.args.method c.args.code b (meanings x.boxes) (meanings c.register.new.self)) c.in-Ok-true.field-0-test c.in-Ok-true.ensures.ok)
 
 pub returns-in-Ok-false-clause-ends : goal.returns-in-Ok-false-clause-ends
@@ -39,7 +40,7 @@ returns-in-Ok-false-clause-ends g c =
     let x = c.args.self.now in
     let d = c.args.disk.now in
     let y : Session g.row.B.Denot = record { boxes = c.register.new.self; space = x.space; place = x.place; «open» = x.open; down = x.down } in
-    let none = none_of x.open (sym c.is_some.ensures ∙ c.if-is_some.false) in
+    let none = is_some-none x.open (sym c.is_some.ensures ∙ c.if-is_some.false) in
     (Carried-not_spare meanings told len faults d x y c.requires.runs c.if-self.false none refl refl refl refl c.args.method c.args.code (subst (λ (b : Bool). Registers c.args.method c.args.code b (meanings x.boxes) (meanings c.register.new.self)) c.in-Ok-false.field-0-test c.in-Ok-false.ensures.ok)).ends
 
 pub returns-in-Ok-true-clause-same : goal.returns-in-Ok-true-clause-same

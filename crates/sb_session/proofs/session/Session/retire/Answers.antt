@@ -1,9 +1,10 @@
 use Rattle.std.proofs.Common.{Bool, refl, sym, ◌∙◌, subst}
+use Rattle.sb_value.proofs.Truths.{is_some-none}
 use Rattle.sb_plain.specs.declared.command.Command.TheVariants as command
 use Rattle.sb_session.specs.declared.session.Session.{Session}
 use Rattle.sb_vectors.specs.Vectors.{Retires}
 use Rattle.sb_session.proofs.Carried.{IsSame-itself}
-use Rattle.sb_session.proofs.Commands.{Carried-misplaced, none_of}
+use Rattle.sb_session.proofs.Commands.{Carried-misplaced}
 use Rattle.sb_session.proofs.Moves.{Carried-not_live, retire-step}
 use Rattle.sb_session.proofs.SameBoxes.{retired-same}
 use Rattle.sb_session.proofs.session.Session.retire.Goals as goal
@@ -29,7 +30,7 @@ returns-in-Ok-true-clause-ends g c =
     let x = c.args.self.now in
     let d = c.args.disk.now in
     let y : Session g.row.B.Denot = record { boxes = c.retire.new.self; space = x.space; place = x.place; «open» = x.open; down = x.down } in
-    let none = none_of x.open (sym c.is_some.ensures ∙ c.if-is_some.false) in
+    let none = is_some-none x.open (sym c.is_some.ensures ∙ c.if-is_some.false) in
     retire-step meanings told len faults d x y c.requires.runs c.if-self.false none refl refl refl refl c.args.method c.args.code c.in-Ok-true.ensures.unique (subst (λ (b : Bool). Retires c.args.method c.args.code b (meanings x.boxes) (meanings c.retire.new.self)) c.in-Ok-true.field-0-test c.in-Ok-true.ensures.ok) want s for unused
 
 pub returns-in-Ok-false-clause-ends : goal.returns-in-Ok-false-clause-ends
@@ -42,7 +43,7 @@ returns-in-Ok-false-clause-ends g c =
     let x = c.args.self.now in
     let d = c.args.disk.now in
     let y : Session g.row.B.Denot = record { boxes = c.retire.new.self; space = x.space; place = x.place; «open» = x.open; down = x.down } in
-    let none = none_of x.open (sym c.is_some.ensures ∙ c.if-is_some.false) in
+    let none = is_some-none x.open (sym c.is_some.ensures ∙ c.if-is_some.false) in
     (Carried-not_live meanings told len faults d x y c.requires.runs c.if-self.false none refl refl refl refl c.args.method c.args.code (subst (λ (b : Bool). Retires c.args.method c.args.code b (meanings x.boxes) (meanings c.retire.new.self)) c.in-Ok-false.field-0-test c.in-Ok-false.ensures.ok)).ends want s for
 
 pub returns-in-Ok-true-clause-same : goal.returns-in-Ok-true-clause-same

@@ -2,8 +2,7 @@ use Rattle.std.proofs.Common.{IsSome, [], ◌∷◌, ap, ◌∙◌, rules}
 use Rattle.sb_forms.specs.Pages.{zeros}
 use Rattle.sb_bytes.specs.Bytes.{splice}
 use Rattle.sb_ctx.specs.View.{page_of, dropped}
-use Rattle.sb_ctx.proofs.ViewLaws.{dropped-with_page}
-use Rattle.sb_memory.proofs.TestLemmas.{given-edit}
+use Rattle.sb_ctx.proofs.ViewLaws.{dropped-with_page, given-edit}
 use Rattle.sb_space_tests.proofs.turns.scribe.take.Goals as goal
 
 pub returns-in-None-clause-given : goal.returns-in-None-clause-given

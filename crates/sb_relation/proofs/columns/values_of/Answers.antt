@@ -2,9 +2,9 @@ use Rattle.std.proofs.Common.{Option, Some, None, sym, ◌∙◌, ap, arith}
 use Rattle.sb_value.specs.declared.value.Value.{Value}
 use Rattle.std.specs.Option.{option_copied}
 use Rattle.std.proofs.lemmas.List.{append-nil}
-use Rattle.sb_treemethod.proofs.Columns.{values_in-more}
-use Rattle.sb_treemethod.proofs.rows.values_of.Goals as goal
-use Rattle.sb_treemethod.proofs.rows.values_of.Goals.{in-Some+in_ok-copy+in_ok-push, in_default}
+use Rattle.sb_relation.proofs.ValuesIn.{values_in-more}
+use Rattle.sb_relation.proofs.columns.values_of.Goals as goal
+use Rattle.sb_relation.proofs.columns.values_of.Goals.{in-Some+in_ok-copy+in_ok-push, in_default}
 
 pub loop-name-preserved : goal.loop-name-preserved
 loop-name-preserved c =

@@ -1,5 +1,5 @@
 -- The boxes of the tests, whose pages are never formed.
-use Rattle.std.proofs.Common.{◌≡◌, ℕ, Bool, true, false, cond, List, [], ◌∷◌, Option, Some, None, IsSome, IfSome, All, is_some, option_map, refl, sym, ap, subst, ◌∙◌, arith}
+use Rattle.std.proofs.Common.{◌≡◌, ℕ, Bool, true, false, cond, List, [], ◌∷◌, Option, Some, None, All, is_some, option_map, refl, sym, ap, subst, ◌∙◌, arith}
 use Rattle.std.specs.Ordering.{eq_by_cmp}
 use Rattle.std.proofs.lemmas.Option.{same_Some}
 use Rattle.std.proofs.lemmas.Cmp.{nat_list_cmp_total, eq_by_cmp_equiv}
@@ -13,19 +13,14 @@ use Rattle.sb_relation.specs.Db.{Name, Relation}
 use Rattle.sb_relation.specs.Keys.{is_record_key}
 use Rattle.sb_relation.specs.Lawful.{AreRows, IsRow}
 use Rattle.sb_ctx.specs.declared.instance.Instance.{Instance}
-use Rattle.sb_ctx.specs.declared.calls.AttachCall.{AttachCall}
 use Rattle.sb_ctx.specs.declared.calls.AttachCall.TheVariants as calls
-use Rattle.sb_ctx.specs.declared.calls.MethodCall.{MethodCall}
-use Rattle.sb_ctx.specs.declared.calls.MethodCall.TheVariants as method_calls
 use Rattle.sb_ctx.specs.declared.moves.Move.{Move}
 use Rattle.sb_ctx.specs.declared.moves.Move.TheVariants.{Done, Need, Fresh, Find, Broken, NoMemory}
-use Rattle.sb_ctx.specs.AttachAnswers.{Answers as AnswersFor, AsksFor as AsksForAttached, Changes as ChangesFor, IsBroken as IsBrokenFor, Looks as LooksFor, MayEnd as MayEndFor}
-use Rattle.sb_ctx.specs.MethodAnswers.{Answers, AsksFor, Changes, IsBroken, MayEnd}
-use Rattle.sb_ctx.proofs.BoundLaws.{IsBoundless, IsBoundlessFor, Spends-boundless, Spends-boundless_for}
+use Rattle.sb_ctx.specs.AttachAnswers.{Answers as AnswersFor, AsksFor as AsksForAttached, Changes as ChangesFor, IsBroken as IsBrokenFor, MayEnd as MayEndFor}
+use Rattle.sb_ctx.specs.MethodAnswers.{AsksFor}
+use Rattle.sb_ctx.proofs.BoundLaws.{IsBoundlessFor, Spends-boundless_for}
 use Rattle.sb_ctx.specs.Attachment.{Attachment, IsOwned, keeps_pages, IsInstance as IsAttached}
-use Rattle.sb_ctx.specs.Method.{Method, IsInstance}
-use Rattle.sb_ctx.specs.View.{HeldPage, View, HeldPages, held_at, given_at, page_of, with_page, dropped, stored, with_found, IsClean}
-use Rattle.sb_ctx.proofs.ViewLaws.{dropped-with_page}
+use Rattle.sb_ctx.specs.View.{HeldPage, View, HeldPages, held_at, given_at, page_of, dropped, stored, with_found, IsClean}
 use Rattle.sb_value.specs.declared.value.Value.{Value}
 use Rattle.sb_ctx.specs.declared.held.Found.{Found}
 use Rattle.sb_ctx.proofs.DrivingLaws.{HoldsPart-with_found, IsClean-with_found}
@@ -33,18 +28,9 @@ use Rattle.sb_memory.specs.AttachCalls.{HandsUp}
 use Rattle.sb_memory.specs.Contents.{Contents, pages_of, slots}
 use Rattle.sb_drive.specs.Spaces.{HoldsOf}
 use Rattle.sb_drive.specs.Turns.{OnFind}
-use Rattle.sb_memory.specs.Examples.{IsPlain, IsMade, IsFindOrNoMemory}
+use Rattle.sb_memory.specs.Examples.{IsPlain, IsMade}
 
--- ---- instances on a relation without columns
-pub IsInstance-plain : (m : Method) (inst : Instance) → m.rules.code ≡ 1000 → m.rules.durable ≡ true → m.rules.fits [] [] ≡ true → IsPlain inst → IsInstance m inst
-IsInstance-plain m inst code durable fits plain = record {
-  code = plain.code ∙ sym code;
-  durable = plain.durable ∙ sym durable;
-  desc = plain.desc;
-  owned = plain.owned;
-  may = record { named = rw (plain.schema, plain.key) refl; fits = rw (code, plain.schema, plain.key) fits };
-}
-
+-- ---- an attachment on a relation without columns
 abbrev bare : Relation
 bare = record { method = 1000; schema = []; key = []; rows = []; attachments = [] }
 
@@ -73,14 +59,6 @@ IsAttached-plain a inst code fits plain = record {
     lawful name r true there = subst (λ (q : Relation). AreRows q.schema q.rows) (same_Some bare r there) (no_rows [])
     lawful name r false there = cc
 
--- ---- what was given stays
-pub given-edit : (c new : View) (n : ℕ) (f : List ℕ → List ℕ) → IsSome (page_of c n) → IfSome (page_of c n) (λ page. new ≡ with_page n (f page) c) → dropped new ≡ dropped c
-given-edit c new n f held made = by (page_of c n) held made
-  where
-    by : (o : Option (List ℕ)) → IsSome o → IfSome o (λ page. new ≡ with_page n (f page) c) → dropped new ≡ dropped c
-    by None held made = cc
-    by (Some page) held made = ap dropped made ∙ dropped-with_page c n (f page)
-
 -- a page that is held may be called broken
 pub is_some-given : (c : View) (n : ℕ) (bytes : List ℕ) → page_of c n ≡ Some bytes → is_some (given_at c n) ≡ true
 is_some-given c n bytes is = by (held_at c n) is
@@ -93,61 +71,9 @@ is_some-given c n bytes is = by (held_at c n) is
 none_some : {X : Type 0} (o : Option X) (x : X) → o ≡ None → o ≡ Some x → ⊥
 none_some o x none some = cc
 
-pub Changes-no_memory : (m : Method) (inst : Instance) (c : MethodCall) (old : View) → IsBoundless m → MayEnd inst c NoMemory → IsClean old → Changes m inst c old old NoMemory
-Changes-no_memory m inst c old is ends clean = record {
-  given = clean.unchanged;
-  asks = tt;
-  broken = tt;
-  ends = ends;
-  answers = λ P part. tt;
-  spends = λ ctx P part rows before. Spends-boundless m inst c P rows old old NoMemory is clean.unchanged ctx part;
-}
-
-pub Changes-no_memory_for : (a : Attachment) (inst : Instance) (c : AttachCall) (old : View) → IsBoundlessFor a → MayEndFor c NoMemory → IsClean old → ChangesFor a inst c old old NoMemory
-Changes-no_memory_for a inst c old is ends clean = record {
-  given = clean.unchanged;
-  asks = tt;
-  broken = tt;
-  ends = ends;
-  answers = λ P part. tt;
-  spends = λ ctx P part. Spends-boundless_for a inst c P old old NoMemory is clean.unchanged ctx part;
-}
-
 -- what a box of the tests may call broken
 abbrev MayBreakHeld : (Instance → HeldPages → ℕ → Bool) → Type 0
 MayBreakHeld may_break = (inst : Instance) (held : HeldPages) (n : ℕ) → may_break inst held n ≡ is_some (held n)
-
--- what is made by a delete
-pub Changes-made : (m : Method) (inst : Instance) (key : List ℕ) (old new : View) (move : Move) → ((P : Pages) → m.read inst P ≡ None) → MayBreakHeld m.may_break →
-    dropped new ≡ old → AsksFor new move → IsMade old move → Changes m inst (method_calls.Delete key) old new move
-Changes-made m inst key old new move none breaks given asks made = record {
-  given = given;
-  asks = asks;
-  broken = broken move made;
-  ends = ends move made;
-  answers = λ P part. answers P move made;
-  spends = λ ctx P part rows holds. absurd (none_some (m.read inst P) rows (none P) holds);
-}
-  where
-    broken : (move : Move) → IsMade old move → IsBroken m inst old move
-    broken (Broken n) made = breaks inst (given_at old) n ∙ made
-    broken move made = tt
-
-    ends : (move : Move) → IsMade old move → MayEnd inst (method_calls.Delete key) move
-    ends Done made = tt
-    ends (Need n) made = tt
-    ends Fresh made = tt
-    ends (Broken n) made = tt
-    ends NoMemory made = tt
-    ends move made = absurd made
-
-    answers : (P : Pages) (move : Move) → IsMade old move → Answers m inst (method_calls.Delete key) P (stored new P) move
-    answers P Done made = λ rows holds. absurd (none_some (m.read inst P) rows (none P) holds)
-    answers P (Need n) made = tt
-    answers P Fresh made = tt
-    answers P (Broken n) made = tt
-    answers P NoMemory made = tt
-    answers P move made = absurd made
 
 -- what is made at a change
 pub Changes-made_for : (a : Attachment) (inst : Instance) (change : Change) (old new : View) (move : Move) → ((P : Pages) → a.content inst P ≡ None) → MayBreakHeld a.may_break → IsBoundlessFor a →
@@ -184,38 +110,6 @@ Changes-made_for a inst change old new move none breaks is given asks made = rec
     answers P (Broken n) made = tt
     answers P NoMemory made = tt
     answers P move made = absurd made
-
-pub Looks-find : (a : Attachment) (inst : Instance) (entry : List ℕ) (c : View) (move : Move) → AsksForAttached c move → IsFindOrNoMemory move → LooksFor a inst (calls.Late entry) c c move
-Looks-find a inst entry c (Find relation columns values) asks is = record {
-  same = refl;
-  reads = tt;
-  asks = asks;
-  broken = tt;
-  ends = tt;
-  answers = λ P part. tt;
-  spends = λ P part rule db stands buckets before. tt;
-}
-Looks-find a inst entry c NoMemory asks is = record {
-  same = refl;
-  reads = tt;
-  asks = tt;
-  broken = tt;
-  ends = tt;
-  answers = λ P part. tt;
-  spends = λ P part rule db stands buckets before. tt;
-}
-Looks-find a inst entry c move asks is = absurd is
-
-pub Looks-unformed : (a : Attachment) (inst : Instance) (entry : List ℕ) (c : View) → ((P : Pages) → a.content inst P ≡ None) → LooksFor a inst (calls.Late entry) c c Done
-Looks-unformed a inst entry c none = record {
-  same = refl;
-  reads = tt;
-  asks = tt;
-  broken = tt;
-  ends = tt;
-  answers = λ P part rule db stands buckets before. absurd (none_some (a.content inst P) _ (none P) before.content);
-  spends = λ P part rule db stands buckets before. tt;
-}
 
 -- ---- a find that is handed up and answered with no rows
 pub found-answered : (owner : ℕ) (before after : Contents) (c new : View) (move : Move) (relation : Name) (columns : List Name) (values : List Value) (f : Found) → move ≡ Find relation columns values →
