@@ -1,8 +1,9 @@
 -- What a call over one half says of both.
-use Rattle.std.proofs.Common.{◌≡◌, ℕ, Bool, true, false, Option, Result, IfOk, IfErr, OnOk, OnErr, sym, subst, arith}
+use Rattle.std.proofs.Common.{◌≡◌, ℕ, [], Bool, true, false, Option, Result, IfOk, IfErr, OnOk, OnErr, sym, subst, arith}
 use Rattle.std.proofs.lemmas.Result.{IfOk-weaker}
 use Rattle.sb_ctx.specs.View.{nothing}
 use Rattle.sb_disk.specs.Disk.{Story}
+use Rattle.sb_drive.specs.Instances.{IsLeastFree, IsLeastOwner}
 use Rattle.sb_drive.specs.Slots.{Slots}
 use Rattle.sb_drive.specs.Spaces.{IsFull, Leaves, UnlessDown, Wanted}
 use Rattle.sb_drive.specs.declared.space.SpaceFault.{SpaceFault}
@@ -36,6 +37,12 @@ module _ {D : Type 0} (told : D → Option Story) (len faults : D → ℕ) where
   -- ---- what is said of one half, by which one it is
   abbrev IsMadeIn : Both D → Both D → Result (ℕ × ℕ) SpaceFault → Bool → Type 0
   IsMadeIn old new r durable = IfOk r (λ made. (want : Wanted) (s : Slots) → HasPagesIn told len durable want s old → HasCome (HasPagesIn told len durable) want s made.0 made.1 new)
+
+  abbrev HasOwnerIn : Both D → Result (ℕ × ℕ) SpaceFault → Bool → Type 0
+  HasOwnerIn old r durable = IfOk r (λ made. (want : Wanted) (s : Slots) → HasPagesIn told len durable want s old → IsLeastOwner s [] made.0)
+
+  abbrev HasRootIn : Both D → Result (ℕ × ℕ) SpaceFault → Bool → Type 0
+  HasRootIn old r durable = IfOk r (λ made. (want : Wanted) (s : Slots) → HasPagesIn told len durable want s old → IsLeastFree s made.1)
 
   abbrev IsSameIn : Both D → Both D → Result (ℕ × ℕ) SpaceFault → Bool → Type 0
   IsSameIn old new r durable = UnlessDown r ((want : Wanted) (s : Slots) → HasPagesIn told len durable want s old → OnErr r (HasPagesIn told len durable want s new))
@@ -81,6 +88,12 @@ module _ {D : Type 0} (told : D → Option Story) (len faults : D → ℕ) where
         subst (λ (t : Bool). IsMadeIn old new r t) (sym on)
         (IfOk-weaker r _ _ (λ one is_new want s has. HasCome-new (parts_of told len) want s one.0 new store.pool.geometry.pages one.1 (is_new want s has)) (least-durable r made))
 
+    pub owner-durable : (durable : Bool) → durable ≡ true → (r : Result (ℕ × ℕ) SpaceFault) → IsNew r (beside a.disk.now a.store.now m) (beside b.disk.now b.store.now m) → HasOwnerIn old r durable
+    owner-durable durable on r made = subst (λ (t : Bool). HasOwnerIn old r t) (sym on) (IfOk-weaker r _ _ (λ one is_new want s has. (is_new want s has).least) (least-durable r made))
+
+    pub root-durable : (durable : Bool) → durable ≡ true → (r : Result (ℕ × ℕ) SpaceFault) → IsNew r (beside a.disk.now a.store.now m) (beside b.disk.now b.store.now m) → HasRootIn old r durable
+    root-durable durable on r made = subst (λ (t : Bool). HasRootIn old r t) (sym on) (IfOk-weaker r _ _ (λ one is_new want s has. (is_new want s has).free) (least-durable r made))
+
     pub same-durable : (durable : Bool) → durable ≡ true → (r : Result (ℕ × ℕ) SpaceFault) → IsSameIn (beside a.disk.now a.store.now m) (beside b.disk.now b.store.now m) r true → IsSameIn old new r durable
     same-durable durable on r stays = subst (λ (t : Bool). IsSameIn old new r t) (sym on) (given_back (λ n x y. IsSameIn x y r true) stays)
 
@@ -103,6 +116,12 @@ module _ {D : Type 0} (told : D → Option Story) (len faults : D → ℕ) where
     made-volatile r made =
         subst (λ (t : Bool). IsMadeIn was is r t) (sym off)
         (IfOk-weaker r _ _ (λ one come want s has. let x = come want s has in record { slots = x.slots; has = x.has; from = x.from; none = x.none; pages = x.pages; others = x.others }) made)
+
+    pub owner-volatile : (r : Result (ℕ × ℕ) SpaceFault) → IfOk r (λ made. (want : Wanted) (s : Slots) → memory.HasPages s m → IsLeastOwner s [] made.0) → HasOwnerIn was r durable
+    owner-volatile r owner = subst (λ (t : Bool). HasOwnerIn was r t) (sym off) owner
+
+    pub root-volatile : (r : Result (ℕ × ℕ) SpaceFault) → IfOk r (λ made. (want : Wanted) (s : Slots) → memory.HasPages s m → IsLeastFree s made.1) → HasRootIn was r durable
+    root-volatile r root = subst (λ (t : Bool). HasRootIn was r t) (sym off) root
 
     pub full-volatile : (r : Result (ℕ × ℕ) SpaceFault) → IfErr r (λ e. (want : Wanted) (s : Slots) → memory.HasPages s m → IsFull false 16384 s nothing Fresh e) → IsFullIn was r durable
     full-volatile r full = subst (λ (t : Bool). IsFullIn was r t) (sym off) full

@@ -3,6 +3,7 @@
 ghost use Rattle.std.specs.Prelude.{◌≡◌, ◌+◌, ◌<◌, ◌≤◌, [], true, false, cond, ℕ, Some, length, take, OnOk, OnErr, IfOk, IfErr};
 ghost use Rattle.sb_ctx.specs.View.{nothing};
 ghost use Rattle.sb_disk.specs.Moments.{LeavesOnly};
+ghost use Rattle.sb_drive.specs.Instances.{IsLeastFree, IsLeastOwner};
 ghost use Rattle.sb_drive.specs.Slots.{Slots};
 ghost use Rattle.sb_drive.specs.Spaces.{IsFull, IsStoreFault, Leaves, UnlessDown, Wanted};
 ghost use Rattle.sb_drive.specs.declared.turns.Ask.TheVariants.{Fresh};
@@ -210,7 +211,7 @@ impl Halves {
         self.durable.checkpoint(disk)
     }
 
-    /// Makes an instance in a half: its owner and its root, a page of zeros. Each half has numbers of its own for owners and pages.
+    /// Makes an instance in a half: the least owner that none of its pages has, and its root, a page of zeros, the least one that is nobody's. Each half has numbers of its own for owners and pages.
     pub fn new_instance<D: Disk>(
         &mut self,
         alloc: Global,
@@ -222,6 +223,10 @@ impl Halves {
 
         ensures made { IfOk result (λ made. (want : Wanted) (s : Slots) → HasPagesIn D.told D.len durable want s (both disk.old self.old)
             → HasCome (HasPagesIn D.told D.len durable) want s made.0 made.1 (both disk.new self.new)) }
+        ensures owner { IfOk result (λ made. (want : Wanted) (s : Slots) → HasPagesIn D.told D.len durable want s (both disk.old self.old)
+            → IsLeastOwner s [] made.0) }
+        ensures root { IfOk result (λ made. (want : Wanted) (s : Slots) → HasPagesIn D.told D.len durable want s (both disk.old self.old)
+            → IsLeastFree s made.1) }
         ensures high { IfOk result (λ made. 2 < made.0) }
         ensures below { durable ≡ true → IfOk result (λ made. made.1 < self.old.durable.store.pool.geometry.pages) }
         ensures least { durable ≡ true → IfOk result (λ made. (want : Wanted) (s : Slots)

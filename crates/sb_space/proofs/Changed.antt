@@ -1,6 +1,6 @@
 -- A change of a range, or its refusal.
-use Rattle.std.proofs.Common.{◌≡◌, ⊎_elim, ℕ, ◌+◌, ◌<◌, ◌≤◌, ◌==◌, Bool, true, false, cond, Option, Some, None, Result, Ok, Err, OnOk, IfErr, IsErrOf, List, [], ◌∷◌, ◌++◌, length, take, drop, All, inl, inr, refl, sym, ap, subst, ◌∙◌, arith}
-use Rattle.std.proofs.lemmas.Bool.{false≢true}
+use Rattle.std.proofs.Common.{◌≡◌, ⊎_elim, ℕ, ◌+◌, ◌<◌, ◌≤◌, ◌==◌, Bool, true, false, cond, Option, Some, None, is_some, Result, Ok, Err, OnOk, IfErr, IsErrOf, List, [], ◌∷◌, ◌++◌, length, take, drop, All, inl, inr, refl, sym, ap, subst, ◌∙◌, arith}
+use Rattle.std.proofs.lemmas.Bool.{false≢true, eq-eqb}
 use Rattle.std.proofs.lemmas.List.{length-take, length-drop}
 use Rattle.std.proofs.lemmas.List.Elements.{All-append, All-take, All-drop}
 use Rattle.sb_bytes.specs.Bytes.{splice}
@@ -22,11 +22,12 @@ use Rattle.sb_txn.proofs.OnlyLemmas.{IsOnly-change}
 use Rattle.sb_txn.proofs.RoomLemmas.{SameRoom-forced, Grows-rest}
 use Rattle.sb_drive.specs.Spaces.{UnlessDown}
 use Rattle.sb_space.specs.Faults.{fault_of}
+use Rattle.sb_space.specs.Exact.{AreExact, IsExact}
 use Rattle.sb_space.specs.Table.{AreWhole}
 use Rattle.sb_space.specs.Works.{Serves, Stands, LeadsBack, Makes, Works, Fails, IsAlone, undos_of}
 use Rattle.sb_space.specs.Composing.{LeadsBack-none, LeadsBack-one, nothing_more}
 use Rattle.sb_space.proofs.Loading.{no_error, Works-failed}
-use Rattle.sb_space.specs.Telling.{told_so, told_map}
+use Rattle.sb_space.specs.Telling.{told_so, told_both, told_map, told_tells}
 
 -- ---- a page with a range changed is whole
 IsWhole-splice : (offset : ℕ) (bytes page : List ℕ) → offset + length bytes ≤ 4096 → All (λ b. b < 256) bytes → IsWhole page → IsWhole (splice offset bytes page)
@@ -88,44 +89,61 @@ module _ {D : Type 0} (told : D → Option Story) (len faults : D → ℕ) (tx :
     own = ap (λ (os : List ActiveTransaction). undos_in (transaction_with tx os)) actives ∙ ap undos_in (transaction_with-put tx s.book.actives found.0 found.1 (changed_transaction found.0 undo) refl)
         ∙ ap (λ (o : Option ActiveTransaction). undos_in o ++ undo ∷ []) (sym found.1)
 
-    stands_still : (want now : ℕ → List ℕ) → HoldsPages want now (parts told len d s) → AreWhole s.pool.geometry.pages now → made.image ≡ now page → (p : ℕ) → unwound (undo ∷ []) (with_bytes page offset bytes now) p ≡ now p
-    stands_still want now store whole image p =
+    sized : (now : ℕ → List ℕ) → AreWhole s.pool.geometry.pages now → made.image ≡ now page → length undo.before ≡ length bytes
+    sized now whole image =
         let long = (whole page less).long in
         let cut = length-take (length bytes) (drop offset made.image) in
         let rest = length-drop offset made.image in
         let same = ap (λ (x : List ℕ). length x) image in
+        omega (arith, cut, rest, same, long, within)
+
+    stands_still : (want now : ℕ → List ℕ) → HoldsPages want now (parts told len d s) → AreWhole s.pool.geometry.pages now → made.image ≡ now page → (p : ℕ) → unwound (undo ∷ []) (with_bytes page offset bytes now) p ≡ now p
+    stands_still want now store whole image p =
+        let long = (whole page less).long in
         last_is_undone [] undo bytes now (record {
           within = omega (arith, within, long);
-          size = omega (arith, cut, rest, same, long, within);
+          size = sized now whole image;
           was = ap (λ (x : List ℕ). take (length bytes) (drop offset x)) image;
         }) p
 
-    pub Makes-changed : Makes tx 1 (parts told len d s) (parts told len e t)
-    Makes-changed = record {
-      undos = undo ∷ [];
-      few = omega arith;
-      own = own;
-      others = ap (λ (os : List ActiveTransaction). others tx os) actives ∙ others-put tx s.book.actives found.0 found.1 (changed_transaction found.0 undo) refl;
-      pages = λ want now store. record {
-        pages = with_bytes page offset bytes now;
-        store = made.pages want now store;
-        back = told_map (told d) (made.image ≡ now page) (AreWhole s.pool.geometry.pages now → LeadsBack s.pool.geometry.pages (undo ∷ []) now (with_bytes page offset bytes now))
-            (λ image whole. LeadsBack-one s.pool.geometry.pages undo now (with_bytes page offset bytes now) whole (AreWhole-changed s.pool.geometry.pages now page offset bytes within small whole) (stands_still want now store whole image))
-            (made.was want now store);
-      };
-      grows = made.grows;
-    }
+    module _ (exact : (want now : ℕ → List ℕ) → Stands want now (parts told len d s) → IsExact s.pool.geometry.pages page offset (length bytes) (now page) (splice offset bytes (now page))) where
+      was_exact : (want now : ℕ → List ℕ) → is_some (told d) ≡ true → HoldsPages want now (parts told len d s) → AreWhole s.pool.geometry.pages now → made.image ≡ now page → AreExact s.pool.geometry.pages (undo ∷ []) (with_bytes page offset bytes now)
+      was_exact want now tells store whole image =
+          let here : with_bytes page offset bytes now page ≡ splice offset bytes (now page) = ap (λ (b : Bool). cond b (splice offset bytes (now page)) (now page)) (eq-eqb page page refl) in (
+            subst (λ (size : ℕ). IsExact s.pool.geometry.pages page offset size (unwound (undo ∷ []) (with_bytes page offset bytes now) page) (with_bytes page offset bytes now page)) (sym (sized now whole image))
+                (subst (λ (before : List ℕ). IsExact s.pool.geometry.pages page offset (length bytes) before (with_bytes page offset bytes now page)) (sym (stands_still want now store whole image page))
+                (subst (λ (after : List ℕ). IsExact s.pool.geometry.pages page offset (length bytes) (now page) after) (sym here) (exact want now (record { tells = tells; store = store; whole = whole })))),
+            tt,
+          )
 
-    pub Works-changed : Works told len faults tx 1 d e s t
-    Works-changed = record {
-      size = keeps.size;
-      later = keeps.later;
-      geometry = keeps.geometry;
-      leaves = leaves;
-      down = λ on. absurd (no_error tt Down (keeps.down on).answer);
-      fell = λ on. ⊎_elim (λ (was : s.book.down ≡ true). inl was) (λ (x : IsErrOf {T = Unit {0}} (Ok tt) Fault). absurd (no_error tt Fault x)) (keeps.up on);
-      makes = λ still. Makes-changed;
-    }
+      pub Makes-changed : Makes tx 1 (parts told len d s) (parts told len e t)
+      Makes-changed = record {
+        undos = undo ∷ [];
+        few = omega arith;
+        own = own;
+        others = ap (λ (os : List ActiveTransaction). others tx os) actives ∙ others-put tx s.book.actives found.0 found.1 (changed_transaction found.0 undo) refl;
+        pages = λ want now store. record {
+          pages = with_bytes page offset bytes now;
+          store = made.pages want now store;
+          back = told_map (told d) (made.image ≡ now page) (AreWhole s.pool.geometry.pages now → LeadsBack s.pool.geometry.pages (undo ∷ []) now (with_bytes page offset bytes now))
+              (λ image whole. LeadsBack-one s.pool.geometry.pages undo now (with_bytes page offset bytes now) whole (AreWhole-changed s.pool.geometry.pages now page offset bytes within small whole) (stands_still want now store whole image))
+              (made.was want now store);
+          exact = told_both (told d) (made.image ≡ now page) (is_some (told d) ≡ true) (AreWhole s.pool.geometry.pages now → AreExact s.pool.geometry.pages (undo ∷ []) (with_bytes page offset bytes now))
+              (λ image tells whole. was_exact want now tells store whole image) (made.was want now store) (told_tells (told d));
+        };
+        grows = made.grows;
+      }
+
+      pub Works-changed : Works told len faults tx 1 d e s t
+      Works-changed = record {
+        size = keeps.size;
+        later = keeps.later;
+        geometry = keeps.geometry;
+        leaves = leaves;
+        down = λ on. absurd (no_error tt Down (keeps.down on).answer);
+        fell = λ on. ⊎_elim (λ (was : s.book.down ≡ true). inl was) (λ (x : IsErrOf {T = Unit {0}} (Ok tt) Fault). absurd (no_error tt Fault x)) (keeps.up on);
+        makes = λ still. Makes-changed;
+      }
 
     pub Stands-changed : (want now : ℕ → List ℕ) → Stands want now (parts told len d s) → Stands want (with_bytes page offset bytes now) (parts told len e t)
     Stands-changed want now stands = record {
@@ -156,6 +174,7 @@ module _ {D : Type 0} (told : D → Option Story) (len faults : D → ℕ) (tx :
         pages = now;
         store = still.pages want now store;
         back = told_so (told d) (AreWhole s.pool.geometry.pages now → LeadsBack s.pool.geometry.pages [] now now) (LeadsBack-none s.pool.geometry.pages now);
+        exact = told_so (told d) (AreWhole s.pool.geometry.pages now → AreExact s.pool.geometry.pages [] now) (λ whole. tt);
       };
       grows = let g = Grows-rest s t still.journal in record { bytes = let b = g.bytes in omega (arith, b); least = g.least; gates = let b = g.gates in omega (arith, b) };
     }

@@ -12,6 +12,7 @@ use Rattle.sb_txn.specs.State.{State}
 use Rattle.sb_txn.proofs.RoomLemmas.{Grows-rest}
 use Rattle.sb_drive.specs.Spaces.{UnlessDown}
 use Rattle.sb_space.specs.Faults.{fault_of}
+use Rattle.sb_space.specs.Exact.{AreExact}
 use Rattle.sb_space.specs.Table.{AreWhole}
 use Rattle.sb_space.specs.Works.{Serves, LeadsBack, Makes, Works, Fails, IsAlone, undos_of}
 use Rattle.sb_space.specs.Composing.{LeadsBack-none, nothing_more}
@@ -44,6 +45,7 @@ Makes-loads tx a b loads = record {
     pages = now;
     store = loads.pages want now store;
     back = told_so a.told (AreWhole a.store.pool.geometry.pages now → LeadsBack a.store.pool.geometry.pages [] now now) (LeadsBack-none a.store.pool.geometry.pages now);
+    exact = told_so a.told (AreWhole a.store.pool.geometry.pages now → AreExact a.store.pool.geometry.pages [] now) (λ whole. tt);
   };
   grows = Grows-rest a.store b.store loads.journal;
 }

@@ -1,8 +1,9 @@
 -- Ranges in which two pages differ.
-use Rattle.std.proofs.Common.{◌≡◌, ℕ, suc, ◌+◌, ◌-◌, ◌<◌, ◌≤◌, List, [], ◌∷◌, ◌++◌, length, take, drop, slice_index_or, drop-drop, sym, ap, ◌∙◌, arith}
+use Rattle.std.proofs.Common.{◌≡◌, ◌≢◌, ℕ, suc, ◌+◌, ◌-◌, ◌<◌, ◌≤◌, List, [], ◌∷◌, ◌++◌, length, take, drop, slice_index_or, drop-drop, sym, ap, subst, ◌∙◌, arith}
 use Rattle.std.proofs.lemmas.List.{take_more, length-take, length-drop, append_assoc, take-append-drop}
 use Rattle.std.proofs.Math.Seq.{drop-cons}
 use Rattle.sb_bytes.specs.Bytes.{splice}
+use Rattle.sb_space.specs.Exact.{DiffersAtEnds}
 
 -- one byte more is the same
 pub take-further : (a b : List ℕ) (i : ℕ) → i < length a → length a ≡ length b → take i a ≡ take i b → slice_index_or a i 0 ≡ slice_index_or b i 0 → take (i + 1) a ≡ take (i + 1) b
@@ -39,3 +40,15 @@ same-wholly a b from to most front rest =
 
     behind : drop from a ≡ drop from b
     behind = ap (λ (n : ℕ). drop n a) (sum from to most) ∙ sym (drop-drop (from - to) to a) ∙ ap (drop (from - to)) rest ∙ drop-drop (from - to) to b ∙ ap (λ (n : ℕ). drop n b) (sym (sum from to most))
+
+-- a page made another one by the range that differs, of which the one ends where they differ
+pub DiffersAtEnds-range : (a b page piece : List ℕ) (from to : ℕ) → from < to → length piece ≡ to - from → a ≡ page → splice from piece page ≡ b → slice_index_or a from 0 ≢ slice_index_or b from 0
+    → slice_index_or a (to - 1) 0 ≢ slice_index_or b (to - 1) 0 → DiffersAtEnds from (length piece) page (splice from piece page)
+DiffersAtEnds-range a b page piece from to less size was is first last = record {
+  some = omega (arith, size, less);
+  first = λ same. first (ap (λ (l : List ℕ). slice_index_or l from 0) was ∙ same ∙ ap (λ (l : List ℕ). slice_index_or l from 0) is);
+  last = λ same. last (ap (λ (l : List ℕ). slice_index_or l (to - 1) 0) was ∙ subst (λ (n : ℕ). slice_index_or page n 0 ≡ slice_index_or (splice from piece page) n 0) end same ∙ ap (λ (l : List ℕ). slice_index_or l (to - 1) 0) is);
+}
+  where
+    end : from + (length piece - 1) ≡ to - 1
+    end = omega (arith, size, less)

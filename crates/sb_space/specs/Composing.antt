@@ -10,6 +10,7 @@ use Rattle.sb_disk.specs.Moments.{LeavesOnly}
 use Rattle.sb_disk.proofs.MomentLemmas.{and_then}
 use Rattle.sb_forms.specs.Pages.{IsWhole}
 use Rattle.sb_images.specs.Images.{Restores}
+use Rattle.sb_images.specs.Store.{IfTold}
 use Rattle.sb_log.specs.declared.geometry.Geometry.{Geometry}
 use Rattle.sb_bytes.specs.Bytes.{splice}
 use Rattle.sb_txn.specs.Book.{Undo}
@@ -18,6 +19,7 @@ use Rattle.sb_txn.specs.Parts.{Parts, parts}
 use Rattle.sb_txn.specs.State.{State}
 use Rattle.sb_txn.proofs.KeepsLemmas.{LeavesWanted-none}
 use Rattle.sb_txn.proofs.RoomLemmas.{Grows-rest, Grows-sum}
+use Rattle.sb_space.specs.Exact.{AreExact, IsExact}
 use Rattle.sb_space.specs.Table.{AreWhole}
 use Rattle.sb_space.specs.Works.{LeadsBack, Turns, Makes, Works, undos_of}
 use Rattle.sb_space.specs.Telling.{told_so, told_both, told_as}
@@ -87,6 +89,21 @@ module _ (count : ℕ) (vs : List Undo) (now : ℕ → List ℕ) where
     back = λ p. sym (unwound-append us vs now p) ∙ leads.back p;
   }
 
+-- ---- exact changes
+AreExact-append : (count : ℕ) (us vs : List Undo) (now : ℕ → List ℕ) → AreExact count us (unwound vs now) → AreExact count vs now → AreExact count (us ++ vs) now
+AreExact-append count [] vs now one two = two
+AreExact-append count (u ∷ us) vs now one two = (
+  subst (λ (before : List ℕ). IsExact count u.page u.offset (length u.before) before (unwound (us ++ vs) now u.page)) (sym (unwound-append (u ∷ us) vs now u.page))
+      (subst (λ (after : List ℕ). IsExact count u.page u.offset (length u.before) (unwound (u ∷ us) (unwound vs now) u.page) after) (sym (unwound-append us vs now u.page)) one.0),
+  AreExact-append count us vs now one.1 two,
+)
+
+-- exact changes, and others behind them
+AreExact-then : (count : ℕ) (us vs : List Undo) (mid now : ℕ → List ℕ) → LeadsBack count vs mid now → AreExact count us mid → AreExact count vs now → AreExact count (us ++ vs) now
+AreExact-then count us vs mid now back one two =
+    let same : unwound vs now ≡ mid = λ i p. back.back p i in
+    AreExact-append count us vs now (subst (λ (pages : ℕ → List ℕ). AreExact count us pages) (sym same) one) two
+
 -- ---- nothing
 pub nothing_more : (us : List Undo) → us ≡ us ++ []
 nothing_more [] = refl
@@ -102,11 +119,20 @@ Makes-none tx p = record {
     pages = now;
     store = store;
     back = told_so p.told (AreWhole p.store.pool.geometry.pages now → LeadsBack p.store.pool.geometry.pages [] now now) (LeadsBack-none p.store.pool.geometry.pages now);
+    exact = told_so p.told (AreWhole p.store.pool.geometry.pages now → AreExact p.store.pool.geometry.pages [] now) (λ whole. tt);
   };
   grows = Grows-rest p.store p.store (inl refl);
 }
 
 -- ---- one behind the other
+-- what is said of whole pages
+abbrev LeadsExactly : ℕ → List Undo → (ℕ → List ℕ) → (ℕ → List ℕ) → Type 0
+LeadsExactly count us was now = AreWhole count was → LeadsBack count us was now × AreExact count us now
+
+both_of : (told : Option Story) (count : ℕ) (us : List Undo) (was now : ℕ → List ℕ) → IfTold told (AreWhole count was → LeadsBack count us was now) → IfTold told (AreWhole count was → AreExact count us now) → IfTold told (LeadsExactly count us was now)
+both_of told count us was now back exact =
+    told_both told (AreWhole count was → LeadsBack count us was now) (AreWhole count was → AreExact count us now) (LeadsExactly count us was now) (λ b e whole. (b whole, e whole)) back exact
+
 module _ (tx : ℕ) (k l : ℕ) (a b c : Parts) (pages_same : b.store.pool.geometry.pages ≡ a.store.pool.geometry.pages) where
   Turns-then : (want now : ℕ → List ℕ) (us vs : List Undo) → is_some a.told ≡ is_some b.told → (one : Turns want now us a b) → Turns want one.pages vs b c → Turns want now (us ++ vs) a c
   Turns-then want now us vs tells one two = record {
@@ -122,6 +148,15 @@ module _ (tx : ℕ) (k l : ℕ) (a b c : Parts) (pages_same : b.store.pool.geome
         let s = second (subst (λ (n : ℕ). AreWhole n one.pages) (sym pages_same) mid) in
         LeadsBack-then a.store.pool.geometry.pages vs one.pages two.pages (subst (λ (n : ℕ). LeadsBack n vs one.pages two.pages) pages_same s) us now f)
         one.back (told_as a.told b.told (AreWhole b.store.pool.geometry.pages one.pages → LeadsBack b.store.pool.geometry.pages vs one.pages two.pages) tells two.back);
+    exact = told_both a.told (LeadsExactly a.store.pool.geometry.pages us now one.pages) (LeadsExactly b.store.pool.geometry.pages vs one.pages two.pages)
+        (AreWhole a.store.pool.geometry.pages now → AreExact a.store.pool.geometry.pages (us ++ vs) two.pages)
+        (λ first second whole.
+        let f = first whole in
+        let s = second (subst (λ (n : ℕ). AreWhole n one.pages) (sym pages_same) (LeadsBack-now a.store.pool.geometry.pages us now one.pages f.0)) in
+        AreExact-then a.store.pool.geometry.pages us vs one.pages two.pages (subst (λ (n : ℕ). LeadsBack n vs one.pages two.pages) pages_same s.0) f.1
+        (subst (λ (n : ℕ). AreExact n vs two.pages) pages_same s.1))
+        (both_of a.told a.store.pool.geometry.pages us now one.pages one.back one.exact)
+        (told_as a.told b.told (LeadsExactly b.store.pool.geometry.pages vs one.pages two.pages) tells (both_of b.told b.store.pool.geometry.pages vs one.pages two.pages two.back two.exact));
   }
 
   pub Makes-then : LeavesWanted a b → Makes tx k a b → Makes tx l b c → Makes tx (k + l) a c

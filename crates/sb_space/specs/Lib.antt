@@ -1,5 +1,6 @@
 pub mod Faults
 pub mod Table
+pub mod Exact
 pub mod Works
 pub mod Durable
 pub mod View

@@ -1,5 +1,5 @@
 -- Facts that are said where a disk tells its bytes.
-use Rattle.std.proofs.Common.{◌≡◌, Option, Some, None, is_some, true, sym}
+use Rattle.std.proofs.Common.{◌≡◌, Option, Some, None, is_some, true, refl, sym}
 use Rattle.std.proofs.lemmas.Bool.{false≢true}
 use Rattle.sb_disk.specs.Disk.{Story}
 use Rattle.sb_images.specs.Store.{IfTold}
@@ -7,6 +7,10 @@ use Rattle.sb_images.specs.Store.{IfTold}
 pub told_so : (told : Option Story) (A : Type 0) → A → IfTold told A
 told_so None A a = tt
 told_so (Some s) A a = a
+
+pub told_tells : (told : Option Story) → IfTold told (is_some told ≡ true)
+told_tells None = tt
+told_tells (Some s) = refl
 
 pub told_map : (told : Option Story) (A B : Type 0) → (A → B) → IfTold told A → IfTold told B
 told_map None A B f a = tt

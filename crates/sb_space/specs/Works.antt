@@ -12,6 +12,7 @@ use Rattle.sb_txn.specs.Book.{Undo, ActiveTransaction, Book, IsOnly, transaction
 use Rattle.sb_txn.specs.Clauses.{HoldsPages, IsReady, LeavesWanted, Grows, unwound}
 use Rattle.sb_txn.specs.Parts.{Parts, parts}
 use Rattle.sb_txn.specs.State.{State}
+use Rattle.sb_space.specs.Exact.{AreExact}
 use Rattle.sb_space.specs.Table.{AreWhole, IsTable, slots_in}
 
 -- ---- the transaction, by its number
@@ -49,11 +50,12 @@ pub record LeadsBack (count : ℕ) (undos : List Undo) (was now : ℕ → List �
   pub each : (n : ℕ) → AreWhole count (unwound (drop n undos) now)
   pub back : (p : ℕ) → unwound undos now p ≡ was p
 
--- The pages now have become others, which this undo list leads back if those were whole.
+-- The pages now have become others, which this undo list leads back if those were whole; each of its changes was exact.
 pub record Turns (want now : ℕ → List ℕ) (undos : List Undo) (old new : Parts) : Type 0 where
   pub pages : ℕ → List ℕ
   pub store : HoldsPages want pages new
   pub back : IfTold old.told (AreWhole old.store.pool.geometry.pages now → LeadsBack old.store.pool.geometry.pages undos now pages)
+  pub exact : IfTold old.told (AreWhole old.store.pool.geometry.pages now → AreExact old.store.pool.geometry.pages undos pages)
 
 -- The transaction has so many changes more at most, and the others are as they were. Whatever pages are wanted stay so, and the log grows by what the changes take.
 pub record Makes (tx : ℕ) (changes : ℕ) (old new : Parts) : Type 0 where

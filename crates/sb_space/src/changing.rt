@@ -1,10 +1,12 @@
 //! Changes of the table and of pages.
 
-ghost use Rattle.std.specs.Prelude.{◌≡◌, ◌+◌, ◌<◌, ◌≤◌, ℕ, List, length, take, drop, IfErr};
+ghost use Rattle.std.specs.Prelude.{◌≡◌, ◌≢◌, ◌+◌, ◌-◌, ◌<◌, ◌≤◌, ℕ, List, length, take, drop, slice_index_or, IfErr};
+ghost use Rattle.sb_bytes.specs.Bytes.{splice};
 ghost use Rattle.sb_drive.specs.Slots.{Slots, with_slot};
 ghost use Rattle.sb_drive.specs.Spaces.{IsStoreFault, UnlessDown, Wanted};
 ghost use Rattle.sb_pool.specs.Pages.{with_bytes};
 ghost use Rattle.sb_space.specs.Durable.{Calls, parts_in};
+ghost use Rattle.sb_space.specs.Exact.{IsExact};
 ghost use Rattle.sb_space.specs.Instances.{rewritten};
 ghost use Rattle.sb_space.specs.Stored.{if_ok};
 ghost use Rattle.sb_space.specs.Table.{shown};
@@ -61,12 +63,14 @@ impl<D: Disk> Durable<'_, D> {
         self.change(owner, n, from as u16, &bytes[from..to])
     }
 
-    /// Changes a range of a page.
+    /// Changes a range of a page: an entry of the table, or the range that differs.
     fn change(&mut self, owner: u16, n: u32, offset: u16, bytes: &[u8]) -> Result<(), SpaceFault>
         requires ready { Serves (lent self.old).tx (parts_in D.told D.len (lent self.old)) }
         requires page { n < self.old.store.now.pool.geometry.pages }
         requires some { 0 < length bytes.now }
         requires range { offset + length bytes.now ≤ 4096 }
+        requires exact { (want now : ℕ → List ℕ) → Stands want now (parts_in D.told D.len (lent self.old))
+            → IsExact self.old.store.now.pool.geometry.pages n offset (length bytes.now) (now n) (splice offset bytes.now (now n)) }
         ensures pages { UnlessDown result ((want now : ℕ → List ℕ) → Stands want now (parts_in D.told D.len (lent self.old))
             → Stands want (if_ok result (with_bytes n offset bytes.now) now) (parts_in D.told D.len (lent self.new))) }
         ensures err { IfErr result IsStoreFault }
@@ -87,6 +91,7 @@ fn first_difference(a: &[u8], b: &[u8]) -> usize
     requires { length a.now ≡ length b.now }
     ensures within { result ≤ length a.now }
     ensures same { take result a.now ≡ take result b.now }
+    ensures differ { result < length a.now → slice_index_or a.now result 0 ≢ slice_index_or b.now result 0 }
 {
     for i in 0..a.len() {
         if a[i] != b[i] {
@@ -101,6 +106,7 @@ fn behind_differences(a: &[u8], b: &[u8]) -> usize
     requires { length a.now ≡ length b.now }
     ensures within { result ≤ length a.now }
     ensures same { drop result a.now ≡ drop result b.now }
+    ensures differ { 0 < result → slice_index_or a.now (result - 1) 0 ≢ slice_index_or b.now (result - 1) 0 }
 {
     let mut end = a.len();
     while end > 0 && a[end - 1] == b[end - 1] {

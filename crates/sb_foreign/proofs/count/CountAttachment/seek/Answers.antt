@@ -1,4 +1,4 @@
-use Rattle.std.proofs.Common.{refl, sym, ap, ◌∙◌}
+use Rattle.std.proofs.Common.{refl, sym, ◌∙◌}
 use Rattle.sb_ctx.proofs.BoundLaws.{Looks-no_hits}
 use Rattle.sb_foreign.specs.Counts.{count}
 use Rattle.sb_foreign.proofs.CountLaws.{Looks-seek_broken}

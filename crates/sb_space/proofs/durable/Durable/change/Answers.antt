@@ -28,7 +28,7 @@ returns-in-Ok-clause-calls g c =
     let t = c.change.new.self in
     let serves = c.requires.ready in
     let small = All-from_get_or (λ b. b < 256) c.args.bytes.now 0 (λ i less. omega (arith, c.type_inv.bytes i)) in
-    let works = Works-changed told len faults n d e s t c.in-Ok.ensures.keeps c.in-Ok.ensures.any_moment serves.alone c.args.owner c.args.n c.args.offset c.args.bytes.now c.requires.range c.requires.page small c.in-Ok.ensures.changes in
+    let works = Works-changed told len faults n d e s t c.in-Ok.ensures.keeps c.in-Ok.ensures.any_moment serves.alone c.args.owner c.args.n c.args.offset c.args.bytes.now c.requires.range c.requires.page small c.in-Ok.ensures.changes c.requires.exact in
     record {
       leads = record { store = refl; disk = refl; tx = refl; works = works };
       ready = (Serves-changed told len faults n d e s t (Ok tt) c.args.owner c.args.n c.args.offset c.args.bytes.now c.in-Ok.ensures.keeps c.in-Ok.ensures.changes tt serves);

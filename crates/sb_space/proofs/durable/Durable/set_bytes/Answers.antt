@@ -1,4 +1,5 @@
-use Rattle.std.proofs.Common.{ℕ, ◌<◌, List, refl, sym, ap, subst, ◌∙◌, arith}
+use Rattle.std.proofs.Common.{◌≡◌, ℕ, ◌-◌, ◌<◌, List, length, take, drop, inr, refl, sym, ap, subst, ◌∙◌, arith}
+use Rattle.std.proofs.lemmas.List.{length-take, length-drop}
 use Rattle.sb_bytes.specs.Bytes.{splice}
 use Rattle.sb_space.specs.Durable.{parts_in}
 use Rattle.sb_space.specs.View.{lent}
@@ -6,9 +7,32 @@ use Rattle.sb_space.specs.Works.{Stands}
 use Rattle.sb_space.proofs.Calling.{Calls-then, UnlessDown-map}
 use Rattle.sb_space.proofs.Looking.{HasPages-still, Stands-still, held-now, held-stands}
 use Rattle.sb_space.proofs.Owning.{written-result, written-same, HasPages-written}
-use Rattle.sb_space.proofs.Ranges.{splice-differing, same-wholly}
+use Rattle.sb_space.proofs.Ranges.{splice-differing, same-wholly, DiffersAtEnds-range}
 use Rattle.sb_space.proofs.Rewriting.{rewritten-same, rewritten-result}
 use Rattle.sb_space.proofs.durable.Durable.set_bytes.Goals as goal
+
+pub change-requires-clause-exact : goal.change-requires-clause-exact
+change-requires-clause-exact g c = λ want now stands.
+    let told = g.D.Disk.told in
+    let len = g.D.Disk.len in
+    let n = c.args.n in
+    let b = lent c.load.new.self in
+    let sizes = ap (λ x. x.pages) c.in_ok-load.ensures.calls.leads.works.geometry in
+    let within = c.requires.page in
+    let less : n < b.store.now.pool.geometry.pages = omega (arith, sizes, within) in
+    let held = c.held-page.result.now in
+    let bytes = c.args.bytes.now in
+    let from = c.first_difference-from.result in
+    let to = c.behind_differences-to.result in
+    let under = c.if-from-to.false in
+    let long = c.requires.long in
+    let full = c.held-page.ensures.long in
+    let end = c.behind_differences-to.ensures.within in
+    let size : length (take (to - from) (drop from bytes)) ≡ to - from = omega (arith, under, end, long, full, length-take (to - from) (drop from bytes), length-drop from bytes) in
+    let differ = splice-differing held bytes from to (omega (arith, under)) end (full ∙ sym long) c.first_difference-from.ensures.same c.behind_differences-to.ensures.same in
+    let page = held-stands want now (parts_in told len b) stands n _ less c.held-page.ensures.bytes in
+    inr (DiffersAtEnds-range held bytes (now n) (take (to - from) (drop from bytes)) from to (omega (arith, under)) size page (ap (splice from (take (to - from) (drop from bytes))) (sym page) ∙ differ)
+    (c.first_difference-from.ensures.differ (omega (arith, under, end))) (c.behind_differences-to.ensures.differ (omega (arith, under))))
 
 pub returns-then-from-to-clause-pages : goal.returns-then-from-to-clause-pages
 returns-then-from-to-clause-pages g c = λ want s has high own.

@@ -1,9 +1,18 @@
-use Rattle.std.proofs.Common.{ap, arith}
+use Rattle.std.proofs.Common.{ℕ, List, length, inl, refl, ap, arith}
 use Rattle.sb_space.specs.Durable.{parts_in}
 use Rattle.sb_space.specs.View.{lent}
 use Rattle.sb_space.proofs.Owning.{entered-result}
 use Rattle.sb_space.proofs.Rewriting.{kept-result}
 use Rattle.sb_space.proofs.durable.Durable.set_owner.Goals as goal
+
+pub change-requires-clause-exact : goal.change-requires-clause-exact
+change-requires-clause-exact g c = λ want now stands. inl (record {
+  of = c.args.n;
+  within = c.requires.page;
+  table = refl;
+  place = refl;
+  two = ap (λ (l : List ℕ). length l) c.to_be_bytes-entry.ensures;
+})
 
 pub returns-clause-pages : goal.returns-clause-pages
 returns-clause-pages g c =
