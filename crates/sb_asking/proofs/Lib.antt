@@ -1,3 +1,4 @@
 pub mod FindsLemmas
 pub mod CallsLemmas
 mod VerdictsLemmas
+pub mod ValuesLemmas

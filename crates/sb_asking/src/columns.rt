@@ -1,7 +1,9 @@
 //! What rows have in columns of some names.
 
 ghost use Rattle.std.specs.Prelude.{◌≡◌};
+ghost use Rattle.std.specs.Option.{option_copied};
 ghost use Rattle.sb_relation.specs.Rules.{has_values};
+ghost use Rattle.sb_asking.specs.Finds.{value_at};
 
 use sb_pred::column_value;
 use sb_value::{Schema, Str, Tuple, Value};
@@ -19,5 +21,22 @@ pub fn has_values(schema: &Schema, columns: &[Str], values: &[Value], row: &Tupl
             value == first && has_values(schema, columns, values, row)
         }
         (Some(_), []) => false,
+    }
+}
+
+/// The value at the place of the first column of this name.
+pub(crate) fn value_at<'a>(columns: &[Str], values: &'a [Value], name: &Str) -> Option<&'a Value>
+    ensures { option_copied result ≡ value_at columns.now values.now name.now }
+{
+    let [column, columns @ ..] = columns else {
+        return None;
+    };
+    let [value, values @ ..] = values else {
+        return None;
+    };
+    if column == name {
+        Some(value)
+    } else {
+        value_at(columns, values, name)
     }
 }

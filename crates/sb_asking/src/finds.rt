@@ -11,14 +11,14 @@ ghost use Rattle.sb_standing.specs.Standing.{StandRules};
 ghost use Rattle.sb_standing.specs.Tables.{Kept, Tables, db_of};
 ghost use Rattle.sb_opened.specs.Opened.{IsDurable};
 
-use crate::columns::has_values;
+use crate::columns::{has_values, value_at};
 use sb_ctx::Keys;
 use sb_drive::{PageSpace, SpaceFault};
 use sb_map::Place;
 use sb_opened::open_relation;
 use sb_registry::{Boxes, has_columns};
 use sb_rows::{RowTest, keys_where};
-use sb_value::{Names, Schema, Str, Tuple};
+use sb_value::{Names, Schema, Str, Tuple, Value};
 use std::alloc::Global;
 
 /// Passes the rows that have these values in these columns.
@@ -32,6 +32,8 @@ pub struct ValueTest<'a> {
 impl<'a> RowTest for ValueTest<'a> {
     ghost passes = { λ t row. has_values t.schema.now t.columns.now t.values.now row };
 
+    ghost over = { λ t schema. t.schema.now ≡ schema };
+
     fn passes(&self, row: &Tuple) -> bool {
         has_values(
             self.schema,
@@ -40,10 +42,17 @@ impl<'a> RowTest for ValueTest<'a> {
             row,
         )
     }
+
+    fn fixed(&self, name: &Str) -> Option<&Value> {
+        if self.columns.len() != self.values.len() {
+            return None;
+        }
+        value_at(self.columns.as_slice(), self.values.as_slice(), name)
+    }
 }
 
 /// The record keys of the rows of a relation that have these values, in rising order; none where the relation or a column
-/// isn't there. All rows are read: a path is taken later where one is there, under the same contract.
+/// isn't there. Where they are the key columns of a tree, the row of their record key alone is read; else all rows are.
 pub fn find_keys<S: PageSpace, B: Boxes>(
     space: &mut S,
     alloc: Global,

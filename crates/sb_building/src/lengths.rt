@@ -15,7 +15,7 @@ use sb_drive::{PageSpace, SpaceFault};
 use sb_registry::Boxes;
 use sb_rows::{RowTest, rows_where};
 use sb_rule::Rule;
-use sb_value::{RecKey, Schema, Tuple};
+use sb_value::{RecKey, Schema, Str, Tuple, Value};
 use sb_wishes::is_long_for;
 use std::alloc::Global;
 
@@ -29,8 +29,14 @@ struct LengthTest<'a> {
 impl<'a> RowTest for LengthTest<'a> {
     ghost passes = { λ t row. is_long_for t.schema.now row t.rule.now };
 
+    ghost over = { λ t schema. Unit {0} };
+
     fn passes(&self, row: &Tuple) -> bool {
         is_long_for(self.schema, row, self.rule)
+    }
+
+    fn fixed(&self, _name: &Str) -> Option<&Value> {
+        None
     }
 }
 

@@ -11,3 +11,4 @@ pub mod PairedLemmas
 pub mod PlacedLemmas
 pub mod FailingLemmas
 pub mod WalkLemmas
+pub mod MatchingLemmas

@@ -5,3 +5,4 @@ pub mod Picks
 pub mod Asking
 pub mod Goings
 pub mod Failing
+pub mod Matching

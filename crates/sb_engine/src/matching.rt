@@ -1,6 +1,7 @@
 //! The rows that an action is of.
 
 ghost use Rattle.std.specs.Prelude.{◌≡◌, ◌∷◌, [], List, All, IfOk, IfErr};
+ghost use Rattle.std.specs.Option.{option_copied};
 ghost use Rattle.sb_relation.specs.Rules.{has_values};
 ghost use Rattle.sb_fold.specs.Fold.{matching};
 ghost use Rattle.sb_fold.specs.Wishes.{const_of, is_match, pairs_of};
@@ -9,6 +10,7 @@ ghost use Rattle.sb_drive.specs.Spaces.{Wanted};
 ghost use Rattle.sb_registry.specs.Runs.{IsSound, Looks};
 ghost use Rattle.sb_standing.specs.Tables.{Kept, db_of};
 ghost use Rattle.sb_opened.specs.Opened.{IsOpen};
+ghost use Rattle.sb_engine.specs.Matching.{const_at};
 ghost use Rattle.sb_engine.specs.Opening.{IsKeeping};
 ghost use Rattle.sb_engine.specs.Working.{MayDo};
 
@@ -21,7 +23,7 @@ use sb_pred::{Term, column_value};
 use sb_registry::Boxes;
 use sb_rows::{RowTest, keys_where};
 use sb_rule::Action;
-use sb_value::{RecKey, Schema, Str, Tuple};
+use sb_value::{RecKey, Schema, Str, Tuple, Value};
 use std::alloc::Global;
 
 /// Passes the rows whose columns have these values.
@@ -34,8 +36,14 @@ struct MatchTest<'a> {
 impl<'a> RowTest for MatchTest<'a> {
     ghost passes = { λ t row. is_match t.schema.now t.pairs.now row };
 
+    ghost over = { λ t schema. t.schema.now ≡ schema };
+
     fn passes(&self, row: &Tuple) -> bool {
         is_match(self.schema, self.pairs, row)
+    }
+
+    fn fixed(&self, name: &Str) -> Option<&Value> {
+        const_at(self.pairs, name)
     }
 }
 
@@ -48,6 +56,19 @@ pub(crate) fn is_match(schema: &Schema, pairs: &[(Str, Term)], row: &Tuple) -> b
             has_value(schema, &pair.0, &pair.1, row) && is_match(schema, pairs, row)
         }
         [] => true,
+    }
+}
+
+/// The constant of the first of these columns of this name that has one.
+fn const_at<'a>(pairs: &'a [(Str, Term)], name: &Str) -> Option<&'a Value>
+    ensures { option_copied result ≡ const_at pairs.now name.now }
+{
+    let [pair, pairs @ ..] = pairs else {
+        return None;
+    };
+    match &pair.1 {
+        Term::Const(value) if pair.0 == *name => Some(value),
+        _ => const_at(pairs, name),
     }
 }
 
@@ -75,7 +96,8 @@ pub(crate) fn pairs_of(action: &Action) -> &[(Str, Term)]
     }
 }
 
-/// The record keys of the rows that an action is of, in rising order.
+/// The record keys of the rows that an action is of, in rising order. Where its constants are those of the key columns of
+/// a tree, the row of their record key alone is read; else all rows are.
 pub(crate) fn keys_matching<S: PageSpace, B: Boxes>(
     space: &mut S,
     alloc: Global,

@@ -20,7 +20,7 @@ use sb_opened::OpenRelation;
 use sb_plain::{Picks, Refusal, Reply, Rows};
 use sb_registry::Boxes;
 use sb_rows::{RowTest, get_row, rows_where};
-use sb_value::{Names, RecKey, Str, Tuple};
+use sb_value::{Names, RecKey, Str, Tuple, Value};
 use std::alloc::{AllocError, Global};
 
 /// More rows than a relation has.
@@ -33,8 +33,14 @@ struct EachRow;
 impl RowTest for EachRow {
     ghost passes = { λ t row. true };
 
+    ghost over = { λ t schema. Unit {0} };
+
     fn passes(&self, _row: &Tuple) -> bool {
         true
+    }
+
+    fn fixed(&self, _name: &Str) -> Option<&Value> {
+        None
     }
 }
 
@@ -127,7 +133,8 @@ fn most_rows(limit: Option<u32>) -> u64
     }
 }
 
-/// The rows with these values in these columns.
+/// The rows with these values in these columns. Where they are the key columns of a tree, the row of their record key alone
+/// is read; else all rows are.
 pub(crate) fn rows_with<S: PageSpace, B: Boxes>(
     space: &mut S,
     alloc: Global,

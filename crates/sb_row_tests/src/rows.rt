@@ -73,11 +73,17 @@ struct TextOf {
 impl RowTest for TextOf {
     ghost passes = { λ t row. is_text_of t.len row };
 
+    ghost over = { λ t schema. Unit {0} };
+
     fn passes(&self, row: &Tuple) -> bool {
         match row.as_slice() {
             [_, Value::Text(words)] => words.as_str().len() == self.len,
             _ => false,
         }
+    }
+
+    fn fixed(&self, _name: &Str) -> Option<&Value> {
+        None
     }
 }
 

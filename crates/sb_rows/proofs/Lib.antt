@@ -1,4 +1,5 @@
 pub mod CallsLemmas
 pub mod ScansLemmas
+pub mod PathLemmas
 pub mod PlacingsLemmas
 pub mod ExampleLaws

@@ -1,4 +1,5 @@
 pub mod Live
 pub mod Placings
 pub mod Scans
+pub mod Paths
 pub mod Examples

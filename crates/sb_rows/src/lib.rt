@@ -3,6 +3,7 @@
 
 mod changes;
 mod lookups;
+mod paths;
 mod scans;
 
 pub use changes::{Placing, delete_row, insert_row, prepare_rows, update_row};

@@ -5,7 +5,7 @@ use Rattle.sb_drive.specs.Slots.{Slots}
 use Rattle.sb_drive.specs.Spaces.{Wanted}
 use Rattle.sb_rows.specs.Live.{HasRows}
 use Rattle.sb_rows.proofs.ScansLemmas.{IsMade}
-use Rattle.sb_rows.proofs.scans.keys_where.Given as goal
+use Rattle.sb_rows.proofs.scans.scan_keys.Given as goal
 
 abbrev pub invariant-rows : goal.invariant-rows
 invariant-rows g l =

@@ -8,7 +8,7 @@ use Rattle.sb_rows.proofs.ScansLemmas.{All-more, IsMade-all, IsMade-few, IsMade-
 use Rattle.sb_drive.specs.declared.space.SpaceFault.TheVariants.{NoMemory}
 use Rattle.sb_drive.specs.Slots.{owned}
 use Rattle.sb_drive.proofs.SpacesLemmas.{IfErr-passed}
-use Rattle.sb_rows.proofs.scans.keys_where.Goals as goal
+use Rattle.sb_rows.proofs.scans.scan_keys.Goals as goal
 
 pub rows-init : goal.rows-init
 rows-init g c = record {
