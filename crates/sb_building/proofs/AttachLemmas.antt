@@ -19,7 +19,7 @@ use Rattle.sb_fold.specs.declared.refusal.Refusal.{Refusal}
 use Rattle.sb_fold.specs.declared.refusal.Refusal.TheVariants.{TooLong as LongRow, Veto}
 use Rattle.sb_fold.specs.Building.{build, has_long_row}
 use Rattle.sb_fold.specs.Extensions.{Extensions, box_of}
-use Rattle.sb_fold.specs.Outcome.{Going}
+use Rattle.sb_fold.specs.Outcome.{Going, Gone}
 use Rattle.sb_deferred.specs.Complete.{AreMirrored}
 use Rattle.sb_deferred.proofs.CatalogLemmas.{with-rule-complete}
 use Rattle.sb_deferred.proofs.RelationLemmas.{attachments_of, relation_same}
@@ -36,14 +36,14 @@ use Rattle.sb_standing.proofs.KeptLemmas.{IsThere, kept_at-relation}
 use Rattle.sb_standing.proofs.RuleLemmas.{with_rule-alone}
 use Rattle.sb_engine.specs.declared.running.Work.{Work as Beside}
 use Rattle.sb_engine.specs.Refusals.{HasRefusalCause}
-use Rattle.sb_engine.specs.Working.{ArePaired, Stands, extensions_of}
+use Rattle.sb_engine.specs.Working.{ArePaired, IsNoneGone, Stands, extensions_of}
 use Rattle.sb_tables.specs.Keeping.{KeepsDb}
 use Rattle.sb_building.specs.declared.attaching.Attaching.{Attaching}
 use Rattle.sb_building.specs.declared.attaching.Attaching.TheVariants.{TooLarge, TooLong, Vetoed, Attached}
 use Rattle.sb_building.specs.Attaching.{HasEnded, MayAdd, MayAttach, Stores, new_attached}
 use Rattle.sb_building.specs.Instances.{Site}
 use Rattle.sb_building.proofs.PairLemmas.{mirrored-alone, paired-alone}
-use Rattle.sb_building.proofs.WorkLemmas.{Comes, IsClosed, IsRefusedSo, Stands-other, leads_attached, leads_long, leads_vetoed, reached, reached_db, reached_queue, reached_used}
+use Rattle.sb_building.proofs.WorkLemmas.{Comes, IsClosed, IsRefusedSo, Stands-other, leads_attached, leads_long, leads_vetoed, reached, reached_db, reached_gone, reached_queue, reached_used}
 
 -- ---- the extension of the rule is the live box
 attach_rules-live : (code : ℕ) (live spare : List Attachment) (box : Attachment) → attachment_of code live ≡ Some box → attach_rules code (map (λ x. x.rules) (live ++ spare)) ≡ Some box.rules
@@ -178,7 +178,8 @@ module _ {S : Type 0} (Has : Wanted → Slots → S → Type 0) (m : Meanings) (
         (subst ArePaired (sym alone) (paired-alone g.db relation name rule may.own may.there may.new may.main stands.paired))
         (with-rule-complete (box_of ext rule) g.db g.queue relation name rule (holds_as true ended.1) stands.complete)
         (attached-may-stand (box_of ext) g.db relation name rule stands.rules missing may_stand)
-        (All-weaker (IsFitting g.db) (IsFitting after) (λ a fits. (attaching-stays g.db relation name rule a).1 fits) g.queue.actions stands.fit);
+        (All-weaker (IsFitting g.db) (IsFitting after) (λ a fits. (attaching-stays g.db relation name rule a).1 fits) g.queue.actions stands.fit)
+        (λ none. gone ∙ stands.gone (subst (λ (x : Gone). IsNoneGone x) (reached_gone ext relation name rule g) none));
   }
     where
       after : Db

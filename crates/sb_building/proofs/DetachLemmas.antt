@@ -33,6 +33,7 @@ use Rattle.sb_opened.specs.Opened.{IsDurable}
 use Rattle.sb_engine.specs.declared.running.Running.{Running}
 use Rattle.sb_engine.specs.declared.running.Work.{Work as Beside}
 use Rattle.sb_engine.specs.Working.{Stands, StandsFor, extensions_in, extensions_of, left_of}
+use Rattle.sb_engine.proofs.GoneLemmas.{with_gone-some}
 use Rattle.sb_tables.specs.Keeping.{Closes, KeepsDb, KeepsIn}
 use Rattle.sb_tables.proofs.StandsLemmas.{stands_on}
 use Rattle.sb_building.specs.Detaching.{MayDetach, mirror_among, mirror_named, without_both}
@@ -181,6 +182,7 @@ detach_comes Has m root g old new w v stands relation name may closed left picks
           (paired-without g.db relation may.one there may.main stands.mirrored stands.paired)
           (without-rule-complete g.db g.queue relation may.one stands.complete)
           closed (left ∙ stands.waits) (picks ∙ stands.picked)
+          (λ none. absurd (with_gone-some (is_durable_at (extensions_of m) g.db relation) (attached_bound (extensions_of m) g.db relation may.one) [] g.gone none))
           (All-weaker (IsFitting g.db) (IsFitting after) (λ a fits. (detaching-stays g.db relation may.one a).1 fits) g.queue.actions stands.fit);
     }
 

@@ -23,7 +23,7 @@ use Rattle.sb_drive.specs.Slots.{Slots}
 use Rattle.sb_drive.specs.Spaces.{Wanted}
 use Rattle.sb_opened.specs.declared.relation.OpenRelation.{OpenRelation}
 use Rattle.sb_engine.specs.declared.running.Work.{Work as Beside}
-use Rattle.sb_engine.specs.Working.{AreOpened, ArePaired, IsOpened, Stands, extensions_of, left_of}
+use Rattle.sb_engine.specs.Working.{AreOpened, ArePaired, IsNoneGone, IsOpened, Stands, extensions_of, left_of}
 use Rattle.sb_tables.specs.Keeping.{KeepsDb}
 
 -- ---- trails
@@ -71,6 +71,10 @@ rows_used : (ext : Extensions) (name : Name) (rule : Rule) (rows : Rows) (bucket
 rows_used ext name rule [] buckets built g = refl
 rows_used ext name rule (row ∷ rows) buckets built g = rows_used ext name rule rows _ _ _
 
+rows_gone : (ext : Extensions) (name : Name) (rule : Rule) (rows : Rows) (buckets : ℕ) (built : Rows) (g : Going) → (build_rows ext name rule buckets built rows g).gone ≡ g.gone
+rows_gone ext name rule [] buckets built g = refl
+rows_gone ext name rule (row ∷ rows) buckets built g = rows_gone ext name rule rows _ _ _
+
 rows_picks : (ext : Extensions) (name : Name) (rule : Rule) (rows : Rows) (buckets : ℕ) (built : Rows) (g : Going) (left : List Key)
     → build_rows ext name rule buckets built rows (with_picks g left) ≡ with_picks (build_rows ext name rule buckets built rows g) left
 rows_picks ext name rule [] buckets built g left = refl
@@ -89,6 +93,9 @@ module _ (ext : Extensions) (relation name : Name) (rule : Rule) (g : Going) whe
 
   pub reached_used : reached.used ≡ g.used
   reached_used = rows_used ext relation rule (rows_at g.db relation) _ [] _
+
+  pub reached_gone : reached.gone ≡ g.gone
+  reached_gone = rows_gone ext relation rule (rows_at g.db relation) _ [] _
 
   same_picks : (left : List Key) → reach_build ext relation rule (with_picks g left) ≡ with_picks reached left
   same_picks left = rows_picks ext relation rule (rows_at g.db relation) _ [] _ left
@@ -157,8 +164,9 @@ pub record IsClosed (w v : Beside) : Type 0 where
 
 -- it stands for another database, once nothing is open
 pub Stands-other : {S : Type 0} (Has : Wanted → Slots → S → Type 0) (m : Meanings) (root : ℕ) (g h : Going) (db : Db) (old new : S) (w v : Beside) → Stands Has m root g old w → h.db ≡ db → h.queue ≡ g.queue → h.used ≡ g.used → IsClosed w v
-    → KeepsDb Has m root v.gone.items db new → AreMirrored db → ArePaired db → IsComplete db g.queue → AllMayStand (box_of (extensions_of m)) db → AllFit db g.queue.actions → Stands Has m root h new v
-Stands-other Has m root g h db old new w v stands is queue used closed keeps mirrored paired complete rules fit = record {
+    → KeepsDb Has m root v.gone.items db new → AreMirrored db → ArePaired db → IsComplete db g.queue → AllMayStand (box_of (extensions_of m)) db → AllFit db g.queue.actions
+    → (IsNoneGone h.gone → v.gone.items ≡ []) → Stands Has m root h new v
+Stands-other Has m root g h db old new w v stands is queue used closed keeps mirrored paired complete rules fit gone = record {
   want = keeps.want;
   slots = keeps.slots;
   kept = keeps.kept;
@@ -172,6 +180,7 @@ Stands-other Has m root g h db old new w v stands is queue used closed keeps mir
   opened = subst (λ (l : List OpenRelation). AreOpened m keeps.kept l) (sym closed.opened) (All-nil (IsOpened m keeps.kept));
   waits = (λ i. record { actions = drop (closed.done i) (closed.queue i).actions; entries = (closed.queue i).entries }) ∙ stands.waits ∙ sym queue;
   picked = closed.picks ∙ stands.picked ∙ sym used;
+  gone = gone;
   rules = subst (AllMayStand (box_of (extensions_of m))) (sym is) rules;
   fit = subst (λ (q : Queue). AllFit h.db q.actions) (sym queue) (subst (λ (d : Db). AllFit d g.queue.actions) (sym is) fit);
 }

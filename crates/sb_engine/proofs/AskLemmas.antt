@@ -279,6 +279,7 @@ module _ {S : Type 0} (Has : Wanted → Slots → S → Type 0) (m : Meanings) (
           opened = asking.opened;
           waits = asking.waits ∙ queue_first-all i name c g all;
           picked = asking.picked;
+          gone = asking.gone;
           rules = asking.rules;
           fit = All-append (IsFitting g.db) g.queue.actions (waiting_actions g.db name c) asking.fit (all-waiting-fits (box_of (extensions_of m)) g.db name c asking.rules (change_fits made));
         },
@@ -378,6 +379,7 @@ module _ {S : Type 0} (Has : Wanted → Slots → S → Type 0) (m : Meanings) (
               ∙ ap (λ (l : List (List ℕ)). with_late (queue_first i name c g) name asked.after.name (late_actions g.db name asked.after.rule c) l) checks_is
               ∙ queue_first-more i name c g asked.after asked.there;
           picked = asking.picked;
+          gone = asking.gone;
           rules = asking.rules;
           fit = asking.fit;
         },

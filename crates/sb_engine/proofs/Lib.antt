@@ -12,3 +12,4 @@ pub mod PlacedLemmas
 pub mod FailingLemmas
 pub mod WalkLemmas
 pub mod MatchingLemmas
+pub mod GoneLemmas

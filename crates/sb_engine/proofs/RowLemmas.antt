@@ -157,6 +157,7 @@ module _ {S : Type 0} (Has : Wanted → Slots → S → Type 0) (Ways : ℕ → 
           picked = noted ∙ ap (λ (keys : List Key). keys ++ picks_of one.table.code c) stands.picked
               ∙ ap (λ (method : ℕ). g.used ++ picks_of method c) (sym table.method)
               ∙ sym (leads-picks name k.relation wish g it.picks c run);
+          gone = stands.gone;
           rules = (rules-stay (box_of (extensions_of m)) g.db name c).1 stands.rules;
           fit = All-weaker (IsFitting g.db) (IsFitting (changed g.db name c)) (λ a fits. (actions-stay g.db name c a).1 fits) g.queue.actions stands.fit;
         };

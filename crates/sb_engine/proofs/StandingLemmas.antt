@@ -47,6 +47,7 @@ module _ {S : Type 0} (Has : Wanted → Slots → S → Type 0) (m : Meanings) (
     opened = stands.opened;
     waits = stands.waits;
     picked = stands.picked;
+    gone = stands.gone;
     rules = stands.rules;
     fit = stands.fit;
   }
@@ -86,6 +87,7 @@ module _ {S : Type 0} (Has : Wanted → Slots → S → Type 0) (m : Meanings) (
           opened = opened;
           waits = λ i. record { actions = rest; entries = ap (λ (q : Queue). q.entries) stands.waits i };
           picked = stands.picked;
+          gone = stands.gone;
           rules = stands.rules;
           fit = All-tail (IsFitting g.db) a rest (subst (λ (l : List Action). AllFit g.db l) waits stands.fit);
         },

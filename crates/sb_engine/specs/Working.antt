@@ -13,7 +13,7 @@ use Rattle.sb_relation.specs.Rules.{late_actions, late_checks}
 use Rattle.sb_fold.specs.Building.{rule_at}
 use Rattle.sb_fold.specs.Extensions.{Extensions, box_of}
 use Rattle.sb_fold.specs.Fold.{attachments_at}
-use Rattle.sb_fold.specs.Outcome.{Entry, Going, Queue, Trail, with_waiting}
+use Rattle.sb_fold.specs.Outcome.{Entry, Going, Gone, Queue, Trail, with_waiting}
 use Rattle.sb_fold.specs.Wishes.{Wish}
 use Rattle.sb_deferred.specs.Complete.{AreMirrored, IsComplete}
 use Rattle.sb_deferred.specs.Waiting.{check_of, IsFront}
@@ -78,6 +78,12 @@ pub record MayAsk (opened : List OpenRelation) (name : Name) (c : Change) : Type
   pub at : open_at opened name ≡ Some one
   pub made : MayBeMade one.descriptor.schema one.descriptor.attachments c
 
+-- ---- what is gone
+-- nothing was dropped or detached
+pub record IsNoneGone (gone : Gone) : Type 0 where
+  pub durable : gone.durable ≡ []
+  pub others : gone.others ≡ []
+
 -- ---- what waits
 -- the actions that weren't taken out yet, and all entries
 abbrev pub left_of : Work → Queue
@@ -125,7 +131,8 @@ pub record Serves {S : Type 0} (IsReady : S → Type 0) (m : Meanings) (place : 
   pub opened : All (IsOpen m) w.opened.items
   pub within : w.done ≤ length w.queue.actions
 
--- Work has come so far: the pages keep its database, whose deferred rules are told by what waits, and what waits fits; what was picked is noted.
+-- Work has come so far: the pages keep its database, whose deferred rules are told by what waits, and what waits fits; what was picked is noted; and
+-- no owner is to go where nothing was dropped or detached.
 pub record Stands {S : Type 0} (Has : Wanted → Slots → S → Type 0) (m : Meanings) (root : ℕ) (g : Going) (space : S) (w : Work) : Type 0 where
   pub want : Wanted
   pub slots : Slots
@@ -140,6 +147,7 @@ pub record Stands {S : Type 0} (Has : Wanted → Slots → S → Type 0) (m : Me
   pub opened : AreOpened m kept w.opened.items
   pub waits : left_of w ≡ g.queue
   pub picked : w.picks.items ≡ g.used
+  pub gone : IsNoneGone g.gone → w.gone.items ≡ []
   pub rules : AllMayStand (box_of (extensions_of m)) g.db
   pub fit : AllFit g.db g.queue.actions
 
@@ -161,6 +169,7 @@ pub record StandsAsking {S : Type 0} (Has : Wanted → Slots → S → Type 0) (
   pub opened : AreOpened m (changed_kept name c before) w.opened.items
   pub waits : left_of w ≡ queue_first i name c g
   pub picked : w.picks.items ≡ g.used
+  pub gone : IsNoneGone g.gone → w.gone.items ≡ []
   pub rules : AllMayStand (box_of (extensions_of m)) g.db
   pub fit : AllFit g.db g.queue.actions
 

@@ -24,7 +24,7 @@ use Rattle.sb_transactions.specs.Transactions.{IsAt, Rests, WasBegun}
 use Rattle.sb_execution.specs.Endings.{EndsAlone, HasAnswered}
 use Rattle.sb_execution.proofs.AloneLemmas.{EndsAlone-fault, EndsAlone-refused, fallen_commit, leaves_alone, moments_abort, refuses_commit, remains_abort, remains_alone, rests_abort, was_up}
 use Rattle.sb_execution.proofs.CallLemmas.{Remains-err, err_fault, ok_err}
-use Rattle.sb_execution.proofs.EndLemmas.{MayWant-works}
+use Rattle.sb_execution.proofs.EndLemmas.{may_want_memory-works}
 
 not_wanting : {A : Type 0} (r : Refusal) → is_wanting r ≡ true → r ≡ refusal.Fault → A
 not_wanting r wanting is = absurd (false≢true (sym (ap (λ (q : Refusal). is_wanting q) is) ∙ wanting))
@@ -49,7 +49,7 @@ module _ {D : Type 0} (told : D → Option Story) (len faults : D → ℕ) (m : 
         → (v.book.down ≡ false → (m : Meanings) (root : ℕ) (want : Wanted) (db : Db) → WasBegun m root want db tx here → Rests m root want db between)
         → (r ≡ refusal.Fault → (want : Wanted) (g : Going) → IsAt m place want tx g here w → v.book.down ≡ true) → EndsAlone told len faults m place c d b s v (Err r)
     EndsAlone-over moments still none aborted faulted =
-        EndsAlone-refused told len faults m place c d b s v up (λ x. MayWant-works x c has.works) r
+        EndsAlone-refused told len faults m place c d b s v up (λ x. may_want_memory-works x c has.works) r
         (remains_alone told len faults m place d e s t tx has.comes w {T = Reply} {U = Reply} b v (Err r) (Err r) (λ is. is) (Remains-err told len faults {T = K} {U = Reply} e b t v r kept))
         (λ not want x of posed. leaves_alone told len faults m place d e s t tx has.comes {T = K} b v (Err r) kept (still not) want x of)
         (fallen_commit told len faults m place c d e s t tx w answer has b v moments)
@@ -63,7 +63,7 @@ module _ {D : Type 0} (told : D → Option Story) (len faults : D → ℕ) (m : 
           → ((m : Meanings) (root : ℕ) (want : Wanted) (db : Db) → WasBegun m root want db last between → Rests m root want db (parts told len f u))
           → EndsAlone told len faults m place c d f s u (Err r)
       EndsAlone-let_go wanting remains none last number rests =
-          EndsAlone-refused told len faults m place c d f s u up (λ x. MayWant-works x c has.works) r
+          EndsAlone-refused told len faults m place c d f s u up (λ x. may_want_memory-works x c has.works) r
           (remains_abort told len faults m place c d e s t tx w answer has {K = K} b f v u now r stays kept {T = Unit {0}} (Ok tt) (Err r) (λ is. ok_err tt refusal.Fault is) remains)
           (λ not want x of posed. moments_abort told len faults m place c d e s t tx w answer has {K = K} b f v u now r stays kept {T = Unit {0}} (Ok tt) remains leaves want x of posed)
           (λ want x of posed.

@@ -20,6 +20,7 @@ use Rattle.sb_engine.specs.declared.running.Work.{Work as EngineWork}
 use Rattle.sb_plain.specs.declared.command.Command.{Command}
 use Rattle.sb_plain.specs.declared.reply.Reply.{Reply}
 use Rattle.sb_plain.specs.declared.reply.Reply.TheVariants.{Refused}
+use Rattle.sb_plain.specs.Licences.{may_want_memory}
 use Rattle.sb_plain.specs.State.{downed}
 use Rattle.sb_plain.specs.Step.{Steps}
 use Rattle.sb_plain.specs.State.{State, Transaction as PlainTransaction, committed}
@@ -35,7 +36,7 @@ use Rattle.sb_transactions.specs.Commits.{FailsOn, Finishes, IsDone, LeavesEithe
 use Rattle.sb_transactions.specs.Transactions.{IsAt, IsCommitted, Rests, WasBegun}
 use Rattle.sb_transactions.proofs.EndLemmas.{Remains-behind}
 use Rattle.sb_execution.specs.Serving.{IsPosedIn}
-use Rattle.sb_session.specs.Ends.{IsFree, IsStep, MayWant, is_end}
+use Rattle.sb_session.specs.Ends.{IsFree, IsStep, is_end}
 use Rattle.sb_session.specs.Sessions.{HasFailed, IsNext, IsOpenFor, Lacks, LeavesNext, LeavesOldOrNext}
 use Rattle.sb_session.proofs.Carried.{end_of_given}
 use Rattle.sb_session.proofs.CommitSteps.{committed-push, with_committed}
@@ -111,7 +112,7 @@ module _ {D : Type 0} (told : D → Option Story) (len faults : D → ℕ) (m : 
   }
 
   -- ---- it was refused, and the pages are as they were
-  module _ (may : (x : State) → MayWant x c) (r : Refusal) (remains : Remains {T = Reply} told len faults d f s u (Err r)) (still : (r ≡ refusal.Fault → ⊥) → Still) (fallen : Fallen)
+  module _ (may : (x : State) → may_want_memory x c ≡ true) (r : Refusal) (remains : Remains {T = Reply} told len faults d f s u (Err r)) (still : (r ≡ refusal.Fault → ⊥) → Still) (fallen : Fallen)
       (none : u.book.down ≡ false → u.book.actives ≡ [])
       (rests : u.book.down ≡ false → (want : Wanted) (x : State) → Of want x → Rests m place.root want (committed x) q)
       (refuses : Each (λ want x. Refuses faults m c x r u)) where

@@ -14,6 +14,7 @@ use Rattle.sb_engine.specs.Working.{extensions_of}
 use Rattle.sb_plain.specs.declared.command.Command.{Command}
 use Rattle.sb_plain.specs.declared.reply.Reply.{Reply}
 use Rattle.sb_plain.specs.declared.reply.Reply.TheVariants.{Refused}
+use Rattle.sb_plain.specs.Licences.{may_want_memory}
 use Rattle.sb_plain.specs.Step.{Steps}
 use Rattle.sb_plain.specs.Refusing.{refused}
 use Rattle.sb_plain.specs.State.{State, committed, view}
@@ -34,14 +35,13 @@ use Rattle.sb_statements.specs.declared.answers.Answer as code
 use Rattle.sb_execution.specs.Serving.{IsPosedIn, IsSeenIn, IsServed, IsUnserved, is_managing}
 use Rattle.sb_statements.specs.Statements.{answer_of}
 use Rattle.sb_session.specs.declared.session.Savepoint.{Savepoint}
-use Rattle.sb_session.specs.Ends.{MayWant}
 use Rattle.sb_session.proofs.OpenLemmas.{Outside, outside_at}
 use Rattle.sb_execution.specs.declared.serving.Served.{Served}
 use Rattle.sb_execution.specs.declared.serving.Served.TheVariants as served
 use Rattle.sb_execution.specs.Endings.{ComesAlone, EndsAlone, HasAnswered, IsOf, Passes, going_alone}
 use Rattle.sb_execution.proofs.AloneLemmas.{EndsAlone-done, EndsAlone-fault, EndsAlone-refused, leaves_alone, leaves_so_far, read_so, remains_alone}
 use Rattle.sb_execution.proofs.CallLemmas.{Remains-err, Remains-led, Remains-then, not_both, ok_err}
-use Rattle.sb_execution.proofs.EndLemmas.{MayWant-works, at_some, seen_alone, unserved_alone, unserved_cause, work_there}
+use Rattle.sb_execution.proofs.EndLemmas.{at_some, may_want_memory-works, seen_alone, unserved_alone, unserved_cause, work_there}
 use Rattle.sb_execution.proofs.ReplyLemmas.{read_given, refused_given}
 use Rattle.sb_execution.proofs.StepsOf.{Steps-read_alone, Steps-refused_alone, with_open}
 
@@ -133,7 +133,7 @@ module _ {D : Type 0} (told : D → Option Story) (len faults : D → ℕ) (m : 
         seen want x of = seen_alone m place want x from ones listed of (out want x of).none
 
         -- behind a refusal, for a reason of the definitions or of the store
-        EndsAlone-behind : ((x : State) → MayWant x c) → (r : Refusal)
+        EndsAlone-behind : ((x : State) → may_want_memory x c ≡ true) → (r : Refusal)
             → ((want : Wanted) (x : State) → IsOf m place want x from None → IsPosedIn m x c
             → (is_free r ≡ false → Steps (extensions_of m) x c (Refused r) (with_open x None)) × (is_free r ≡ true → HasRefusalCause (FailsOn faults) r (record { disk = e; store = t })))
             → EndsAlone told len faults m place c d f s u (Err r)
@@ -158,7 +158,7 @@ module _ {D : Type 0} (told : D → Option Story) (len faults : D → ℕ) (m : 
             → ((want : Wanted) (x : State) (g : Going) → IsAt m place want n g (parts told len b bs) a.work → IsSeenIn m false ones x g → IsPosedIn m x c
             → IsUnserved (FailsOn faults) m x c g r (record { disk = e; store = t })) → EndsAlone told len faults m place c d f s u (Err r)
         EndsAlone-back works r unserved =
-            EndsAlone-behind (λ x. MayWant-works x c works) r
+            EndsAlone-behind (λ x. may_want_memory-works x c works) r
             (λ want x of posed.
             let why = unserved want x (going_alone x) (at_command want x of) (seen want x of) posed in (
               λ given. unserved_alone (FailsOn faults) m x c works r (record { disk = e; store = t }) of.up given (out want x of).none why,
@@ -166,7 +166,7 @@ module _ {D : Type 0} (told : D → Option Story) (len faults : D → ℕ) (m : 
             ))
 
         -- a test refuses it
-        pub EndsAlone-tested : ((x : State) → MayWant x c) → (r : Refusal)
+        pub EndsAlone-tested : ((x : State) → may_want_memory x c ≡ true) → (r : Refusal)
             → ((want : Wanted) (x : State) (g : Going) → IsAt m place want n g (parts told len b bs) a.work → IsSeenIn m false ones x g → Some r ≡ refused (extensions_of m) x c)
             → EndsAlone told len faults m place c d f s u (Err r)
         EndsAlone-tested may r refuses =
@@ -178,7 +178,7 @@ module _ {D : Type 0} (told : D → Option Story) (len faults : D → ℕ) (m : 
             ))
 
         -- a look of the tests was refused
-        pub EndsAlone-looked : ((x : State) → MayWant x c) → (r : Refusal) → is_free r ≡ true
+        pub EndsAlone-looked : ((x : State) → may_want_memory x c ≡ true) → (r : Refusal) → is_free r ≡ true
             → ((want : Wanted) (x : State) (g : Going) → IsAt m place want n g (parts told len b bs) a.work → IsSeenIn m false ones x g → HasRefusalCause (FailsOn faults) r (record { disk = e; store = t }))
             → EndsAlone told len faults m place c d f s u (Err r)
         EndsAlone-looked may r free cause =

@@ -17,6 +17,7 @@ use Rattle.sb_plain.specs.declared.command.Command.{Command}
 use Rattle.sb_plain.specs.declared.command.Command.TheVariants as command
 use Rattle.sb_plain.specs.declared.reply.Reply.{Reply}
 use Rattle.sb_plain.specs.declared.reply.Reply.TheVariants as reply
+use Rattle.sb_plain.specs.Licences.{may_want_memory}
 use Rattle.sb_plain.specs.State.{downed}
 use Rattle.sb_plain.specs.Step.{Steps}
 use Rattle.sb_plain.specs.Reading.{read}
@@ -29,7 +30,7 @@ use Rattle.sb_txn.specs.Parts.{Parts}
 use Rattle.sb_engine.specs.declared.running.Work.{Work as EngineWork}
 use Rattle.sb_session.specs.declared.session.Open.{Open}
 use Rattle.sb_session.specs.declared.session.Savepoint.{Savepoint}
-use Rattle.sb_session.specs.Ends.{Ends, IsFree, IsStep, MayWant, ends_with}
+use Rattle.sb_session.specs.Ends.{Ends, IsFree, IsStep, ends_with}
 use Rattle.sb_session.specs.Sessions.{AreSavepoints, IsInside}
 use Rattle.sb_session.proofs.Carried.{Ends-given, end_of_given}
 use Rattle.sb_session.proofs.CommitSteps.{going_on}
@@ -50,7 +51,7 @@ module _ (S : State → Type 0) (Lacks : Room → Type 0) (HasFailed : Type 0) (
 
   -- by the kind of the refusal
   pub Ends-by : (r : Refusal) → (is_free r ≡ false → IsStep S ext s c (reply.Refused r)) → ((room : Room) → r ≡ refusal.Room room → IsFree S (Lacks room) s s)
-      → (r ≡ refusal.NoMemory → IsFree S (MayWant s c) s s) → (r ≡ refusal.Fault → IsFree S HasFailed s (downed s)) → ((page : ℕ) → r ≡ refusal.Damaged page → ⊥)
+      → (r ≡ refusal.NoMemory → IsFree S (may_want_memory s c ≡ true) s s) → (r ≡ refusal.Fault → IsFree S HasFailed s (downed s)) → ((page : ℕ) → r ≡ refusal.Damaged page → ⊥)
       → Ends S Lacks HasFailed ext s c (reply.Refused r)
   Ends-by (refusal.Room room) step lacks wants failed damaged = lacks room refl
   Ends-by refusal.NoMemory step lacks wants failed damaged = wants refl
@@ -68,7 +69,7 @@ module _ (S T : State → Type 0) (Lacks : Room → Type 0) (HasFailed : Type 0)
 
   pub Ends-as : (r : Reply) → Ends S Lacks HasFailed ext s c r → Ends T Lacks HasFailed ext s c r
   Ends-as (reply.Refused (refusal.Room room)) ends = free_wider (Lacks room) s ends
-  Ends-as (reply.Refused refusal.NoMemory) ends = free_wider (MayWant s c) s ends
+  Ends-as (reply.Refused refusal.NoMemory) ends = free_wider (may_want_memory s c ≡ true) s ends
   Ends-as (reply.Refused refusal.Fault) ends = free_wider HasFailed (downed s) ends
   Ends-as (reply.Refused (refusal.Damaged page)) ends = ends
   Ends-as (reply.Refused r) ends = step_wider (reply.Refused r) ends
@@ -98,11 +99,11 @@ pub at_some : {A : Type 0} (o : Option A) (x : A) (P : A → Type 0) → o ≡ S
 at_some {A = A} o x P is here = let Q : Option A → Type 0 = λ o. IfSome o P in subst Q is here
 
 -- memory may be wanting to it
-pub MayWant-works : (s : State) (c : Command) → is_managing c ≡ false → MayWant s c
-MayWant-works s command.Commit works = tt
-MayWant-works s command.Abort works = absurd (false≢true (sym works))
-MayWant-works s (command.Rollback name) works = absurd (false≢true (sym works))
-MayWant-works s c works = refl
+pub may_want_memory-works : (s : State) (c : Command) → is_managing c ≡ false → may_want_memory s c ≡ true
+may_want_memory-works s command.Commit works = absurd (false≢true (sym works))
+may_want_memory-works s command.Abort works = absurd (false≢true (sym works))
+may_want_memory-works s (command.Rollback name) works = absurd (false≢true (sym works))
+may_want_memory-works s c works = refl
 
 -- ---- commands that are refused
 module _ {N : Type 0} (Fails : SpaceFault → N → N → Type 0) (m : Meanings) (s : State) (c : Command) (works : is_managing c ≡ false) (r : Refusal) (new : N) where

@@ -38,7 +38,7 @@ use Rattle.sb_execution.specs.declared.serving.Served.{Served}
 use Rattle.sb_execution.specs.declared.serving.Served.TheVariants as served
 use Rattle.sb_execution.specs.Endings.{EndsInside, IsLeft, IsOf, IsReplied}
 use Rattle.sb_execution.proofs.CallLemmas.{has_failed, not_both}
-use Rattle.sb_execution.proofs.EndLemmas.{Ends-by, Ends-stepped, MayWant-works, at_some, ends_given, unserved_cause, unserved_inside, work_there}
+use Rattle.sb_execution.proofs.EndLemmas.{Ends-by, Ends-stepped, at_some, ends_given, may_want_memory-works, unserved_cause, unserved_inside, work_there}
 use Rattle.sb_execution.proofs.ReplyLemmas.{answered_given, is_free_reply, read_given}
 use Rattle.sb_execution.proofs.StandingLemmas.{CanGoOn-stays, IsAt-taken, IsInside-stays, IsUsable-taken, Stays, Stays-beside, Stays-then}
 use Rattle.sb_execution.proofs.StepsOf.{Steps-read_inside, Steps-worked_inside, with_open, with_spent_in, worked}
@@ -77,7 +77,7 @@ module _ (m : Meanings) (place : Place) (want : Wanted) (tx : ℕ) (c : Command)
         steps = subst (λ (a : Reply). Steps ext x c a (with_open x (Some (worked t run.after)))) (sym (replies.0 ∙ ap (λ (ks : List Key). answered (answer_of answer) ks) run.stands.picked))
             (Steps-worked_inside ext x c up t inside there.0 there.1 run.picks run.after (answer_of answer) done.0 run.leads);
         points = refl;
-        at = IsAt-same m place want tx (unused run.after) (going_in (worked t run.after)) q w refl refl refl (IsAt-taken m place want tx run.after q v w replies.1 run.stands);
+        at = IsAt-same m place want tx (unused run.after) (going_in (worked t run.after)) q w refl refl refl refl (IsAt-taken m place want tx run.after q v w replies.1 run.stands);
         given = ap is_free_reply replies.0 ∙ answered_given (answer_of answer) v.picks.items;
       }
 
@@ -151,7 +151,7 @@ module _ {D : Type 0} (told : D → Option Story) (len faults : D → ℕ) (m : 
       stays_inside want x of n =
           let here = within want x of in
           IsInside-stays m place p q o now number listed stays want (committed x) here.of (with_spent_in n here.of) refl here.inside
-          (IsAt-same m place want tx (going_in here.of) (going_in (with_spent_in n here.of)) q now.transaction.work refl refl refl (back want (going_in here.of) here.inside.at))
+          (IsAt-same m place want tx (going_in here.of) (going_in (with_spent_in n here.of)) q now.transaction.work refl refl refl refl (back want (going_in here.of) here.inside.at))
 
       -- the state as it was
       as_it_was : (want : Wanted) (x : State) → IsOf m place want x p (Some o) → is_end r ≡ false → LeftBy want x (Refused r) x
@@ -186,7 +186,7 @@ module _ {D : Type 0} (told : D → Option Story) (len faults : D → ℕ) (m : 
               cause = record { at = there; cause = subst (λ (r : Refusal). HasRefusalCause (FailsOn faults) r there) is (cause want x of posed (ap is_free is)) };
               stands = as_it_was want x of (ap is_end is);
             })
-            (λ is. record { up = of.up; cause = MayWant-works x c works; stands = as_it_was want x of (ap is_end is) })
+            (λ is. record { up = of.up; cause = may_want_memory-works x c works; stands = as_it_was want x of (ap is_end is) })
             (λ is. not_both there.store.book.down still (Fault-down faults there (subst (λ (r : Refusal). HasRefusalCause (FailsOn faults) r there) is (cause want x of posed (ap is_free is)))))
             (λ page is. subst (λ (r : Refusal). HasRefusalCause (FailsOn faults) r there) is (cause want x of posed (ap is_free is)));
         leaves = leaves;

@@ -83,7 +83,7 @@ module _ {D : Type 0} (told : D → Option Story) (len faults : D → ℕ) (m : 
   at_command : (want : Wanted) (a : State) (of : IsOf m place want a from (Some o)) → IsAt m place want n (going_on (within want a of).of) from x.work
   at_command want a of =
       let in_it = within want a of in
-      at_work want (going_on in_it.of) (IsAt-same m place want first (going_in in_it.of) (going_on in_it.of) from o.transaction.work refl refl refl in_it.inside.at)
+      at_work want (going_on in_it.of) (IsAt-same m place want first (going_in in_it.of) (going_on in_it.of) from o.transaction.work refl refl refl refl in_it.inside.at)
 
   seen : (points : List Savepoint) → points ≡ o.points.items → (want : Wanted) (a : State) (of : IsOf m place want a from (Some o)) → IsSeenIn m true points a (going_on (within want a of).of)
   seen points listed want a of =

@@ -27,7 +27,7 @@ use Rattle.sb_drive.specs.Spaces.{Wanted}
 use Rattle.sb_session.specs.declared.session.Savepoint.{Savepoint}
 use Rattle.sb_engine.specs.declared.running.Work.{Work}
 use Rattle.sb_engine.specs.Refusals.{refusal_of}
-use Rattle.sb_engine.specs.Working.{ArePaired, Stands, extensions_of, left_of}
+use Rattle.sb_engine.specs.Working.{ArePaired, IsNoneGone, Stands, extensions_of, left_of}
 use Rattle.sb_engine.proofs.LateLemmas.{drop_first, drop_none}
 use Rattle.sb_execution.specs.Serving.{IsSeenIn, waiting_in}
 
@@ -143,13 +143,15 @@ module _ {S : Type 0} (Has : Wanted → Slots → S → Type 0) (m : Meanings) (
     opened = stands.opened;
     waits = stands.waits;
     picked = stands.picked;
+    gone = stands.gone;
     rules = stands.rules;
     fit = stands.fit;
   }
 
-  -- it tells neither what was spent nor what is gone
-  stands-going : (g h : Going) (a : S) (w : Work) → g.db ≡ h.db → g.queue ≡ h.queue → g.used ≡ h.used → Stands Has m root g a w → Stands Has m root h a w
-  stands-going g h a w db queue used stands = record {
+  -- it tells what is gone only where nothing is, and not what was spent
+  stands-going : (g h : Going) (a : S) (w : Work) → g.db ≡ h.db → g.queue ≡ h.queue → g.used ≡ h.used
+      → (IsNoneGone h.gone → w.gone.items ≡ []) → Stands Has m root g a w → Stands Has m root h a w
+  stands-going g h a w db queue used gone stands = record {
     want = stands.want;
     slots = stands.slots;
     kept = stands.kept;
@@ -163,6 +165,7 @@ module _ {S : Type 0} (Has : Wanted → Slots → S → Type 0) (m : Meanings) (
     opened = stands.opened;
     waits = stands.waits ∙ queue;
     picked = stands.picked ∙ used;
+    gone = gone;
     rules = subst (λ (d : Db). AllMayStand (box_of (extensions_of m)) d) db stands.rules;
     fit = subst (λ (d : Db). AllFit d h.queue.actions) db (subst (λ (q : Queue). AllFit g.db q.actions) queue stands.fit);
   }
@@ -173,7 +176,8 @@ module _ {S : Type 0} (Has : Wanted → Slots → S → Type 0) (m : Meanings) (
   stands-seen inside other points others s g h a b v w same seen stands again then =
       subst (λ (x : Work). Stands Has m root g b x) same
       (stands-going h g b w (sym again.db ∙ seen.db) (sym again.queue ∙ seen.queue)
-      (sym then.picked ∙ ap (λ (x : Work). x.picks.items) same ∙ stands.picked) then)
+      (sym then.picked ∙ ap (λ (x : Work). x.picks.items) same ∙ stands.picked)
+      (λ none. ap (λ (x : Work). x.gone.items) same ∙ stands.gone none) then)
 
 -- ---- refusals
 -- no definition gives it

@@ -43,6 +43,7 @@ module _ (m : Meanings) (place : Place) where
     keeps = subst (λ (xs : List ℕ). Keeps m IsDurable place.root so.slots (take point.gone xs) so.kept) (sym gone) so.keeps;
     settled = so.settled;
     waited = ap (waited_at point) queue ∙ so.waited;
+    gone = λ none. ap (take point.gone) gone ∙ so.gone none;
   }
 
   -- its picks were taken
@@ -66,6 +67,7 @@ module _ (m : Meanings) (place : Place) where
     opened = subst (λ (xs : List OpenRelation). AreOpened m at.kept xs) (sym taken.opened) at.opened;
     waits = left_same v w taken.done taken.queue ∙ at.waits;
     picked = taken.picks;
+    gone = λ none. taken.gone ∙ at.gone none;
   }
 
   -- ---- what goes on standing

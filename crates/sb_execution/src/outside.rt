@@ -1,14 +1,15 @@
 //! Commands outside of a transaction, each of which is one of its own.
 
-ghost use Rattle.std.specs.Prelude.{◌≡◌, ◌≤◌, [], false, Err, None, IfErr, OnOk};
+ghost use Rattle.std.specs.Prelude.{◌≡◌, ◌≤◌, [], false, true, Err, None, IfErr, OnOk};
 ghost use Rattle.sb_drive.specs.Spaces.{Wanted};
 ghost use Rattle.sb_engine.specs.Working.{extensions_of};
+ghost use Rattle.sb_plain.specs.Licences.{may_want_memory};
 ghost use Rattle.sb_plain.specs.State.{State};
 ghost use Rattle.sb_plain.specs.declared.command.Command.{Command as PlainCommand};
 ghost use Rattle.sb_execution.specs.Serving.{IsPosedIn, is_managing};
 ghost use Rattle.sb_statements.specs.Statements.{answer_of};
 ghost use Rattle.sb_execution.specs.Endings.{EndsAlone, HasAnswered, Passes};
-ghost use Rattle.sb_session.specs.Ends.{Ends, MayWant};
+ghost use Rattle.sb_session.specs.Ends.{Ends};
 ghost use Rattle.sb_session.specs.Sessions.{CanRun, HasFailed, IsFor, KeepsSession, Lacks, StandsBehind};
 ghost use Rattle.sb_transactions.specs.Transactions.{IsUsable};
 ghost use Rattle.sb_txn.specs.Clauses.{IsReady};
@@ -126,7 +127,7 @@ pub(crate) fn test_outside<B: Vectors, D: Disk>(
     requires none { space.old.store.book.actives ≡ [] }
     requires owner { place.owner ≡ 2 }
     requires up { space.old.store.book.down ≡ false }
-    requires may { (s : State) → MayWant s command.now }
+    requires may { (s : State) → may_want_memory s command.now ≡ true }
 
     ensures passes { OnOk result (Passes D.told D.len D.faults (B.meanings boxes.now) place command.now disk.old disk.new space.old.store space.new.store) }
     ensures refused { IfErr result (λ r. EndsAlone D.told D.len D.faults (B.meanings boxes.now) place command.now disk.old disk.new space.old.store space.new.store

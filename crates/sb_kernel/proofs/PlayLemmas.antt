@@ -1,16 +1,17 @@
 -- Plays with one item more, and where more calls have failed.
-use Rattle.std.proofs.Common.{◌≡◌, List, [], ◌∷◌, ◌++◌, refl}
+use Rattle.std.proofs.Common.{◌≡◌, true, List, [], ◌∷◌, ◌++◌, refl}
 use Rattle.sb_fold.specs.declared.refusal.Refusal.TheVariants as refusal
 use Rattle.sb_fold.specs.declared.refusal.Room.{Room}
 use Rattle.sb_fold.specs.Extensions.{Extensions}
 use Rattle.sb_plain.specs.declared.command.Command.{Command}
 use Rattle.sb_plain.specs.declared.reply.Reply.{Reply}
 use Rattle.sb_plain.specs.declared.reply.Reply.TheVariants.{Refused}
+use Rattle.sb_plain.specs.Licences.{may_want_memory}
 use Rattle.sb_plain.specs.State.{State, downed}
 use Rattle.sb_grammar.specs.Columns.{Item, Says, Bad}
 use Rattle.sb_registry.specs.Boxes.{Meanings}
 use Rattle.sb_engine.specs.Working.{extensions_of}
-use Rattle.sb_session.specs.Ends.{Ends, IsFree, IsStep, MayWant}
+use Rattle.sb_session.specs.Ends.{Ends, IsFree, IsStep}
 use Rattle.sb_execution.proofs.EndLemmas.{Ends-since}
 use Rattle.sb_kernel.specs.Plays.{Moves, MovesBy, Plays, last_state}
 
@@ -67,7 +68,7 @@ module _ (Stands : State → Type 0) (Lacks : Room → Type 0) (HasFailed : Type
 
   pub Ends-comes : (r : Reply) → Ends Stands Lacks HasFailed ext s c r → Comes Stands Lacks HasFailed ext s c r
   Ends-comes (Refused (refusal.Room room)) ends = record { state = s; ends = this_free (Lacks room) s ends; stands = ends.stands }
-  Ends-comes (Refused refusal.NoMemory) ends = record { state = s; ends = this_free (MayWant s c) s ends; stands = ends.stands }
+  Ends-comes (Refused refusal.NoMemory) ends = record { state = s; ends = this_free (may_want_memory s c ≡ true) s ends; stands = ends.stands }
   Ends-comes (Refused refusal.Fault) ends = record { state = downed s; ends = this_free HasFailed (downed s) ends; stands = ends.stands }
   Ends-comes (Refused (refusal.Damaged page)) ends = absurd ends
   Ends-comes (Refused r) ends = record { state = ends.after; ends = this_step (Refused r) ends; stands = ends.stands }

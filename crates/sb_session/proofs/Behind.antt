@@ -1,5 +1,5 @@
 -- What stands behind a command along which a crash left what was wanted.
-use Rattle.std.proofs.Common.{inl, ℕ, List, Option, Some, None}
+use Rattle.std.proofs.Common.{◌≡◌, inl, ℕ, true, List, Option, Some, None}
 use Rattle.sb_disk.specs.Disk.{Story}
 use Rattle.sb_relation.specs.Db.{Db}
 use Rattle.sb_fold.specs.declared.refusal.Refusal.TheVariants as refusal
@@ -8,6 +8,7 @@ use Rattle.sb_fold.specs.Extensions.{Extensions}
 use Rattle.sb_plain.specs.declared.command.Command.{Command}
 use Rattle.sb_plain.specs.declared.reply.Reply.{Reply}
 use Rattle.sb_plain.specs.declared.reply.Reply.TheVariants as reply
+use Rattle.sb_plain.specs.Licences.{may_want_memory}
 use Rattle.sb_plain.specs.State.{downed}
 use Rattle.sb_plain.specs.State.{State, Transaction as PlainTransaction, committed}
 use Rattle.sb_registry.specs.Boxes.{Meanings}
@@ -18,7 +19,7 @@ use Rattle.sb_txn.specs.Parts.{Parts}
 use Rattle.sb_engine.specs.Working.{extensions_of}
 use Rattle.sb_session.specs.declared.session.Open.{Open}
 use Rattle.sb_session.specs.declared.session.Session.{Session}
-use Rattle.sb_session.specs.Ends.{Ends, IsFree, IsStep, MayWant}
+use Rattle.sb_session.specs.Ends.{Ends, IsFree, IsStep}
 use Rattle.sb_session.specs.Sessions.{HasFailed, IsFor, IsOpenFor, Lacks, StandsBehind, StandsFor, parts_of}
 
 -- ---- ends of other states
@@ -31,7 +32,7 @@ module _ (S T : State → Type 0) (Lacks : Room → Type 0) (HasFailed : Type 0)
 
   pub Ends-wider : (r : Reply) → Ends S Lacks HasFailed ext s c r → Ends T Lacks HasFailed ext s c r
   Ends-wider (reply.Refused (refusal.Room room)) ends = free-wider (Lacks room) s ends
-  Ends-wider (reply.Refused refusal.NoMemory) ends = free-wider (MayWant s c) s ends
+  Ends-wider (reply.Refused refusal.NoMemory) ends = free-wider (may_want_memory s c ≡ true) s ends
   Ends-wider (reply.Refused refusal.Fault) ends = free-wider HasFailed (downed s) ends
   Ends-wider (reply.Refused (refusal.Damaged page)) ends = ends
   Ends-wider (reply.Refused (refusal.Syntax column)) ends = step-wider (reply.Refused (refusal.Syntax column)) ends

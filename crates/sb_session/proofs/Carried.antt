@@ -14,6 +14,7 @@ use Rattle.sb_log.specs.declared.geometry.Geometry.{Geometry}
 use Rattle.sb_plain.specs.declared.command.Command.{Command}
 use Rattle.sb_plain.specs.declared.reply.Reply.{Reply}
 use Rattle.sb_plain.specs.declared.reply.Reply.TheVariants.{Refused}
+use Rattle.sb_plain.specs.Licences.{may_want_memory}
 use Rattle.sb_plain.specs.State.{downed}
 use Rattle.sb_plain.specs.Step.{Steps}
 use Rattle.sb_plain.specs.State.{State, Transaction as PlainTransaction, committed}
@@ -33,7 +34,7 @@ use Rattle.sb_vectors.specs.Vectors.{live_codes, spare_codes}
 use Rattle.sb_session.specs.declared.session.Open.{Open}
 use Rattle.sb_session.specs.declared.session.Savepoint.{Savepoint}
 use Rattle.sb_session.specs.declared.session.Session.{Session}
-use Rattle.sb_session.specs.Ends.{Ends, IsStep, MayWant, ends_with, is_end}
+use Rattle.sb_session.specs.Ends.{Ends, IsStep, ends_with, is_end}
 use Rattle.sb_session.specs.Sessions.{AreInOrder, CanGoOn, CanRun, HasFailed, IsFor, IsOpenFor, KeepsSession, Lacks, parts_of}
 use Rattle.sb_session.proofs.OpenLemmas.{IsInside-same, IsOpenFor-spent}
 use Rattle.sb_session.proofs.Stepped.{Stepped}
@@ -246,7 +247,7 @@ module _ {B D : Type 0} (meanings : B → Meanings) (told : D → Option Story) 
         (record { after = if_up s; steps = steps want s is; stands = IsFor-same meanings told len d x y same want (if_up s) (IsFor-paid meanings told len want d x s is) }))
 
     -- memory was wanting
-    pub Carried-memory : x.down ≡ false → ((want : Wanted) (s : State) → IsFor meanings told len want s d x → MayWant s c)
+    pub Carried-memory : x.down ≡ false → ((want : Wanted) (s : State) → IsFor meanings told len want s d x → may_want_memory s c ≡ true)
         → Carried meanings told len faults c d d x y (Refused refusal.NoMemory)
     Carried-memory up may =
         unchanged (Refused refusal.NoMemory) refl

@@ -177,7 +177,7 @@ module _ {B D : Type 0} (meanings : B → Meanings) (told : D → Option Story) 
               found_first.0 found_first.1 found_first.2 in
               Stepped-rollback (extensions_of m) m x.place want to s (up_state want s for) within.of within.is name new at_first.point at_first.known at_first.goes (record {
                 at = subst (λ (n : ℕ). IsAt m x.place want n (going_in (at_point name at_first.point within.of)) to new.transaction.work) (sym same)
-                    (IsAt-same m x.place want number (unused (going_at at_first.point)) (going_in (at_point name at_first.point within.of)) to new.transaction.work refl refl refl
+                    (IsAt-same m x.place want number (unused (going_at at_first.point)) (going_in (at_point name at_first.point within.of)) to new.transaction.work refl refl refl refl
                     (back m x.place want (going_at at_first.point) runs.owner
                     (subst (λ (last : Point). WasSo m x.place want number (going_at at_first.point) last from old.transaction.work) marked at_first.is.was)));
                 begun = subst (λ (n : ℕ). WasBegun m x.place.root want (committed s) n to) (sym same) (begun m x.place.root want (committed s) within.inside.begun);
@@ -313,7 +313,7 @@ module _ {B D : Type 0} (meanings : B → Meanings) (told : D → Option Story) 
             let t : PlainTransaction = within.of in
             let point : PlainPoint = record { name = name; db = t.db; queue = t.queue; gone = t.gone } in
             let at_mark : IsAt m x.place want tx_number (going_at point) here old.transaction.work =
-            IsAt-same m x.place want tx_number (going_in t) (going_at point) here old.transaction.work refl refl refl within.inside.at in
+            IsAt-same m x.place want tx_number (going_in t) (going_at point) here old.transaction.work refl refl refl refl within.inside.at in
             Stepped-savepoint (extensions_of m) m x.place want here s (up_state want s for) t within.is name new
             (sym (names_known m x.place want tx_number here old.transaction.work name old.points.items t.points within.inside.points) ∙ saved.fresh)
             (ap (λ (n : ℕ). nat_le 64 n) (sym (same_length m x.place want tx_number here old.transaction.work name old.points.items t.points within.inside.points))

@@ -18,6 +18,7 @@ use Rattle.sb_cascade.specs.Runs.{EndsBy, RefusedFrom, StopsFrom, is_free}
 use Rattle.sb_plain.specs.declared.command.Command.TheVariants as command
 use Rattle.sb_plain.specs.declared.reply.Reply.{Reply}
 use Rattle.sb_plain.specs.declared.reply.Reply.TheVariants as reply
+use Rattle.sb_plain.specs.Licences.{may_want_memory}
 use Rattle.sb_plain.specs.State.{downed}
 use Rattle.sb_plain.specs.Step.{Steps}
 use Rattle.sb_plain.specs.State.{State, Transaction as PlainTransaction, committed}
@@ -44,6 +45,7 @@ use Rattle.sb_session.proofs.Commands.{inside_for}
 use Rattle.sb_session.proofs.CommitSteps.{Steps-committed, Steps-refused_commit, committed-push, going_on, with_committed, without_transaction}
 use Rattle.sb_session.proofs.OpenLemmas.{Inside, IsAt-same}
 use Rattle.sb_session.proofs.PointLemmas.{AreSavepoints-kept}
+use Rattle.sb_session.proofs.WantLemmas.{may_want_memory-commit}
 
 -- ---- refusals by kind
 -- what the definition gives, a fault, damage, or want of room or memory
@@ -188,7 +190,7 @@ module _ {B D : Type 0} (meanings : B → Meanings) (told : D → Option Story) 
     at_commit : (want : Wanted) (s : State) (for : IsFor meanings told len want s d x) → IsAt m x.place want tx (going_on (within want s for).of) p w
     at_commit want s for =
         let t : PlainTransaction = (within want s for).of in
-        IsAt-same m x.place want tx (going_in t) (going_on t) p w refl refl refl (within want s for).inside.at
+        IsAt-same m x.place want tx (going_in t) (going_on t) p w refl refl refl refl (within want s for).inside.at
 
     ended : {A : Type 0} → x.down ≡ true → A
     ended down = absurd (false≢true (sym up ∙ down))
@@ -354,7 +356,7 @@ module _ {B D : Type 0} (meanings : B → Meanings) (told : D → Option Story) 
 
       -- ---- and goes on
       module _ (wanting : is_wanting r ≡ true) (t : Transaction) (is : y.open ≡ Some (record { transaction = t; points = o.points })) (numbered : t.tx ≡ o.transaction.tx)
-          (stays : StaysOpen tx p q w t.work) where
+          (stays : StaysOpen tx p q w t.work) (quiet : HasNothingLeft w → IsOnlyFault r space.store) where
         abbrev new : Open
         new = record { transaction = t; points = o.points }
 
@@ -389,6 +391,13 @@ module _ {B D : Type 0} (meanings : B → Meanings) (told : D → Option Story) 
               (λ on. subst (λ (a : Option PlainTransaction). IsOpenFor m x.place want (committed s) q (Some new) a) (sym (within want s for).is) (still_inside want s for));
         })
 
+        -- memory may be wanting where the definition says so, since something is left
+        may_want : r ≡ refusal.NoMemory → (want : Wanted) (s : State) → IsFor meanings told len want s d x → may_want_memory s command.Commit ≡ true
+        may_want is want s for =
+            let inside = within want s for in
+            may_want_memory-commit s inside.of inside.is (λ none gone.
+            fault_memory r (quiet (record { queue = inside.inside.at.waits ∙ none; gone = inside.inside.at.gone gone })).is is)
+
         wanting_ends : (want : Wanted) (s : State) (for : IsFor meanings told len want s d x)
             → ((room : Room) × (r ≡ refusal.Room room)) ⊎ (r ≡ refusal.NoMemory)
             → Ends (Behind want s) (Lacks faults) (HasFailed faults d e) ext s command.Commit (reply.Refused r)
@@ -399,11 +408,7 @@ module _ {B D : Type 0} (meanings : B → Meanings) (told : D → Option Story) 
             (record { up = up_for want s for; cause = record { at = stops.there; cause = room_stops faults (finish ext) (going_on (within want s for).of) a.0 r a.1 stops.there stops.stops }; stands = still_for want s for }))
             (λ (a : r ≡ refusal.NoMemory).
             subst (λ (r : Refusal). Ends (Behind want s) (Lacks faults) (HasFailed faults d e) ext s command.Commit (reply.Refused r)) (sym a)
-            (record { up = up_for want s for; cause = tt; stands = still_for want s for }))
-
-        -- memory is wanting only where something is left
-        pub something_left : (HasNothingLeft w → IsOnlyFault r space.store) → r ≡ refusal.NoMemory → HasNothingLeft w → ⊥
-        something_left quiet is left = fault_memory r (quiet left).is is
+            (record { up = up_for want s for; cause = may_want a want s for; stands = still_for want s for }))
 
         pub Committed-wanting : Committed meanings told len faults d e x y (reply.Refused r)
         Committed-wanting = record {

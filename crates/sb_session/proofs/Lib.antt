@@ -10,4 +10,5 @@ pub mod MoveLists
 pub mod MoveBoxes
 pub mod SameBoxes
 pub mod Moves
+pub mod WantLemmas
 pub mod CommitLemmas

@@ -15,6 +15,7 @@ use Rattle.sb_fold.specs.declared.refusal.Refusal.TheVariants as refusal
 use Rattle.sb_plain.specs.declared.command.Command.{Command}
 use Rattle.sb_plain.specs.declared.command.Command.TheVariants as command
 use Rattle.sb_plain.specs.declared.reply.Reply.TheVariants.{Refused}
+use Rattle.sb_plain.specs.Licences.{may_want_memory}
 use Rattle.sb_plain.specs.Step.{Steps}
 use Rattle.sb_plain.specs.Refusing.{first_use}
 use Rattle.sb_plain.specs.State.{Codes, State, Transaction as PlainTransaction, codes_of, committed, has_code, is_inside, view, with_code, without_code}
@@ -39,7 +40,7 @@ use Rattle.sb_vectors.proofs.LawLemmas.{registering_moves, registering_stays, re
 use Rattle.sb_session.specs.declared.session.Open.{Open}
 use Rattle.sb_session.specs.declared.session.Session.{Session}
 use Rattle.sb_session.specs.Sessions.{CanGoOn, CanRun, IsFor, IsOpenFor, KeepsSession, parts_of}
-use Rattle.sb_session.specs.Ends.{IsStep, MayWant}
+use Rattle.sb_session.specs.Ends.{IsStep}
 use Rattle.sb_session.proofs.Carried.{Carried, Carried-given, Carried-memory, IsSame, SameOpen-none}
 use Rattle.sb_session.proofs.Commands.{outside_for}
 use Rattle.sb_session.proofs.MoveBoxes.{SameRules, SameRules-same, StillLive, StillLive-registers, StillLive-retires_attachment, StillLive-retires_method, Keeps-still, unused_attachment, unused_method}
@@ -221,5 +222,5 @@ module _ {B D : Type 0} (meanings : B → Meanings) (told : D → Option Story) 
       (λ want s for. Steps-no_live (extensions_of m) s (sym for.down ∙ up) method code (outside_state want s for)
       (ap (λ (codes : Codes). has_code (codes_of method codes) code) for.live ∙ live_known m method code false law.0))
 
-  pub Carried-no_memory : (c : Command) → n ≡ m → ((s : State) → MayWant s c) → Carried meanings told len faults c d d x y (Refused refusal.NoMemory)
+  pub Carried-no_memory : (c : Command) → n ≡ m → ((s : State) → may_want_memory s c ≡ true) → Carried meanings told len faults c d d x y (Refused refusal.NoMemory)
   Carried-no_memory c same may = Carried-memory meanings told len faults c d x y (IsSame-boxes same) not_down runs up (λ want s for. may s)

@@ -1,23 +1,24 @@
 -- Open transactions and what they stand for.
 use Rattle.std.proofs.Common.{◌≡◌, ℕ, List, Option, Some, None, refl, sym, ◌∙◌, subst}
 use Rattle.sb_relation.specs.Db.{Db}
-use Rattle.sb_fold.specs.Outcome.{Going, Queue}
+use Rattle.sb_fold.specs.Outcome.{Going, Gone, Queue}
 use Rattle.sb_plain.specs.State.{Transaction as PlainTransaction}
 use Rattle.sb_registry.specs.Boxes.{Meanings}
 use Rattle.sb_drive.specs.Spaces.{Wanted}
 use Rattle.sb_map.specs.declared.place.Place.{Place}
 use Rattle.sb_txn.specs.Parts.{Parts}
 use Rattle.sb_engine.specs.declared.running.Work.{Work}
+use Rattle.sb_engine.specs.Working.{IsNoneGone}
 use Rattle.sb_transactions.specs.declared.transactions.Transaction.{Transaction}
 use Rattle.sb_transactions.specs.Transactions.{IsAt, IsSettled, Rests, WasBegun}
 use Rattle.sb_session.specs.declared.session.Open.{Open}
 use Rattle.sb_session.specs.declared.session.Savepoint.{Savepoint}
 use Rattle.sb_session.specs.Sessions.{AreSavepoints, IsInside, IsOpenFor, going_in}
 
--- what work has come to is its database, what waits, and the picks that were used
-pub IsAt-same : (m : Meanings) (place : Place) (want : Wanted) (tx : ℕ) (g h : Going) (p : Parts) (w : Work) → h.db ≡ g.db → h.queue ≡ g.queue → h.used ≡ g.used
+-- what work has come to is its database, what waits, the picks that were used, and what is gone
+pub IsAt-same : (m : Meanings) (place : Place) (want : Wanted) (tx : ℕ) (g h : Going) (p : Parts) (w : Work) → h.db ≡ g.db → h.queue ≡ g.queue → h.used ≡ g.used → h.gone ≡ g.gone
     → IsAt m place want tx g p w → IsAt m place want tx h p w
-IsAt-same m place want tx g h p w db queue used at = record {
+IsAt-same m place want tx g h p w db queue used same at = record {
   usable = at.usable;
   slots = at.slots;
   kept = at.kept;
@@ -28,13 +29,14 @@ IsAt-same m place want tx g h p w db queue used at = record {
   opened = at.opened;
   waits = at.waits ∙ sym queue;
   picked = at.picked ∙ sym used;
+  gone = λ none. at.gone (subst (λ (x : Gone). IsNoneGone x) same none);
 }
 
 module _ (m : Meanings) (place : Place) (want : Wanted) (db : Db) (p : Parts) where
   -- whatever was spent
   pub IsInside-spent : (n : ℕ) (o : Open) (t : PlainTransaction) → IsInside m place want db p o t → IsInside m place want db p o (record t { spent = n })
   IsInside-spent n o t inside = record {
-    at = IsAt-same m place want o.transaction.tx.store.number (going_in t) (going_in (record t { spent = n })) p o.transaction.work refl refl refl inside.at;
+    at = IsAt-same m place want o.transaction.tx.store.number (going_in t) (going_in (record t { spent = n })) p o.transaction.work refl refl refl refl inside.at;
     begun = inside.begun;
     points = inside.points;
   }

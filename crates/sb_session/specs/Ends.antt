@@ -6,7 +6,6 @@ use Rattle.sb_fold.specs.declared.refusal.Refusal.{Refusal}
 use Rattle.sb_fold.specs.declared.refusal.Refusal.TheVariants as refusal
 use Rattle.sb_fold.specs.Extensions.{Extensions}
 use Rattle.sb_plain.specs.declared.command.Command.{Command}
-use Rattle.sb_plain.specs.declared.command.Command.TheVariants as command
 use Rattle.sb_plain.specs.declared.reply.Reply.{Reply}
 use Rattle.sb_plain.specs.declared.reply.Reply.TheVariants.{Done, Refused}
 use Rattle.sb_plain.specs.Licences.{may_want_memory}
@@ -37,16 +36,11 @@ pub record IsFree (StandsFor : State → Type 0) (Cause : Type 0) (s now : State
   pub cause : Cause
   pub stands : StandsFor now
 
--- memory may be wanting; to a commit only where something is left to be done in the transaction, which its own clause says
-abbrev pub MayWant : State → Command → Type 0
-MayWant s command.Commit = Unit {0}
-MayWant s c = may_want_memory s c ≡ true
-
--- A command's reply, and what stands then: those of a step; or room or memory was wanting, and the state stays; or the disk failed a call, and
--- the session is down. No page is damaged that stands for a state.
+-- A command's reply, and what stands then: those of a step; or room was wanting, or memory, of a command that may want it, and the state stays; or
+-- the disk failed a call, and the session is down. No page is damaged that stands for a state.
 abbrev pub Ends : (StandsFor : State → Type 0) (Lacks : Room → Type 0) (HasFailed : Type 0) → Extensions → State → Command → Reply → Type 0
 Ends StandsFor Lacks HasFailed ext s c (Refused (refusal.Room room)) = IsFree StandsFor (Lacks room) s s
-Ends StandsFor Lacks HasFailed ext s c (Refused refusal.NoMemory) = IsFree StandsFor (MayWant s c) s s
+Ends StandsFor Lacks HasFailed ext s c (Refused refusal.NoMemory) = IsFree StandsFor (may_want_memory s c ≡ true) s s
 Ends StandsFor Lacks HasFailed ext s c (Refused refusal.Fault) = IsFree StandsFor HasFailed s (downed s)
 Ends StandsFor Lacks HasFailed ext s c (Refused (refusal.Damaged page)) = ⊥
 Ends StandsFor Lacks HasFailed ext s c reply = IsStep StandsFor ext s c reply

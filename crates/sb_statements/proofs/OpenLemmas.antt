@@ -45,6 +45,7 @@ module _ {S : Type 0} (Has : Wanted → Slots → S → Type 0) (m : Meanings) (
     opened = opened;
     waits = stands.waits;
     picked = stands.picked;
+    gone = stands.gone;
     rules = stands.rules;
     fit = stands.fit;
   }

@@ -11,7 +11,8 @@ use Rattle.sb_relation.specs.Fits.{MayStand}
 use Rattle.sb_relation.specs.Foreign.{AttachRules, attach_rules}
 use Rattle.sb_ctx.specs.Attachment.{Attachment}
 use Rattle.sb_fold.specs.declared.refusal.Refusal.{Refusal}
-use Rattle.sb_fold.specs.Building.{at_point, bounds_at, create, drop_relation, leave, mirrored_in, reach, without_relation}
+use Rattle.sb_fold.specs.Bounds.{attached_bound, method_bound}
+use Rattle.sb_fold.specs.Building.{at_point, bounds_at, create, drop_relation, leave, mirrored_in, reach, with_gone, without_relation}
 use Rattle.sb_fold.specs.Costs.{create_cost, descriptor_cost, free_cost}
 use Rattle.sb_fold.specs.Extensions.{Extensions, box_of, is_durable_at}
 use Rattle.sb_fold.specs.Fold.{attachments_at}
@@ -35,7 +36,8 @@ use Rattle.sb_standing.specs.Tables.{Kept, KeepsTable, db_of, kept_at}
 use Rattle.sb_standing.proofs.KeptLemmas.{kept_at-all, relation_at-none, relation_at-there}
 use Rattle.sb_opened.specs.Opened.{IsDurable}
 use Rattle.sb_engine.specs.declared.running.Work.{Work}
-use Rattle.sb_engine.specs.Working.{AreOpened, ArePaired, IsOpened, Stands, extensions_of, left_of}
+use Rattle.sb_engine.specs.Working.{AreOpened, ArePaired, IsNoneGone, IsOpened, Stands, extensions_of, left_of}
+use Rattle.sb_engine.proofs.GoneLemmas.{with_gone-some}
 use Rattle.sb_tables.specs.Creation.{MayCreate, new_relation}
 use Rattle.sb_tables.specs.Freeing.{LeavesGone}
 use Rattle.sb_tables.specs.Keeping.{KeepsDb}
@@ -109,8 +111,8 @@ module _ {S : Type 0} (Has : Wanted → Slots → S → Type 0) (m : Meanings) (
 
   -- with nothing open
   pub stands_on : (g : Going) (space : S) (w : Work) → KeepsDb Has m root w.gone.items g.db space → AreMirrored g.db → ArePaired g.db → IsComplete g.db g.queue → w.opened.items ≡ []
-      → left_of w ≡ g.queue → w.picks.items ≡ g.used → AllFit g.db g.queue.actions → Stands Has m root g space w
-  stands_on g space w keeps mirrored paired complete closed waits picked fit = record {
+      → left_of w ≡ g.queue → w.picks.items ≡ g.used → (IsNoneGone g.gone → w.gone.items ≡ []) → AllFit g.db g.queue.actions → Stands Has m root g space w
+  stands_on g space w keeps mirrored paired complete closed waits picked gone fit = record {
     want = keeps.want;
     slots = keeps.slots;
     kept = keeps.kept;
@@ -124,6 +126,7 @@ module _ {S : Type 0} (Has : Wanted → Slots → S → Type 0) (m : Meanings) (
     opened = subst (AreOpened m keeps.kept) (sym closed) (All-nil (IsOpened m keeps.kept));
     waits = waits;
     picked = picked;
+    gone = gone;
     rules = subst (AllMayStand (box_of (extensions_of m))) (sym keeps.is) (all_may m root keeps.slots w.gone.items keeps.kept keeps.keeps);
     fit = fit;
   }
@@ -131,9 +134,9 @@ module _ {S : Type 0} (Has : Wanted → Slots → S → Type 0) (m : Meanings) (
   module _ (g : Going) (old new : S) (w v : Work) (stands : Stands Has m root g old w) (closed : v.opened.items ≡ []) (left : left_of v ≡ left_of w) (picks : v.picks.items ≡ w.picks.items) where
     -- ---- a new relation
     pub create_made : {R : Type 0} (StandsIn : Going → R → Type 0) (x : R) (name : Name) (method : ℕ) (schema : List Column) (key : List Name) → MayCreate m g.db name method schema key
-        → KeepsDb Has m root v.gone.items (with_relation g.db name (new_relation method schema key)) new → ((h : Going) → Stands Has m root h new v → StandsIn h x)
+        → v.gone.items ≡ w.gone.items → KeepsDb Has m root v.gone.items (with_relation g.db name (new_relation method schema key)) new → ((h : Going) → Stands Has m root h new v → StandsIn h x)
         → MadeFrom StandsIn (create (extensions_of m) name method schema key) g tt x
-    create_made StandsIn x name method schema key may keeps says = record {
+    create_made StandsIn x name method schema key may gone keeps says = record {
       picks = [];
       after = create_step (extensions_of m) name method schema key g;
       leads = leads_change (create_step (extensions_of m) name method schema key) g (λ more. refl);
@@ -141,7 +144,7 @@ module _ {S : Type 0} (Has : Wanted → Slots → S → Type 0) (m : Meanings) (
           (mirrored-with g.db name (new_relation method schema key) may.new refl stands.mirrored)
           (paired-with g.db name (new_relation method schema key) may.new refl stands.paired)
           (with-relation-complete g.db g.queue name (new_relation method schema key) may.new refl refl stands.complete)
-          closed (left ∙ stands.waits) (picks ∙ stands.picked)
+          closed (left ∙ stands.waits) (picks ∙ stands.picked) (λ none. gone ∙ stands.gone none)
           (All-weaker (IsFitting g.db) (IsFitting (with_relation g.db name (new_relation method schema key)))
           (λ a fits. creating-stays g.db name (new_relation method schema key) a may.new fits) g.queue.actions stands.fit));
     }
@@ -158,9 +161,18 @@ module _ {S : Type 0} (Has : Wanted → Slots → S → Type 0) (m : Meanings) (
           (mirrored-left g.db g.queue name may stands.mirrored stands.paired)
           (paired-left g.db g.queue name may stands.mirrored stands.paired)
           (complete-left g.db g.queue name may stands.mirrored stands.paired stands.complete)
-          closed (left ∙ stands.waits) (picks ∙ stands.picked)
+          closed (left ∙ stands.waits) (picks ∙ stands.picked) (λ none. absurd (some_gone g.gone (is_durable_at (extensions_of m) g.db name) none))
           (subst (λ (actions : List Action). AllFit (without_relation g.db name) actions) (sym may.still) (All-nil _)));
     }
+      where
+        -- the pages of the relation
+        bounds : bounds_at (extensions_of m) g.db name ≡ method_bound (extensions_of m) may.relation ∷ map (attached_bound (extensions_of m) g.db name) may.relation.attachments
+        bounds = ap (λ (o : Option Relation). elim o as (λ _. List ℕ) [ None ↦ [] | Some r ↦ method_bound (extensions_of m) r ∷ map (attached_bound (extensions_of m) g.db name) r.attachments ]) may.there
+
+        some_gone : (gone : Gone) (durable : Bool) → IsNoneGone (with_gone durable (bounds_at (extensions_of m) g.db name) gone) → ⊥
+        some_gone gone durable none =
+            with_gone-some durable (method_bound (extensions_of m) may.relation) (map (attached_bound (extensions_of m) g.db name) may.relation.attachments) gone
+            (subst (λ (ns : List ℕ). IsNoneGone (with_gone durable ns gone)) bounds none)
 
 -- ---- where the layer stops on the way
 goes_further : (db : Db.Db) (aside : Gone) (cost : ℕ) (t : Trail) → GoesOn t (at_point db aside cost t)
@@ -195,6 +207,7 @@ stands_freed Has m root g old new w v stands left none opened waits picks = reco
   opened = subst (AreOpened m stands.kept) (sym opened) stands.opened;
   waits = waits ∙ stands.waits;
   picked = picks ∙ stands.picked;
+  gone = λ _. none;
   rules = stands.rules;
   fit = stands.fit;
 }

@@ -55,6 +55,7 @@ module _ {D : Type 0} (told : D → Option Story) (len faults : D → ℕ) where
     opened = at.opened;
     waits = at.waits;
     picked = at.picked;
+    gone = at.gone;
     rules = subst (λ (db : Db). AllMayStand (box_of (extensions_of m)) db) (sym at.db) at.settled.rules;
     fit = subst (λ (db : Db). AllFit db g.queue.actions) (sym at.db) at.settled.fit;
   }
@@ -78,6 +79,7 @@ module _ {D : Type 0} (told : D → Option Story) (len faults : D → ℕ) where
         opened = stands.opened;
         waits = stands.waits;
         picked = stands.picked;
+        gone = stands.gone;
       }
 
   pub driven-each : DrivenKeepsEachPoint told len faults
@@ -102,6 +104,7 @@ module _ {D : Type 0} (told : D → Option Story) (len faults : D → ℕ) where
     keeps = subst (λ (xs : List ℕ). Keeps m IsDurable place.root was.slots xs was.kept) (sym (take_front point.gone v.gone.items works.gone.0 w.gone.items works.gone.1 was.of.gone)) was.keeps;
     settled = was.settled;
     waited = front_waited point v.queue w.queue works.queue was.of.queue ∙ was.waited;
+    gone = λ none. take_front point.gone v.gone.items works.gone.0 w.gone.items works.gone.1 was.of.gone ∙ was.gone none;
   }
 
   pub driven-begun : DrivenKeepsBegun told len faults

@@ -37,6 +37,7 @@ IsAt-cleared m place want tx g p old new cleared at = record {
   opened = none_opened m at.kept new.opened.items cleared.opened;
   waits = left_same old new cleared.done cleared.queue ∙ at.waits;
   picked = cleared.picks;
+  gone = λ none. cleared.gone ∙ at.gone none;
 }
 
 -- ---- at the begin
@@ -70,6 +71,7 @@ IsAt-first m place want tx g q w serves owner first rests queue done gone opened
   opened = none_opened m rests.committed.kept w.opened.items opened;
   waits = left ∙ sym first.queue;
   picked = picks ∙ sym first.used;
+  gone = λ _. gone;
 }
   where
     left : left_of w ≡ nothing
@@ -96,6 +98,7 @@ module _ (tx : ℕ) (point : Point) (p : Parts) (w : Work) (changes : point.spac
     keeps = subst (λ (xs : List ℕ). Keeps m IsDurable place.root at.slots xs at.kept) (sym all) at.keeps;
     settled = at.settled;
     waited = mark_waited point w queue done ∙ at.waits;
+    gone = λ none. all ∙ at.gone none;
   }
     where
       all : take point.gone w.gone.items ≡ w.gone.items
@@ -125,6 +128,7 @@ module _ (tx : ℕ) (point : Point) (p q : Parts) (v w : Work) (of : IsPointOf t
     opened = none_opened m was.kept w.opened.items cut.opened;
     waits = cut_left point v w of.queue cut ∙ was.waited;
     picked = cut.picks;
+    gone = λ none. cut.gone ∙ was.gone none;
   }
 
   -- points that aren't behind it stay
@@ -148,6 +152,7 @@ module _ (tx : ℕ) (point : Point) (p q : Parts) (v w : Work) (of : IsPointOf t
       keeps = subst (λ (xs : List ℕ). Keeps m IsDurable place.root was.slots xs was.kept) (sym (cut_gone point v w of.queue cut one less)) was.keeps;
       settled = was.settled;
       waited = cut_waited point v w of.queue cut one less ∙ was.waited;
+      gone = λ none. cut_gone point v w of.queue cut one less ∙ was.gone none;
     }
 
 -- the database at the begin stays too

@@ -21,7 +21,7 @@ use Rattle.sb_space.specs.Transactions.{AreFormed, WasAt}
 use Rattle.sb_space.specs.Works.{HasPages}
 use Rattle.sb_space.specs.Works as space
 use Rattle.sb_engine.specs.declared.running.Work.{Work}
-use Rattle.sb_engine.specs.Working.{AreLasting, AreOpened, ArePaired, extensions_of, left_of}
+use Rattle.sb_engine.specs.Working.{AreLasting, AreOpened, ArePaired, IsNoneGone, extensions_of, left_of}
 use Rattle.sb_engine.specs.Working as engine
 use Rattle.sb_transactions.specs.declared.transactions.Point.{Point}
 
@@ -59,7 +59,7 @@ pub record WasBegun (m : Meanings) (root : ℕ) (want : Wanted) (db : Db) (tx : 
 abbrev pub IsUsable : Meanings → Place → ℕ → Parts → Work → Type 0
 IsUsable m place tx p w = engine.Serves (λ q. space.Serves tx q) m place p w
 
--- Work in the transaction has come so far, over these pages wanted.
+-- Work in the transaction has come so far, over these pages wanted; and no owner is to go where nothing was dropped or detached.
 pub record IsAt (m : Meanings) (place : Place) (want : Wanted) (tx : ℕ) (g : Going) (p : Parts) (w : Work) : Type 0 where
   pub usable : IsUsable m place tx p w
   pub slots : Slots
@@ -71,6 +71,7 @@ pub record IsAt (m : Meanings) (place : Place) (want : Wanted) (tx : ℕ) (g : G
   pub opened : AreOpened m kept w.opened.items
   pub waits : left_of w ≡ g.queue
   pub picked : w.picks.items ≡ g.used
+  pub gone : IsNoneGone g.gone → w.gone.items ≡ []
 
 -- the same work, of which no picks are told
 abbrev pub unused : Going → Going
@@ -113,6 +114,7 @@ pub record WasSo (m : Meanings) (place : Place) (want : Wanted) (tx : ℕ) (g : 
   pub keeps : Keeps m IsDurable place.root slots (take point.gone w.gone.items) kept
   pub settled : IsSettled m kept g.queue
   pub waited : waited_at point w.queue ≡ g.queue
+  pub gone : IsNoneGone g.gone → take point.gone w.gone.items ≡ []
 
 -- no more stood at the one than at the other
 pub record IsNotBehind (one other : Point) : Type 0 where

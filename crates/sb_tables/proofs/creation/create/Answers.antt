@@ -12,7 +12,7 @@ returns-in-Ok-clause-made g c = λ h stands may.
     let has = g.S.PageSpace.has in
     let w = a.work.now in
     create_made has m a.place.root h a.space.now c.create_kept.new.space w (record w { opened = c.clear.new.self }) stands c.clear.ensures.items refl refl _ _ c.args.name.now c.args.method c.args.schema.now
-    c.args.key.now may (c.in-Ok.ensures.made w.gone.items h.db (keeps_of has m a.place.root h a.space.now w stands) may) (λ k s. s)
+    c.args.key.now may refl (c.in-Ok.ensures.made w.gone.items h.db (keeps_of has m a.place.root h a.space.now w stands) may) (λ k s. s)
 
 pub returns-in-Ok-clause-goes : goal.returns-in-Ok-clause-goes
 returns-in-Ok-clause-goes g c = record {

@@ -71,7 +71,7 @@ returns-in-Some-transaction-clause-ends g c =
     (sym c.in-Err.ensures.wanting ∙ ap is_some c.in-Some-transaction.is) c.in-Some-transaction.transaction c.refused.ensures.open
     (subst (λ (o : Option Transaction). IfSome o (λ t. t.tx ≡ c.in-Some.current.transaction.tx)) c.in-Some-transaction.is c.in-Err.ensures.tx)
     (subst (λ (o : Option Transaction). IfSome o (λ t. StaysOpen c.in-Some.current.transaction.tx.store.number (parts told len d x.space.store) (parts told len c.commit.new.disk c.commit.new.space.store)
-    c.in-Some.current.transaction.work t.work)) c.in-Some-transaction.is c.in-Err.ensures.stays)).ends
+    c.in-Some.current.transaction.work t.work)) c.in-Some-transaction.is c.in-Err.ensures.stays) c.in-Err.ensures.quiet).ends
 
 pub returns-in-Some-transaction-clause-runs : goal.returns-in-Some-transaction-clause-runs
 returns-in-Some-transaction-clause-runs g c =
@@ -86,7 +86,7 @@ returns-in-Some-transaction-clause-runs g c =
     (sym c.in-Err.ensures.wanting ∙ ap is_some c.in-Some-transaction.is) c.in-Some-transaction.transaction c.refused.ensures.open
     (subst (λ (o : Option Transaction). IfSome o (λ t. t.tx ≡ c.in-Some.current.transaction.tx)) c.in-Some-transaction.is c.in-Err.ensures.tx)
     (subst (λ (o : Option Transaction). IfSome o (λ t. StaysOpen c.in-Some.current.transaction.tx.store.number (parts told len d x.space.store) (parts told len c.commit.new.disk c.commit.new.space.store)
-    c.in-Some.current.transaction.work t.work)) c.in-Some-transaction.is c.in-Err.ensures.stays)).runs
+    c.in-Some.current.transaction.work t.work)) c.in-Some-transaction.is c.in-Err.ensures.stays) c.in-Err.ensures.quiet).runs
 
 pub returns-in-None-clause-ends : goal.returns-in-None-clause-ends
 returns-in-None-clause-ends g c =

@@ -1,0 +1,35 @@
+-- To which commits memory may be wanting.
+use Rattle.std.proofs.Common.{◌≡◌, ℕ, Bool, true, false, not, ◌&&◌, List, [], ◌∷◌, Some, refl, ap, ◌∙◌}
+use Rattle.sb_rule.specs.declared.action.Action.{Action}
+use Rattle.sb_fold.specs.Outcome.{Entry}
+use Rattle.sb_deferred.specs.Waiting.{nothing}
+use Rattle.sb_plain.specs.declared.command.Command.TheVariants as command
+use Rattle.sb_plain.specs.Licences.{is_none_gone, may_want_memory}
+use Rattle.sb_plain.specs.State.{State, Transaction}
+use Rattle.sb_engine.specs.Working.{IsNoneGone}
+
+-- whether something waits or is gone
+abbrev is_left : List Action → List Entry → List ℕ → List ℕ → Bool
+is_left actions entries durable others =
+    not ((elim actions as (λ _. Bool) [ [] ↦ true | a ∷ more ↦ false ]) && (elim entries as (λ _. Bool) [ [] ↦ true | e ∷ more ↦ false ])
+    && is_none_gone (record { durable = durable; others = others }))
+
+some_left : (actions : List Action) (entries : List Entry) (durable others : List ℕ) → (actions ≡ [] → entries ≡ [] → durable ≡ [] → others ≡ [] → ⊥)
+    → is_left actions entries durable others ≡ true
+some_left [] [] [] [] never = absurd (never refl refl refl refl)
+some_left [] [] [] (n ∷ others) never = refl
+some_left [] [] (n ∷ durable) others never = refl
+some_left [] (e ∷ entries) durable others never = refl
+some_left (a ∷ actions) entries durable others never = refl
+
+-- to one of a transaction in which something is left
+pub may_want_memory-commit : (s : State) (t : Transaction) → s.transaction ≡ Some t → (t.queue ≡ nothing → IsNoneGone t.gone → ⊥)
+    → may_want_memory s command.Commit ≡ true
+may_want_memory-commit s t inside never =
+    ap (λ (x : State). may_want_memory x command.Commit) within
+    ∙ some_left t.queue.actions t.queue.entries t.gone.durable t.gone.others
+    (λ actions entries durable others.
+    never (λ i. record { actions = actions i; entries = entries i }) (record { durable = durable; others = others }))
+  where
+    within : s ≡ record s { transaction = Some t }
+    within = λ i. record s { transaction = inside i }
