@@ -24,7 +24,7 @@ use Rattle.sb_registry.specs.Boxes.{Meanings}
 use Rattle.sb_drive.specs.Spaces.{Wanted}
 use Rattle.sb_standing.specs.Tables.{Kept}
 use Rattle.sb_txn.specs.Book.{views}
-use Rattle.sb_txn.specs.Parts.{Parts, stored}
+use Rattle.sb_txn.specs.Parts.{Parts}
 use Rattle.sb_space.specs.Works.{Stands}
 use Rattle.sb_session.specs.declared.session.Open.{Open}
 use Rattle.sb_session.specs.declared.session.Session.{Session}

@@ -2,6 +2,7 @@ pub mod NamedLemmas
 pub mod BoxLemmas
 pub mod CommittedLemmas
 pub mod LookLemmas
+pub mod OwnerLemmas
 pub mod SpaceLemmas
 pub mod OpenLemmas
 pub mod NewLemmas

@@ -61,12 +61,12 @@ module _ {D : Type 0} (told : D → Option Story) (len faults : D → ℕ) (disk
 
   -- what is read of the relations of a catalogue, or isn't
   pub looked-over : {T : Type 0} (root : ℕ) (IsSo : T → List Kept → Type 0) (r : Result T SpaceFault) → IfOk r (λ x. (m : Meanings) → OverTables (HasLent told len) m root a (IsSo x))
-      → IfOk r (λ x. OverCatalogue root start (IsSo x))
+      → IfOk r (λ x. OverCatalogue root start (λ s. IsSo x))
   looked-over root IsSo (Ok x) over = λ m want s kept has tables. over m want s kept (to_lent (λ p. HasPages want s p) has) tables
   looked-over root IsSo (Err x) over = tt
 
   pub refused-over : {T : Type 0} (root : ℕ) (IsSo : SpaceFault → List Kept → Type 0) (r : Result T SpaceFault) → IfErr r (λ x. (m : Meanings) → OverTables (HasLent told len) m root a (IsSo x))
-      → IfErr r (λ x. OverCatalogue root start (IsSo x))
+      → IfErr r (λ x. OverCatalogue root start (λ s. IsSo x))
   refused-over root IsSo (Ok x) over = tt
   refused-over root IsSo (Err x) over = λ m want s kept has tables. over m want s kept (to_lent (λ p. HasPages want s p) has) tables
 

@@ -1,6 +1,6 @@
--- Codes that the relations of a catalogue name, as they are read one relation after the other.
+-- What the relations of a catalogue name, as they are read one after the other.
 use Rattle.std.proofs.Common.{◌≡◌, ℕ, ◌==◌, ◌&&◌, Bool, true, false, cond, T, List, [], ◌∷◌, ◌++◌, map, All, Option, Some, None, option_map, is_lt, Ordering, Less, Equal, Greater, append_assoc, append-nil, eq-eqb, refl, sym, ap, subst, ◌∙◌}
-use Rattle.std.specs.List.{filter}
+use Rattle.std.specs.List.{filter, flat_map}
 use Rattle.std.specs.Ordering.{ordering_reverse}
 use Rattle.std.specs.FinMap.Entries.{below_all, is_sorted}
 use Rattle.std.proofs.lemmas.Bool.{or_left, or_right}
@@ -83,37 +83,43 @@ above-none low (x ∷ kept) is = by (is_above low x.name) is (above-none low kep
     by true is rest = absurd (cc)
     by false is rest = rest is
 
--- ---- codes that were read
--- with those of the relations behind the last one these are all
-pub record AreCoded (kept : List Kept) (last : Option Name) (codes : List Named) : Type 0 where
-  pub rest : codes ++ named_in (kept_above last kept) ≡ named_in kept
+-- ---- what was read of the descriptors
+-- what each of these relations' descriptors has, in their order
+abbrev all_of : {A : Type 0} → (Descriptor → List A) → List Kept → List A
+all_of of kept = flat_map (λ k. of k.descriptor) kept
 
-pub AreCoded-none : (kept : List Kept) (codes : List Named) → codes ≡ [] → AreCoded kept None codes
-AreCoded-none kept codes none = record { rest = ap (λ (cs : List Named). cs ++ named_in (kept_above None kept)) none ∙ ap named_in (above-all kept) }
+-- with that of the relations behind the last one this is all
+pub record IsRead {A : Type 0} (of : Descriptor → List A) (kept : List Kept) (last : Option Name) (xs : List A) : Type 0 where
+  pub rest : xs ++ flat_map (λ k. of k.descriptor) (kept_above last kept) ≡ flat_map (λ k. of k.descriptor) kept
 
-pub AreCoded-next : (kept : List Kept) (low : Option Name) (codes new : List Named) (name : Name) (d : Descriptor) → T (is_sorted bytes_cmp (db_of kept))
-    → Some (name, d) ≡ option_map kept_header (first_above low kept) → new ≡ codes ++ named_by d → AreCoded kept low codes → AreCoded kept (Some name) new
-AreCoded-next kept low codes new name d rises found more before = by (first_above low kept) refl found
-  where
-    by : (o : Option Kept) → first_above low kept ≡ o → Some (name, d) ≡ option_map kept_header o → AreCoded kept (Some name) new
-    by None at found = absurd (cc)
-    by (Some k) at found =
-        let same : (name, d) ≡ kept_header k = same_Some (name, d) (kept_header k) found in
-        let next : kept_above low kept ≡ k ∷ kept_above (Some k.name) kept = above-next low kept k rises at in
-        record {
-          rest = ap (λ (cs : List Named). cs ++ named_in (kept_above (Some name) kept)) more
-              ∙ append_assoc codes (named_by d) (named_in (kept_above (Some name) kept))
-              ∙ ap (λ (h : Name × Descriptor). codes ++ (named_by h.1 ++ named_in (kept_above (Some h.0) kept))) same
-              ∙ ap (λ (ks : List Kept). codes ++ named_in ks) (sym next)
-              ∙ before.rest;
-        }
+module _ {A : Type 0} (of : Descriptor → List A) where
+  pub IsRead-none : (kept : List Kept) (xs : List A) → xs ≡ [] → IsRead of kept None xs
+  IsRead-none kept xs none = record { rest = ap (λ (ys : List A). ys ++ all_of of (kept_above None kept)) none ∙ ap (all_of of) (above-all kept) }
 
-pub AreCoded-all : (kept : List Kept) (low : Option Name) (codes : List Named) → None ≡ option_map kept_header (first_above low kept) → AreCoded kept low codes → codes ≡ named_in kept
-AreCoded-all kept low codes found before = by (first_above low kept) refl found
-  where
-    by : (o : Option Kept) → first_above low kept ≡ o → None ≡ option_map kept_header o → codes ≡ named_in kept
-    by None at found = sym (append-nil codes) ∙ ap (λ (ks : List Kept). codes ++ named_in ks) (sym (above-none low kept at)) ∙ before.rest
-    by (Some k) at found = absurd (cc)
+  pub IsRead-next : (kept : List Kept) (low : Option Name) (xs new : List A) (name : Name) (d : Descriptor) → T (is_sorted bytes_cmp (db_of kept))
+      → Some (name, d) ≡ option_map kept_header (first_above low kept) → new ≡ xs ++ of d → IsRead of kept low xs → IsRead of kept (Some name) new
+  IsRead-next kept low xs new name d rises found more before = by (first_above low kept) refl found
+    where
+      by : (o : Option Kept) → first_above low kept ≡ o → Some (name, d) ≡ option_map kept_header o → IsRead of kept (Some name) new
+      by None at found = absurd (cc)
+      by (Some k) at found =
+          let same : (name, d) ≡ kept_header k = same_Some (name, d) (kept_header k) found in
+          let next : kept_above low kept ≡ k ∷ kept_above (Some k.name) kept = above-next low kept k rises at in
+          record {
+            rest = ap (λ (ys : List A). ys ++ all_of of (kept_above (Some name) kept)) more
+                ∙ append_assoc xs (of d) (all_of of (kept_above (Some name) kept))
+                ∙ ap (λ (h : Name × Descriptor). xs ++ (of h.1 ++ all_of of (kept_above (Some h.0) kept))) same
+                ∙ ap (λ (ks : List Kept). xs ++ all_of of ks) (sym next)
+                ∙ before.rest;
+          }
+
+  pub IsRead-all : (kept : List Kept) (low : Option Name) (xs : List A) → None ≡ option_map kept_header (first_above low kept) → IsRead of kept low xs
+      → xs ≡ flat_map (λ k. of k.descriptor) kept
+  IsRead-all kept low xs found before = by (first_above low kept) refl found
+    where
+      by : (o : Option Kept) → first_above low kept ≡ o → None ≡ option_map kept_header o → xs ≡ all_of of kept
+      by None at found = sym (append-nil xs) ∙ ap (λ (ks : List Kept). xs ++ all_of of ks) (sym (above-none low kept at)) ∙ before.rest
+      by (Some k) at found = absurd (cc)
 
 -- ---- what each relation names
 abbrev pub AreNamed : List Named → Kept → Type 0

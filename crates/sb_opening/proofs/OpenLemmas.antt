@@ -15,8 +15,10 @@ use Rattle.sb_recover.specs.declared.fault.OpenFault.{OpenFault}
 use Rattle.sb_recover.specs.declared.fault.OpenFault.TheVariants.{Fault, TooSmall, NotStore, BadLog, MissingExtension, Damaged, BadExtensions, AlreadyStore, NoMemory}
 use Rattle.sb_relation.specs.Db.{Db}
 use Rattle.sb_registry.specs.Boxes.{Meanings}
+use Rattle.sb_drive.specs.Slots.{Slots}
 use Rattle.sb_drive.specs.Spaces.{Wanted}
 use Rattle.sb_map.specs.declared.place.Place.{Place}
+use Rattle.sb_standing.specs.Standing.{owners_in}
 use Rattle.sb_standing.specs.Tables.{Kept, Tables}
 use Rattle.sb_opened.specs.Opened.{IsDurable}
 use Rattle.sb_txn.specs.Book.{Book}
@@ -34,10 +36,12 @@ use Rattle.sb_transactions.specs.Transactions.{IsCommitted, Rests}
 use Rattle.sb_session.specs.declared.session.Session.{Session}
 use Rattle.sb_session.specs.Sessions.{CanRun, IsFor}
 use Rattle.sb_opening.specs.declared.codes.Named.{Named}
-use Rattle.sb_opening.specs.Looking.{IsLook, IsLookErr, IsUndamaged, OverCatalogue, RestsStill}
+use Rattle.sb_opening.specs.Looking.{IsLook, IsLookErr, OverCatalogue, RestsStill}
 use Rattle.sb_opening.specs.Naming.{HasLive, IsAbsent, all_live, first_absent, named_in}
-use Rattle.sb_opening.specs.Opening.{IsStored, MayRefuse, NamesTable, OpeningErr, WasLookedAt, opened}
+use Rattle.sb_opening.specs.Opening.{IsCatalogued, IsStored, MayRefuse, NamesEntry, NamesTable, OpeningErr, WasLookedAt, opened}
+use Rattle.sb_opening.specs.Owners.{HasNoStray, TellsStray}
 use Rattle.sb_opening.proofs.CommittedLemmas.{committed-live}
+use Rattle.sb_opening.proofs.OwnerLemmas.{none-stray}
 
 -- ---- the space isn't opened
 was_looked_at : (old new : Option Story) → ((want : ℕ → List ℕ) (g : Geometry) → IsMounted want old g → LeavesOnly old new (Restores g want)) → (g : Geometry) → WhereTold old new (IsRestarted g) → WasLookedAt old new
@@ -71,6 +75,20 @@ module _ (old new : Option Story) where
   NamesTable-space (BadLog chunk offset) names = tt
   NamesTable-space (BadExtensions code) names = tt
   NamesTable-space AlreadyStore names = tt
+
+  -- an owner table that has its form isn't damaged itself
+  pub NamesEntry-space : (e : OpenFault) → NamesDamage e old → SpaceErr e old new → NamesEntry e old
+  NamesEntry-space (Damaged page) names err = λ g want kept of table.
+      let first = told_from old (IsFirstDamaged g.pages want page) of.tells (names want g of.mounted) in
+      absurd (first.damaged ((tables_by_pages g.pages want).0 table page first.within))
+  NamesEntry-space (MissingExtension code) names err = absurd err
+  NamesEntry-space NoMemory names err = λ g want kept of table. tt
+  NamesEntry-space Fault names err = λ g want kept of table. tt
+  NamesEntry-space (TooSmall have need) names err = λ g want kept of table. tt
+  NamesEntry-space NotStore names err = λ g want kept of table. tt
+  NamesEntry-space (BadLog chunk offset) names err = λ g want kept of table. tt
+  NamesEntry-space (BadExtensions code) names err = λ g want kept of table. tt
+  NamesEntry-space AlreadyStore names err = λ g want kept of table. tt
 
   -- nothing is damaged where the contents stand for a database
   never-damaged : (page : ℕ) (m : Meanings) (g : Geometry) (want : Wanted) (db : Db) → IsStored m old g want db → NamesDamage (Damaged page) old → ⊥
@@ -113,6 +131,16 @@ none_then : (a b : Option Story) (g : Geometry) → WhereTold a b (IsRestarted g
 none_then None b g restart none = restart
 none_then (Some s) b g restart none = absurd (false≢true (sym (ap is_some none)))
 
+-- contents that stand for a database have a catalogue
+catalogued : (m : Meanings) (told : Option Story) (g : Geometry) (want : Wanted) (db : Db) (stored : IsStored m told g want db) → IsCatalogued told g want stored.committed.kept
+catalogued m told g want db stored = record {
+  tells = stored.tells;
+  mounted = stored.mounted;
+  whole = stored.committed.formed.whole;
+  boxes = all_live m;
+  tables = stored.committed.keeps.tables;
+}
+
 module _ {D : Type 0} (told : D → Option Story) (len faults : D → ℕ) (d e : D) (s : State) (was : IsOpened (parts told len d s) (parts told len e s)) (space : IsSpace (parts told len e s)) where
   abbrev mid : Parts
   mid = parts told len e s
@@ -126,24 +154,36 @@ module _ {D : Type 0} (told : D → Option Story) (len faults : D → ℕ) (d e 
   store_of : (want : ℕ → List ℕ) (g : Geometry) → IsMounted want (told d) g → HoldsPages want want mid
   store_of want g mounted = ([], [], was.pages want g mounted)
 
+  -- ---- a disk whose contents have a catalogue
+  module _ (g : Geometry) (want : Wanted) (kept : List Kept) (of : IsCatalogued (told d) g want kept) where
+    size_at : g ≡ s.pool.geometry
+    size_at = size_of want g of.mounted of.tells
+
+    pub has-catalogued : HasPages want (slots_in s.pool.geometry.pages want) mid
+    has-catalogued =
+        space.has want want (store_of want g of.mounted) (tells_then (told d) (told e) s.pool.geometry was.restart of.tells)
+        (λ n less. (of.whole n (subst (λ (x : Geometry). n < x.pages) (sym size_at) less)).small)
+
+    pub over-catalogued : (root : ℕ) (IsSo : Slots → List Kept → Type 0) → root ≡ table_len s.pool.geometry.pages → OverCatalogue root mid IsSo → IsSo (slots_in g.pages want) kept
+    over-catalogued root IsSo is over =
+        subst (λ (x : Geometry). IsSo (slots_in x.pages want) kept) (sym size_at)
+        (over of.boxes want (slots_in s.pool.geometry.pages want) kept has-catalogued
+        (subst (λ (n : ℕ). Tables of.boxes IsDurable n (slots_in s.pool.geometry.pages want) kept) (sym is)
+        (subst (λ (x : Geometry). Tables of.boxes IsDurable (table_len x.pages) (slots_in x.pages want) kept) size_at of.tables)))
+
   -- ---- a disk whose contents stand for a database
   module _ (m : Meanings) (g : Geometry) (want : Wanted) (db : Db) (stored : IsStored m (told d) g want db) where
     size : g ≡ s.pool.geometry
     size = size_of want g stored.mounted stored.tells
 
     pub has-stored : HasPages want (slots_in s.pool.geometry.pages want) mid
-    has-stored =
-        space.has want want (store_of want g stored.mounted) (tells_then (told d) (told e) s.pool.geometry was.restart stored.tells)
-        (λ n less. (stored.committed.formed.whole n (subst (λ (x : Geometry). n < x.pages) (sym size) less)).small)
+    has-stored = has-catalogued g want stored.committed.kept (catalogued m (told d) g want db stored)
 
     formed-stored : AreFormed s.pool.geometry.pages want
     formed-stored = subst (λ (x : Geometry). AreFormed x.pages want) size stored.committed.formed
 
-    pub over-stored : (root : ℕ) (IsSo : List Kept → Type 0) → root ≡ table_len s.pool.geometry.pages → OverCatalogue root mid IsSo → IsSo stored.committed.kept
-    over-stored root IsSo is over =
-        over (all_live m) want (slots_in s.pool.geometry.pages want) stored.committed.kept has-stored
-        (subst (λ (n : ℕ). Tables (all_live m) IsDurable n (slots_in s.pool.geometry.pages want) stored.committed.kept) (sym is)
-        (subst (λ (x : Geometry). Tables (all_live m) IsDurable (table_len x.pages) (slots_in x.pages want) stored.committed.kept) size stored.committed.keeps.tables))
+    pub over-stored : (root : ℕ) (IsSo : Slots → List Kept → Type 0) → root ≡ table_len s.pool.geometry.pages → OverCatalogue root mid IsSo → IsSo (slots_in g.pages want) stored.committed.kept
+    over-stored = over-catalogued g want stored.committed.kept (catalogued m (told d) g want db stored)
 
     pub rests-stored : (n : Meanings) (root : ℕ) (f : D) (t : State) → t.pool.geometry ≡ s.pool.geometry → root ≡ table_len s.pool.geometry.pages → RestsStill mid (parts told len f t)
         → HasLive m (named_in stored.committed.kept) n → Rests n root want db (parts told len f t)
@@ -236,16 +276,30 @@ module _ {D : Type 0} (told : D → Option Story) (len faults : D → ℕ) (d e 
     }
 
 -- ---- refusals behind the opening of the space
-pub MayRefuse-looked : (n : Meanings) (named : List Named) (a b : ℕ) (x : OpenFault) → IsLookErr a b x → IsUndamaged x → MayRefuse n named x
-MayRefuse-looked n named a b Fault err sound = tt
-MayRefuse-looked n named a b (Damaged page) err sound = sound
-MayRefuse-looked n named a b NoMemory err sound = tt
-MayRefuse-looked n named a b (MissingExtension code) err sound = absurd err
-MayRefuse-looked n named a b (TooSmall have need) err sound = tt
-MayRefuse-looked n named a b NotStore err sound = tt
-MayRefuse-looked n named a b (BadLog chunk offset) err sound = tt
-MayRefuse-looked n named a b (BadExtensions code) err sound = tt
-MayRefuse-looked n named a b AlreadyStore err sound = tt
+pub MayRefuse-looked : (n : Meanings) (m : Meanings) (told : Option Story) (g : Geometry) (want : Wanted) (db : Db) (stored : IsStored m told g want db) (a b : ℕ) (x : OpenFault) → IsLookErr a b x
+    → TellsStray (slots_in g.pages want) (owners_in stored.committed.kept) x → MayRefuse n (named_in stored.committed.kept) x
+MayRefuse-looked n m told g want db stored a b Fault err stray = tt
+MayRefuse-looked n m told g want db stored a b (Damaged page) err stray =
+    none-stray g.pages want (owners_in stored.committed.kept) page stored.committed.formed.whole stored.committed.keeps.own.known stray
+MayRefuse-looked n m told g want db stored a b NoMemory err stray = tt
+MayRefuse-looked n m told g want db stored a b (MissingExtension code) err stray = absurd err
+MayRefuse-looked n m told g want db stored a b (TooSmall have need) err stray = tt
+MayRefuse-looked n m told g want db stored a b NotStore err stray = tt
+MayRefuse-looked n m told g want db stored a b (BadLog chunk offset) err stray = tt
+MayRefuse-looked n m told g want db stored a b (BadExtensions code) err stray = tt
+MayRefuse-looked n m told g want db stored a b AlreadyStore err stray = tt
+
+-- a box is missing, where no entry is stray
+pub TellsStray-absent : (s : Slots) (owners : List ℕ) (absent : Option ℕ) (x : OpenFault) → HasNoStray s owners → IsAbsent absent x → TellsStray s owners x
+TellsStray-absent s owners absent (MissingExtension code) known err = known
+TellsStray-absent s owners absent NoMemory known err = tt
+TellsStray-absent s owners absent Fault known err = absurd err
+TellsStray-absent s owners absent (Damaged page) known err = absurd err
+TellsStray-absent s owners absent (TooSmall have need) known err = absurd err
+TellsStray-absent s owners absent NotStore known err = absurd err
+TellsStray-absent s owners absent (BadLog chunk offset) known err = absurd err
+TellsStray-absent s owners absent (BadExtensions code) known err = absurd err
+TellsStray-absent s owners absent AlreadyStore known err = absurd err
 
 absent_same : (n : Meanings) (named : List Named) (x : OpenFault) → IsAbsent (first_absent n named) x → MayRefuse n named x
 absent_same n named (MissingExtension code) err = err

@@ -12,7 +12,7 @@ use Rattle.sb_drive.specs.Slots.{Slots}
 use Rattle.sb_drive.specs.Spaces.{IsReadFault, Wanted}
 use Rattle.sb_drive.specs.declared.space.SpaceFault.{SpaceFault}
 use Rattle.sb_drive.specs.declared.space.SpaceFault.TheVariants.{Fault, DataFull, TempFull, LogFull, GatesFull, Damaged, Down, NoMemory}
-use Rattle.sb_registry.specs.Runs.{IsSound}
+use Rattle.sb_standing.specs.Standing.{owners_in}
 use Rattle.sb_standing.specs.Tables
 use Rattle.sb_txn.specs.Clauses.{Begins, LeavesWanted}
 use Rattle.sb_txn.specs.Parts.{Parts, parts}
@@ -21,31 +21,12 @@ use Rattle.sb_txn.proofs.KeepsLemmas.{LeavesWanted-then}
 use Rattle.sb_space.specs.Table.{slots_in}
 use Rattle.sb_space.specs.Transactions.{AreFormed, KeepsSpace}
 use Rattle.sb_space.specs.Works.{Fails, HasPages, MeansDown, Works}
-use Rattle.sb_opening.specs.Looking.{IsLook, IsLookErr, IsUndamaged, OverCatalogue, RestsStill, fault_of, found_at_end}
+use Rattle.sb_opening.specs.Looking.{IsLook, IsLookErr, OverCatalogue, RestsStill, fault_of, found_at_end}
+use Rattle.sb_opening.specs.Owners.{TellsStray}
+use Rattle.sb_opening.proofs.OwnerLemmas.{TellsStray-down, means_reads}
 use Rattle.sb_value.proofs.Truths.{ok_err}
 
 -- ---- refusals
-pub IsUndamaged-sound : (e : SpaceFault) → IsSound e → IsUndamaged (fault_of e)
-IsUndamaged-sound Fault sound = tt
-IsUndamaged-sound Down sound = tt
-IsUndamaged-sound (DataFull used total) sound = tt
-IsUndamaged-sound (TempFull used total) sound = tt
-IsUndamaged-sound (LogFull used need total) sound = tt
-IsUndamaged-sound (GatesFull used total) sound = tt
-IsUndamaged-sound (Damaged page) sound = sound
-IsUndamaged-sound NoMemory sound = tt
-
--- a call that fails names no page
-pub IsUndamaged-down : (e : SpaceFault) → MeansDown e → IsUndamaged (fault_of e)
-IsUndamaged-down Fault means = tt
-IsUndamaged-down Down means = tt
-IsUndamaged-down (DataFull used total) means = tt
-IsUndamaged-down (TempFull used total) means = tt
-IsUndamaged-down (LogFull used need total) means = tt
-IsUndamaged-down (GatesFull used total) means = tt
-IsUndamaged-down (Damaged page) means = absurd means
-IsUndamaged-down NoMemory means = tt
-
 is_look_err : (before now : ℕ) (e : SpaceFault) → IsReadFault e → (MeansDown e → Rose before now) → IsLookErr before now (fault_of e)
 is_look_err before now Fault reads rose = rose tt
 is_look_err before now Down reads rose = rose tt
@@ -55,16 +36,6 @@ is_look_err before now (LogFull used need total) reads rose = absurd reads
 is_look_err before now (GatesFull used total) reads rose = absurd reads
 is_look_err before now (Damaged page) reads rose = tt
 is_look_err before now NoMemory reads rose = tt
-
-means_reads : (e : SpaceFault) → MeansDown e → IsReadFault e
-means_reads Fault means = tt
-means_reads Down means = tt
-means_reads (DataFull used total) means = absurd means
-means_reads (TempFull used total) means = absurd means
-means_reads (LogFull used need total) means = absurd means
-means_reads (GatesFull used total) means = absurd means
-means_reads (Damaged page) means = absurd means
-means_reads NoMemory means = absurd means
 
 not_both : {A : Type 0} (b : Bool) → b ≡ false → b ≡ true → A
 not_both b off on = absurd (false≢true (sym off ∙ on))
@@ -194,15 +165,15 @@ module _ {D : Type 0} (told : D → Option Story) (len faults : D → ℕ) where
 
 -- ---- what was found
 module _ {T : Type 0} (root : ℕ) (p q : Parts) (stays : (want : Wanted) (slots : Slots) → HasPages want slots p → HasPages want slots q) where
-  pub found-ended : (IsSo : T → List Tables.Kept → Type 0) (r : Result T SpaceFault) (z : Result (Unit {0}) SpaceFault) → IfOk r (λ x. OverCatalogue root q (IsSo x)) → IfOk (found_at_end r z) (λ x. OverCatalogue root p (IsSo x))
+  pub found-ended : (IsSo : T → Slots → List Tables.Kept → Type 0) (r : Result T SpaceFault) (z : Result (Unit {0}) SpaceFault) → IfOk r (λ x. OverCatalogue root q (IsSo x)) → IfOk (found_at_end r z) (λ x. OverCatalogue root p (IsSo x))
   found-ended IsSo (Ok x) (Ok done) over = λ m want slots kept has tables. over m want slots kept (stays want slots has) tables
   found-ended IsSo (Err e) (Ok done) over = tt
   found-ended IsSo (Ok x) (Err e) over = tt
   found-ended IsSo (Err x) (Err e) over = tt
 
-  pub undamaged-ended : (r : Result T SpaceFault) (z : Result (Unit {0}) SpaceFault) → IfErr r (λ e. OverCatalogue root q (λ kept. IsSound e)) → IfErr z MeansDown
-      → IfErr (found_at_end r z) (λ e. OverCatalogue root p (λ kept. IsUndamaged e))
-  undamaged-ended (Ok x) (Ok done) sound means = tt
-  undamaged-ended (Err e) (Ok done) sound means = λ m want slots kept has tables. IsUndamaged-sound e (sound m want slots kept (stays want slots has) tables)
-  undamaged-ended (Ok x) (Err e) sound means = λ m want slots kept has tables. IsUndamaged-down e means
-  undamaged-ended (Err x) (Err e) sound means = λ m want slots kept has tables. IsUndamaged-down e means
+  pub stray-ended : (r : Result T SpaceFault) (z : Result (Unit {0}) SpaceFault) → IfErr r (λ e. OverCatalogue root q (λ s kept. TellsStray s (owners_in kept) (fault_of e))) → IfErr z MeansDown
+      → IfErr (found_at_end r z) (λ e. OverCatalogue root p (λ s kept. TellsStray s (owners_in kept) e))
+  stray-ended (Ok x) (Ok done) stray means = tt
+  stray-ended (Err e) (Ok done) stray means = λ m want slots kept has tables. stray m want slots kept (stays want slots has) tables
+  stray-ended (Ok x) (Err e) stray means = λ m want slots kept has tables. TellsStray-down slots (owners_in kept) e means
+  stray-ended (Err x) (Err e) stray means = λ m want slots kept has tables. TellsStray-down slots (owners_in kept) e means

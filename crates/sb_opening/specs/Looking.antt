@@ -30,15 +30,10 @@ found_at_end found (Err e) = Err (fault_of e)
 found_at_end (Err e) (Ok done) = Err (fault_of e)
 found_at_end (Ok x) (Ok done) = Ok x
 
--- what is so of the relations of a catalogue in these pages
-abbrev pub OverCatalogue : ℕ → Parts → (List Kept → Type 0) → Type 0
+-- what is so of pages and of the relations of their catalogue
+abbrev pub OverCatalogue : ℕ → Parts → (Slots → List Kept → Type 0) → Type 0
 OverCatalogue root p IsSo =
-    (m : Meanings) (want : Wanted) (s : Slots) (kept : List Kept) → HasPages want s p → Tables m IsDurable root s kept → IsSo kept
-
--- no page is called damaged
-abbrev pub IsUndamaged : OpenFault → Type 0
-IsUndamaged (opening.Damaged page) = ⊥
-IsUndamaged e = Unit {0}
+    (m : Meanings) (want : Wanted) (s : Slots) (kept : List Kept) → HasPages want s p → Tables m IsDurable root s kept → IsSo s kept
 
 -- the disk failed a call in it, a page is called damaged, or memory is wanting
 abbrev pub IsLookErr : ℕ → ℕ → OpenFault → Type 0

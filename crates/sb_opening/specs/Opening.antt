@@ -14,17 +14,29 @@ use Rattle.sb_registry.specs.Boxes.{Meanings}
 use Rattle.sb_drive.specs.Spaces.{Wanted}
 use Rattle.sb_txn.specs.Opened.{WasRestarted}
 use Rattle.sb_space.specs.Opening.{IsFirstDamaged, SpaceErr}
-use Rattle.sb_space.specs.Table.{IsTable, table_len}
+use Rattle.sb_space.specs.Table.{AreWhole, IsTable, slots_in, table_len}
+use Rattle.sb_standing.specs.Standing.{owners_in}
+use Rattle.sb_standing.specs.Tables.{Kept, Tables}
+use Rattle.sb_opened.specs.Opened.{IsDurable}
 use Rattle.sb_transactions.specs.Transactions.{IsCommitted}
 use Rattle.sb_vectors.specs.Vectors.{live_codes, spare_codes}
 use Rattle.sb_opening.specs.declared.codes.Named.{Named}
 use Rattle.sb_opening.specs.Naming.{all_live, first_absent}
+use Rattle.sb_opening.specs.Owners.{TellsStray}
 
 -- The disk tells its contents: they restore these pages, which keep the database, whichever of the boxes are live.
 pub record IsStored (m : Meanings) (told : Option Story) (g : Geometry) (want : Wanted) (db : Db) : Type 0 where
   pub tells : is_some told ≡ true
   pub mounted : IsMounted want told g
   pub committed : IsCommitted (all_live m) (table_len g.pages) g.pages want db
+
+-- The disk tells its contents: they restore these pages, which are whole and have a catalogue of these relations, with rows that some boxes keep.
+pub record IsCatalogued (told : Option Story) (g : Geometry) (want : Wanted) (kept : List Kept) : Type 0 where
+  pub tells : is_some told ≡ true
+  pub mounted : IsMounted want told g
+  pub whole : AreWhole g.pages want
+  pub boxes : Meanings
+  pub tables : Tables boxes IsDurable (table_len g.pages) (slots_in g.pages want) kept
 
 -- the state at the opening: the database is the only one that was committed, and no transaction is open
 abbrev pub opened : Meanings → Db → State
@@ -41,6 +53,12 @@ abbrev pub NamesTable : OpenFault → Option Story → Type 0
 NamesTable (Damaged page) told = (want : ℕ → List ℕ) (g : Geometry) → IsMounted want told g
     → IfTold told ((IsTable g.pages want → ⊥) → IsFirstDamaged g.pages want page)
 NamesTable e told = Unit {0}
+
+-- Where the contents have a catalogue, and the owner table its form: a page called damaged has the first entry that is the owner of no instance, and
+-- a box is missing only where there is no such entry.
+abbrev pub NamesEntry : OpenFault → Option Story → Type 0
+NamesEntry e told = (g : Geometry) (want : Wanted) (kept : List Kept) → IsCatalogued told g want kept → IsTable g.pages want
+    → TellsStray (slots_in g.pages want) (owners_in kept) e
 
 -- The disk was restarted, as a store of some sizes, and then looked at: all along a crash leaves the pages that were restored.
 pub record WasLookedAt (old new : Option Story) : Type 0 where

@@ -1,8 +1,10 @@
-//! The codes of boxes that descriptors name.
+//! The codes of boxes that descriptors name, and the owners of instances.
 
 ghost use Rattle.std.specs.Prelude.{◌≡◌, ◌++◌, IfErr, IfOk, OnOk};
 ghost use Rattle.sb_registry.specs.Boxes.{Meanings};
 ghost use Rattle.sb_registry.specs.Runs.{IsSound, Looks};
+ghost use Rattle.sb_standing.specs.Instances.{owners_of};
+ghost use Rattle.sb_standing.specs.Standing.{owners_in};
 ghost use Rattle.sb_opened.specs.Opened.{OverTables};
 ghost use Rattle.sb_opening.specs.Naming.{named_by, named_in};
 
@@ -19,28 +21,40 @@ pub struct Named {
     pub code: u16,
 }
 
-/// The codes that the descriptors of all relations name, in the order of the relations' names: of each that of its storage method first,
-/// and then those of its attachments.
-pub(crate) fn all_codes<S: PageSpace>(
+/// What the descriptors of all relations name, in the order of the relations' names: of each the code of its storage method first and then those
+/// of its attachments, and their owners in the same order.
+#[derive(Drop)]
+pub(crate) struct Census {
+    pub named: Vec<Named>,
+    pub owners: Vec<u16>,
+}
+
+/// What the descriptors of the catalogue name.
+pub(crate) fn take_census<S: PageSpace>(
     space: &mut S,
     alloc: Global,
     place: Place,
-) -> Result<Vec<Named>, SpaceFault>
+) -> Result<Census, SpaceFault>
     requires ready { S.is_ready space.old }
     requires owner { place.owner ≡ 2 }
 
-    ensures codes { IfOk result (λ codes. (m : Meanings) → OverTables S.has m place.root space.old (λ kept. codes.items ≡ named_in kept)) }
+    ensures codes { IfOk result (λ census. (m : Meanings) → OverTables S.has m place.root space.old
+        (λ kept. census.named.items ≡ named_in kept)) }
+    ensures owners { IfOk result (λ census. (m : Meanings) → OverTables S.has m place.root space.old
+        (λ kept. census.owners.items ≡ owners_in kept)) }
     ensures undamaged { IfErr result (λ e. (m : Meanings) → OverTables S.has m place.root space.old (λ kept. IsSound e)) }
     ensures looks { Looks S.has S.leads S.fails space.old space.new result }
     ensures ready { S.is_ready space.new }
 {
-    let mut codes = Vec::new(alloc);
+    let mut named = Vec::new(alloc);
+    let mut owners = Vec::new(alloc);
     let mut last = None;
     'relations: loop {
         let Some((name, descriptor)) = next_descriptor(space, alloc, place, last.as_ref())? else {
-            return Ok(codes);
+            return Ok(Census { named, owners });
         };
-        add_codes(&mut codes, &descriptor)?;
+        add_codes(&mut named, &descriptor)?;
+        add_owners(&mut owners, &descriptor)?;
         last = Some(name);
     }
 }
@@ -58,6 +72,17 @@ fn add_codes(codes: &mut Vec<Named>, descriptor: &Descriptor) -> Result<(), Allo
             method: false,
             code: attached.code,
         })?;
+    }
+    Ok(())
+}
+
+/// Puts the owners of a relation's instances behind the others: that of its storage method, and those of its attachments.
+fn add_owners(owners: &mut Vec<u16>, descriptor: &Descriptor) -> Result<(), AllocError>
+    ensures { OnOk result (owners.new.items ≡ owners.old.items ++ owners_of descriptor.now) }
+{
+    owners.push(descriptor.owner)?;
+    for attached in descriptor.attachments.as_slice() {
+        owners.push(attached.owner)?;
     }
     Ok(())
 }

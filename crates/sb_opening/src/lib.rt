@@ -7,6 +7,7 @@ mod laws;
 mod looking;
 mod moving;
 mod opening;
+mod owners;
 
 pub use codes::Named;
 pub use creating::create;

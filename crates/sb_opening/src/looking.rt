@@ -1,16 +1,17 @@
 //! A look at the catalogue of a store that was just opened.
 
 ghost use Rattle.std.specs.Prelude.{◌≡◌, ◌≤◌, [], false, IfErr, IfOk, OnOk};
-ghost use Rattle.sb_drive.specs.Slots.{Slots};
-ghost use Rattle.sb_drive.specs.Spaces.{IsReadFault, Wanted};
 ghost use Rattle.sb_registry.specs.Runs.{IsSound};
-ghost use Rattle.sb_space.specs.Works.{Fails, HasPages, MeansDown, Serves, Works};
+ghost use Rattle.sb_space.specs.Works.{Serves};
 ghost use Rattle.sb_txn.specs.Clauses.{IsReady};
 ghost use Rattle.sb_txn.specs.Parts.{parts};
-ghost use Rattle.sb_opening.specs.Looking.{IsLook, IsLookErr, IsUndamaged, OverCatalogue, RestsStill, fault_of, found_at_end};
+ghost use Rattle.sb_standing.specs.Standing.{owners_in};
+ghost use Rattle.sb_opening.specs.Looking.{IsLook, IsLookErr, OverCatalogue, RestsStill, fault_of, found_at_end};
 ghost use Rattle.sb_opening.specs.Naming.{named_in};
+ghost use Rattle.sb_opening.specs.Owners.{HasNoStray, LooksWithin, TellsStray};
 
-use crate::codes::{Named, all_codes};
+use crate::codes::{Census, Named, take_census};
+use crate::owners::check_owners;
 use sb_disk::Disk;
 use sb_drive::SpaceFault;
 use sb_map::Place;
@@ -18,7 +19,8 @@ use sb_recover::OpenFault;
 use sb_space::{Durable, Space, Tx};
 use std::alloc::Global;
 
-/// The codes that the descriptors of all relations name, as they are found in a transaction that changes nothing.
+/// The codes that the descriptors of all relations name, as they are found in a transaction that changes nothing. Behind them each page is asked
+/// for its owner, which is to be that of an instance that a descriptor names.
 pub(crate) fn named_codes<D: Disk>(
     space: &mut Space,
     alloc: Global,
@@ -32,9 +34,12 @@ pub(crate) fn named_codes<D: Disk>(
     requires owner { place.owner ≡ 2 }
 
     ensures named { IfOk result (λ named. OverCatalogue place.root (parts D.told D.len disk.old space.old.store)
-        (λ kept. named.items ≡ named_in kept)) }
+        (λ s kept. named.items ≡ named_in kept)) }
+    ensures known { IfOk result (λ named. OverCatalogue place.root (parts D.told D.len disk.old space.old.store)
+        (λ s kept. HasNoStray s (owners_in kept))) }
     ensures rests { OnOk result (RestsStill (parts D.told D.len disk.old space.old.store) (parts D.told D.len disk.new space.new.store)) }
-    ensures undamaged { IfErr result (λ e. OverCatalogue place.root (parts D.told D.len disk.old space.old.store) (λ kept. IsUndamaged e)) }
+    ensures stray { IfErr result (λ e. OverCatalogue place.root (parts D.told D.len disk.old space.old.store)
+        (λ s kept. TellsStray s (owners_in kept) e)) }
     ensures err { IfErr result (IsLookErr (D.faults disk.old) (D.faults disk.new)) }
     ensures look { IsLook D.told D.len D.faults disk.old disk.new space.old.store space.new.store }
 {
@@ -75,17 +80,39 @@ fn codes_within<D: Disk>(
     requires owner { place.owner ≡ 2 }
 
     ensures codes { IfOk result (λ codes. OverCatalogue place.root (parts D.told D.len disk.old space.old.store)
-        (λ kept. codes.items ≡ named_in kept)) }
-    ensures same { OnOk result ((want : Wanted) (s : Slots) → HasPages want s (parts D.told D.len disk.old space.old.store)
-        → HasPages want s (parts D.told D.len disk.new space.new.store)) }
-    ensures undamaged { IfErr result (λ e. OverCatalogue place.root (parts D.told D.len disk.old space.old.store) (λ kept. IsSound e)) }
-    ensures reads { IfErr result IsReadFault }
-    ensures fails { IfErr result (λ e. MeansDown e → Fails D.faults e disk.old disk.new space.old.store space.new.store) }
-    ensures works { Works D.told D.len D.faults tx.now.store.number 0 disk.old disk.new space.old.store space.new.store }
-    ensures ready { Serves tx.now.store.number (parts D.told D.len disk.new space.new.store) }
+        (λ s kept. codes.items ≡ named_in kept)) }
+    ensures known { IfOk result (λ codes. OverCatalogue place.root (parts D.told D.len disk.old space.old.store)
+        (λ s kept. HasNoStray s (owners_in kept))) }
+    ensures stray { IfErr result (λ e. OverCatalogue place.root (parts D.told D.len disk.old space.old.store)
+        (λ s kept. TellsStray s (owners_in kept) (fault_of e))) }
+    ensures looks { LooksWithin D.told D.len D.faults tx.now.store.number disk.old disk.new space.old.store space.new.store result }
+{
+    let census = census_within(space, alloc, disk, tx, place)?;
+    let Census { named, owners } = census;
+    check_owners(&mut space.store, alloc, disk, owners.as_slice())?;
+    Ok(named)
+}
+
+/// What the descriptors name.
+fn census_within<D: Disk>(
+    space: &mut Space,
+    alloc: Global,
+    disk: &mut D,
+    tx: &Tx,
+    place: Place,
+) -> Result<Census, SpaceFault>
+    requires ready { Serves tx.now.store.number (parts D.told D.len disk.old space.old.store) }
+    requires owner { place.owner ≡ 2 }
+
+    ensures codes { IfOk result (λ census. OverCatalogue place.root (parts D.told D.len disk.old space.old.store)
+        (λ s kept. census.named.items ≡ named_in kept)) }
+    ensures owners { IfOk result (λ census. OverCatalogue place.root (parts D.told D.len disk.old space.old.store)
+        (λ s kept. census.owners.items ≡ owners_in kept)) }
+    ensures undamaged { IfErr result (λ e. OverCatalogue place.root (parts D.told D.len disk.old space.old.store) (λ s kept. IsSound e)) }
+    ensures looks { LooksWithin D.told D.len D.faults tx.now.store.number disk.old disk.new space.old.store space.new.store result }
 {
     let mut pages = Durable::new(&mut space.store, disk, &tx.store);
-    all_codes(&mut pages, alloc, place)
+    take_census(&mut pages, alloc, place)
 }
 
 /// What a look at pages refuses, as an opening says it.

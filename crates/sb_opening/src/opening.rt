@@ -10,9 +10,12 @@ ghost use Rattle.sb_relation.specs.Db.{Db};
 ghost use Rattle.sb_registry.specs.Boxes.{Meanings, repeated_in};
 ghost use Rattle.sb_drive.specs.Spaces.{Wanted};
 ghost use Rattle.sb_session.specs.Sessions.{CanRun, IsFor};
-ghost use Rattle.sb_space.specs.Table.{table_len};
+ghost use Rattle.sb_space.specs.Table.{slots_in, table_len};
+ghost use Rattle.sb_standing.specs.Standing.{AreKnown, owners_in};
+ghost use Rattle.sb_standing.specs.Tables.{Kept};
 ghost use Rattle.sb_opening.specs.Naming.{HasLive, named_in};
-ghost use Rattle.sb_opening.specs.Opening.{IsStored, MayRefuse, NamesTable, OpeningErr, opened};
+ghost use Rattle.sb_opening.specs.Opening.{IsCatalogued, IsStored, MayRefuse, NamesEntry, NamesTable, OpeningErr, opened};
+ghost use Rattle.sb_opening.specs.Owners.{HasNoStray};
 
 use crate::looking::named_codes;
 use crate::moving::make_live;
@@ -27,7 +30,8 @@ use std::alloc::Global;
 /// Opens the store that a disk holds, for a session of commands over it with these boxes. A spare box that a relation of the store wants is
 /// made live.
 ///
-/// It refuses what `open_store` refuses; then, as `Damaged`, a catalogue that isn't one; and then, as `MissingExtension`, the first code for
+/// It refuses what `open_store` refuses; then, as `Damaged`, a catalogue that isn't one; then, as `Damaged` too, the page of the owner table with
+/// the first entry that is the owner of no instance that a relation of the catalogue has; and then, as `MissingExtension`, the first code for
 /// which there is no box, by the order of the relations' names, that of the storage method before those of the attachments.
 pub fn open<B: Vectors + Drop, D: Disk>(
     boxes: B,
@@ -47,6 +51,12 @@ pub fn open<B: Vectors + Drop, D: Disk>(
     ensures place { IfOk result (λ session. session.place ≡ record { owner = 2; root = table_len session.space.store.pool.geometry.pages }) }
     ensures up { IfOk result (λ session. session.down ≡ false) }
 
+    // Where the contents have a catalogue, the owner of each page is none of an instance, or one that a relation names.
+    ensures owners { IfOk result (λ session. (g : Geometry) (want : Wanted) (kept : List Kept) → IsCatalogued (D.told disk.old) g want kept
+        → HasNoStray (slots_in g.pages want) (owners_in kept)) }
+    ensures known { IfOk result (λ session. (g : Geometry) (want : Wanted) (kept : List Kept) → IsCatalogued (D.told disk.old) g want kept
+        → AreKnown (slots_in g.pages want) (owners_in kept)) }
+
     // A crash anywhere in the call leaves pages that are restored as before.
     ensures any_moment { (want : ℕ → List ℕ) (g : Geometry) → IsMounted want (D.told disk.old) g
         → LeavesOnly (D.told disk.old) (D.told disk.new) (Restores g want) }
@@ -54,6 +64,7 @@ pub fn open<B: Vectors + Drop, D: Disk>(
     ensures missing { IfErr result (λ e. (m : Meanings) (g : Geometry) (want : Wanted) (db : Db) (stored : IsStored m (D.told disk.old) g want db)
         → MayRefuse (B.meanings boxes) (named_in stored.committed.kept) e) }
     ensures table { IfErr result (λ e. NamesTable e (D.told disk.old)) }
+    ensures entry { IfErr result (λ e. NamesEntry e (D.told disk.old)) }
     ensures refused { IfErr result (λ e. OpeningErr e (D.told disk.old) (D.told disk.new)) }
     ensures fault { IsErrOf result OpenFault.Fault → Rose (D.faults disk.old) (D.faults disk.new) }
     ensures len { D.len disk.new ≡ D.len disk.old }

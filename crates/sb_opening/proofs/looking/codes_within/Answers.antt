@@ -1,81 +1,62 @@
-use Rattle.std.proofs.Common.{ap, sym, ◌≡◌, ◌∙◌}
-use Rattle.sb_registry.specs.Runs.{IsSound}
-use Rattle.sb_txn.specs.declared.store.Tx.{Tx}
-use Rattle.sb_transactions.proofs.LentLemmas.{IsStoreLent}
-use Rattle.sb_opening.specs.Naming.{named_in}
-use Rattle.sb_opening.proofs.LookLemmas.{looked-fails, looked-over, looked-same, looked-serves, looked-works, refused-over, serves-lent}
+use Rattle.std.proofs.Common.{◌∙◌, Ok, Err, List, ℕ, subst}
+use Rattle.sb_drive.proofs.SpacesLemmas.{IfErr-passed}
+use Rattle.sb_standing.specs.Standing.{owners_in}
+use Rattle.sb_opening.specs.Looking.{fault_of}
+use Rattle.sb_opening.specs.Owners.{HasNoStray, TellsStray}
+use Rattle.sb_opening.proofs.OwnerLemmas.{LooksWithin-ok, LooksWithin-passed, LooksWithin-then, TellsStray-sound}
 use Rattle.sb_opening.proofs.looking.codes_within.Goals as goal
 
+-- ---- the catalogue is refused
+pub returns-in_err-census-clause-stray : goal.returns-in_err-census-clause-stray
+returns-in_err-census-clause-stray g c =
+    let e = c.in_err-census.field-0.0 in
+    IfErr-passed c.from_residual.result e _ c.from_residual.ensures.1
+    (λ m want s kept has tables. TellsStray-sound s (owners_in kept) e (c.in_err-census.ensures.undamaged m want s kept has tables))
+
+pub returns-in_err-census-clause-looks : goal.returns-in_err-census-clause-looks
+returns-in_err-census-clause-looks g c =
+    LooksWithin-passed g.D.Disk.told g.D.Disk.len g.D.Disk.faults c.args.tx.now.store.number c.args.disk.now c.census_within.new.disk c.args.space.now.store c.census_within.new.space.store
+    c.in_err-census.field-0.0 c.from_residual.result c.from_residual.ensures.1 c.in_err-census.ensures.looks
+
+-- ---- an owner is
+pub check_owners-requires : goal.check_owners-requires
+check_owners-requires g c = record { ready = c.in_ok-census.ensures.looks.ready.ready }
+
+pub returns-in_err-check_owners-clause-stray : goal.returns-in_err-check_owners-clause-stray
+returns-in_err-check_owners-clause-stray g c =
+    let e = c.in_err-check_owners.field-0.0 in
+    IfErr-passed c.from_residual-in_err-check_owners.result e _ c.from_residual-in_err-check_owners.ensures.1
+    (λ m want s kept has tables.
+    subst (λ (owners : List ℕ). TellsStray s owners (fault_of e)) (c.as_slice.ensures.value ∙ c.in_ok-census.ensures.owners m want s kept has tables)
+    (c.in_err-check_owners.ensures.stray want s (c.in_ok-census.ensures.looks.same want s has)))
+
+pub returns-in_err-check_owners-clause-looks : goal.returns-in_err-check_owners-clause-looks
+returns-in_err-check_owners-clause-looks g c =
+    let told = g.D.Disk.told in
+    let len = g.D.Disk.len in
+    let faults = g.D.Disk.faults in
+    let tx = c.args.tx.now.store.number in
+    let e = c.in_err-check_owners.field-0.0 in
+    LooksWithin-passed told len faults tx c.args.disk.now c.check_owners.new.disk c.args.space.now.store c.check_owners.new.store
+    e c.from_residual-in_err-check_owners.result c.from_residual-in_err-check_owners.ensures.1
+    (LooksWithin-then told len faults tx c.args.disk.now c.census_within.new.disk c.check_owners.new.disk c.args.space.now.store c.census_within.new.space.store c.check_owners.new.store
+    c.in_ok-census.census (Err e) c.in_ok-census.ensures.looks c.in_err-check_owners.ensures.looks)
+
+-- ---- both are well
 pub returns-clause-codes : goal.returns-clause-codes
-returns-clause-codes g c =
+returns-clause-codes g c = λ m want s kept has tables. c.in_ok-census.ensures.codes m want s kept has tables
+
+pub returns-clause-known : goal.returns-clause-known
+returns-clause-known g c = λ m want s kept has tables.
+    subst (HasNoStray s) (c.as_slice.ensures.value ∙ c.in_ok-census.ensures.owners m want s kept has tables)
+    (c.in_ok-check_owners.ensures.known want s (c.in_ok-census.ensures.looks.same want s has))
+
+pub returns-clause-looks : goal.returns-clause-looks
+returns-clause-looks g c =
     let told = g.D.Disk.told in
     let len = g.D.Disk.len in
+    let faults = g.D.Disk.faults in
     let tx = c.args.tx.now.store.number in
-    let is : IsStoreLent c.args.disk.now c.args.space.now.store tx c.new-pages.result =
-    record { store_is = c.new-pages.ensures.store; disk_is = c.new-pages.ensures.disk; tx_is = ap (λ (t : Tx). t.number) c.new-pages.ensures.tx } in
-    let leads = c.all_codes.ensures.looks.leads in
-    let same = c.disk-1.given.1 (sym (leads.disk ∙ c.new-pages.ensures.same_disk)) in
-    looked-over told len g.D.Disk.faults c.args.disk.now c.args.space.now.store tx c.new-pages.result c.all_codes.new.space is leads _ same c.args.place.root (λ codes kept. codes.items ≡ named_in kept) c.all_codes.result c.all_codes.ensures.codes
-
-pub returns-clause-same : goal.returns-clause-same
-returns-clause-same g c =
-    let told = g.D.Disk.told in
-    let len = g.D.Disk.len in
-    let tx = c.args.tx.now.store.number in
-    let is : IsStoreLent c.args.disk.now c.args.space.now.store tx c.new-pages.result =
-    record { store_is = c.new-pages.ensures.store; disk_is = c.new-pages.ensures.disk; tx_is = ap (λ (t : Tx). t.number) c.new-pages.ensures.tx } in
-    let leads = c.all_codes.ensures.looks.leads in
-    let same = c.disk-1.given.1 (sym (leads.disk ∙ c.new-pages.ensures.same_disk)) in
-    looked-same told len g.D.Disk.faults c.args.disk.now c.args.space.now.store tx c.new-pages.result c.all_codes.new.space is leads _ same c.all_codes.result c.all_codes.ensures.looks.same
-
-pub returns-clause-undamaged : goal.returns-clause-undamaged
-returns-clause-undamaged g c =
-    let told = g.D.Disk.told in
-    let len = g.D.Disk.len in
-    let tx = c.args.tx.now.store.number in
-    let is : IsStoreLent c.args.disk.now c.args.space.now.store tx c.new-pages.result =
-    record { store_is = c.new-pages.ensures.store; disk_is = c.new-pages.ensures.disk; tx_is = ap (λ (t : Tx). t.number) c.new-pages.ensures.tx } in
-    let leads = c.all_codes.ensures.looks.leads in
-    let same = c.disk-1.given.1 (sym (leads.disk ∙ c.new-pages.ensures.same_disk)) in
-    refused-over told len g.D.Disk.faults c.args.disk.now c.args.space.now.store tx c.new-pages.result c.all_codes.new.space is leads _ same c.args.place.root (λ e kept. IsSound e) c.all_codes.result c.all_codes.ensures.undamaged
-
-pub returns-clause-reads : goal.returns-clause-reads
-returns-clause-reads g c = c.all_codes.ensures.looks.fault
-
-pub returns-clause-fails : goal.returns-clause-fails
-returns-clause-fails g c =
-    let told = g.D.Disk.told in
-    let len = g.D.Disk.len in
-    let tx = c.args.tx.now.store.number in
-    let is : IsStoreLent c.args.disk.now c.args.space.now.store tx c.new-pages.result =
-    record { store_is = c.new-pages.ensures.store; disk_is = c.new-pages.ensures.disk; tx_is = ap (λ (t : Tx). t.number) c.new-pages.ensures.tx } in
-    let leads = c.all_codes.ensures.looks.leads in
-    let same = c.disk-1.given.1 (sym (leads.disk ∙ c.new-pages.ensures.same_disk)) in
-    looked-fails told len g.D.Disk.faults c.args.disk.now c.args.space.now.store tx c.new-pages.result c.all_codes.new.space is leads _ same _ c.all_codes.result c.all_codes.ensures.looks.refused
-
-pub returns-clause-works : goal.returns-clause-works
-returns-clause-works g c =
-    let told = g.D.Disk.told in
-    let len = g.D.Disk.len in
-    let tx = c.args.tx.now.store.number in
-    let is : IsStoreLent c.args.disk.now c.args.space.now.store tx c.new-pages.result =
-    record { store_is = c.new-pages.ensures.store; disk_is = c.new-pages.ensures.disk; tx_is = ap (λ (t : Tx). t.number) c.new-pages.ensures.tx } in
-    let leads = c.all_codes.ensures.looks.leads in
-    let same = c.disk-1.given.1 (sym (leads.disk ∙ c.new-pages.ensures.same_disk)) in
-    looked-works told len g.D.Disk.faults c.args.disk.now c.args.space.now.store tx c.new-pages.result c.all_codes.new.space is leads _ same
-
-pub returns-clause-ready : goal.returns-clause-ready
-returns-clause-ready g c =
-    let told = g.D.Disk.told in
-    let len = g.D.Disk.len in
-    let tx = c.args.tx.now.store.number in
-    let is : IsStoreLent c.args.disk.now c.args.space.now.store tx c.new-pages.result =
-    record { store_is = c.new-pages.ensures.store; disk_is = c.new-pages.ensures.disk; tx_is = ap (λ (t : Tx). t.number) c.new-pages.ensures.tx } in
-    let leads = c.all_codes.ensures.looks.leads in
-    let same = c.disk-1.given.1 (sym (leads.disk ∙ c.new-pages.ensures.same_disk)) in
-    looked-serves told len g.D.Disk.faults c.args.disk.now c.args.space.now.store tx c.new-pages.result c.all_codes.new.space is leads _ same c.all_codes.ensures.ready
-
-pub all_codes-requires-clause-ready : goal.all_codes-requires-clause-ready
-all_codes-requires-clause-ready g c =
-    serves-lent g.D.Disk.told g.D.Disk.len c.args.disk.now c.args.space.now.store c.args.tx.now.store.number c.new-pages.result
-    (record { store_is = c.new-pages.ensures.store; disk_is = c.new-pages.ensures.disk; tx_is = ap (λ (t : Tx). t.number) c.new-pages.ensures.tx }) c.requires.ready
+    LooksWithin-ok told len faults tx c.args.disk.now c.check_owners.new.disk c.args.space.now.store c.check_owners.new.store (tt {0}) _
+    (LooksWithin-then told len faults tx c.args.disk.now c.census_within.new.disk c.check_owners.new.disk c.args.space.now.store c.census_within.new.space.store c.check_owners.new.store
+    c.in_ok-census.census (Ok tt) c.in_ok-census.ensures.looks c.in_ok-check_owners.ensures.looks)

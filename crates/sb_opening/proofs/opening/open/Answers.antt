@@ -1,9 +1,12 @@
 use Rattle.std.proofs.Common.{◌≡◌, ◌∙◌, ℕ, Err, List, ap, subst}
 use Rattle.sb_txn.proofs.ResultLemmas.{IfErr-from}
 use Rattle.sb_opening.specs.declared.codes.Named.{Named}
-use Rattle.sb_opening.specs.Looking.{IsUndamaged}
+use Rattle.sb_standing.specs.Standing.{owners_in}
+use Rattle.sb_space.specs.Table.{slots_in}
 use Rattle.sb_opening.specs.Naming.{HasLive, named_in}
-use Rattle.sb_opening.proofs.OpenLemmas.{CanRun-opened, IsFor-opened, MayRefuse-absent, MayRefuse-looked, MayRefuse-space, NamesTable-opened, NamesTable-space, OpeningErr-absent, OpeningErr-looked, OpeningErr-space, fault-absent, fault-looked, fault-space, leaves-looked, over-stored, up-opened}
+use Rattle.sb_opening.specs.Owners.{HasNoStray, TellsStray}
+use Rattle.sb_opening.proofs.OpenLemmas.{CanRun-opened, IsFor-opened, MayRefuse-absent, MayRefuse-looked, MayRefuse-space, NamesEntry-space, NamesTable-opened, NamesTable-space, OpeningErr-absent, OpeningErr-looked, OpeningErr-space, TellsStray-absent, fault-absent, fault-looked, fault-space, leaves-looked, over-catalogued, over-stored, up-opened}
+use Rattle.sb_opening.proofs.OwnerLemmas.{AreKnown-all}
 use Rattle.sb_opening.proofs.opening.open.Goals as goal
 
 -- ---- the space isn't opened
@@ -16,6 +19,11 @@ pub returns-in_err-store-clause-table : goal.returns-in_err-store-clause-table
 returns-in_err-store-clause-table g c =
     IfErr-from c.from_residual.result c.in_err-store.field-0.0 _ c.from_residual.ensures.1
     (NamesTable-space (g.D.Disk.told c.args.disk.now) (g.D.Disk.told c.open_store.new.disk) c.in_err-store.field-0.0 c.in_err-store.ensures.damaged)
+
+pub returns-in_err-store-clause-entry : goal.returns-in_err-store-clause-entry
+returns-in_err-store-clause-entry g c =
+    IfErr-from c.from_residual.result c.in_err-store.field-0.0 _ c.from_residual.ensures.1
+    (NamesEntry-space (g.D.Disk.told c.args.disk.now) (g.D.Disk.told c.open_store.new.disk) c.in_err-store.field-0.0 c.in_err-store.ensures.damaged c.in_err-store.ensures.refused)
 
 pub returns-in_err-store-clause-refused : goal.returns-in_err-store-clause-refused
 returns-in_err-store-clause-refused g c =
@@ -54,9 +62,17 @@ returns-in_err-named-clause-missing g c =
     IfErr-from c.from_residual-in_err-named.result c.in_err-named.field-0.0 _ c.from_residual-in_err-named.ensures.1
     (λ m h want db stored.
     let e = c.in_err-named.field-0.0 in
-    MayRefuse-looked (g.B.Boxes.meanings c.args.boxes) (named_in stored.committed.kept) (g.D.Disk.faults c.open_store.new.disk) (g.D.Disk.faults c.named_codes.new.disk) e c.in_err-named.ensures.err
+    MayRefuse-looked (g.B.Boxes.meanings c.args.boxes) m (g.D.Disk.told c.args.disk.now) h want db stored (g.D.Disk.faults c.open_store.new.disk) (g.D.Disk.faults c.named_codes.new.disk) e c.in_err-named.ensures.err
     (over-stored g.D.Disk.told g.D.Disk.len g.D.Disk.faults c.args.disk.now c.open_store.new.disk c.in_ok-store.store c.in_ok-store.ensures.opened c.in_ok-store.ensures.space m h want db stored
-    c.catalogue-owner.result.1 (λ kept. IsUndamaged e) (ap (λ (r : ℕ × ℕ). r.1) c.catalogue-owner.ensures) c.in_err-named.ensures.undamaged))
+    c.catalogue-owner.result.1 (λ s kept. TellsStray s (owners_in kept) e) (ap (λ (r : ℕ × ℕ). r.1) c.catalogue-owner.ensures) c.in_err-named.ensures.stray))
+
+pub returns-in_err-named-clause-entry : goal.returns-in_err-named-clause-entry
+returns-in_err-named-clause-entry g c =
+    let e = c.in_err-named.field-0.0 in
+    IfErr-from c.from_residual-in_err-named.result e _ c.from_residual-in_err-named.ensures.1
+    (λ h want kept of table.
+    over-catalogued g.D.Disk.told g.D.Disk.len g.D.Disk.faults c.args.disk.now c.open_store.new.disk c.in_ok-store.store c.in_ok-store.ensures.opened c.in_ok-store.ensures.space h want kept of
+    c.catalogue-owner.result.1 (λ s ks. TellsStray s (owners_in ks) e) (ap (λ (r : ℕ × ℕ). r.1) c.catalogue-owner.ensures) c.in_err-named.ensures.stray)
 
 pub returns-in_err-named-clause-table : goal.returns-in_err-named-clause-table
 returns-in_err-named-clause-table g c =
@@ -90,13 +106,23 @@ returns-in_err-make_live-clause-missing g c =
     MayRefuse-absent (g.B.Boxes.meanings c.args.boxes) c.as_slice.result.now (named_in stored.committed.kept) c.in_err-make_live.field-0.0
     (c.as_slice.ensures.value
     ∙ over-stored g.D.Disk.told g.D.Disk.len g.D.Disk.faults c.args.disk.now c.open_store.new.disk c.in_ok-store.store c.in_ok-store.ensures.opened c.in_ok-store.ensures.space m h want db stored
-    c.catalogue-owner.result.1 (λ kept. c.in_ok-named.named.items ≡ named_in kept) (ap (λ (r : ℕ × ℕ). r.1) c.catalogue-owner.ensures) c.in_ok-named.ensures.named)
+    c.catalogue-owner.result.1 (λ s kept. c.in_ok-named.named.items ≡ named_in kept) (ap (λ (r : ℕ × ℕ). r.1) c.catalogue-owner.ensures) c.in_ok-named.ensures.named)
     c.in_err-make_live.ensures.refused)
 
 pub returns-in_err-make_live-clause-table : goal.returns-in_err-make_live-clause-table
 returns-in_err-make_live-clause-table g c =
     IfErr-from c.from_residual-in_err-make_live.result c.in_err-make_live.field-0.0 _ c.from_residual-in_err-make_live.ensures.1
     (NamesTable-opened g.D.Disk.told g.D.Disk.len g.D.Disk.faults c.args.disk.now c.open_store.new.disk c.in_ok-store.store c.in_ok-store.ensures.opened c.in_ok-store.ensures.space c.in_err-make_live.field-0.0)
+
+pub returns-in_err-make_live-clause-entry : goal.returns-in_err-make_live-clause-entry
+returns-in_err-make_live-clause-entry g c =
+    let e = c.in_err-make_live.field-0.0 in
+    IfErr-from c.from_residual-in_err-make_live.result e _ c.from_residual-in_err-make_live.ensures.1
+    (λ h want kept of table.
+    TellsStray-absent (slots_in h.pages want) (owners_in kept) _ e
+    (over-catalogued g.D.Disk.told g.D.Disk.len g.D.Disk.faults c.args.disk.now c.open_store.new.disk c.in_ok-store.store c.in_ok-store.ensures.opened c.in_ok-store.ensures.space h want kept of
+    c.catalogue-owner.result.1 (λ s ks. HasNoStray s (owners_in ks)) (ap (λ (r : ℕ × ℕ). r.1) c.catalogue-owner.ensures) c.in_ok-named.ensures.known)
+    c.in_err-make_live.ensures.refused)
 
 pub returns-in_err-make_live-clause-refused : goal.returns-in_err-make_live-clause-refused
 returns-in_err-make_live-clause-refused g c =
@@ -113,7 +139,7 @@ pub returns-clause-stands : goal.returns-clause-stands
 returns-clause-stands g c = λ h want db stored.
     let named = c.as_slice.ensures.value
     ∙ over-stored g.D.Disk.told g.D.Disk.len g.D.Disk.faults c.args.disk.now c.open_store.new.disk c.in_ok-store.store c.in_ok-store.ensures.opened c.in_ok-store.ensures.space (g.B.Boxes.meanings c.args.boxes) h want db stored
-    c.catalogue-owner.result.1 (λ kept. c.in_ok-named.named.items ≡ named_in kept) (ap (λ (r : ℕ × ℕ). r.1) c.catalogue-owner.ensures) c.in_ok-named.ensures.named in
+    c.catalogue-owner.result.1 (λ s kept. c.in_ok-named.named.items ≡ named_in kept) (ap (λ (r : ℕ × ℕ). r.1) c.catalogue-owner.ensures) c.in_ok-named.ensures.named in
     IsFor-opened g.D.Disk.told g.D.Disk.len g.D.Disk.faults c.args.disk.now c.open_store.new.disk c.in_ok-store.store c.in_ok-store.ensures.opened c.in_ok-store.ensures.space
     g.B.Boxes.meanings c.make_live.new.boxes c.named_codes.new.disk c.named_codes.new.space.store _ c.in_ok-named.ensures.look.geometry c.in_ok-named.ensures.rests (g.B.Boxes.meanings c.args.boxes) h want db stored
     (ap (λ (r : ℕ × ℕ). r.1) c.catalogue-owner.ensures)
@@ -123,7 +149,7 @@ pub returns-clause-live : goal.returns-clause-live
 returns-clause-live g c = λ h want db stored.
     let named = c.as_slice.ensures.value
     ∙ over-stored g.D.Disk.told g.D.Disk.len g.D.Disk.faults c.args.disk.now c.open_store.new.disk c.in_ok-store.store c.in_ok-store.ensures.opened c.in_ok-store.ensures.space (g.B.Boxes.meanings c.args.boxes) h want db stored
-    c.catalogue-owner.result.1 (λ kept. c.in_ok-named.named.items ≡ named_in kept) (ap (λ (r : ℕ × ℕ). r.1) c.catalogue-owner.ensures) c.in_ok-named.ensures.named in
+    c.catalogue-owner.result.1 (λ s kept. c.in_ok-named.named.items ≡ named_in kept) (ap (λ (r : ℕ × ℕ). r.1) c.catalogue-owner.ensures) c.in_ok-named.ensures.named in
     subst (λ (ns : List Named). HasLive (g.B.Boxes.meanings c.args.boxes) ns (g.B.Boxes.meanings c.make_live.new.boxes)) named c.in_ok-make_live.ensures.live
 
 pub returns-clause-runs : goal.returns-clause-runs
@@ -131,6 +157,17 @@ returns-clause-runs g c =
     CanRun-opened g.D.Disk.told g.D.Disk.len g.D.Disk.faults c.args.disk.now c.open_store.new.disk c.in_ok-store.store c.in_ok-store.ensures.opened c.in_ok-store.ensures.space
     g.B.Boxes.meanings c.make_live.new.boxes c.named_codes.new.disk c.named_codes.new.space.store _ c.in_ok-named.ensures.look.geometry c.in_ok-named.ensures.rests
     (ap (λ (r : ℕ × ℕ). r.0) c.catalogue-owner.ensures) (g.B.Boxes.meanings c.args.boxes) c.as_slice.result.now c.in_ok-make_live.ensures.live
+
+pub returns-clause-owners : goal.returns-clause-owners
+returns-clause-owners g c = λ h want kept of.
+    over-catalogued g.D.Disk.told g.D.Disk.len g.D.Disk.faults c.args.disk.now c.open_store.new.disk c.in_ok-store.store c.in_ok-store.ensures.opened c.in_ok-store.ensures.space h want kept of
+    c.catalogue-owner.result.1 (λ s ks. HasNoStray s (owners_in ks)) (ap (λ (r : ℕ × ℕ). r.1) c.catalogue-owner.ensures) c.in_ok-named.ensures.known
+
+pub returns-clause-known : goal.returns-clause-known
+returns-clause-known g c = λ h want kept of.
+    AreKnown-all (slots_in h.pages want) (owners_in kept)
+    (over-catalogued g.D.Disk.told g.D.Disk.len g.D.Disk.faults c.args.disk.now c.open_store.new.disk c.in_ok-store.store c.in_ok-store.ensures.opened c.in_ok-store.ensures.space h want kept of
+    c.catalogue-owner.result.1 (λ s ks. HasNoStray s (owners_in ks)) (ap (λ (r : ℕ × ℕ). r.1) c.catalogue-owner.ensures) c.in_ok-named.ensures.known)
 
 pub returns-clause-any_moment : goal.returns-clause-any_moment
 returns-clause-any_moment g c =
