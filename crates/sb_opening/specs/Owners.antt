@@ -59,7 +59,8 @@ OverMarked marks p IsSo = (owners : List ℕ) (want : Wanted) (s : Slots) → Ar
 abbrev pub KeepsPages : Parts → Parts → Type 0
 KeepsPages p q = (want : Wanted) (s : Slots) → HasPages want s p → HasPages want s q
 
--- A look within a transaction: the store serves it still, no change was made, and where it was answered the same pages are there. It is refused as a reading call.
+-- A look within a transaction: the store serves it still, no change was made, and where it was answered the same pages are there. It is refused as
+-- a reading call.
 pub record LooksWithin {D T : Type 0} (told : D → Option Story) (len faults : D → ℕ) (tx : ℕ) (old new : D) (s t : State)
     (result : Result T SpaceFault) : Type 0 where
   pub ready : Serves tx (parts told len new t)
