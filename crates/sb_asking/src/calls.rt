@@ -65,7 +65,9 @@ pub fn ask<S: PageSpace, B: Boxes>(
     let mut answers = Vec::new(alloc);
     'finds: loop {
         let mut ctx = ctx_of(alloc, &answers)?;
-        let made = boxes.run_attachment(space, alloc, inst, call, &mut ctx)?;
+        let made = boxes.run_attachment(space, alloc, inst, call, &mut ctx);
+        drop(ctx);
+        let made = made?;
         match made {
             Move::Find {
                 relation,

@@ -55,7 +55,9 @@ pub fn ask_rule<S: PageSpace, B: Boxes>(
 {
     let copy = change.copy()?;
     let call = AttachCall::Changed(copy);
-    let made = ask(space, alloc, boxes, place, inst, &call)?;
+    let made = ask(space, alloc, boxes, place, inst, &call);
+    drop(call);
+    let made = made?;
     Ok(verdict_in(alloc, made))
 }
 

@@ -91,6 +91,8 @@ impl<S: PageSpace> PageSpace for Watched<'_, S> {
 
     ghost durable = { λ w. S.durable w.space.now };
 
+    ghost table = { λ w. S.table w.space.now };
+
     ghost leads = { λ k v w. LeadsLent S.leads k v.space w.space };
 
     ghost fails = { λ e v w. S.fails e v.space.now w.space.now };
@@ -114,6 +116,8 @@ impl<S: PageSpace> PageSpace for Watched<'_, S> {
     ghost whole = { λ want s w has. S.whole want s w.space.now has };
 
     ghost few = { λ want s w has. S.few want s w.space.now has };
+
+    ghost tabled = { λ want s w has. S.tabled want s w.space.now has };
 }
 
 /// Whether a call answered with a key.

@@ -1,5 +1,5 @@
 -- The boxes of the tests, whose pages are never formed.
-use Rattle.std.proofs.Common.{◌≡◌, ℕ, Bool, true, false, cond, List, [], ◌∷◌, Option, Some, None, All, is_some, option_map, refl, sym, ap, subst, ◌∙◌, arith}
+use Rattle.std.proofs.Common.{◌≡◌, ℕ, Bool, true, false, cond, List, [], ◌∷◌, Option, Some, None, All, is_some, option_map, refl, sym, ap, subst, ◌∙◌, arith, ◌+◌, ◌==◌, ne_eqb}
 use Rattle.std.specs.Ordering.{eq_by_cmp}
 use Rattle.std.proofs.lemmas.Option.{same_Some}
 use Rattle.std.proofs.lemmas.Cmp.{nat_list_cmp_total, eq_by_cmp_equiv}
@@ -10,7 +10,7 @@ use Rattle.sb_rule.specs.declared.change.Change.{Change}
 use Rattle.sb_rule.specs.declared.rule.Rule.TheVariants.{Foreign}
 use Rattle.sb_forms.specs.Pages.{Pages}
 use Rattle.sb_relation.specs.Db.{Name, Relation}
-use Rattle.sb_relation.specs.Keys.{is_record_key}
+use Rattle.sb_relation.specs.Keys.{Picked, Coded, Counted, is_record_key, keying_of}
 use Rattle.sb_relation.specs.Lawful.{AreRows, IsRow}
 use Rattle.sb_ctx.specs.declared.instance.Instance.{Instance}
 use Rattle.sb_ctx.specs.declared.calls.AttachCall.TheVariants as calls
@@ -58,6 +58,12 @@ IsAttached-plain a inst code fits plain = record {
     lawful : (name : Name) (r : Relation) (b : Bool) → cond b (Some bare) None ≡ Some r → AreRows r.schema r.rows
     lawful name r true there = subst (λ (q : Relation). AreRows q.schema q.rows) (same_Some bare r there) (no_rows [])
     lawful name r false there = cc
+
+-- a code of others picks its keys
+pub Picked-above : (n : ℕ) → keying_of (1000 + n) ≡ Picked
+Picked-above n =
+    ap (λ b. cond b Coded (cond (1000 + n == 3) Counted Picked)) (ne_eqb (1000 + n) 2 (λ e. omega (arith, e)))
+    ∙ ap (λ b. cond b Counted Picked) (ne_eqb (1000 + n) 3 (λ e. omega (arith, e)))
 
 -- a page that is held may be called broken
 pub is_some-given : (c : View) (n : ℕ) (bytes : List ℕ) → page_of c n ≡ Some bytes → is_some (given_at c n) ≡ true

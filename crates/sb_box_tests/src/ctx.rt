@@ -1,49 +1,46 @@
 //! What no clause says: that calls succeed while memory lasts. And each call once with examples.
 
-ghost use Rattle.std.specs.Prelude.{◌≡◌, IfOk};
-
 use sb_ctx::{Actions, Checks, Ctx, Keys};
 use sb_relation::{Action, Pairs};
 use sb_value::{Bytes, Names, RecKey, Str, Tuple, Value};
 use std::alloc::{AllocError, Global};
-use std::test::Fail;
+use std::process::Abort;
+use std::test::*;
+
+// Want of memory ends a test at once: where a test went on to an `Err`, each value that it has would be dropped on the way,
+// which is dear to prove. A value that goes by a call of `drop` is far cheaper than one that goes at its scope's end.
 
 /// Pages 3 and 7 of four bytes, a page 4 that isn't the instance's, and the fresh pages 9 and 5.
-fn given(alloc: Global) -> Result<Ctx, AllocError> {
+fn given(rt: &impl Abort, alloc: Global) -> Ctx {
     let mut ctx = Ctx::new(alloc);
-    ctx.give_page(7, b"efgh")?;
-    ctx.give_fresh(9)?;
-    ctx.give_page(3, b"abcd")?;
-    ctx.give_page(4, b"")?;
-    ctx.give_fresh(5)?;
-    Ok(ctx)
+    ctx.give_page(7, b"efgh").expect(rt, "memory");
+    ctx.give_fresh(9).expect(rt, "memory");
+    ctx.give_page(3, b"abcd").expect(rt, "memory");
+    ctx.give_page(4, b"").expect(rt, "memory");
+    ctx.give_fresh(5).expect(rt, "memory");
+    ctx
 }
 
 /// Writes over a page that is held and has room.
-fn write(ctx: &mut Ctx, n: u32, offset: u16, bytes: &[u8]) -> Result<bool, AllocError> {
+fn write(ctx: &mut Ctx, n: u32, offset: u16, bytes: &[u8]) -> bool {
     let room = match ctx.page(n) {
         Some(page) => page.len(),
-        None => return Ok(false),
+        None => return false,
     };
-    if usize::from(offset) + bytes.len() > room {
-        return Ok(false);
-    }
-    ctx.edit(n, offset, bytes)?;
-    Ok(true)
+    usize::from(offset) + bytes.len() <= room && ctx.edit(n, offset, bytes).is_ok()
 }
 
 /// Gives a page back that has bytes.
-fn give_back(ctx: &mut Ctx, n: u32) -> Result<bool, AllocError> {
+fn give_back(ctx: &mut Ctx, n: u32) -> bool {
     match ctx.page(n) {
         Some([_, ..]) => {}
-        _ => return Ok(false),
+        _ => return false,
     }
-    ctx.free(n)?;
-    Ok(true)
+    ctx.free(n).is_ok()
 }
 
 /// Numbers with the bytes that the pages are given with.
-const GIVEN: [(u32, Option<&'static [u8]>); 6] = [
+static GIVEN: [(u32, Option<&'static [u8]>); 6] = [
     (3, Some(b"abcd")),
     (4, Some(b"")),
     (5, Some(b"")),
@@ -52,18 +49,25 @@ const GIVEN: [(u32, Option<&'static [u8]>); 6] = [
     (9, Some(b"")),
 ];
 
-#[test]
-fn pages_are_given(rt: HostRuntime) -> Result<(), Fail> {
-    let ctx = given(rt.alloc())?;
-    for (n, bytes) in GIVEN {
-        assert!(rt; ctx.page(n) == bytes, "at {n}");
+/// Whether the pages are those that are given.
+fn is_given(ctx: &Ctx) -> bool {
+    let mut is_given = true;
+    for (n, bytes) in GIVEN.iter() {
+        is_given = is_given && ctx.page(*n) == *bytes;
     }
-    assert_eq!(rt; ctx.asks(), 5);
-    Ok(())
+    is_given
+}
+
+#[test]
+fn pages_are_given(rt: HostRuntime) {
+    let ctx = given(&rt, rt.alloc());
+    assert!(rt; is_given(&ctx));
+    assert!(rt; ctx.asks() == 5);
+    drop(ctx);
 }
 
 /// Writes to page 3, each with the page after it.
-const WRITES: [(u16, &[u8], &[u8]); 4] = [
+static WRITES: [(u16, &[u8], &[u8]); 4] = [
     (1, b"x", b"axcd"),
     (2, b"yz", b"axyz"),
     (0, b"pqrs", b"pqrs"),
@@ -71,83 +75,74 @@ const WRITES: [(u16, &[u8], &[u8]); 4] = [
 ];
 
 #[test]
-fn pages_are_edited(rt: HostRuntime) -> Result<(), Fail> {
-    let mut ctx = given(rt.alloc())?;
-    for (offset, bytes, page) in WRITES {
-        assert!(rt; write(&mut ctx, 3, offset, bytes)?, "at {offset}");
-        assert!(rt; ctx.page(3) == Some(page), "at {offset}");
+fn pages_are_edited(rt: HostRuntime) {
+    let mut ctx = given(&rt, rt.alloc());
+    for (offset, bytes, page) in WRITES.iter() {
+        assert!(rt; write(&mut ctx, 3, *offset, bytes), "at {offset}");
+        assert!(rt; ctx.page(3) == Some(*page), "at {offset}");
     }
     assert!(rt; ctx.page(7) == Some(b"efgh".as_slice()));
-    Ok(())
+    drop(ctx);
 }
 
 #[test]
-fn fresh_pages_are_taken(rt: HostRuntime) -> Result<(), Fail> {
-    let mut ctx = given(rt.alloc())?;
-    for n in [Some(5), Some(9), None] {
-        assert_eq!(rt; ctx.fresh(), n);
-    }
-    let page = ctx.page(5).ok_or("no page")?;
-    assert_eq!(rt; page, [0; 4096].as_slice());
-    Ok(())
+fn fresh_pages_are_taken(rt: HostRuntime) {
+    let mut ctx = given(&rt, rt.alloc());
+    assert!(rt; ctx.fresh() == Some(5));
+    assert!(rt; ctx.fresh() == Some(9));
+    assert!(rt; ctx.fresh().is_none());
+    assert!(rt; ctx.page(5) == Some([0; 4096].as_slice()));
+    drop(ctx);
 }
 
 /// Page 3 edited, 5 taken and written to, 7 freed, and 4 left as it is.
-fn changed(alloc: Global) -> Result<Ctx, Fail> {
-    let mut ctx = given(alloc)?;
-    let n = ctx.fresh().ok_or("no fresh page")?;
-    if write(&mut ctx, 3, 0, b"z")? && write(&mut ctx, n, 4095, b"z")? && give_back(&mut ctx, 7)? {
-        Ok(ctx)
-    } else {
-        Err(Fail::from("not changed"))
-    }
+fn changed(rt: &impl Abort, alloc: Global) -> Ctx {
+    let mut ctx = given(rt, alloc);
+    let n = ctx.fresh().expect(rt, "a fresh page");
+    assert!(rt; write(&mut ctx, 3, 0, b"z") && write(&mut ctx, n, 4095, b"z"));
+    assert!(rt; give_back(&mut ctx, 7));
+    ctx
 }
 
 #[test]
-fn changes_are_listed(rt: HostRuntime) -> Result<(), Fail> {
-    let ctx = changed(rt.alloc())?;
-    for (i, n) in [(0, Some(3)), (1, Some(5)), (2, None)] {
-        assert_eq!(rt; ctx.edited(i), n, "at {i}");
-    }
-    for (i, n) in [(0, Some(7)), (1, None)] {
-        assert_eq!(rt; ctx.freed(i), n, "at {i}");
-    }
-    Ok(())
+fn changes_are_listed(rt: HostRuntime) {
+    let ctx = changed(&rt, rt.alloc());
+    assert!(rt; ctx.edited(0) == Some(3) && ctx.edited(1) == Some(5) && ctx.edited(2).is_none());
+    assert!(rt; ctx.freed(0) == Some(7) && ctx.freed(1).is_none());
+    drop(ctx);
 }
 
 #[test]
-fn fresh_pages_are_listed(rt: HostRuntime) -> Result<(), Fail> {
-    let ctx = changed(rt.alloc())?;
-    for (i, page) in [(0, Some((5, true))), (1, Some((9, false))), (2, None)] {
-        assert!(rt; ctx.fresh_given(i) == page, "at {i}");
-    }
-    Ok(())
+fn fresh_pages_are_listed(rt: HostRuntime) {
+    let ctx = changed(&rt, rt.alloc());
+    assert!(rt; ctx.fresh_given(0) == Some((5, true)));
+    assert!(rt; ctx.fresh_given(1) == Some((9, false)));
+    assert!(rt; ctx.fresh_given(2).is_none());
+    drop(ctx);
 }
 
 #[test]
-fn edits_are_dropped(rt: HostRuntime) -> Result<(), Fail> {
-    let mut ctx = changed(rt.alloc())?;
+fn edits_are_dropped(rt: HostRuntime) {
+    let mut ctx = changed(&rt, rt.alloc());
     ctx.drop_edits();
-    for (n, bytes) in GIVEN {
-        assert!(rt; ctx.page(n) == bytes, "at {n}");
-    }
-    assert_eq!(rt; ctx.fresh(), Some(5));
-    Ok(())
+    assert!(rt; is_given(&ctx));
+    assert!(rt; ctx.fresh() == Some(5));
+    drop(ctx);
 }
 
 #[test]
-fn a_freed_page_is_gone(rt: HostRuntime) -> Result<(), Fail> {
-    let mut ctx = given(rt.alloc())?;
-    assert!(rt; give_back(&mut ctx, 7)?);
+fn a_freed_page_is_gone(rt: HostRuntime) {
+    let mut ctx = given(&rt, rt.alloc());
+    assert!(rt; give_back(&mut ctx, 7));
     assert!(rt; ctx.page(7) == Some(b"".as_slice()));
-    assert_eq!(rt; ctx.fresh(), Some(5));
-    assert!(rt; give_back(&mut ctx, 5)?);
-    assert_eq!(rt; ctx.fresh(), Some(5));
-    Ok(())
+    assert!(rt; ctx.fresh() == Some(5));
+    assert!(rt; give_back(&mut ctx, 5));
+    assert!(rt; ctx.fresh() == Some(5));
+    drop(ctx);
 }
 
 /// What is asked, and what is known after three answers.
-const NEXT: [(Option<u32>, Option<Option<u32>>); 4] = [
+static NEXT: [(Option<u32>, Option<Option<u32>>); 4] = [
     (None, Some(Some(3))),
     (Some(3), Some(Some(7))),
     (Some(7), Some(None)),
@@ -155,16 +150,16 @@ const NEXT: [(Option<u32>, Option<Option<u32>>); 4] = [
 ];
 
 #[test]
-fn next_pages_are_known(rt: HostRuntime) -> Result<(), Fail> {
+fn next_pages_are_known(rt: HostRuntime) {
     let mut ctx = Ctx::new(rt.alloc());
-    ctx.give_after(None, Some(3))?;
-    ctx.give_after(Some(3), Some(7))?;
-    ctx.give_after(Some(7), None)?;
-    for (n, next) in NEXT {
-        assert!(rt; ctx.after(n) == next, "at {n:?}");
+    ctx.give_after(None, Some(3)).expect(&rt, "memory");
+    ctx.give_after(Some(3), Some(7)).expect(&rt, "memory");
+    ctx.give_after(Some(7), None).expect(&rt, "memory");
+    for (number, (n, next)) in NEXT.iter().enumerate() {
+        assert!(rt; ctx.after(*n) == *next, "row {number}");
     }
-    assert_eq!(rt; ctx.asks(), 3);
-    Ok(())
+    assert!(rt; ctx.asks() == 3);
+    drop(ctx);
 }
 
 fn text(alloc: Global, text: &str) -> Result<Str, AllocError> {
@@ -172,103 +167,151 @@ fn text(alloc: Global, text: &str) -> Result<Str, AllocError> {
 }
 
 fn names(alloc: Global, name: &str) -> Result<Names, AllocError> {
-    Ok(Names::from_vec(vec![in alloc; text(alloc, name)?]?))
+    let name = text(alloc, name)?;
+    Ok(Names::from_vec(vec![in alloc; name]?))
 }
 
 fn row(alloc: Global, number: i64) -> Result<Tuple, AllocError> {
     Ok(Tuple::from_vec(vec![in alloc; Value::Int(number)]?))
 }
 
-fn key(alloc: Global, bytes: &[u8]) -> Result<RecKey, AllocError> {
-    Ok(RecKey::from_vec(Vec::from_slice(alloc, bytes)?))
+fn key(rt: &impl Abort, alloc: Global, bytes: &[u8]) -> RecKey {
+    RecKey::from_vec(Vec::from_slice(alloc, bytes).expect(rt, "memory"))
 }
 
 /// The keys `ab` and `c`.
-fn two_keys(alloc: Global) -> Result<Keys, AllocError> {
-    let mut keys = Vec::new(alloc);
-    keys.push(key(alloc, b"ab")?)?;
-    keys.push(key(alloc, b"c")?)?;
-    Ok(Keys::from_vec(keys))
+fn two_keys(rt: &impl Abort, alloc: Global) -> Keys {
+    let first = key(rt, alloc, b"ab");
+    let second = key(rt, alloc, b"c");
+    Keys::from_vec(vec![in alloc; first, second].expect(rt, "memory"))
 }
 
-/// Finds over the relation `r`, where the rows of 5 in column `a` are known, and whether the answer is known.
-const FINDS: [(&'static str, &'static str, i64, bool); 4] = [
-    ("r", "a", 5, true),
-    ("r", "a", 6, false),
-    ("r", "b", 5, false),
-    ("s", "a", 5, false),
+/// A relation, one column of it and a number there.
+type Find = (&'static str, &'static str, i64);
+
+/// What a find asks for.
+#[derive(Drop)]
+struct Asked {
+    relation: Str,
+    columns: Names,
+    values: Tuple,
+}
+
+fn wanted(rt: &impl Abort, alloc: Global, find: &Find) -> Asked {
+    let (relation, column, number) = *find;
+    Asked {
+        relation: text(alloc, relation).expect(rt, "memory"),
+        columns: names(alloc, column).expect(rt, "memory"),
+        values: row(alloc, number).expect(rt, "memory"),
+    }
+}
+
+static OF_FIVE: Find = ("r", "a", 5);
+
+/// The rows of 5 in column `a` of the relation `r` are those of two keys.
+fn knowing(rt: &impl Abort, alloc: Global) -> Ctx {
+    let mut ctx = Ctx::new(alloc);
+    let wanted = wanted(rt, alloc, &OF_FIVE);
+    let keys = two_keys(rt, alloc);
+    let given = ctx.give_found(&wanted.relation, &wanted.columns, &wanted.values, &keys);
+    given.expect(rt, "memory");
+    drop(keys);
+    drop(wanted);
+    ctx
+}
+
+fn is_known(rt: &impl Abort, alloc: Global, ctx: &Ctx, find: &Find) -> bool {
+    let wanted = wanted(rt, alloc, find);
+    let found = ctx.found(&wanted.relation, &wanted.columns, &wanted.values);
+    let is_known = found.is_some();
+    drop(wanted);
+    is_known
+}
+
+/// Finds, and whether the answer is known.
+static FINDS: [(Find, bool); 4] = [
+    (("r", "a", 5), true),
+    (("r", "a", 6), false),
+    (("r", "b", 5), false),
+    (("s", "a", 5), false),
 ];
 
 #[test]
-fn finds_are_answered(rt: HostRuntime) -> Result<(), Fail> {
-    let alloc = rt.alloc();
-    let mut ctx = Ctx::new(alloc);
-    ctx.give_found(
-        &text(alloc, "r")?,
-        &names(alloc, "a")?,
-        &row(alloc, 5)?,
-        &two_keys(alloc)?,
-    )?;
-    for (relation, column, number, known) in FINDS {
-        let relation = text(alloc, relation)?;
-        let column = names(alloc, column)?;
-        let values = row(alloc, number)?;
-        let found = ctx.found(&relation, &column, &values);
-        assert_eq!(rt; found.is_some(), known, "at {number}");
+fn finds_are_answered(rt: HostRuntime) {
+    let ctx = knowing(&rt, rt.alloc());
+    for (number, (find, known)) in FINDS.iter().enumerate() {
+        assert!(rt;
+            is_known(&rt, rt.alloc(), &ctx, find) == *known,
+            "row {number}"
+        );
     }
-    Ok(())
+    drop(ctx);
+}
+
+/// Whether these are the two keys.
+fn are_two(keys: &Keys) -> bool {
+    match keys.as_slice() {
+        [first, second] => first.as_slice() == b"ab".as_slice()
+            && second.as_slice() == b"c".as_slice(),
+        _ => false,
+    }
 }
 
 #[test]
-fn found_keys(rt: HostRuntime) -> Result<(), Fail> {
-    let alloc = rt.alloc();
-    let mut ctx = Ctx::new(alloc);
-    let (relation, columns, values) = (text(alloc, "r")?, names(alloc, "a")?, row(alloc, 5)?);
-    ctx.give_found(&relation, &columns, &values, &two_keys(alloc)?)?;
-    let keys = ctx.found(&relation, &columns, &values).ok_or("no answer")?;
-    for (key, bytes) in keys.as_slice().iter().zip([b"ab".as_slice(), b"c"]) {
-        assert_eq!(rt; key.as_slice(), bytes);
-    }
-    assert_eq!(rt; keys.as_slice().len(), 2);
-    assert_eq!(rt; ctx.asks(), 1);
-    assert_eq!(rt; ctx.finds(), 1);
-    Ok(())
+fn found_keys(rt: HostRuntime) {
+    let ctx = knowing(&rt, rt.alloc());
+    let wanted = wanted(&rt, rt.alloc(), &OF_FIVE);
+    let found = ctx.found(&wanted.relation, &wanted.columns, &wanted.values);
+    assert!(rt; are_two(found.expect(&rt, "an answer")));
+    drop(wanted);
+    assert!(rt; ctx.asks() == 1);
+    assert!(rt; ctx.finds() == 1);
+    drop(ctx);
 }
 
 #[test]
-fn lists_of_keys(rt: HostRuntime) -> Result<(), Fail> {
-    let alloc = rt.alloc();
-    let keys = two_keys(alloc)?;
-    let copy = keys.copy()?;
-    assert_eq!(rt; copy.as_slice().len(), 2);
+fn lists_of_keys(rt: HostRuntime) {
+    let keys = two_keys(&rt, rt.alloc());
+    let copy = keys.copy().expect(&rt, "memory");
+    assert!(rt; copy.as_slice().len() == 2);
+    drop(copy);
     let mut items = keys.into_vec();
-    let last = items.pop().ok_or("no key")?;
-    assert_eq!(rt; last.as_slice(), b"c".as_slice());
-    assert!(rt; Keys::new(alloc).as_slice().is_empty());
-    Ok(())
+    let last = items.pop().expect(&rt, "a key");
+    drop(items);
+    assert!(rt; last.as_slice() == b"c".as_slice());
+    drop(last);
+    let none = Keys::new(rt.alloc());
+    assert!(rt; none.as_slice().is_empty());
+    drop(none);
 }
 
 #[test]
-fn lists_of_checks(rt: HostRuntime) -> Result<(), Fail> {
+fn lists_of_checks(rt: HostRuntime) {
     let alloc = rt.alloc();
-    let entry = Bytes::from_vec(Vec::from_slice(alloc, b"ab")?);
-    let checks = Checks::from_vec(vec![in alloc; entry]?);
-    assert_eq!(rt; checks.as_slice().len(), 1);
-    assert_eq!(rt; checks.into_vec().len(), 1);
-    assert!(rt; Checks::new(alloc).as_slice().is_empty());
-    Ok(())
+    let entry = Bytes::from_vec(Vec::from_slice(alloc, b"ab").expect(&rt, "memory"));
+    let checks = Checks::from_vec(vec![in alloc; entry].expect(&rt, "memory"));
+    assert!(rt; checks.as_slice().len() == 1);
+    let entries = checks.into_vec();
+    assert!(rt; entries.len() == 1);
+    drop(entries);
+    let none = Checks::new(alloc);
+    assert!(rt; none.as_slice().is_empty());
+    drop(none);
 }
 
 #[test]
-fn lists_of_actions(rt: HostRuntime) -> Result<(), Fail> {
+fn lists_of_actions(rt: HostRuntime) {
     let alloc = rt.alloc();
     let action = Action::Delete {
-        relation: text(alloc, "r")?,
+        relation: text(alloc, "r").expect(&rt, "memory"),
         pairs: Pairs::from_vec(Vec::new(alloc)),
     };
-    let actions = Actions::from_vec(vec![in alloc; action]?);
-    assert_eq!(rt; actions.as_slice().len(), 1);
-    assert_eq!(rt; actions.into_vec().len(), 1);
-    assert!(rt; Actions::new(alloc).as_slice().is_empty());
-    Ok(())
+    let actions = Actions::from_vec(vec![in alloc; action].expect(&rt, "memory"));
+    assert!(rt; actions.as_slice().len() == 1);
+    let items = actions.into_vec();
+    assert!(rt; items.len() == 1);
+    drop(items);
+    let none = Actions::new(alloc);
+    assert!(rt; none.as_slice().is_empty());
+    drop(none);
 }

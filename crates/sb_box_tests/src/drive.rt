@@ -1,11 +1,11 @@
 //! What no clause says: that calls succeed while memory lasts, and pages of which the boxes here say nothing.
 
-ghost use Rattle.std.specs.Prelude.{◌≡◌, ◌≢◌, true, is_some, None, IfOk, IfSome};
+ghost use Rattle.std.specs.Prelude.{◌≡◌, ◌≢◌, true, is_some, None, IfSome};
 ghost use Rattle.sb_ctx.specs.AttachAnswers.{AsksFor as AsksForAttached};
 ghost use Rattle.sb_ctx.specs.Attachment.{plain_attachment};
 ghost use Rattle.sb_ctx.specs.Method.{plain_method};
 ghost use Rattle.sb_ctx.specs.MethodAnswers.{AsksFor};
-ghost use Rattle.sb_ctx.specs.View.{IsClean, dropped};
+ghost use Rattle.sb_ctx.specs.View.{IsClean, dropped, found_of};
 ghost use Rattle.sb_memory.specs.Examples.{IsPlain, IsMade, IsFindOrNoMemory};
 ghost use Rattle.sb_memory.specs.Contents.{slots};
 ghost use Rattle.sb_drive.specs.Spaces.{HoldsOf};
@@ -16,6 +16,7 @@ use sb_memory::{DriveFault, Memory, drive_attachment, drive_method};
 use sb_relation::Change;
 use sb_value::{Bytes, Names, RecKey, Schema, Str, Tuple, Value};
 use std::alloc::{AllocError, Global};
+use std::process::Abort;
 use std::test::*;
 
 /// A storage method of code 1000 whose pages are never formed: a delete does with them what its key says.
@@ -199,29 +200,55 @@ impl Attachment for Marker {
     }
 }
 
+/// What a find asks for.
+#[derive(Drop)]
+struct Asked {
+    relation: Str,
+    columns: Names,
+    values: Tuple,
+}
+
+fn wanted(alloc: Global, number: i64) -> Result<Asked, AllocError> {
+    let relation = text(alloc, "r")?;
+    let columns = names(alloc, "a")?;
+    let values = tuple(alloc, number)?;
+    Ok(Asked {
+        relation,
+        columns,
+        values,
+    })
+}
+
 /// The find of this number's rows, where it isn't answered yet.
 fn find(alloc: Global, ctx: &Ctx, number: i64) -> Option<Move>
     ensures asks { IfSome result (AsksForAttached ctx.now) }
     ensures ends { IfSome result IsFindOrNoMemory }
 {
-    let (Ok(relation), Ok(columns), Ok(values)) = (
-        text(alloc, "r"),
-        names(alloc, "a"),
-        tuple(alloc, number),
-    ) else {
+    let Ok(wanted) = wanted(alloc, number) else {
         return Some(Move::NoMemory);
     };
-    if ctx.found(&relation, &columns, &values).is_some() {
+    let found = ctx.found(&wanted.relation, &wanted.columns, &wanted.values);
+    if found.is_some() {
+        drop(wanted);
         return None;
     }
-    if ctx.finds() < 8 {
-        Some(Move::Find {
-            relation,
-            columns,
-            values,
-        })
-    } else {
-        Some(Move::NoMemory)
+    Some(find_of(ctx, wanted))
+}
+
+/// The find, where an answer more may be asked for.
+fn find_of(ctx: &Ctx, wanted: Asked) -> Move
+    requires { found_of ctx.now wanted.relation wanted.columns wanted.values ≡ None }
+    ensures asks { AsksForAttached ctx.now result }
+    ensures ends { IsFindOrNoMemory result }
+{
+    if ctx.finds() >= 8 {
+        drop(wanted);
+        return Move::NoMemory;
+    }
+    Move::Find {
+        relation: wanted.relation,
+        columns: wanted.columns,
+        values: wanted.values,
     }
 }
 
@@ -230,20 +257,25 @@ fn text(alloc: Global, text: &str) -> Result<Str, AllocError> {
 }
 
 fn names(alloc: Global, name: &str) -> Result<Names, AllocError> {
-    Ok(Names::from_vec(vec![in alloc; text(alloc, name)?]?))
+    let name = text(alloc, name)?;
+    Ok(Names::from_vec(vec![in alloc; name]?))
 }
 
 fn tuple(alloc: Global, number: i64) -> Result<Tuple, AllocError> {
     Ok(Tuple::from_vec(vec![in alloc; Value::Int(number)]?))
 }
 
+// Want of memory ends a test at once: where a test went on to an `Err`, each value that it has would be dropped on the way,
+// which is dear to prove. A value that goes by a call of `drop` is far cheaper than one that goes at its scope's end.
+
 /// An instance on a relation without columns.
-fn instance(alloc: Global, owner: u16, root: u32) -> Result<Instance, AllocError>
+fn instance(rt: &impl Abort, alloc: Global, owner: u16, root: u32) -> Instance
     requires { owner ≢ 0 }
-    ensures { IfOk result IsPlain }
+    ensures { IsPlain result }
 {
-    Ok(Instance {
-        relation: Str::from_string(String::from_str(alloc, "r")?),
+    let relation = text(alloc, "r").expect(rt, "memory");
+    Instance {
+        relation,
         owner,
         root,
         durable: true,
@@ -251,163 +283,199 @@ fn instance(alloc: Global, owner: u16, root: u32) -> Result<Instance, AllocError
         desc: Bytes::new(alloc),
         schema: Schema::from_vec(Vec::new(alloc)),
         key: Names::from_vec(Vec::new(alloc)),
-    })
+    }
 }
 
-fn key(alloc: Global, bytes: &[u8]) -> Result<RecKey, AllocError>
-    ensures { IfOk result (λ k. k ≡ bytes.now) }
+/// A memory, and the owner and the root of its first instance.
+fn memory_of_one(rt: &impl Abort, alloc: Global) -> (Memory, u16, u32)
+    ensures { result.1 ≢ 0 }
 {
-    Ok(RecKey::from_vec(bytes.to_vec(alloc)?))
+    let mut memory = Memory::new(alloc);
+    let (owner, root) = memory.new_instance(&[]).expect(rt, "memory");
+    (memory, owner, root)
+}
+
+fn key(rt: &impl Abort, alloc: Global, bytes: &[u8]) -> RecKey
+    ensures { result ≡ bytes.now }
+{
+    RecKey::from_vec(bytes.to_vec(alloc).expect(rt, "memory"))
+}
+
+/// How a driven call ended, in short.
+#[derive(Clone, Copy)]
+enum End {
+    Done,
+    NoRecord,
+    Damaged(u32),
+    Other,
+}
+
+fn end_of(end: Result<Move, DriveFault>) -> End {
+    let short = match &end {
+        Ok(Move::Done) => End::Done,
+        Ok(Move::NoRecord) => End::NoRecord,
+        Ok(_) => End::Other,
+        Err(DriveFault::Damaged { page }) => End::Damaged(*page),
+        Err(DriveFault::NoMemory) => End::Other,
+    };
+    drop(end);
+    short
 }
 
 /// A delete of the scribe.
-fn delete(
-    memory: &mut Memory,
-    alloc: Global,
-    inst: &Instance,
-    bytes: &[u8],
-) -> Result<Move, DriveFault>
+fn delete(rt: &impl Abort, memory: &mut Memory, alloc: Global, inst: &Instance, bytes: &[u8]) -> End
     requires { IsPlain inst.now }
 {
-    let call = MethodCall::Delete(key(alloc, bytes)?);
-    drive_method(memory, alloc, &Scribe {}, inst, &call)
+    let call = MethodCall::Delete(key(rt, alloc, bytes));
+    let end = drive_method(memory, alloc, &Scribe {}, inst, &call);
+    drop(call);
+    end_of(end)
 }
 
 /// Whether the instance has a page behind its root.
-fn has_second(memory: &mut Memory, alloc: Global, inst: &Instance) -> Result<bool, AllocError>
+fn has_second(rt: &impl Abort, memory: &mut Memory, alloc: Global, inst: &Instance) -> bool
     requires { IsPlain inst.now }
 {
-    let call = MethodCall::Get(key(alloc, b"")?);
+    let call = MethodCall::Get(key(rt, alloc, b""));
     let end = drive_method(memory, alloc, &Scribe {}, inst, &call);
-    Ok(matches!(end, Ok(Move::NoRecord)))
+    drop(call);
+    matches!(end_of(end), End::NoRecord)
 }
 
-#[derive(Debug, Drop)]
-struct Stopped;
-
 #[test]
-fn a_page_is_taken_and_undone(rt: HostRuntime) -> Result<(), Fail> {
+fn a_page_is_taken_and_undone(rt: HostRuntime) {
     let alloc = rt.alloc();
-    let mut memory = Memory::new(alloc);
-    let (owner, root) = memory.new_instance(&[])?;
+    let (mut memory, owner, root) = memory_of_one(&rt, alloc);
     assert!(rt; owner == 3 && root == 0);
     memory.keep();
     let start = memory.mark();
-    let inst = instance(alloc, owner, root)?;
-    let end = delete(&mut memory, alloc, &inst, b"take").map_err(|_| Stopped)?;
-    assert!(rt; matches!(end, Move::Done) && memory.owner_of(1) == 3);
-    assert_eq!(rt; memory.page(3, 1), [0; 4096].as_slice());
-    assert!(rt; has_second(&mut memory, alloc, &inst)?);
+    let inst = instance(&rt, alloc, owner, root);
+    let end = delete(&rt, &mut memory, alloc, &inst, b"take");
+    assert!(rt; matches!(end, End::Done) && memory.owner_of(1) == 3);
+    assert!(rt; memory.page(3, 1) == [0; 4096].as_slice());
+    assert!(rt; has_second(&rt, &mut memory, alloc, &inst));
     memory.back_to(start);
     assert!(rt; memory.owner_of(1) == 0 && memory.page(3, 0).len() == 4096);
-    assert!(rt; !has_second(&mut memory, alloc, &inst)?);
-    Ok(())
+    assert!(rt; !has_second(&rt, &mut memory, alloc, &inst));
+    drop(inst);
+    drop(memory);
 }
 
 /// The first byte of page 0 as its owner sees it, after a delete with this key.
-const WRITES: [(&'static [u8], Option<u8>); 3] = [
+static WRITES: [(&'static [u8], Option<u8>); 3] = [
     (b"write", Some(7)),
     (b"take", Some(7)),
     (b"free", None),
 ];
 
 #[test]
-fn pages_are_written_and_freed(rt: HostRuntime) -> Result<(), Fail> {
+fn pages_are_written_and_freed(rt: HostRuntime) {
     let alloc = rt.alloc();
-    let mut memory = Memory::new(alloc);
-    let (owner, root) = memory.new_instance(&[])?;
+    let (mut memory, owner, root) = memory_of_one(&rt, alloc);
     memory.keep();
     let start = memory.mark();
-    let inst = instance(alloc, owner, root)?;
-    for (bytes, first) in WRITES {
-        let end = delete(&mut memory, alloc, &inst, bytes).map_err(|_| Stopped)?;
-        assert!(rt; matches!(end, Move::Done));
-        assert_eq!(rt; memory.page(3, 0).first().copied(), first);
+    let inst = instance(&rt, alloc, owner, root);
+    for (bytes, first) in WRITES.iter() {
+        let end = delete(&rt, &mut memory, alloc, &inst, bytes);
+        assert!(rt; matches!(end, End::Done));
+        assert!(rt; memory.page(3, 0).first().copied() == *first);
     }
+    drop(inst);
     memory.back_to(start);
-    assert_eq!(rt; memory.page(3, 0), [0; 4096].as_slice());
-    Ok(())
+    assert!(rt; memory.page(3, 0) == [0; 4096].as_slice());
+    drop(memory);
 }
 
 /// The box gets no bytes of a page that another owner has, and calls it broken.
 #[test]
-fn another_owners_page_is_not_given(rt: HostRuntime) -> Result<(), Fail> {
+fn another_owners_page_is_not_given(rt: HostRuntime) {
     let alloc = rt.alloc();
-    let mut memory = Memory::new(alloc);
-    memory.new_instance(&[])?;
-    let (owner, root) = memory.new_instance(&[])?;
+    let (mut memory, _, _) = memory_of_one(&rt, alloc);
+    let (owner, root) = memory.new_instance(&[]).expect(&rt, "memory");
     assert!(rt; owner == 4 && root == 1);
-    let inst = instance(alloc, 4, 0)?;
-    let end = delete(&mut memory, alloc, &inst, b"write");
-    assert!(rt; matches!(end, Err(DriveFault::Damaged { page: 0 })));
-    Ok(())
+    let inst = instance(&rt, alloc, 4, 0);
+    let end = delete(&rt, &mut memory, alloc, &inst, b"write");
+    drop(inst);
+    drop(memory);
+    assert!(rt; matches!(end, End::Damaged(0)));
 }
 
 /// The page that the box names is the one that is called damaged: not its root, which is whole.
 #[test]
-fn the_damaged_page_is_named(rt: HostRuntime) -> Result<(), Fail> {
+fn the_damaged_page_is_named(rt: HostRuntime) {
     let alloc = rt.alloc();
-    let mut memory = Memory::new(alloc);
-    let (owner, root) = memory.new_instance(&[])?;
-    let inst = instance(alloc, owner, root)?;
-    let end = delete(&mut memory, alloc, &inst, b"behind");
-    assert!(rt; root == 0 && matches!(end, Err(DriveFault::Damaged { page: 1 })));
-    Ok(())
+    let (mut memory, owner, root) = memory_of_one(&rt, alloc);
+    let inst = instance(&rt, alloc, owner, root);
+    let end = delete(&rt, &mut memory, alloc, &inst, b"behind");
+    drop(inst);
+    drop(memory);
+    assert!(rt; root == 0 && matches!(end, End::Damaged(1)));
 }
 
 #[test]
-fn an_attachment_is_driven(rt: HostRuntime) -> Result<(), Fail> {
+fn an_attachment_is_driven(rt: HostRuntime) {
     let alloc = rt.alloc();
-    let mut memory = Memory::new(alloc);
-    let (owner, root) = memory.new_instance(&[])?;
-    let inst = instance(alloc, owner, root)?;
+    let (mut memory, owner, root) = memory_of_one(&rt, alloc);
+    let inst = instance(&rt, alloc, owner, root);
     let mut ctx = Ctx::new(alloc);
     memory.are_pages();
     let call = AttachCall::Changed(Change::Delete {
-        key: key(alloc, b"k")?,
+        key: key(&rt, alloc, b"k"),
         old: Tuple::from_vec(Vec::new(alloc)),
     });
     let end = drive_attachment(&mut memory, alloc, &Marker {}, &inst, &call, &mut ctx);
-    assert!(rt; matches!(end, Ok(Move::Done)));
-    assert_eq!(rt; memory.page(3, 0).first().copied(), Some(5));
-    Ok(())
+    drop(call);
+    drop(ctx);
+    drop(inst);
+    assert!(rt; matches!(end_of(end), End::Done));
+    assert!(rt; memory.page(3, 0).first().copied() == Some(5));
+    drop(memory);
 }
 
 /// How many finds a late check asks, each of which is answered with no rows.
-fn finds(
-    memory: &mut Memory,
-    alloc: Global,
-    inst: &Instance,
-    ctx: &mut Ctx,
-) -> Result<u32, DriveFault>
+fn finds(rt: &impl Abort, memory: &mut Memory, alloc: Global, inst: &Instance, ctx: &mut Ctx) -> u32
     requires inst { IsPlain inst.now }
     requires clean { IsClean ctx.old }
     requires holds { HoldsOf (slots memory.old.now) inst.now.owner ctx.old }
 {
+    let call = AttachCall::Late(Bytes::new(alloc));
     for answered in 0..9 {
-        let call = AttachCall::Late(Bytes::new(alloc));
-        match drive_attachment(memory, alloc, &Marker {}, inst, &call, ctx)? {
+        let end = drive_attachment(memory, alloc, &Marker {}, inst, &call, ctx);
+        match end.expect(rt, "memory") {
             Move::Find {
                 relation,
                 columns,
                 values,
-            } => ctx.give_found(&relation, &columns, &values, &Keys::new(alloc))?,
-            _ => return Ok(answered),
+            } => {
+                let keys = Keys::new(alloc);
+                let given = ctx.give_found(&relation, &columns, &values, &keys);
+                given.expect(rt, "memory");
+                drop(keys);
+                drop(relation);
+                drop(columns);
+                drop(values);
+            }
+            other => {
+                drop(other);
+                drop(call);
+                return answered;
+            }
         }
     }
-    Ok(9)
+    drop(call);
+    9
 }
 
 #[test]
-fn eight_finds_are_answered(rt: HostRuntime) -> Result<(), Fail> {
+fn eight_finds_are_answered(rt: HostRuntime) {
     let alloc = rt.alloc();
-    let mut memory = Memory::new(alloc);
-    let (owner, root) = memory.new_instance(&[])?;
-    let inst = instance(alloc, owner, root)?;
+    let (mut memory, owner, root) = memory_of_one(&rt, alloc);
+    let inst = instance(&rt, alloc, owner, root);
     let mut ctx = Ctx::new(alloc);
     memory.are_pages();
-    let asked = finds(&mut memory, alloc, &inst, &mut ctx).map_err(|_| Stopped)?;
-    assert_eq!(rt; asked, 8);
-    assert_eq!(rt; ctx.finds(), 8);
-    Ok(())
+    let asked = finds(&rt, &mut memory, alloc, &inst, &mut ctx);
+    assert!(rt; asked == 8 && ctx.finds() == 8);
+    drop(ctx);
+    drop(inst);
+    drop(memory);
 }

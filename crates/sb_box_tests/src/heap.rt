@@ -1,14 +1,15 @@
 //! What no clause says: which slots rows get, and that calls succeed while memory lasts. Each call over pages 2 and 3, which
 //! are given again as the call before left them.
 
-ghost use Rattle.std.specs.Prelude.{◌≡◌, ◌≤◌, length, IfOk};
+ghost use Rattle.std.specs.Prelude.{◌≡◌, ◌≤◌, length};
 ghost use Rattle.sb_ctx.specs.View.{IsClean};
 ghost use Rattle.sb_heap.specs.Examples.{IsExample, MayBeHeld, text_column};
 
 use sb_ctx::{Ctx, Instance, Move, StorageMethod};
 use sb_heap::Heap;
 use sb_value::{Bytes, Column, Kind, Names, RecKey, Schema, Str, Tuple, Value};
-use std::alloc::{AllocError, Global};
+use std::alloc::Global;
+use std::process::Abort;
 use std::test::*;
 
 /// 255 letters, the most of a text, and 217: with a number and three texts of the first length a row takes the 1,000 bytes
@@ -19,108 +20,127 @@ const X: &str =
 const Y: &str =
     "xxxxxxxxxxxxxxxxxxxxxxxxxxxxxxxxxxxxxxxxxxxxxxxxxxxxxxxxxxxxxxxxxxxxxxxxxxxxxxxxxxxxxxxxxxxxxxxxxxxxxxxxxxxxxxxxxxxxxxxxxxxxxxxxxxxxxxxxxxxxxxxxxxxxxxxxxxxxxxxxxxxxxxxxxxxxxxxxxxxxxxxxxxxxxxxxxxxxxxxxxxxxxxxxxxxxxxxxx";
 
-fn text(alloc: Global, text: &str) -> Result<Str, AllocError>
-    ensures { IfOk result (λ s. s ≡ text.now) }
+// Want of memory ends a test at once: where a test went on to an `Err`, each value that it has would be dropped on the way,
+// which is dear to prove. A value that goes by a call of `drop` is far cheaper than one that goes at its scope's end.
+
+fn text(rt: &impl Abort, alloc: Global, text: &str) -> Str
+    ensures { result ≡ text.now }
 {
-    Ok(Str::from_string(String::from_str(alloc, text)?))
+    Str::from_string(String::from_str(alloc, text).expect(rt, "memory"))
 }
 
-fn words(alloc: Global, name: &str) -> Result<Column, AllocError>
-    ensures { IfOk result (λ column. column ≡ text_column name.now) }
+fn words(rt: &impl Abort, alloc: Global, name: &str) -> Column
+    ensures { result ≡ text_column name.now }
 {
-    Ok(Column {
-        name: text(alloc, name)?,
+    Column {
+        name: text(rt, alloc, name),
         kind: Kind::Text,
         limit: 255,
-    })
+    }
 }
 
 /// The relation `t` of a number and four texts.
-fn instance(alloc: Global) -> Result<Instance, AllocError>
-    ensures { IfOk result IsExample }
+fn instance(rt: &impl Abort, alloc: Global) -> Instance
+    ensures { IsExample result }
 {
     let number = Column {
-        name: text(alloc, "k")?,
+        name: text(rt, alloc, "k"),
         kind: Kind::Int,
         limit: 0,
     };
-    let a = words(alloc, "a")?;
-    let b = words(alloc, "b")?;
-    let c = words(alloc, "c")?;
-    let d = words(alloc, "d")?;
-    Ok(Instance {
-        relation: text(alloc, "t")?,
+    let a = words(rt, alloc, "a");
+    let b = words(rt, alloc, "b");
+    let c = words(rt, alloc, "c");
+    let d = words(rt, alloc, "d");
+    let columns = vec![in alloc; number, a, b, c, d].expect(rt, "memory");
+    Instance {
+        relation: text(rt, alloc, "t"),
         owner: 1,
         root: 2,
         durable: true,
         code: 1,
         desc: Bytes::new(alloc),
-        schema: Schema::from_vec(vec![in alloc; number, a, b, c, d]?),
+        schema: Schema::from_vec(columns),
         key: Names::from_vec(Vec::new(alloc)),
-    })
+    }
 }
 
 /// A number, a text three times and another text.
-fn row(alloc: Global, number: i64, x: &str, y: &str) -> Result<Tuple, AllocError>
+fn row(rt: &impl Abort, alloc: Global, number: i64, x: &str, y: &str) -> Tuple
     requires first { length x.now ≤ 255 }
     requires last { length y.now ≤ 217 }
-    ensures { IfOk result MayBeHeld }
+    ensures { MayBeHeld result }
 {
-    let a = Value::Text(text(alloc, x)?);
-    let b = Value::Text(text(alloc, x)?);
-    let c = Value::Text(text(alloc, x)?);
-    let d = Value::Text(text(alloc, y)?);
-    Ok(Tuple::from_vec(vec![in alloc; Value::Int(number), a, b, c, d]?))
+    let a = Value::Text(text(rt, alloc, x));
+    let b = Value::Text(text(rt, alloc, x));
+    let c = Value::Text(text(rt, alloc, x));
+    let d = Value::Text(text(rt, alloc, y));
+    let values = vec![in alloc; Value::Int(number), a, b, c, d].expect(rt, "memory");
+    Tuple::from_vec(values)
 }
 
-fn key(alloc: Global, page: u8, slot: u8) -> Result<RecKey, AllocError> {
-    Ok(RecKey::from_vec(vec![in alloc; 0, 0, 0, page, 0, slot]?))
+fn key(rt: &impl Abort, alloc: Global, page: u8, slot: u8) -> RecKey {
+    RecKey::from_vec(vec![in alloc; 0, 0, 0, page, 0, slot].expect(rt, "memory"))
 }
 
 /// Pages 2 and 3 as a call left them; page 3 is fresh where it isn't the heap's.
-fn again(alloc: Global, ctx: &Ctx) -> Result<Ctx, AllocError>
-    ensures { IfOk result IsClean }
+fn again(rt: &impl Abort, alloc: Global, ctx: &Ctx) -> Ctx
+    ensures { IsClean result }
 {
     let mut next = Ctx::new(alloc);
-    next.give_after(None, Some(2))?;
+    next.give_after(None, Some(2)).expect(rt, "memory");
     if let Some(page) = ctx.page(2) {
-        next.give_page(2, page)?;
+        next.give_page(2, page).expect(rt, "memory");
     }
     match ctx.page(3) {
         Some(page) if !page.is_empty() => {
-            next.give_page(3, page)?;
-            next.give_after(Some(2), Some(3))?;
-            next.give_after(Some(3), None)?;
+            next.give_page(3, page).expect(rt, "memory");
+            next.give_after(Some(2), Some(3)).expect(rt, "memory");
+            next.give_after(Some(3), None).expect(rt, "memory");
         }
         _ => {
-            next.give_fresh(3)?;
-            next.give_after(Some(2), None)?;
+            next.give_fresh(3).expect(rt, "memory");
+            next.give_after(Some(2), None).expect(rt, "memory");
         }
     }
-    Ok(next)
+    next
 }
 
-/// A new heap.
-fn prepared(alloc: Global, inst: &Instance) -> Result<Ctx, Fail>
-    requires { IsExample inst.now }
-    ensures { IfOk result IsClean }
+/// The pages as a call left them that has ended.
+fn after(rt: &impl Abort, alloc: Global, ctx: Ctx) -> Ctx
+    ensures { IsClean result }
 {
-    let mut ctx = Ctx::new(alloc);
-    ctx.give_page(2, &[0; 4096])?;
-    if !matches!(Heap::new().prepare(alloc, &mut ctx, inst), Move::Done) {
-        return Err(Fail::from("not prepared"));
-    }
-    Ok(again(alloc, &ctx)?)
+    let next = again(rt, alloc, &ctx);
+    drop(ctx);
+    next
 }
 
-/// The page and the slot of the key that a row got.
-fn slot_of(answer: &Move) -> Option<(u8, u8)> {
-    match answer {
-        Move::Key(key) => match key.as_slice() {
-            [0, 0, 0, page, 0, slot] => Some((*page, *slot)),
-            _ => None,
-        },
-        _ => None,
+/// What a call answers, in short.
+#[derive(Clone, Copy)]
+enum Answer {
+    Done,
+    /// The page and the slot of the key that a row got.
+    Key(u8, u8),
+    /// The number of a row.
+    Row(i64),
+    Other,
+}
+
+fn answer_of(answer: Move) -> Answer {
+    let short = match &answer {
+        Move::Done => Answer::Done,
+        Move::Key(key) => slot_of(key),
+        Move::Row(_, row) => Answer::Row(number_of(row)),
+        _ => Answer::Other,
+    };
+    drop(answer);
+    short
+}
+
+fn slot_of(key: &RecKey) -> Answer {
+    match key.as_slice() {
+        [0, 0, 0, page, 0, slot] => Answer::Key(*page, *slot),
+        _ => Answer::Other,
     }
 }
 
@@ -131,94 +151,177 @@ fn number_of(row: &Tuple) -> i64 {
     }
 }
 
-fn row_of(answer: &Move) -> Option<i64> {
-    match answer {
-        Move::Row(_, row) => Some(number_of(row)),
-        _ => None,
-    }
+/// A new heap.
+fn prepared(rt: &impl Abort, alloc: Global, inst: &Instance) -> Ctx
+    requires { IsExample inst.now }
+    ensures { IsClean result }
+{
+    let mut ctx = Ctx::new(alloc);
+    ctx.give_page(2, &[0; 4096]).expect(rt, "memory");
+    let answer = Heap::new().prepare(alloc, &mut ctx, inst);
+    assert!(rt; matches!(answer_of(answer), Answer::Done));
+    after(rt, alloc, ctx)
 }
 
-/// The numbers of the rows, one after the other.
-fn numbers(alloc: Global, ctx: &Ctx, inst: &Instance) -> Result<Vec<i64>, AllocError>
+/// The row behind this key, or the first one: its key and its number.
+fn next_row(
+    rt: &impl Abort,
+    alloc: Global,
+    ctx: &Ctx,
+    inst: &Instance,
+    low: Option<RecKey>,
+) -> Option<(RecKey, i64)>
     requires { IsExample inst.now }
 {
-    let mut found = Vec::new(alloc);
-    let mut low = None;
-    for _ in 0..10 {
-        let mut ctx = again(alloc, ctx)?;
-        let Move::Row(key, row) = Heap::new().next(alloc, &mut ctx, inst, low.as_ref()) else {
-            break;
-        };
-        found.push(number_of(&row))?;
-        low = Some(key);
+    let mut ctx = again(rt, alloc, ctx);
+    let answer = Heap::new().next(alloc, &mut ctx, inst, low.as_ref());
+    drop(ctx);
+    drop(low);
+    match answer {
+        Move::Row(key, row) => {
+            let number = number_of(&row);
+            drop(row);
+            Some((key, number))
+        }
+        other => {
+            drop(other);
+            None
+        }
     }
-    Ok(found)
 }
 
-/// A row more, where there is memory.
+/// Whether these are the numbers of the rows, one after the other.
+fn are_numbers(rt: &impl Abort, alloc: Global, ctx: &Ctx, inst: &Instance, numbers: &[i64]) -> bool
+    requires { IsExample inst.now }
+{
+    let mut low = None;
+    for number in numbers {
+        let Some((key, found)) = next_row(rt, alloc, ctx, inst, low) else {
+            return false;
+        };
+        low = Some(key);
+        if found != *number {
+            drop(low);
+            return false;
+        }
+    }
+    next_row(rt, alloc, ctx, inst, low).is_none()
+}
+
+/// A row more.
 fn with_row(
+    rt: &impl Abort,
     alloc: Global,
     inst: &Instance,
-    ctx: &Ctx,
+    ctx: Ctx,
     number: i64,
     x: &str,
     y: &str,
-) -> Result<Ctx, AllocError>
+) -> Ctx
     requires inst { IsExample inst.now }
+    requires clean { IsClean ctx }
     requires first { length x.now ≤ 255 }
     requires last { length y.now ≤ 217 }
-    ensures { IfOk result IsClean }
+    ensures { IsClean result }
 {
-    let mut ctx = again(alloc, ctx)?;
-    Heap::new().insert(alloc, &mut ctx, inst, &row(alloc, number, x, y)?);
-    again(alloc, &ctx)
+    let mut ctx = ctx;
+    inserted(rt, alloc, &mut ctx, inst, number, x, y);
+    after(rt, alloc, ctx)
+}
+
+/// What the insertion of a row answers.
+fn inserted(
+    rt: &impl Abort,
+    alloc: Global,
+    ctx: &mut Ctx,
+    inst: &Instance,
+    number: i64,
+    x: &str,
+    y: &str,
+) -> Answer
+    requires inst { IsExample inst.now }
+    requires clean { IsClean ctx.old }
+    requires first { length x.now ≤ 255 }
+    requires last { length y.now ≤ 217 }
+{
+    let row = row(rt, alloc, number, x, y);
+    let answer = Heap::new().insert(alloc, ctx, inst, &row);
+    drop(row);
+    answer_of(answer)
 }
 
 /// Five rows on page 2, the fourth of them short, which fill it.
-fn five_rows(alloc: Global, inst: &Instance) -> Result<Ctx, Fail>
+fn five_rows(rt: &impl Abort, alloc: Global, inst: &Instance) -> Ctx
     requires { IsExample inst.now }
-    ensures { IfOk result IsClean }
+    ensures { IsClean result }
 {
-    let ctx = prepared(alloc, inst)?;
-    let ctx = with_row(alloc, inst, &ctx, 1, X, Y)?;
-    let ctx = with_row(alloc, inst, &ctx, 2, X, Y)?;
-    let ctx = with_row(alloc, inst, &ctx, 3, X, Y)?;
-    let ctx = with_row(alloc, inst, &ctx, 4, "", "")?;
-    Ok(with_row(alloc, inst, &ctx, 5, X, Y)?)
+    let ctx = prepared(rt, alloc, inst);
+    let ctx = with_row(rt, alloc, inst, ctx, 1, X, Y);
+    let ctx = with_row(rt, alloc, inst, ctx, 2, X, Y);
+    let ctx = with_row(rt, alloc, inst, ctx, 3, X, Y);
+    let ctx = with_row(rt, alloc, inst, ctx, 4, "", "");
+    with_row(rt, alloc, inst, ctx, 5, X, Y)
+}
+
+/// What the long row of 4 in place of the short one answers.
+fn grown(rt: &impl Abort, alloc: Global, ctx: &mut Ctx, inst: &Instance) -> Answer
+    requires inst { IsExample inst.now }
+    requires clean { IsClean ctx.old }
+{
+    let key = key(rt, alloc, 2, 3);
+    let row = row(rt, alloc, 4, X, Y);
+    let answer = Heap::new().update(alloc, ctx, inst, &key, &row);
+    drop(row);
+    drop(key);
+    answer_of(answer)
 }
 
 #[test]
-fn a_row_that_grows_moves(rt: HostRuntime) -> Result<(), Fail> {
+fn a_row_that_grows_moves(rt: HostRuntime) {
     let alloc = rt.alloc();
-    let inst = instance(alloc)?;
-    let mut ctx = five_rows(alloc, &inst)?;
-    let answer = Heap::new().update(
-        alloc,
-        &mut ctx,
-        &inst,
-        &key(alloc, 2, 3)?,
-        &row(alloc, 4, X, Y)?,
-    );
-    assert_eq!(rt; slot_of(&answer), Some((3, 0)));
-    assert_eq!(rt;
-        numbers(alloc, &ctx, &inst)?.as_slice(),
-        [1, 2, 3, 5, 4].as_slice()
-    );
-    Ok(())
+    let inst = instance(&rt, alloc);
+    let mut ctx = five_rows(&rt, alloc, &inst);
+    let answer = grown(&rt, alloc, &mut ctx, &inst);
+    let are_all = are_numbers(&rt, alloc, &ctx, &inst, &[1, 2, 3, 5, 4]);
+    drop(ctx);
+    drop(inst);
+    assert!(rt; matches!(answer, Answer::Key(3, 0)));
+    assert!(rt; are_all);
+}
+
+fn deleted(rt: &impl Abort, alloc: Global, ctx: &mut Ctx, inst: &Instance) -> Answer
+    requires inst { IsExample inst.now }
+    requires clean { IsClean ctx.old }
+{
+    let key = key(rt, alloc, 2, 1);
+    let answer = Heap::new().delete(alloc, ctx, inst, &key);
+    drop(key);
+    answer_of(answer)
+}
+
+fn got(rt: &impl Abort, alloc: Global, ctx: &mut Ctx, inst: &Instance) -> Answer
+    requires inst { IsExample inst.now }
+    requires clean { IsClean ctx.old }
+{
+    let key = key(rt, alloc, 2, 1);
+    let answer = Heap::new().get(alloc, ctx, inst, &key);
+    drop(key);
+    answer_of(answer)
 }
 
 #[test]
-fn a_free_slot_is_used_again(rt: HostRuntime) -> Result<(), Fail> {
+fn a_free_slot_is_used_again(rt: HostRuntime) {
     let alloc = rt.alloc();
-    let inst = instance(alloc)?;
-    let mut ctx = five_rows(alloc, &inst)?;
-    let gone = Heap::new().delete(alloc, &mut ctx, &inst, &key(alloc, 2, 1)?);
-    assert!(rt; matches!(gone, Move::Done));
-    let mut ctx = again(alloc, &ctx)?;
-    let answer = Heap::new().insert(alloc, &mut ctx, &inst, &row(alloc, 6, X, Y)?);
-    assert_eq!(rt; slot_of(&answer), Some((2, 1)));
-    let mut ctx = again(alloc, &ctx)?;
-    let found = Heap::new().get(alloc, &mut ctx, &inst, &key(alloc, 2, 1)?);
-    assert_eq!(rt; row_of(&found), Some(6));
-    Ok(())
+    let inst = instance(&rt, alloc);
+    let mut ctx = five_rows(&rt, alloc, &inst);
+    let gone = deleted(&rt, alloc, &mut ctx, &inst);
+    let mut ctx = after(&rt, alloc, ctx);
+    let put = inserted(&rt, alloc, &mut ctx, &inst, 6, X, Y);
+    let mut ctx = after(&rt, alloc, ctx);
+    let found = got(&rt, alloc, &mut ctx, &inst);
+    drop(ctx);
+    drop(inst);
+    assert!(rt; matches!(gone, Answer::Done));
+    assert!(rt; matches!(put, Answer::Key(2, 1)));
+    assert!(rt; matches!(found, Answer::Row(6)));
 }

@@ -11,7 +11,8 @@ use sb_memory::Memory;
 use sb_registry::{Boxes, Extensions, Registry};
 use sb_relation::Change;
 use sb_value::{Bytes, Names, RecKey, Schema, Str, Tuple};
-use std::alloc::{AllocError, Global};
+use std::alloc::Global;
+use std::process::Abort;
 use std::test::*;
 
 /// A storage method of code 1000 and this number more, whose calls all want memory.
@@ -156,7 +157,7 @@ const NONE: Row = Row {
     refused: None,
 };
 
-const ROWS: [Row; 7] = [
+static ROWS: [Row; 7] = [
     NONE,
     Row {
         attachments: &[5, 5],
@@ -196,39 +197,49 @@ const ROWS: [Row; 7] = [
     },
 ];
 
-/// The code with which they are refused, where all boxes come back.
-fn refusal(alloc: Global, row: &Row) -> Result<Option<u16>, AllocError> {
+// Want of memory ends a test at once: where a test went on to an `Err`, each value that it has would be dropped on the way,
+// which is dear to prove. A value that goes by a call of `drop` is far cheaper than one that goes at its scope's end.
+
+fn methods(rt: &impl Abort, alloc: Global, numbers: &[u8]) -> Vec<Box<dyn StorageMethod>> {
     let mut methods: Vec<Box<dyn StorageMethod>> = Vec::new(alloc);
-    for number in row.methods {
-        methods.push(Box::new(alloc, Numbered { number: *number })?)?;
+    for number in numbers {
+        let method = Box::new(alloc, Numbered { number: *number }).expect(rt, "memory");
+        methods.push(method).expect(rt, "memory");
     }
-    let mut spare_methods: Vec<Box<dyn StorageMethod>> = Vec::new(alloc);
-    for number in row.spare_methods {
-        spare_methods.push(Box::new(alloc, Numbered { number: *number })?)?;
-    }
-    let mut attachments: Vec<Box<dyn Attachment>> = Vec::new(alloc);
-    for number in row.attachments {
-        attachments.push(Box::new(alloc, Plain { number: *number })?)?;
-    }
-    let mut spare_attachments: Vec<Box<dyn Attachment>> = Vec::new(alloc);
-    for number in row.spare_attachments {
-        spare_attachments.push(Box::new(alloc, Plain { number: *number })?)?;
-    }
-    let exts = Extensions {
-        methods,
-        attachments,
-        spare_methods,
-        spare_attachments,
-    };
-    Ok(code_of(Registry::take(exts), row))
+    methods
 }
 
-fn code_of(taken: Result<Registry, (u16, Extensions)>, row: &Row) -> Option<u16> {
-    let (code, back) = taken.err()?;
-    if has_as_many(&back, row) {
-        Some(code)
-    } else {
-        Some(0)
+fn attachments(rt: &impl Abort, alloc: Global, numbers: &[u8]) -> Vec<Box<dyn Attachment>> {
+    let mut attachments: Vec<Box<dyn Attachment>> = Vec::new(alloc);
+    for number in numbers {
+        let attachment = Box::new(alloc, Plain { number: *number }).expect(rt, "memory");
+        attachments.push(attachment).expect(rt, "memory");
+    }
+    attachments
+}
+
+/// What is answered to the boxes of a row.
+fn taken(rt: &impl Abort, alloc: Global, row: &Row) -> Result<Registry, (u16, Extensions)> {
+    Registry::take(Extensions {
+        methods: methods(rt, alloc, row.methods),
+        attachments: attachments(rt, alloc, row.attachments),
+        spare_methods: methods(rt, alloc, row.spare_methods),
+        spare_attachments: attachments(rt, alloc, row.spare_attachments),
+    })
+}
+
+/// The code with which they are refused, where all boxes come back.
+fn refusal(taken: Result<Registry, (u16, Extensions)>, row: &Row) -> Option<u16> {
+    match taken {
+        Ok(registry) => {
+            drop(registry);
+            None
+        }
+        Err((code, back)) => {
+            let are_back = has_as_many(&back, row);
+            drop(back);
+            Some(if are_back { code } else { 0 })
+        }
     }
 }
 
@@ -240,60 +251,66 @@ fn has_as_many(exts: &Extensions, row: &Row) -> bool {
 }
 
 #[test]
-fn one_code_twice_is_refused(rt: HostRuntime) -> Result<(), Fail> {
+fn one_code_twice_is_refused(rt: HostRuntime) {
     for row in &ROWS {
-        assert_eq!(rt; refusal(rt.alloc(), row)?, row.refused);
+        let refused = refusal(taken(&rt, rt.alloc(), row), row);
+        assert!(rt; refused == row.refused);
     }
-    Ok(())
 }
 
-#[derive(Debug, Drop)]
-struct Refused;
+/// The registry of the boxes of a row.
+fn registry(rt: &impl Abort, alloc: Global, row: &Row) -> Registry {
+    let Ok(registry) = taken(rt, alloc, row) else {
+        panic!(rt; "not taken");
+    };
+    registry
+}
+
+static ONE_ATTACHMENT: Row = Row {
+    attachments: &[5],
+    ..NONE
+};
 
 /// An attachment goes and comes back.
 #[test]
-fn attachment_moved(rt: HostRuntime) -> Result<(), Fail> {
-    let alloc = rt.alloc();
-    let mut attachments: Vec<Box<dyn Attachment>> = Vec::new(alloc);
-    attachments.push(Box::new(alloc, Plain { number: 5 })?)?;
-    let exts = Extensions {
-        methods: Vec::new(alloc),
-        attachments,
-        spare_methods: Vec::new(alloc),
-        spare_attachments: Vec::new(alloc),
-    };
-    let mut registry = Registry::take(exts).map_err(|_| Refused)?;
-    let before = registry.register(false, 1005)?;
-    let gone = registry.retire(false, 1005)?;
+fn attachment_moved(rt: HostRuntime) {
+    let mut registry = registry(&rt, rt.alloc(), &ONE_ATTACHMENT);
+    let before = registry.register(false, 1005).expect(&rt, "memory");
+    let gone = registry.retire(false, 1005).expect(&rt, "memory");
     let none = registry.attachment(1005).is_none();
-    let back = registry.register(false, 1005)?;
+    let back = registry.register(false, 1005).expect(&rt, "memory");
     let there = registry.attachment(1005).is_some();
+    drop(registry);
     assert!(rt; !before && gone && none && back && there);
-    Ok(())
+}
+
+/// A storage method, and a spare one.
+static TWO_METHODS: Row = Row {
+    methods: &[1],
+    spare_methods: &[2],
+    ..NONE
+};
+
+/// Whether the live box of this code says that it has it.
+fn has_method(registry: &Registry, code: u16) -> bool {
+    match registry.method(code) {
+        Some(method) => method.code() == code,
+        None => false,
+    }
 }
 
 /// A spare storage method takes the place of the live one.
 #[test]
-fn method_moved(rt: HostRuntime) -> Result<(), Fail> {
-    let alloc = rt.alloc();
-    let mut methods: Vec<Box<dyn StorageMethod>> = Vec::new(alloc);
-    methods.push(Box::new(alloc, Numbered { number: 1 })?)?;
-    let mut spare_methods: Vec<Box<dyn StorageMethod>> = Vec::new(alloc);
-    spare_methods.push(Box::new(alloc, Numbered { number: 2 })?)?;
-    let exts = Extensions {
-        methods,
-        attachments: Vec::new(alloc),
-        spare_methods,
-        spare_attachments: Vec::new(alloc),
-    };
-    let mut registry = Registry::take(exts).map_err(|_| Refused)?;
-    let first = registry.method(1001).map(|m| m.code());
-    let moved = registry.retire(true, 1001)? && registry.register(true, 1002)?;
-    let second = registry.method(1002).map(|m| m.code());
+fn method_moved(rt: HostRuntime) {
+    let mut registry = registry(&rt, rt.alloc(), &TWO_METHODS);
+    let first = has_method(&registry, 1001);
+    let gone = registry.retire(true, 1001).expect(&rt, "memory");
+    let come = registry.register(true, 1002).expect(&rt, "memory");
+    let second = has_method(&registry, 1002);
     let exts = registry.give_back();
-    assert!(rt; first == Some(1001) && moved && second == Some(1002));
-    assert!(rt; exts.methods.len() == 1 && exts.spare_methods.len() == 1);
-    Ok(())
+    let one_each = exts.methods.len() == 1 && exts.spare_methods.len() == 1;
+    drop(exts);
+    assert!(rt; first && gone && come && second && one_each);
 }
 
 /// An instance of a storage method's code, with no columns.
@@ -317,36 +334,30 @@ fn is_called<B: Boxes>(boxes: &B, alloc: Global, inst: &Instance) -> bool {
     }
     let mut memory = Memory::new(alloc);
     let made = boxes.run_method(&mut memory, alloc, inst, &MethodCall::Prepare);
-    matches!(made, Err(SpaceFault::NoMemory))
+    drop(memory);
+    let wants_memory = matches!(&made, Err(SpaceFault::NoMemory));
+    drop(made);
+    wants_memory
 }
+
+/// A code, whether the instance is durable, and whether it is called.
+static CALLED: [(u16, bool, bool); 3] = [
+    (1001, true, true),
+    (1001, false, false),
+    (1002, true, false),
+];
 
 /// A live box keeps the instances of its code that are as durable as it is.
 #[test]
-fn live_method_called(rt: HostRuntime) -> Result<(), Fail> {
-    let alloc = rt.alloc();
-    let mut methods: Vec<Box<dyn StorageMethod>> = Vec::new(alloc);
-    methods.push(Box::new(alloc, Numbered { number: 1 })?)?;
-    let mut spare_methods: Vec<Box<dyn StorageMethod>> = Vec::new(alloc);
-    spare_methods.push(Box::new(alloc, Numbered { number: 2 })?)?;
-    let exts = Extensions {
-        methods,
-        attachments: Vec::new(alloc),
-        spare_methods,
-        spare_attachments: Vec::new(alloc),
-    };
-    let registry = Registry::take(exts).map_err(|_| Refused)?;
-    for (code, durable, called) in [
-        (1001, true, true),
-        (1001, false, false),
-        (1002, true, false),
-    ] {
-        let inst = instance(alloc, code, durable);
-        assert!(rt;
-            is_called(&registry, alloc, &inst) == called,
-            "{code} {durable}"
-        );
+fn live_method_called(rt: HostRuntime) {
+    let registry = registry(&rt, rt.alloc(), &TWO_METHODS);
+    for (code, durable, called) in CALLED.iter() {
+        let inst = instance(rt.alloc(), *code, *durable);
+        let is_called = is_called(&registry, rt.alloc(), &inst);
+        drop(inst);
+        assert!(rt; is_called == *called, "{code} {durable}");
     }
     assert!(rt; registry.is_durable(1001) == Some(true) && registry.is_durable(1002).is_none());
     assert!(rt; !registry.has_rule(1001));
-    Ok(())
+    drop(registry);
 }

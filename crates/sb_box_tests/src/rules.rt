@@ -3,7 +3,7 @@
 
 mod triggers;
 
-ghost use Rattle.std.specs.Prelude.{◌≡◌, codes, ◌∷◌, [], IfOk};
+ghost use Rattle.std.specs.Prelude.{◌≡◌, codes, ◌∷◌, []};
 ghost use Rattle.sb_rule.specs.Spelling.{rule_spelling, IsStorableRule};
 ghost use Rattle.sb_ctx.specs.declared.instance.Instance.{Instance as Seen};
 ghost use Rattle.sb_ctx.specs.View.{IsClean};
@@ -17,59 +17,65 @@ use sb_pred::{Op, Pred, Term};
 use sb_relation::{Action, Change, Rule, write_rule};
 use sb_rules::Check;
 use sb_value::{Bytes, Column, Kind, Names, RecKey, Schema, Str, Tuple, Value};
-use std::alloc::{AllocError, Global};
+use std::alloc::Global;
+use std::process::Abort;
 use std::test::*;
 
-fn k(alloc: Global) -> Result<Str, AllocError>
-    ensures { IfOk result (λ s. s ≡ codes "k") }
+// Want of memory ends a test at once: where a test went on to an `Err`, each value that it has would be dropped on the way,
+// which is dear to prove. A value that goes by a call of `drop` is far cheaper than one that goes at its scope's end.
+
+fn k(rt: &impl Abort, alloc: Global) -> Str
+    ensures { result ≡ codes "k" }
 {
-    Ok(Str::from_string(String::from_str(alloc, "k")?))
+    Str::from_string(String::from_str(alloc, "k").expect(rt, "memory"))
 }
 
-fn columns(alloc: Global) -> Result<Schema, AllocError>
-    ensures { IfOk result (λ s. s ≡ numbers) }
+fn columns(rt: &impl Abort, alloc: Global) -> Schema
+    ensures { result ≡ numbers }
 {
     let column = Column {
-        name: k(alloc)?,
+        name: k(rt, alloc),
         kind: Kind::Int,
         limit: 0,
     };
-    Ok(Schema::from_vec(vec![in alloc; column]?))
+    Schema::from_vec(vec![in alloc; column].expect(rt, "memory"))
 }
 
 /// The bytes of the check `k >= 0`.
-fn desc(alloc: Global, deferred: bool) -> Result<Bytes, AllocError>
-    ensures spelled { IfOk result (λ desc. desc ≡ rule_spelling (Rule.Check not_negative deferred)) }
-    ensures storable { IfOk result (λ desc. IsStorableRule (Rule.Check not_negative deferred)) }
+fn desc(rt: &impl Abort, alloc: Global, deferred: bool) -> Bytes
+    ensures spelled { result ≡ rule_spelling (Rule.Check not_negative deferred) }
+    ensures storable { IsStorableRule (Rule.Check not_negative deferred) }
 {
-    let pred = Pred::cmp(Op::Ge, Term::New(k(alloc)?), Term::Const(Value::Int(0)));
+    let zero = Term::Const(Value::Int(0));
+    let pred = Pred::cmp(Op::Ge, Term::New(k(rt, alloc)), zero);
     let rule = Rule::Check { pred, deferred };
     let mut desc = Bytes::new(alloc);
-    write_rule(&rule, &mut desc)?;
-    Ok(desc)
+    write_rule(&rule, &mut desc).expect(rt, "memory");
+    drop(rule);
+    desc
 }
 
 /// The check on the relation `r`.
-fn instance(alloc: Global, deferred: bool) -> Result<Instance, AllocError>
-    ensures check { IfOk result (IsInstance check) }
-    ensures columns { IfOk result (λ inst. inst.schema ≡ numbers) }
+fn instance(rt: &impl Abort, alloc: Global, deferred: bool) -> Instance
+    ensures check { IsInstance check result }
+    ensures columns { result.schema ≡ numbers }
 {
-    Ok(Instance {
-        relation: Str::from_string(String::from_str(alloc, "r")?),
+    Instance {
+        relation: Str::from_string(String::from_str(alloc, "r").expect(rt, "memory")),
         owner: 0,
         root: 0,
         durable: true,
         code: 5,
-        desc: desc(alloc, deferred)?,
-        schema: columns(alloc)?,
+        desc: desc(rt, alloc, deferred),
+        schema: columns(rt, alloc),
         key: Names::from_vec(Vec::new(alloc)),
-    })
+    }
 }
 
-fn row(alloc: Global, number: i64) -> Result<Tuple, AllocError>
-    ensures { IfOk result (λ row. row ≡ Value.Int number ∷ []) }
+fn row(rt: &impl Abort, alloc: Global, number: i64) -> Tuple
+    ensures { result ≡ Value.Int number ∷ [] }
 {
-    Ok(Tuple::from_vec(vec![in alloc; Value::Int(number)]?))
+    Tuple::from_vec(vec![in alloc; Value::Int(number)].expect(rt, "memory"))
 }
 
 fn key(alloc: Global) -> RecKey
@@ -130,25 +136,24 @@ fn reply_of_acts(now: &[Action], late: &[Action], checks: &[Bytes]) -> Reply {
     }
 }
 
-fn reply_of(made: &Move) -> Reply {
+fn reply_of(made: Move) -> Reply {
+    let reply = in_short(&made);
+    drop(made);
+    reply
+}
+
+/// This where the list is empty.
+fn if_none(is_empty: bool, reply: Reply) -> Reply {
+    if is_empty { reply } else { Reply::Other }
+}
+
+fn in_short(made: &Move) -> Reply {
     match made {
         Move::Done => Reply::Done,
         Move::Veto => Reply::Veto,
         Move::End => Reply::End,
-        Move::Sums(sums) => {
-            if sums.as_slice().is_empty() {
-                Reply::NoSums
-            } else {
-                Reply::Other
-            }
-        }
-        Move::Hits(keys) => {
-            if keys.as_slice().is_empty() {
-                Reply::NoHits
-            } else {
-                Reply::Other
-            }
-        }
+        Move::Sums(sums) => if_none(sums.as_slice().is_empty(), Reply::NoSums),
+        Move::Hits(keys) => if_none(keys.as_slice().is_empty(), Reply::NoHits),
         Move::Find {
             relation,
             columns,
@@ -170,49 +175,64 @@ fn reply_of(made: &Move) -> Reply {
 fn prepared<A: Attachment>(attachment: &A, alloc: Global, inst: &Instance) -> Reply
     requires { IsInstance (A.attachment attachment.now) inst.now }
 {
-    reply_of(&attachment.prepare(alloc, &mut Ctx::new(alloc), inst))
+    let mut ctx = Ctx::new(alloc);
+    let made = attachment.prepare(alloc, &mut ctx, inst);
+    drop(ctx);
+    reply_of(made)
 }
 
 fn first_entry<A: Attachment>(attachment: &A, alloc: Global, inst: &Instance) -> Reply
     requires { IsInstance (A.attachment attachment.now) inst.now }
 {
     let low = key(alloc);
-    reply_of(&attachment.next_entry(alloc, &mut Ctx::new(alloc), inst, &low, None))
+    let mut ctx = Ctx::new(alloc);
+    let made = attachment.next_entry(alloc, &mut ctx, inst, &low, None);
+    drop(ctx);
+    drop(low);
+    reply_of(made)
 }
 
 fn summed<A: Attachment>(attachment: &A, alloc: Global, inst: &Instance) -> Reply
     requires { IsInstance (A.attachment attachment.now) inst.now }
 {
-    reply_of(&attachment.sums(alloc, &mut Ctx::new(alloc), inst))
+    let mut ctx = Ctx::new(alloc);
+    let made = attachment.sums(alloc, &mut ctx, inst);
+    drop(ctx);
+    reply_of(made)
 }
 
 /// Four numbers.
-fn query(alloc: Global) -> Result<Tuple, AllocError>
-    ensures { IfOk result IsQuery }
+fn query(rt: &impl Abort, alloc: Global) -> Tuple
+    ensures { IsQuery result }
 {
-    let numbers = vec![in alloc; Value::Int(1), Value::Int(1), Value::Int(5), Value::Int(5)]?;
-    Ok(Tuple::from_vec(numbers))
+    let numbers = vec![in alloc; Value::Int(1), Value::Int(1), Value::Int(5), Value::Int(5)];
+    Tuple::from_vec(numbers.expect(rt, "memory"))
 }
 
-fn hits<A: Attachment>(attachment: &A, alloc: Global, inst: &Instance) -> Result<Reply, AllocError>
+fn hits<A: Attachment>(rt: &impl Abort, attachment: &A, alloc: Global, inst: &Instance) -> Reply
     requires { IsInstance (A.attachment attachment.now) inst.now }
 {
-    let query = query(alloc)?;
-    Ok(reply_of(&attachment.seek(alloc, &mut Ctx::new(alloc), inst, &query)))
+    let query = query(rt, alloc);
+    let mut ctx = Ctx::new(alloc);
+    let made = attachment.seek(alloc, &mut ctx, inst, &query);
+    drop(ctx);
+    drop(query);
+    reply_of(made)
 }
 
 /// Whether it is prepared without a page, and has no entry, no sums and no hits.
 fn keeps_nothing<A: Attachment>(
+    rt: &impl Abort,
     attachment: &A,
     alloc: Global,
     inst: &Instance,
-) -> Result<bool, AllocError>
+) -> bool
     requires { IsInstance (A.attachment attachment.now) inst.now }
 {
-    let kept = prepared(attachment, alloc, inst) == Reply::Done
+    prepared(attachment, alloc, inst) == Reply::Done
         && first_entry(attachment, alloc, inst) == Reply::End
-        && summed(attachment, alloc, inst) == Reply::NoSums;
-    Ok(kept && hits(attachment, alloc, inst)? == Reply::NoHits)
+        && summed(attachment, alloc, inst) == Reply::NoSums
+        && hits(rt, attachment, alloc, inst) == Reply::NoHits
 }
 
 /// Whether it has the code, and fits the instance.
@@ -220,83 +240,71 @@ fn is_of<A: Attachment>(attachment: &A, inst: &Instance, code: u16) -> bool {
     attachment.code() == code && attachment.fits(&inst.schema, &inst.desc)
 }
 
-fn is_without_pages(alloc: Global) -> Result<bool, AllocError> {
-    let inst = instance(alloc, false)?;
-    let check = Check::new();
-    Ok(is_of(&check, &inst, 5) && keeps_nothing(&check, alloc, &inst)?)
-}
-
 #[test]
-fn without_pages(rt: HostRuntime) -> Result<(), Fail> {
-    assert!(rt; is_without_pages(rt.alloc())?);
-    Ok(())
+fn without_pages(rt: HostRuntime) {
+    let inst = instance(&rt, rt.alloc(), false);
+    let check = Check::new();
+    assert!(rt; is_of(&check, &inst, 5));
+    assert!(rt; keeps_nothing(&rt, &check, rt.alloc(), &inst));
+    drop(inst);
 }
 
 fn built<A: Attachment>(attachment: &A, alloc: Global, inst: &Instance, row: &Tuple) -> Reply
     requires inst { IsInstance (A.attachment attachment.now) inst.now }
     requires row { MayHold (A.attachment attachment.now) inst.now row.now }
 {
-    reply_of(&attachment.on_build(alloc, &mut Ctx::new(alloc), inst, &key(alloc), row))
-}
-
-fn built_number(alloc: Global, inst: &Instance, number: i64) -> Result<Reply, AllocError>
-    requires check { IsInstance check inst.now }
-    requires columns { inst.now.schema ≡ numbers }
-{
-    let row = row(alloc, number)?;
-    Ok(built(&Check::new(), alloc, inst, &row))
+    let key = key(alloc);
+    let mut ctx = Ctx::new(alloc);
+    let made = attachment.on_build(alloc, &mut ctx, inst, &key, row);
+    drop(ctx);
+    drop(key);
+    reply_of(made)
 }
 
 /// What the check answers to a row that stands when it is attached.
-fn build(alloc: Global, number: i64) -> Result<Reply, AllocError> {
-    let inst = instance(alloc, true)?;
-    built_number(alloc, &inst, number)
+fn build(rt: &impl Abort, alloc: Global, number: i64) -> Reply {
+    let inst = instance(rt, alloc, true);
+    let row = row(rt, alloc, number);
+    let reply = built(&Check::new(), alloc, &inst, &row);
+    drop(row);
+    drop(inst);
+    reply
 }
 
 /// Numbers, and whether a row of them is admitted.
-const BUILT: [(i64, Reply); 4] = [
+static BUILT: [(i64, Reply); 4] = [
     (0, Reply::Done),
     (5, Reply::Done),
     (-1, Reply::Veto),
     (i64::MIN, Reply::Veto),
 ];
 
-/// How many rows, from the first one on, are answered so.
-fn built_so(alloc: Global, rows: &[(i64, Reply)]) -> Result<usize, AllocError> {
-    let mut count = 0usize;
-    for (number, wanted) in rows {
-        if build(alloc, *number)? != *wanted {
-            break;
-        }
-        count = count.saturating_add(1);
-    }
-    Ok(count)
-}
-
 #[test]
-fn rows_are_built(rt: HostRuntime) -> Result<(), Fail> {
-    assert_eq!(rt; built_so(rt.alloc(), &BUILT)?, 4);
-    Ok(())
+fn rows_are_built(rt: HostRuntime) {
+    for (number, wanted) in BUILT.iter() {
+        let reply = build(&rt, rt.alloc(), *number);
+        assert!(rt; reply == *wanted, "{number}");
+    }
 }
 
-fn change(alloc: Global, old: Option<i64>, new: Option<i64>) -> Result<Change, AllocError>
-    ensures { IfOk result (λ change. (inst : Seen) → inst.schema ≡ numbers → MayMeet check inst change) }
+fn change(rt: &impl Abort, alloc: Global, old: Option<i64>, new: Option<i64>) -> Change
+    ensures { (inst : Seen) → inst.schema ≡ numbers → MayMeet check inst result }
 {
     match (old, new) {
-        (Some(old), Some(new)) => Ok(Change::Update {
+        (Some(old), Some(new)) => Change::Update {
             from: key(alloc),
-            old: row(alloc, old)?,
+            old: row(rt, alloc, old),
             to: key(alloc),
-            new: row(alloc, new)?,
-        }),
-        (None, Some(new)) => Ok(Change::Insert {
+            new: row(rt, alloc, new),
+        },
+        (None, Some(new)) => Change::Insert {
             key: key(alloc),
-            new: row(alloc, new)?,
-        }),
-        (old, None) => Ok(Change::Delete {
+            new: row(rt, alloc, new),
+        },
+        (old, None) => Change::Delete {
             key: key(alloc),
-            old: row(alloc, old.unwrap_or(0))?,
-        }),
+            old: row(rt, alloc, old.unwrap_or(0)),
+        },
     }
 }
 
@@ -304,35 +312,30 @@ fn changed<A: Attachment>(attachment: &A, alloc: Global, inst: &Instance, change
     requires inst { IsInstance (A.attachment attachment.now) inst.now }
     requires change { MayMeet (A.attachment attachment.now) inst.now change.now }
 {
-    reply_of(&attachment.on_change(alloc, &mut Ctx::new(alloc), inst, change))
-}
-
-fn changed_number(
-    alloc: Global,
-    inst: &Instance,
-    old: Option<i64>,
-    new: Option<i64>,
-) -> Result<Reply, AllocError>
-    requires check { IsInstance check inst.now }
-    requires columns { inst.now.schema ≡ numbers }
-{
-    let change = change(alloc, old, new)?;
-    Ok(changed(&Check::new(), alloc, inst, &change))
+    let mut ctx = Ctx::new(alloc);
+    let made = attachment.on_change(alloc, &mut ctx, inst, change);
+    drop(ctx);
+    reply_of(made)
 }
 
 /// What the check, deferred or not, answers to the change.
 fn test(
+    rt: &impl Abort,
     alloc: Global,
     deferred: bool,
     old: Option<i64>,
     new: Option<i64>,
-) -> Result<Reply, AllocError> {
-    let inst = instance(alloc, deferred)?;
-    changed_number(alloc, &inst, old, new)
+) -> Reply {
+    let inst = instance(rt, alloc, deferred);
+    let change = change(rt, alloc, old, new);
+    let reply = changed(&Check::new(), alloc, &inst, &change);
+    drop(change);
+    drop(inst);
+    reply
 }
 
 /// Whether the check is deferred, the number of the row that goes, that of the row that comes, and the answer.
-const CHANGES: [(bool, Option<i64>, Option<i64>, Reply); 9] = [
+static CHANGES: [(bool, Option<i64>, Option<i64>, Reply); 9] = [
     (false, None, Some(0), Reply::Done),
     (false, None, Some(-1), Reply::Veto),
     (false, Some(-1), None, Reply::Done),
@@ -344,25 +347,12 @@ const CHANGES: [(bool, Option<i64>, Option<i64>, Reply); 9] = [
     (true, Some(-1), None, Reply::Done),
 ];
 
-/// How many changes, from the first one on, are answered so.
-fn tested_so(
-    alloc: Global,
-    rows: &[(bool, Option<i64>, Option<i64>, Reply)],
-) -> Result<usize, AllocError> {
-    let mut count = 0usize;
-    for (deferred, old, new, wanted) in rows {
-        if test(alloc, *deferred, *old, *new)? != *wanted {
-            break;
-        }
-        count = count.saturating_add(1);
-    }
-    Ok(count)
-}
-
 #[test]
-fn changes_are_tested(rt: HostRuntime) -> Result<(), Fail> {
-    assert_eq!(rt; tested_so(rt.alloc(), &CHANGES)?, 9);
-    Ok(())
+fn changes_are_tested(rt: HostRuntime) {
+    for (number, (deferred, old, new, wanted)) in CHANGES.iter().enumerate() {
+        let reply = test(&rt, rt.alloc(), *deferred, *old, *new);
+        assert!(rt; reply == *wanted, "row {number}");
+    }
 }
 
 /// What a commit knows of the rows of -1.
@@ -373,20 +363,30 @@ enum Known {
     ARow,
 }
 
-fn knowing(alloc: Global, known: Known) -> Result<Ctx, AllocError>
-    ensures { IfOk result IsClean }
+fn knowing(rt: &impl Abort, alloc: Global, known: Known) -> Ctx
+    ensures { IsClean result }
 {
     let mut ctx = Ctx::new(alloc);
     let mut keys = Vec::new(alloc);
     match known {
-        Known::Nothing => return Ok(ctx),
+        Known::Nothing => {
+            drop(keys);
+            return ctx;
+        }
         Known::NoRow => {}
-        Known::ARow => keys.push(key(alloc))?,
+        Known::ARow => keys.push(key(alloc)).expect(rt, "memory"),
     }
-    let relation = Str::from_string(String::from_str(alloc, "r")?);
-    let columns = Names::from_vec(vec![in alloc; k(alloc)?]?);
-    ctx.give_found(&relation, &columns, &row(alloc, -1)?, &Keys::from_vec(keys))?;
-    Ok(ctx)
+    let relation = Str::from_string(String::from_str(alloc, "r").expect(rt, "memory"));
+    let columns = Names::from_vec(vec![in alloc; k(rt, alloc)].expect(rt, "memory"));
+    let row = row(rt, alloc, -1);
+    let keys = Keys::from_vec(keys);
+    let given = ctx.give_found(&relation, &columns, &row, &keys);
+    given.expect(rt, "memory");
+    drop(keys);
+    drop(row);
+    drop(columns);
+    drop(relation);
+    ctx
 }
 
 fn late<A: Attachment>(
@@ -399,68 +399,41 @@ fn late<A: Attachment>(
     requires clean { IsClean ctx.old }
     requires inst { IsInstance (A.attachment attachment.now) inst.now }
 {
-    reply_of(&attachment.late_check(alloc, ctx, inst, entry))
+    reply_of(attachment.late_check(alloc, ctx, inst, entry))
 }
 
 /// The bytes of a row of the number.
-fn encoded(alloc: Global, number: i64) -> Result<Bytes, AllocError> {
-    let row = row(alloc, number)?;
-    encode_tuple(alloc, &row)
-}
-
-fn late_number(
-    alloc: Global,
-    ctx: &mut Ctx,
-    inst: &Instance,
-    number: i64,
-) -> Result<Reply, AllocError>
-    requires clean { IsClean ctx.old }
-    requires inst { IsInstance check inst.now }
-{
-    let entry = encoded(alloc, number)?;
-    Ok(late(&Check::new(), alloc, ctx, inst, &entry))
-}
-
-fn late_knowing(
-    alloc: Global,
-    inst: &Instance,
-    number: i64,
-    known: Known,
-) -> Result<Reply, AllocError>
-    requires { IsInstance check inst.now }
-{
-    let mut ctx = knowing(alloc, known)?;
-    late_number(alloc, &mut ctx, inst, number)
+fn encoded(rt: &impl Abort, alloc: Global, number: i64) -> Bytes {
+    let row = row(rt, alloc, number);
+    let bytes = encode_tuple(alloc, &row);
+    drop(row);
+    bytes.expect(rt, "memory")
 }
 
 /// What the check answers at the commit to an entry of the number.
-fn test_late(alloc: Global, number: i64, known: Known) -> Result<Reply, AllocError> {
-    let inst = instance(alloc, true)?;
-    late_knowing(alloc, &inst, number, known)
+fn test_late(rt: &impl Abort, alloc: Global, number: i64, known: Known) -> Reply {
+    let inst = instance(rt, alloc, true);
+    let entry = encoded(rt, alloc, number);
+    let mut ctx = knowing(rt, alloc, known);
+    let reply = late(&Check::new(), alloc, &mut ctx, &inst, &entry);
+    drop(ctx);
+    drop(entry);
+    drop(inst);
+    reply
 }
 
 /// The number of the entry, what is known, and the answer.
-const LATE: [(i64, Known, Reply); 4] = [
+static LATE: [(i64, Known, Reply); 4] = [
     (3, Known::Nothing, Reply::Done),
     (-1, Known::Nothing, Reply::Find),
     (-1, Known::NoRow, Reply::Done),
     (-1, Known::ARow, Reply::Veto),
 ];
 
-/// How many entries, from the first one on, are answered so.
-fn late_so(alloc: Global, rows: &[(i64, Known, Reply)]) -> Result<usize, AllocError> {
-    let mut count = 0usize;
-    for (number, known, wanted) in rows {
-        if test_late(alloc, *number, *known)? != *wanted {
-            break;
-        }
-        count = count.saturating_add(1);
-    }
-    Ok(count)
-}
-
 #[test]
-fn entries_are_tested(rt: HostRuntime) -> Result<(), Fail> {
-    assert_eq!(rt; late_so(rt.alloc(), &LATE)?, 4);
-    Ok(())
+fn entries_are_tested(rt: HostRuntime) {
+    for (row, (number, known, wanted)) in LATE.iter().enumerate() {
+        let reply = test_late(&rt, rt.alloc(), *number, *known);
+        assert!(rt; reply == *wanted, "row {row}");
+    }
 }

@@ -319,7 +319,7 @@ module _ (old mid : View) (l m page child : ℕ) (bytes : List ℕ) (head : Head
         by : (outcome : Result Taken Stop) → RaisesChild mid new l page (Some (node_in bytes)) bound r outcome → MayAsk new (as_walk outcome)
         by (Ok taken) h = tt
         by (Err (stop.Need x)) h = absurd h.3
-        by (Err stop.Fresh) h = h.3
+        by (Err stop.Fresh) h = h.3.1
         by (Err (stop.Broken x)) h = subst (λ y. IsSome (page_of new y)) (sym h.3.0) (held_still mid new page new_given (subst (λ (o : Option (List ℕ)). IsSome o) (sym (page_still ∙ is.held_is)) refl))
         by (Err stop.NoMemory) h = tt
 

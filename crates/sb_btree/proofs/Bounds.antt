@@ -125,7 +125,7 @@ halves_put old new l page p₀ p₁ o₀ o₁ right key value bound (Err s) none
     by (stop.Need x) (inl e) = absurd (cc)
     by (stop.Need x) (inr e) = let f = e.0 in absurd (cc)
     by stop.Fresh (inl e) = absurd (cc)
-    by stop.Fresh (inr e) = e.1
+    by stop.Fresh (inr e) = (none, e.1)
     by (stop.Broken x) (inl e) = absurd (cc)
     by (stop.Broken x) (inr e) = let f = e.0 in absurd (cc)
     by stop.NoMemory h = tt

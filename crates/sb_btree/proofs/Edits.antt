@@ -115,7 +115,7 @@ pub put_asks : (stands : Bool) (old new : View) (l page : ℕ) (o : Option Node)
 put_asks stands old new l page None key value outcome given held h = absurd h
 put_asks stands old new l page (Some n) key value (Ok put) given held h = tt
 put_asks stands old new l page (Some n) key value (Err (stop.Need x)) given held h = absurd h
-put_asks stands old new l page (Some n) key value (Err stop.Fresh) given held h = h
+put_asks stands old new l page (Some n) key value (Err stop.Fresh) given held h = h.1
 put_asks stands old new l page (Some n) key value (Err (stop.Broken x)) given held h = subst (λ y. IsSome (page_of new y)) (sym h.0) (held_still old new page given held)
 put_asks stands old new l page (Some n) key value (Err stop.NoMemory) given held h = tt
 

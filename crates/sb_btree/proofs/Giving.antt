@@ -138,7 +138,7 @@ module _ (old mid new : View) (l page : ℕ) (bytes : List ℕ) (head : Head) (b
         puts = subst (λ a. PutChildAt mid new l page (Some (taker true child (node_in bytes))) bound a (Ok put_is)) (ap (λ (h : Head). h.a) is.head_is) h;
       }
       by (Err (stop.Need x)) h = absurd h.3
-      by (Err stop.Fresh) h = h.3
+      by (Err stop.Fresh) h = h.3.1
       by (Err (stop.Broken x)) h = (h.3.0, held, h.3.1)
       by (Err stop.NoMemory) h = tt
 

@@ -9,7 +9,7 @@ use Rattle.sb_forms.specs.Tree.{nodes}
 use Rattle.sb_forms.specs.Read.{has, read_tree}
 use Rattle.sb_btree.specs.Broken.{is_no_root}
 use Rattle.sb_btree.specs.Held.{IsRootPage, Lacks}
-use Rattle.sb_btree.specs.Inserts.{GrowsTo, IsThere, Puts, OverPlaces, OverTrees, PutsAt}
+use Rattle.sb_btree.specs.Inserts.{GrowsAt, GrowsTo, IsThere, Puts, OverPlaces, OverTrees, PutsAt}
 use Rattle.sb_btree.specs.Ways.{way, is_on_way}
 use Rattle.sb_btree.specs.Walks.{Gives, Needs, OnTree, OverNodes, as_walk}
 use Rattle.sb_btree.specs.declared.insertion.Put.{Put}
@@ -46,7 +46,18 @@ module _ (stands : Bool) (old : View) (root l : ℕ) (key value : List ℕ) (pag
     where
       by : (s : Stop) → PutsAt stands old new l root key value P [] None (Err s) → Puts stands old new root key value P es (as_walk (Err s))
       by (stop.Need n) h = tt
-      by stop.Fresh h = tt
+      by stop.Fresh h = subst (λ xs. IsThere stands (find key_cmp key xs)) (at_root old P root l es page read).items_are h
+      by (stop.Broken n) h = h
+      by stop.NoMemory h = tt
+
+  -- the root was split, and no new one came of it
+  pub grow_inserts : (mid new : View) (bound : List ℕ) (next : ℕ) (s : Stop) → OverPlaces old l root key (λ P low high. PutsAt stands old mid l root key value P low high (Ok (Split bound next)))
+      → GrowsAt mid new root l bound next (Err s) → OverTrees old root (λ P es. Puts stands old new root key value P es (as_walk (Err s)))
+  grow_inserts mid new bound next s puts grows P es read = by s grows
+    where
+      by : (s : Stop) → GrowsAt mid new root l bound next (Err s) → Puts stands old new root key value P es (as_walk (Err s))
+      by (stop.Need n) h = tt
+      by stop.Fresh h = subst (λ xs. IsThere stands (find key_cmp key xs)) (at_root old P root l es page read).items_are (root_puts mid (Ok (Split bound next)) P es puts read).0.0
       by (stop.Broken n) h = h
       by stop.NoMemory h = tt
 
@@ -77,6 +88,6 @@ no_root_inserts stands c root key value s lacks P es read = by s (no_root_gives 
   where
     by : (s : Stop) → Gives (λ (b : List ℕ). Unit {0}) (as_walk (Err s)) → Puts stands c c root key value P es (as_walk (Err s))
     by (stop.Need n) h = tt
-    by stop.Fresh h = tt
+    by stop.Fresh h = absurd h
     by (stop.Broken n) h = h
     by stop.NoMemory h = tt

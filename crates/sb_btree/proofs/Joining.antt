@@ -144,6 +144,6 @@ module _ (old : View) (l m page : ℕ) (n : Node) (i child left : ℕ) (down : l
             ends = subst (λ p. EndsBeside next new (suc m) page (without_child i n) p dropping taken) (sym is) h;
           }
           by (Err (stop.Need x)) h = absurd h.3
-          by (Err stop.Fresh) h = h.3
+          by (Err stop.Fresh) h = h.3.1
           by (Err (stop.Broken x)) h = inl (h.3.0, inl (without_amiss m i n up h.3.1))
           by (Err stop.NoMemory) h = tt

@@ -50,3 +50,6 @@ pub mod Below
 pub mod Stepped
 pub mod Lowered
 pub mod Breaking
+pub mod Meeting
+pub mod OneLeaf
+pub mod PageCounts

@@ -17,7 +17,7 @@ use Rattle.sb_btree.specs.declared.walk.Stop.TheVariants as stop
 use Rattle.sb_btree.proofs.Children.{tree_step}
 use Rattle.sb_btree.proofs.Descending.{tree_page}
 use Rattle.sb_btree.proofs.Halved.{leaf_done, leaf_split}
-use Rattle.sb_btree.proofs.Raised.{kid, kid_low, kid_high, raise_done, raise_grown, raise_split}
+use Rattle.sb_btree.proofs.Raised.{kid, kid_low, kid_high, find_is, raise_done, raise_grown, raise_split}
 
 -- a page of a tree isn't amiss
 not_amiss : (l : ℕ) (P : Pages) (page : ℕ) (n : Node) → nodes P page ≡ Some n → IsTree l (nodes P) page → is_page l (Some n) ≡ false → ⊥
@@ -29,7 +29,7 @@ leaf_puts stands old new P page key value low high n (Ok Kept) at held place sma
 leaf_puts stands old new P page key value low high n (Ok Done) at held place small sorted h = leaf_done stands old new P page key value low high n at held place small h.0 h.1
 leaf_puts stands old new P page key value low high n (Ok (Split bound next)) at held place small sorted h = (leaf_split stands old new P page next bound key value low high n at held place small h.0 sorted h.2, h.1)
 leaf_puts stands old new P page key value low high n (Err (stop.Need x)) at held place small sorted h = tt
-leaf_puts stands old new P page key value low high n (Err stop.Fresh) at held place small sorted h = tt
+leaf_puts stands old new P page key value low high n (Err stop.Fresh) at held place small sorted h = subst (λ o. IsThere stands (find key_cmp key (entries_of o))) (sym at) h.0
 leaf_puts stands old new P page key value low high n (Err (stop.Broken x)) at held place small sorted h = not_amiss 0 (stored old P) page n at place.tree h.1
 leaf_puts stands old new P page key value low high n (Err stop.NoMemory) at held place small sorted h = tt
 
@@ -46,7 +46,7 @@ module _ (stands : Bool) (l : ℕ) (old : View) (P : Pages) (page : ℕ) (key va
   same_puts new (Ok Done) whole h = raise_done stands l old P page key value low high n at place new h
   same_puts new (Ok (Split bound next)) whole h = absurd whole
   same_puts new (Err (stop.Need x)) whole h = tt
-  same_puts new (Err stop.Fresh) whole h = tt
+  same_puts new (Err stop.Fresh) whole h = find_is stands l old P page key value low high n at place h
   same_puts new (Err (stop.Broken x)) whole h = h
   same_puts new (Err stop.NoMemory) whole h = tt
 
@@ -59,6 +59,6 @@ module _ (stands : Bool) (l : ℕ) (old : View) (P : Pages) (page : ℕ) (key va
   child_puts mid new bound next (Ok (Split top r)) given held there below h =
       (raise_split stands l old P page key value low high n at place mid bound h.0 next given below.0 held (h.1, below.1) h.2 new top r there h.3.2, h.3.1)
   child_puts mid new bound next (Err (stop.Need x)) given held there below h = tt
-  child_puts mid new bound next (Err stop.Fresh) given held there below h = tt
+  child_puts mid new bound next (Err stop.Fresh) given held there below h = find_is stands l old P page key value low high n at place below.0.0
   child_puts mid new bound next (Err (stop.Broken x)) given held there below h = not_amiss (suc l) (stored old P) page n at place.tree h.3.1
   child_puts mid new bound next (Err stop.NoMemory) given held there below h = tt

@@ -69,7 +69,7 @@ module _ (stands : Bool) (l : ℕ) (old : View) (P : Pages) (page : ℕ) (key va
   pub kid_place : IsPlace l (stored old P) kid kid_low kid_high key
   kid_place = subst (λ c. IsPlace l (stored old P) c kid_low kid_high key) kid_is (child_place l (stored old P) page low high key value n at place)
 
-  find_is : IsThere stands (find key_cmp key (items l (nodes (stored old P)) kid)) → IsThere stands (find key_cmp key (items (suc l) (nodes (stored old P)) page))
+  pub find_is : IsThere stands (find key_cmp key (items l (nodes (stored old P)) kid)) → IsThere stands (find key_cmp key (items (suc l) (nodes (stored old P)) page))
   find_is is = subst (IsThere stands) (sym (tree_step (nodes (stored old P)) l key page place.tree ∙ ap (λ o. find key_cmp key (items l (nodes (stored old P)) (child_in key o))) at)) is
 
   -- the child stayed one page

@@ -119,7 +119,7 @@ module _ (old new : View) (l page : ℕ) (bytes key value : List ℕ) (i : ℕ) 
     },
   )
   replaced (Err (stop.Need x)) h = absurd h
-  replaced (Err stop.Fresh) h = h
+  replaced (Err stop.Fresh) h = (there, h.1)
   replaced (Err (stop.Broken x)) h = (h.0, was_no_page h.1)
   replaced (Err stop.NoMemory) h = tt
 

@@ -33,7 +33,7 @@ use Rattle.sb_btree.proofs.Roots.{stored_shows}
 
 pub stop_puts : (stands : Bool) (old : View) (l page : ℕ) (key value : List ℕ) (s : Stop) → Lacks (page_of old page) (is_amiss l (page_of old page)) page s → OverPlaces old l page key (λ P low high. PutsAt stands old old l page key value P low high (Err s))
 stop_puts stands old l page key value (stop.Need n) lacks P low high place = tt
-stop_puts stands old l page key value stop.Fresh lacks P low high place = tt
+stop_puts stands old l page key value stop.Fresh lacks P low high place = absurd lacks
 stop_puts stands old l page key value (stop.Broken n) lacks P low high place =
     true≢false (sym lacks.1 ∙ tree_amiss l (page_of old page) (nodes (stored old P)) page (stored_shows old P page) place.tree)
 stop_puts stands old l page key value stop.NoMemory lacks P low high place = tt

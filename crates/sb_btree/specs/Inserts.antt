@@ -41,13 +41,13 @@ pub record Grew (c : View) (root : ℕ) (before after : Pages) : Type 0 where
   pub to : (n : ℕ) → has n (tree_met root before) ≡ true → has n (tree_met root after) ≡ true
   pub keeps : (n : ℕ) → has n (tree_met root after) ≡ false → after n ≡ before n
 
--- The end of a put into a tree with these entries, where the key is to stand, or isn't to. The value is put in; or it is otherwise with the key, and nothing changes. A question and want of memory say nothing of the tree, and no page of it is called broken.
+-- The end of a put into a tree with these entries, where the key is to stand, or isn't to. The value is put in; or it is otherwise with the key, and nothing changes. A fresh page is asked for only where it is to be put in. Other questions and want of memory say nothing of the tree, and no page of it is called broken.
 abbrev pub Puts : Bool → View → View → ℕ → List ℕ → List ℕ → Pages → List Entry → Walk Bool → Type 0
 Puts stands old new root key value P es (Ready true) =
     IsThere stands (find key_cmp key es) × (read_tree root (stored new P) ≡ Some (put key_cmp key value es)) × Grew old root (stored old P) (stored new P)
 Puts stands old new root key value P es (Ready false) = IsThere (not stands) (find key_cmp key es) × (new ≡ old)
 Puts stands old new root key value P es (Need n) = Unit {0}
-Puts stands old new root key value P es Fresh = Unit {0}
+Puts stands old new root key value P es Fresh = IsThere stands (find key_cmp key es)
 Puts stands old new root key value P es (Broken n) = ⊥
 Puts stands old new root key value P es NoMemory = Unit {0}
 
@@ -80,10 +80,12 @@ Changes stands old new l p key value P low high put_is =
     × (fresh : List ℕ) × WereFree old fresh
     × Became l (stored old P) (stored new P) (met l (nodes (stored old P)) p) (Some low) high (children_after p low put_is) (put key_cmp key value (items l (nodes (stored old P)) p)) fresh []
 
+-- what it comes to; a fresh page is asked for only where the value is to be put in
 abbrev pub PutsAt : Bool → View → View → ℕ → ℕ → List ℕ → List ℕ → Pages → List ℕ → Option (List ℕ) → Result Put Stop → Type 0
 PutsAt stands old new l p key value P low high (Ok Kept) = IsThere (not stands) (find key_cmp key (items l (nodes (stored old P)) p)) × (new ≡ old)
 PutsAt stands old new l p key value P low high (Ok Done) = Changes stands old new l p key value P low high Done
 PutsAt stands old new l p key value P low high (Ok (Split bound next)) = Changes stands old new l p key value P low high (Split bound next) × (length bound ≤ 602)
+PutsAt stands old new l p key value P low high (Err stop.Fresh) = IsThere stands (find key_cmp key (items l (nodes (stored old P)) p))
 PutsAt stands old new l p key value P low high (Err (stop.Broken n)) = ⊥
 PutsAt stands old new l p key value P low high (Err s) = Unit {0}
 
@@ -140,7 +142,7 @@ PutAt stands old new l page (Some n) key value (Ok Kept) = IsThere (not stands) 
 PutAt stands old new l page (Some n) key value (Ok Done) = IsThere stands (find key_cmp key n.entries) × PutOne old new page n key value
 PutAt stands old new l page (Some n) key value (Ok (Split bound next)) = IsThere stands (find key_cmp key n.entries) × (length bound ≤ 602) × PutTwo old new l page next n bound key value
 PutAt stands old new l page (Some n) key value (Err (stop.Need x)) = ⊥
-PutAt stands old new l page (Some n) key value (Err stop.Fresh) = free_page new ≡ None
+PutAt stands old new l page (Some n) key value (Err stop.Fresh) = IsThere stands (find key_cmp key n.entries) × (free_page new ≡ None)
 PutAt stands old new l page (Some n) key value (Err (stop.Broken x)) = (x ≡ page) × (is_page l (Some n) ≡ false)
 PutAt stands old new l page (Some n) key value (Err stop.NoMemory) = Unit {0}
 

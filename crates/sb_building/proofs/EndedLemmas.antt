@@ -18,7 +18,7 @@ use Rattle.sb_relation.specs.Limits.{descriptor_len}
 use Rattle.sb_relation.specs.Rules.{holds}
 use Rattle.sb_fold.specs.Building.{has_long_row}
 use Rattle.sb_forms.specs.Pages.{Pages}
-use Rattle.sb_forms.specs.Read.{read_tree}
+use Rattle.sb_forms.specs.Maps.{map_in}
 use Rattle.sb_ctx.specs.declared.instance.Instance.{Instance}
 use Rattle.sb_ctx.specs.Attachment.{Attachment}
 use Rattle.sb_ctx.specs.AttachAnswers.{Holds, content_over}
@@ -147,7 +147,7 @@ module _ {S : Type 0} (Has : Wanted → Slots → S → Type 0) (m : Meanings) (
           → Holds live.box inst (owned pages inst.owner) (content_over live.box inst rule (db_of x.kept) (standing_buckets rule x.one.relation.rows))
           → IsStorableDescriptor (record x.one.descriptor { attachments = with_described d x.one.descriptor.attachments })
           → Leaves Has 2 x.want pages new_space
-          (λ after. read_tree root after ≡ Some (put key_cmp name (descriptor_spelling (record x.one.descriptor { attachments = with_described d x.one.descriptor.attachments })) (map entry_of x.kept)))
+          (λ after. map_in root after ≡ Some (put key_cmp name (descriptor_spelling (record x.one.descriptor { attachments = with_described d x.one.descriptor.attachments })) (map entry_of x.kept)))
           → KeepsDb Has m root x.gone (with_attached (db_of x.kept) name label rule) new_space
       KeepsDb-attached pages new_space others holds storable left =
           let one = attached_kept d new x.one in
@@ -166,7 +166,7 @@ module _ {S : Type 0} (Has : Wanted → Slots → S → Type 0) (m : Meanings) (
               others = λ o other catalogue. left.others o catalogue ∙ others o (λ e. other (e ∙ owner_is)) ∙ begun.others o (λ e. other (e ∙ owner_is));
             };
             keeps = IsKept-attached m IsDurable left.slots x.kept x.one d new there_by_name (kept_before left.slots held);
-            catalogue = subst (λ (n : Name). read_tree root (owned left.slots 2) ≡ Some (put key_cmp n (descriptor_spelling one.descriptor) (map entry_of x.kept))) (sym one_named) left.own;
+            catalogue = subst (λ (n : Name). map_in root (owned left.slots 2) ≡ Some (put key_cmp n (descriptor_spelling one.descriptor) (map entry_of x.kept))) (sym one_named) left.own;
           } in
           record {
             want = x.want;

@@ -12,7 +12,7 @@ use Rattle.sb_relation.specs.Db.{Name, Rows}
 use Rattle.sb_relation.specs.Lawful.{is_long_for}
 use Rattle.sb_relation.specs.Rules.{holds}
 use Rattle.sb_fold.specs.Building.{has_long_row}
-use Rattle.sb_forms.specs.Read.{read_tree}
+use Rattle.sb_forms.specs.Maps.{map_in}
 use Rattle.sb_ctx.specs.declared.instance.Instance.{Instance}
 use Rattle.sb_ctx.specs.Attachment.{Attachment}
 use Rattle.sb_registry.specs.Boxes.{Meanings, attachment_of}
@@ -156,18 +156,18 @@ module _ {S : Type 0} (Has : Wanted → Slots → S → Type 0) (m : Meanings) (
     abbrev there : Site
     there = record x { slots = left.slots }
 
-    catalogue_there : read_tree root (owned left.slots 2) ≡ Some (map entry_of x.kept)
+    catalogue_there : map_in root (owned left.slots 2) ≡ Some (map entry_of x.kept)
     catalogue_there = (Tables-apart m root inst.owner begun.slots left.slots x.kept begun.site.apart left.others begun.site.tables).catalogue
 
     pub ended_placed : main_of o.name d.rule ≡ None
-        → ((y : Site) → Has y.want y.slots built → read_tree root (owned y.slots 2) ≡ Some (map entry_of y.kept)
+        → ((y : Site) → Has y.want y.slots built → map_in root (owned y.slots 2) ≡ Some (map entry_of y.kept)
         → Leaves Has 2 y.want y.slots new
-        (λ after. read_tree root after ≡ Some (put key_cmp o.name (descriptor_spelling (record o.descriptor { attachments = with_described d o.descriptor.attachments })) (map entry_of y.kept))))
+        (λ after. map_in root after ≡ Some (put key_cmp o.name (descriptor_spelling (record o.descriptor { attachments = with_described d o.descriptor.attachments })) (map entry_of y.kept))))
         → IsStorableDescriptor (record o.descriptor { attachments = with_described d o.descriptor.attachments }) → HasEnded Has m root x o.name d.name d.rule may.box.rules new Done
     unfolding HasEnded
     ended_placed main placed storable_with =
         let Spelled : Descriptor → Type 0 = λ q.
-        Leaves Has 2 x.want left.slots new (λ after. read_tree root after ≡ Some (put key_cmp o.name (descriptor_spelling (record q { attachments = with_described d q.attachments })) (map entry_of x.kept))) in (
+        Leaves Has 2 x.want left.slots new (λ after. map_in root after ≡ Some (put key_cmp o.name (descriptor_spelling (record q { attachments = with_described d q.attachments })) (map entry_of x.kept))) in (
           short,
           holds_as held main left.own.says ∙ passes,
           KeepsDb-attached Has m root x o.name stores d.name d.rule may d own_entry inst inst_is live mid begun left.slots new left.others
@@ -176,6 +176,6 @@ module _ {S : Type 0} (Has : Wanted → Slots → S → Type 0) (m : Meanings) (
               (subst Spelled (sym same) (placed there left.has catalogue_there)),
         )
 
-    pub placed_refused : (Cause : Type 0) → ((y : Site) → Has y.want y.slots built → read_tree root (owned y.slots 2) ≡ Some (map entry_of y.kept) → IsRoomy o.name o.descriptor d → Cause) → Cause
+    pub placed_refused : (Cause : Type 0) → ((y : Site) → Has y.want y.slots built → map_in root (owned y.slots 2) ≡ Some (map entry_of y.kept) → IsRoomy o.name o.descriptor d → Cause) → Cause
     placed_refused Cause refused =
         refused there left.has catalogue_there (subst (λ (q : Descriptor). IsRoomy o.name q d) same (IsRoomy-may Has m root x o.name stores d.name d.rule may d own_entry))

@@ -1,4 +1,4 @@
-//! Rules that come.
+//! Rules that come. Values that aren't handed on go by calls of `drop`.
 
 ghost use Rattle.std.specs.Prelude.{◌≡◌, ◌≤◌, ◌⊎◌, false, None, length, IfErr, IfOk, OnOk};
 ghost use Rattle.sb_rule.specs.Spelling.{rule_code};
@@ -139,12 +139,20 @@ fn attach_rule<S: Owners, B: Boxes>(
     ensures ready { S.is_ready space.new }
 {
     if !is_short_name(name) {
+        drop(rule);
         return Err(SpaceFault::Damaged { page: place.root });
     }
-    let Some(one) = open_relation(space, alloc, boxes, place, relation)? else {
-        return Err(SpaceFault::Damaged { page: place.root });
-    };
-    attach_to(space, alloc, boxes, place, one, name, rule)
+    match open_relation(space, alloc, boxes, place, relation) {
+        Ok(Some(one)) => attach_to(space, alloc, boxes, place, one, name, rule),
+        Ok(None) => {
+            drop(rule);
+            Err(SpaceFault::Damaged { page: place.root })
+        }
+        Err(fault) => {
+            drop(rule);
+            Err(fault)
+        }
+    }
 }
 
 /// The same on an open relation.
@@ -175,12 +183,30 @@ fn attach_to<S: Owners, B: Boxes>(
     ensures leads { LeadsOn S.leads space.old space.new }
     ensures ready { S.is_ready space.new }
 {
-    let long = has_long_row(space, alloc, boxes, &one.table, &rule)?;
-    if long {
-        return Ok(Attaching::TooLong);
+    match has_long_row(space, alloc, boxes, &one.table, &rule) {
+        Ok(false) => {}
+        Ok(true) => {
+            drop(one);
+            drop(rule);
+            return Ok(Attaching::TooLong);
+        }
+        Err(fault) => {
+            drop(one);
+            drop(rule);
+            return Err(fault);
+        }
     }
-    let (attached, inst) = begin(space, alloc, boxes, place, &one, label, rule)?;
-    build_on(space, alloc, boxes, place, one, attached, &inst)
+    match begin(space, alloc, boxes, place, &one, label, rule) {
+        Ok((attached, inst)) => {
+            let built = build_on(space, alloc, boxes, place, one, attached, &inst);
+            drop(inst);
+            built
+        }
+        Err(fault) => {
+            drop(one);
+            Err(fault)
+        }
+    }
 }
 
 /// Builds the content of a new instance on an open relation, and gives its attachment a place in the relation's descriptor.
@@ -217,17 +243,33 @@ fn build_on<S: PageSpace, B: Boxes>(
     ensures ready { S.is_ready space.new }
 {
     let rule = &attached.rule;
-    let held = build_rows(space, alloc, boxes, place, &one.table, inst, rule)?;
-    if !held {
-        return Ok(Attaching::Vetoed);
+    match build_rows(space, alloc, boxes, place, &one.table, inst, rule) {
+        Ok(true) => {}
+        Ok(false) => {
+            drop(one);
+            drop(attached);
+            return Ok(Attaching::Vetoed);
+        }
+        Err(fault) => {
+            drop(one);
+            drop(attached);
+            return Err(fault);
+        }
     }
     let OpenRelation {
         name,
         descriptor,
-        ..
+        table,
+        rules,
     } = one;
-    place_rule(space, alloc, place, &name, descriptor, attached)?;
-    Ok(Attaching::Attached)
+    let placed = place_rule(space, alloc, place, &name, descriptor, attached);
+    drop(name);
+    drop(table);
+    drop(rules);
+    match placed {
+        Ok(()) => Ok(Attaching::Attached),
+        Err(fault) => Err(fault),
+    }
 }
 
 fn too_long(relation: &Str) -> Refusal

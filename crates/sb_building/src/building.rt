@@ -50,8 +50,15 @@ pub(crate) fn prepare<S: PageSpace, B: Boxes>(
     ensures ready { S.is_ready space.new }
 {
     let call = AttachCall::Prepare;
-    ask(space, alloc, boxes, place, inst, &call)?;
-    Ok(())
+    let made = ask(space, alloc, boxes, place, inst, &call);
+    drop(call);
+    match made {
+        Ok(end) => {
+            drop(end);
+            Ok(())
+        }
+        Err(fault) => Err(fault),
+    }
 }
 
 /// Adds all rows of the relation to the content, one after the other, up to one that isn't admitted. Whether all are admitted.
@@ -127,10 +134,24 @@ fn build_row<S: PageSpace, B: Boxes>(
     ensures leads { LeadsOn S.leads space.old space.new }
     ensures ready { S.is_ready space.new }
 {
-    let copy = key.copy()?;
+    let copy = match key.copy() {
+        Ok(copy) => copy,
+        Err(fault) => {
+            drop(row);
+            return Err(SpaceFault::from(fault));
+        }
+    };
     let call = AttachCall::Build(copy, row);
-    let made = ask(space, alloc, boxes, place, inst, &call)?;
-    Ok(is_done(&made))
+    let made = ask(space, alloc, boxes, place, inst, &call);
+    drop(call);
+    match made {
+        Ok(end) => {
+            let admitted = is_done(&end);
+            drop(end);
+            Ok(admitted)
+        }
+        Err(fault) => Err(fault),
+    }
 }
 
 fn is_done(made: &Move) -> bool

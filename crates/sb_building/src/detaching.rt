@@ -76,8 +76,15 @@ fn detach_both<B: Boxes, S: PageSpace>(
         return detach_named(running, alloc, relation, name);
     };
     match detach_named(running, alloc, relation, name) {
-        Ok(()) => detach_named(running, alloc, &mirror.0, &mirror.1),
-        Err(refusal) => Err(refusal),
+        Ok(()) => {
+            let made = detach_named(running, alloc, &mirror.0, &mirror.1);
+            drop(mirror);
+            made
+        }
+        Err(refusal) => {
+            drop(mirror);
+            Err(refusal)
+        }
     }
 }
 
@@ -104,7 +111,9 @@ fn mirror_at<S: PageSpace, B: Boxes>(
     let Some(one) = open_relation(space, alloc, boxes, place, relation)? else {
         return Ok(None);
     };
-    let mirror = mirror_among(one.descriptor.attachments.as_slice(), relation, name)?;
+    let made = mirror_among(one.descriptor.attachments.as_slice(), relation, name);
+    drop(one);
+    let mirror = made?;
     Ok(mirror)
 }
 
@@ -135,6 +144,12 @@ fn mirror_named(relation: &Str, attached: &Attached) -> Result<Option<(Str, Str)
         return Ok(None);
     };
     let other = other.copy()?;
-    let label = mirror_name(relation, &attached.name)?;
+    let label = match mirror_name(relation, &attached.name) {
+        Ok(label) => label,
+        Err(fault) => {
+            drop(other);
+            return Err(fault);
+        }
+    };
     Ok(Some((other, label)))
 }

@@ -1,4 +1,4 @@
-//! New instances of attachments.
+//! New instances of attachments. Values that aren't handed on go by calls of `drop`.
 
 ghost use Rattle.std.specs.Prelude.{◌≡◌, ◌≤◌, IfErr, IfOk, IsUtf8, length};
 ghost use Rattle.sb_rule.specs.Spelling.{rule_code};
@@ -62,9 +62,21 @@ pub(crate) fn begin<S: Owners, B: Boxes>(
     let code = code_of(&rule);
     boxes.learn_rule(code);
     let attached = new_entry(space, alloc, label, rule)?;
-    let inst = test_entry(space, alloc, boxes, place, opened, &attached)?;
-    prepare(space, alloc, boxes, place, &inst)?;
-    Ok((attached, inst))
+    let inst = match test_entry(space, alloc, boxes, place, opened, &attached) {
+        Ok(inst) => inst,
+        Err(fault) => {
+            drop(attached);
+            return Err(fault);
+        }
+    };
+    match prepare(space, alloc, boxes, place, &inst) {
+        Ok(()) => Ok((attached, inst)),
+        Err(fault) => {
+            drop(attached);
+            drop(inst);
+            Err(fault)
+        }
+    }
 }
 
 /// A new entry of a rule, with a place for its instance.
@@ -84,7 +96,13 @@ fn new_entry<S: Owners>(
     ensures ready { S.is_ready space.new }
 {
     let code = code_of(&rule);
-    let (owner, root) = new_place(space, alloc, code)?;
+    let (owner, root) = match new_place(space, alloc, code) {
+        Ok(made) => made,
+        Err(fault) => {
+            drop(rule);
+            return Err(fault);
+        }
+    };
     let attached = entry_of(code, owner, root, label, rule)?;
     Ok(attached)
 }
@@ -163,7 +181,13 @@ fn entry_of(
     ensures root { IfOk result (λ d. d.root ≡ root) }
 {
     learn_parts(code, owner, root, label);
-    let name = label.copy()?;
+    let name = match label.copy() {
+        Ok(name) => name,
+        Err(fault) => {
+            drop(rule);
+            return Err(fault);
+        }
+    };
     Ok(Attached {
         code,
         owner,

@@ -4,7 +4,7 @@ ghost use Rattle.std.specs.Prelude.{◌≡◌, ◌<◌, ◌≤◌, ◌↔◌, Is
 ghost use Rattle.std.specs.FinMap.Entries.{put};
 ghost use Rattle.std.specs.List.{position_or_len};
 ghost use Rattle.sb_node.specs.Entries.{key_cmp};
-ghost use Rattle.sb_forms.specs.Read.{read_tree};
+ghost use Rattle.sb_forms.specs.Maps.{map_in};
 ghost use Rattle.sb_drive.specs.Slots.{owned};
 ghost use Rattle.sb_drive.specs.Spaces.{LeadsOn, Leaves};
 ghost use Rattle.sb_catalog.specs.Descriptors.{descriptor_spelling, IsStorableAttached, IsStorableDescriptor};
@@ -44,25 +44,30 @@ pub(crate) fn place_rule<S: PageSpace>(
     requires attached { IsStorableAttached attached }
 
     ensures placed { OnOk result ((x : Site) → S.has x.want x.slots space.old
-        → read_tree place.root (owned x.slots 2) ≡ Some (map entry_of x.kept)
-        → Leaves S.has 2 x.want x.slots space.new (λ after. read_tree place.root after
+        → map_in place.root (owned x.slots 2) ≡ Some (map entry_of x.kept)
+        → Leaves S.has 2 x.want x.slots space.new (λ after. map_in place.root after
         ≡ Some (put key_cmp name.now (descriptor_spelling (record descriptor { attachments = with_described attached descriptor.attachments }))
         (map entry_of x.kept)))) }
     ensures storable { OnOk result (IsStorableDescriptor (record descriptor { attachments = with_described attached descriptor.attachments })) }
     ensures refused { IfErr result (λ e. (x : Site) → S.has x.want x.slots space.old
-        → read_tree place.root (owned x.slots 2) ≡ Some (map entry_of x.kept)
+        → map_in place.root (owned x.slots 2) ≡ Some (map entry_of x.kept)
         → IsRoomy name.now descriptor attached → HasRefusalCause S.fails (refusal_of e) space.new) }
     ensures leads { LeadsOn S.leads space.old space.new }
     ensures ready { S.is_ready space.new }
 {
     if !has_room(name, &descriptor) {
+        drop(descriptor);
+        drop(attached);
         return Err(SpaceFault::Damaged { page: place.root });
     }
     let new = with_attached(descriptor, attached)?;
     if descriptor_len(&new) > MOST_BYTES {
+        drop(new);
         return Err(SpaceFault::Damaged { page: place.root });
     }
-    enter(space, alloc, place, name, &new)
+    let entered = enter(space, alloc, place, name, &new);
+    drop(new);
+    entered
 }
 
 /// Whether there are few attachments enough for one more, and the name is short enough.

@@ -46,6 +46,7 @@ fn drain<L: Layer>(layer: &mut L, alloc: Global, most: u32) -> Result<(), Refusa
     let mut left = most;
     while let Some(action) = layer.next_waiting(alloc)? {
         if left == 0 {
+            drop(action);
             return Err(Refusal::DeferLimit);
         }
         act_waiting(layer, alloc, action)?;
@@ -65,5 +66,7 @@ fn act_waiting<L: Layer>(layer: &mut L, alloc: Global, action: Action) -> Result
     ensures leads { L.leads layer.old layer.new }
     ensures ready { L.is_ready layer.new }
 {
-    act(layer, alloc, LEVELS, &action)
+    let made = act(layer, alloc, LEVELS, &action);
+    drop(action);
+    made
 }

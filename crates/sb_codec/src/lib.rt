@@ -11,6 +11,3 @@ pub use key::{ordered_key, unordered_key};
 pub use laws::{keeps_order, one_list, one_tuple};
 pub use length::{key_len, tuple_len};
 pub use tuple::{decode_tuple, encode_tuple};
-
-#[cfg(test)]
-mod tests;

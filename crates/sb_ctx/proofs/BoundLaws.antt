@@ -1,5 +1,5 @@
 -- A box that sets itself no bounds keeps to them.
-use Rattle.std.proofs.Common.{◌≡◌, ℕ, ◌+◌, ◌≤◌, ◌<◌, Bool, true, false, cond, not, ◌&&◌, List, [], ◌∷◌, length, filter, Some, None, sym, ap, subst, ◌∙◌, arith, ◌==◌, max, slice_get, suc, refl, true≢false, bytes_eq, nat_le, All}
+use Rattle.std.proofs.Common.{◌≡◌, ℕ, ◌+◌, ◌≤◌, ◌<◌, Bool, true, false, cond, not, ◌&&◌, List, [], ◌∷◌, length, filter, Option, Some, None, sym, ap, subst, ◌∙◌, arith, ◌==◌, max, slice_get, suc, refl, true≢false, bytes_eq, nat_le, All}
 use Rattle.std.specs.List.{range_with_len}
 use Rattle.std.proofs.lemmas.Bool.{cond-false}
 use Rattle.std.proofs.lemmas.Bool.Decides.{nat_tests}
@@ -11,7 +11,7 @@ use Rattle.sb_value.specs.declared.value.Value.{Value}
 use Rattle.sb_relation.specs.Content.{Content}
 use Rattle.sb_relation.specs.Db.{Key, Rows}
 use Rattle.sb_relation.specs.Fits.{is_empty}
-use Rattle.sb_relation.specs.Keys.{is_record_key}
+use Rattle.sb_relation.specs.Keys.{Picked, is_record_key, keying_of, new_keys}
 use Rattle.sb_forms.specs.Pages.{Pages, page_numbers, page_count}
 use Rattle.sb_ctx.specs.declared.instance.Instance.{Instance}
 use Rattle.sb_ctx.specs.declared.calls.MethodCall.{MethodCall}
@@ -23,8 +23,9 @@ use Rattle.sb_ctx.specs.Held.{Entries, Rises, page_in}
 use Rattle.sb_ctx.proofs.HeldLaws.{Rises-below, Rises-tail, page_in-place}
 use Rattle.sb_ctx.specs.Sized.{IsCtx}
 use Rattle.sb_ctx.specs.declared.calls.AttachCall.TheVariants as call
-use Rattle.sb_ctx.specs.Method.{Method, boundless}
-use Rattle.sb_ctx.specs.MethodAnswers.{Answers, AsksFor, Changes, HasRoom, IsBroken, IsOnPath, MayEnd, most_pages, rows_after, Spends}
+use Rattle.sb_ctx.specs.declared.calls.MethodCall.TheVariants as method_call
+use Rattle.sb_ctx.specs.Method.{Method, boundless, code_of}
+use Rattle.sb_ctx.specs.MethodAnswers.{Answers, AsksFor, Changes, GetsKey, TakesFor, HasRoom, IsBroken, IsGiven, IsOnPath, MayEnd, most_pages, rows_after, Spends}
 use Rattle.sb_ctx.specs.Attachment.{Attachment}
 use Rattle.sb_ctx.specs.AttachAnswers.{Answers as AnswersFor, AsksFor as AsksForAttached, Changes as ChangesFor, Costs, IsBroken as IsBrokenFor, MayEnd as MayEndFor, IsOnPath as IsOnPathFor, Looks as LooksFor, most_pages as most_pages_for, Spends as SpendsFor}
 use Rattle.sb_ctx.proofs.ViewLaws.{HoldsPart-from_dropped, stored-clean}
@@ -131,6 +132,23 @@ pub record IsBoundless (m : Method) : Type 0 where
   pub bound : (rows : ℕ) → m.bound rows ≡ boundless
   pub cost : (c : MethodCall) (rows : Rows) → m.cost c rows ≡ boundless
   pub path : (inst : Instance) (P : Pages) (c : MethodCall) (n : ℕ) → m.path inst P c n ≡ true
+  pub picks : keying_of m.rules.code ≡ Picked
+
+-- a method that picks its keys has one for every row
+pub GetsKey-picked : (m : Method) (inst : Instance) (c : MethodCall) (rows : Rows) → keying_of m.rules.code ≡ Picked → GetsKey m inst c rows
+GetsKey-picked m inst c rows picks = by c
+  where
+    given : (own : Option Key) (code : Key) → IsGiven (new_keys (keying_of m.rules.code) rows own code)
+    given own code = subst (λ k. IsGiven (new_keys k rows own code)) (sym picks) tt
+
+    by : (c : MethodCall) → GetsKey m inst c rows
+    by (method_call.Insert row) = given None (code_of inst row)
+    by (method_call.Update key row) = given (Some key) (code_of inst row)
+    by _ = tt
+
+TakesFor-picked : (m : Method) (inst : Instance) (c : MethodCall) (rows : Rows) (made : Move) → keying_of m.rules.code ≡ Picked → TakesFor m inst c rows made
+TakesFor-picked m inst c rows move.Fresh picks = GetsKey-picked m inst c rows picks
+TakesFor-picked m inst c rows _ picks = tt
 
 pub IsOnPath-boundless : (m : Method) (inst : Instance) (c : MethodCall) (P : Pages) (made : Move) → IsBoundless m → IsOnPath m inst c P made
 IsOnPath-boundless m inst c P made is = by made
@@ -146,6 +164,7 @@ Spends-boundless m inst c P rows old new made is given ctx part =
     record {
       path = IsOnPath-boundless m inst c P made is;
       room = subst (λ most. HasRoom most P new made) (sym most) (HasRoom-any new P made ctx holds);
+      gets = TakesFor-picked m inst c rows made is.picks;
       edits = subst (λ most. edits_of new ≤ most) (sym (is.cost c rows)) (omega (arith, edits_few new P ctx holds));
     }
   where

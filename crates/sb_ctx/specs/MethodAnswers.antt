@@ -157,15 +157,34 @@ abbrev pub HasRoom : ℕ → Pages → View → Move → Type 0
 HasRoom most P c Fresh = page_count P + length (fresh_pages c) < most
 HasRoom most P c move = Unit {0}
 
+-- a row gets one of these keys
+abbrev pub IsGiven : NewKeys → Type 0
+IsGiven (AnyOf may) = Unit {0}
+IsGiven (Just key) = Unit {0}
+IsGiven Taken = ⊥
+IsGiven NoGreater = ⊥
+
+-- the row that a call puts in gets a key
+abbrev pub GetsKey : Method → Instance → MethodCall → Rows → Type 0
+GetsKey m inst (call.Insert row) rows = IsGiven (new_keys (keying_of m.rules.code) rows None (code_of inst row))
+GetsKey m inst (call.Update key row) rows = IsGiven (new_keys (keying_of m.rules.code) rows (Some key) (code_of inst row))
+GetsKey m inst c rows = Unit {0}
+
+-- a fresh page is asked for only where it does
+abbrev pub TakesFor : Method → Instance → MethodCall → Rows → Move → Type 0
+TakesFor m inst c rows Fresh = GetsKey m inst c rows
+TakesFor m inst c rows move = Unit {0}
+
 -- the pages before a call hold these rows; those of a new instance hold none
 abbrev pub Before : Method → Instance → MethodCall → Pages → Rows → Type 0
 Before m inst call.Prepare P rows = ((n : ℕ) → P n ≡ new_pages inst.root n) × (rows ≡ [])
 Before m inst c P rows = Holds m inst P rows
 
--- over pages that hold these rows it stays on its path, within its bound and within its cost
+-- over pages that hold these rows it stays on its path, within its bound and within its cost, and takes pages only for a row that is kept
 pub record Spends (m : Method) (inst : Instance) (c : MethodCall) (P : Pages) (rows : Rows) (new : View) (move : Move) : Type 0 where
   pub path : IsOnPath m inst c P move
   pub room : HasRoom (most_pages m c (length rows)) P new move
+  pub gets : TakesFor m inst c rows move
   pub edits : edits_of new ≤ m.cost c rows
 
 -- A changing call: what was given stays as it was given, it asks only for what isn't held, it ends in one of its ways, and over all pages of which it holds a part it answers as the rows say.

@@ -6,6 +6,3 @@ pub mod laws;
 mod queue;
 
 pub use queue::{Queue, QueueMark};
-
-#[cfg(test)]
-mod tests;

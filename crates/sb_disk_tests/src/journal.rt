@@ -1,14 +1,16 @@
 //! What no clause says: that calls succeed while memory lasts. And every stop of a run, with the journal that is found after it.
 
-ghost use Rattle.std.specs.Prelude.{◌≡◌, ◌<◌, ◌≤◌, true, length, IfOk};
+ghost use Rattle.std.specs.Prelude.{◌≡◌, ◌<◌, ◌≤◌, Some, true, length, IfOk};
 ghost use Rattle.sb_disk.specs.Moments.{IsSettled};
 ghost use Rattle.sb_journal.specs.State.{Lies, StandsOn};
 
 use sb_disk::{Disk, Failed, no_bytes_leave_none_pending};
 use sb_journal::{Journal, JournalFault, Region, one_reading, past_is_one, past_is_unread};
 use sb_memdisk::MemDisk;
+use sb_value::Bytes;
 use std::alloc::Global;
-use std::test::Fail;
+use std::process::Abort;
+use std::test::*;
 
 const GATES: Region = Region { start: 0, len: 4 };
 
@@ -112,30 +114,47 @@ fn stopped<D: Disk>(alloc: Global, disk: &mut D) -> Option<u32>
     Some(journal.forces())
 }
 
+// A disk that holds these bytes.
+fn disk_of(rt: &impl Abort, alloc: Global, bytes: Bytes) -> MemDisk
+    ensures settled { IsSettled (Some result.story) }
+{
+    let disk = MemDisk::from_image(alloc, bytes.as_slice()).expect(rt, "memory");
+    drop(bytes);
+    disk
+}
+
+// The number of chunks over these bytes, where they are the first that a run makes.
+fn found_in(rt: &impl Abort, alloc: Global, bytes: Bytes) -> Option<u32> {
+    let mut disk = disk_of(rt, alloc, bytes);
+    let chunks = found(alloc, &mut disk);
+    drop(disk);
+    chunks
+}
+
+// Whether a run that is stopped leaves a prefix of its chunks, with all that was forced.
+fn leaves_a_prefix(rt: &impl Abort, alloc: Global, call: u64, torn: u32) -> bool {
+    let mut disk = MemDisk::new(alloc, 64).expect(rt, "memory");
+    disk.stop_at(call, torn);
+    let forced = stopped(alloc, &mut disk);
+    let image = disk.image().expect(rt, "memory");
+    let synced = disk.synced().expect(rt, "memory");
+    drop(disk);
+    let left = found_in(rt, alloc, image);
+    let kept = found_in(rt, alloc, synced);
+    forced.is_some() && left >= forced && kept >= forced
+}
+
 #[test]
-fn a_stop_leaves_a_prefix_with_all_that_was_forced(rt: HostRuntime) -> Result<(), Fail> {
+fn a_stop_leaves_a_prefix_with_all_that_was_forced(rt: HostRuntime) {
     let alloc = rt.alloc();
     for call in 0..18 {
         for torn in [0, 1, 9] {
-            let mut disk = MemDisk::new(alloc, 64)?;
-            disk.stop_at(call, torn);
-            let forced = stopped(alloc, &mut disk);
-            assert!(rt; forced.is_some(), "call {call}");
-            let mut image = MemDisk::from_image(alloc, disk.image()?.as_slice())?;
-            let left = found(alloc, &mut image);
             assert!(rt;
-                left.is_some() && left >= forced,
-                "call {call}, {torn} bytes"
-            );
-            let mut synced = MemDisk::from_image(alloc, disk.synced()?.as_slice())?;
-            let kept = found(alloc, &mut synced);
-            assert!(rt;
-                kept.is_some() && kept >= forced,
+                leaves_a_prefix(&rt, alloc, call, torn),
                 "call {call}, {torn} bytes"
             );
         }
     }
-    Ok(())
 }
 
 #[test]
@@ -164,45 +183,58 @@ fn closed<D: Disk>(alloc: Global, disk: &mut D) -> bool
     journal.close_all(disk).is_ok() && journal.clean() && !journal.pending() && journal.used() == 0
 }
 
-#[test]
-fn a_stop_of_a_closing_leaves_all_chunks_or_none(rt: HostRuntime) -> Result<(), Fail> {
-    let alloc = rt.alloc();
-    for call in 17..22 {
-        for torn in [0, 1, 9] {
-            let mut disk = MemDisk::new(alloc, 64)?;
-            disk.stop_at(call, torn);
-            assert_eq!(rt; closed(alloc, &mut disk), call == 21, "call {call}");
-            let mut image = MemDisk::from_image(alloc, disk.image()?.as_slice())?;
-            let left = found(alloc, &mut image);
-            assert!(rt;
-                left == Some(0) || left == Some(3),
-                "call {call}, {torn} bytes"
-            );
-            let mut synced = MemDisk::from_image(alloc, disk.synced()?.as_slice())?;
-            let kept = found(alloc, &mut synced);
-            assert!(rt;
-                kept == Some(0) || kept == Some(3),
-                "call {call}, {torn} bytes"
-            );
-            assert!(rt; call < 21 || kept == Some(0));
-        }
-    }
-    Ok(())
+fn is_all_or_none(chunks: Option<u32>) -> bool {
+    chunks == Some(0) || chunks == Some(3)
+}
+
+// Whether a closing that is stopped leaves all chunks or none, and none once it is done.
+fn closes_all_or_none(rt: &impl Abort, alloc: Global, call: u64, torn: u32) -> bool {
+    let mut disk = MemDisk::new(alloc, 64).expect(rt, "memory");
+    disk.stop_at(call, torn);
+    let is_closed = closed(alloc, &mut disk);
+    let image = disk.image().expect(rt, "memory");
+    let synced = disk.synced().expect(rt, "memory");
+    drop(disk);
+    let left = found_in(rt, alloc, image);
+    let kept = found_in(rt, alloc, synced);
+    let is_done = call == 21;
+    is_closed == is_done
+        && is_all_or_none(left)
+        && is_all_or_none(kept)
+        && (!is_done || kept == Some(0))
 }
 
 #[test]
-fn five_bytes_on_zeros_are_one_chunk(rt: HostRuntime) -> Result<(), Fail> {
+fn a_stop_of_a_closing_leaves_all_chunks_or_none(rt: HostRuntime) {
     let alloc = rt.alloc();
-    let mut disk = MemDisk::new(alloc, 64)?;
-    assert!(rt; made(alloc, &mut disk, &[1, 0, 0, 0, 1]).is_ok());
-    let mut image = MemDisk::from_image(alloc, disk.image()?.as_slice())?;
+    for call in 17..22 {
+        for torn in [0, 1, 9] {
+            assert!(rt;
+                closes_all_or_none(&rt, alloc, call, torn),
+                "call {call}, {torn} bytes"
+            );
+        }
+    }
+}
+
+#[test]
+fn five_bytes_on_zeros_are_one_chunk(rt: HostRuntime) {
+    let alloc = rt.alloc();
+    let mut disk = MemDisk::new(alloc, 64).expect(&rt, "memory");
+    let made = made(alloc, &mut disk, &[1, 0, 0, 0, 1]);
+    assert!(rt; made.is_ok());
+    drop(made);
+    let image = disk.image().expect(&rt, "memory");
+    drop(disk);
     let front = [0xa5, 0, 0, 0, 0, 0, 0, 5, 1, 0, 0, 0, 1];
-    assert!(rt; image.image()?.as_slice().starts_with(&front));
-    let journal = open_on(alloc, &mut image)?;
+    assert!(rt; image.as_slice().starts_with(&front));
+    let mut disk = disk_of(&rt, alloc, image);
+    let journal = open_on(alloc, &mut disk).expect(&rt, "a journal");
     assert_eq!(rt; journal.chunks(), 1);
     assert_eq!(rt; sizes(&journal), (Some(5), 9));
     assert!(rt; !journal.pending());
-    Ok(())
+    drop(journal);
+    drop(disk);
 }
 
 // Makes one chunk of these bytes.

@@ -2,7 +2,9 @@
 
 use sb_disk::{Disk, Failed, Sink, Source};
 use sb_memdisk::{MemDisk, MemSink, MemSource};
-use std::test::Fail;
+use std::alloc::Global;
+use std::process::Abort;
+use std::test::*;
 
 /// What a disk of 16 zeros does with one write of 1, 2, 3, 4 at 0, and holds then.
 struct Row {
@@ -107,30 +109,32 @@ fn write_some<D: Disk>(disk: &mut D, row: &Row) -> bool {
     written
 }
 
+/// Whether the disk does with the write what the row says.
+fn is_so(rt: &impl Abort, alloc: Global, row: &Row) -> bool {
+    let mut disk = MemDisk::new(alloc, 16).expect(rt, "memory");
+    disk.fail_at(row.fails).expect(rt, "memory");
+    if let Some((call, torn)) = row.stop {
+        disk.stop_at(call, torn);
+    }
+    let written = write_some(&mut disk, row);
+    let image = disk.image().expect(rt, "memory");
+    let is_stored = image.as_slice().starts_with(&row.image);
+    drop(image);
+    let synced = disk.synced().expect(rt, "memory");
+    let is_synced = synced.as_slice().starts_with(&row.synced);
+    drop(synced);
+    let counts = (disk.faults(), disk.clock(), disk.calls(), disk.len());
+    drop(disk);
+    let is_counted = counts == (row.faults, row.clock, row.clock, 16);
+    written == row.written && is_stored && is_synced && is_counted
+}
+
 #[test]
-fn writes_are_stored_torn_and_lost(rt: HostRuntime) -> Result<(), Fail> {
+fn writes_are_stored_torn_and_lost(rt: HostRuntime) {
     let alloc = rt.alloc();
     for (number, row) in ROWS.iter().enumerate() {
-        let mut disk = MemDisk::new(alloc, 16)?;
-        disk.fail_at(row.fails)?;
-        if let Some((call, torn)) = row.stop {
-            disk.stop_at(call, torn);
-        }
-        assert_eq!(rt; write_some(&mut disk, row), row.written, "row {number}");
-        assert!(rt;
-            disk.image()?.as_slice().starts_with(&row.image),
-            "row {number}"
-        );
-        assert!(rt;
-            disk.synced()?.as_slice().starts_with(&row.synced),
-            "row {number}"
-        );
-        assert_eq!(rt; disk.faults(), row.faults, "row {number}");
-        assert_eq!(rt; disk.clock(), row.clock, "row {number}");
-        assert_eq!(rt; disk.calls(), row.clock, "row {number}");
-        assert_eq!(rt; disk.len(), 16, "row {number}");
+        assert!(rt; is_so(&rt, alloc, row), "row {number}");
     }
-    Ok(())
 }
 
 fn read_back<D: Disk>(disk: &mut D, buffer: &mut [u8; 2]) -> bool {
@@ -141,10 +145,10 @@ fn read_back<D: Disk>(disk: &mut D, buffer: &mut [u8; 2]) -> bool {
 }
 
 #[test]
-fn an_image_is_read(rt: HostRuntime) -> Result<(), Fail> {
+fn an_image_is_read(rt: HostRuntime) {
     let alloc = rt.alloc();
-    let mut disk = MemDisk::from_image(alloc, &[7, 8, 9])?;
-    disk.fail_at(&[1])?;
+    let mut disk = MemDisk::from_image(alloc, &[7, 8, 9]).expect(&rt, "memory");
+    disk.fail_at(&[1]).expect(&rt, "memory");
     let mut buffer = [0; 2];
     assert!(rt; read_back(&mut disk, &mut buffer));
     assert_eq!(rt; buffer, [8, 9]);
@@ -153,7 +157,7 @@ fn an_image_is_read(rt: HostRuntime) -> Result<(), Fail> {
     assert_eq!(rt; disk.calls(), 3);
     assert_eq!(rt; disk.clock(), 0);
     assert_eq!(rt; disk.faults(), 1);
-    Ok(())
+    drop(disk);
 }
 
 fn read_once<S: Source>(source: &mut S, buffer: &mut [u8; 4]) -> Result<usize, Failed> {
@@ -161,22 +165,22 @@ fn read_once<S: Source>(source: &mut S, buffer: &mut [u8; 4]) -> Result<usize, F
 }
 
 #[test]
-fn reads_fail_behind_the_stop(rt: HostRuntime) -> Result<(), Fail> {
+fn reads_fail_behind_the_stop(rt: HostRuntime) {
     let alloc = rt.alloc();
-    let mut disk = MemDisk::from_image(alloc, &[7, 8, 9])?;
+    let mut disk = MemDisk::from_image(alloc, &[7, 8, 9]).expect(&rt, "memory");
     disk.stop_at(0, 0);
     let mut buffer = [0; 2];
     assert!(rt; read_back(&mut disk, &mut buffer));
     assert!(rt; disk.sync().is_err());
     assert!(rt; !read_back(&mut disk, &mut buffer));
     assert_eq!(rt; disk.faults(), 2);
-    Ok(())
+    drop(disk);
 }
 
 #[test]
-fn a_source_gives_its_bytes_piece_by_piece(rt: HostRuntime) -> Result<(), Fail> {
+fn a_source_gives_its_bytes_piece_by_piece(rt: HostRuntime) {
     let alloc = rt.alloc();
-    let mut source = MemSource::new(alloc, b"abcde", 3, Some(1))?;
+    let mut source = MemSource::new(alloc, b"abcde", 3, Some(1)).expect(&rt, "memory");
     let mut buffer = [0; 4];
     assert_eq!(rt; read_once(&mut source, &mut buffer), Ok(3));
     assert_eq!(rt; &buffer[..3], b"abc".as_slice());
@@ -185,7 +189,7 @@ fn a_source_gives_its_bytes_piece_by_piece(rt: HostRuntime) -> Result<(), Fail> 
     assert_eq!(rt; &buffer[..2], b"de".as_slice());
     assert_eq!(rt; read_once(&mut source, &mut buffer), Ok(0));
     assert_eq!(rt; source.faults(), 1);
-    Ok(())
+    drop(source);
 }
 
 fn write_once<S: Sink>(sink: &mut S, piece: &[u8]) -> Result<usize, Failed> {
@@ -193,7 +197,7 @@ fn write_once<S: Sink>(sink: &mut S, piece: &[u8]) -> Result<usize, Failed> {
 }
 
 #[test]
-fn a_sink_takes_piece_by_piece(rt: HostRuntime) -> Result<(), Fail> {
+fn a_sink_takes_piece_by_piece(rt: HostRuntime) {
     let alloc = rt.alloc();
     let mut sink = MemSink::new(alloc, 3, Some(1));
     assert_eq!(rt; write_once(&mut sink, b"abcd"), Ok(3));
@@ -201,5 +205,5 @@ fn a_sink_takes_piece_by_piece(rt: HostRuntime) -> Result<(), Fail> {
     assert_eq!(rt; write_once(&mut sink, b"de"), Ok(2));
     assert_eq!(rt; sink.held(), b"abcde".as_slice());
     assert_eq!(rt; sink.faults(), 1);
-    Ok(())
+    drop(sink);
 }

@@ -8,7 +8,7 @@ use Rattle.sb_ctx.specs.declared.moves.Move.{Move}
 use Rattle.sb_ctx.specs.declared.moves.Move.TheVariants.{Fresh, Find}
 use Rattle.sb_ctx.specs.AttachAnswers.{AsksFor as AsksForAny}
 use Rattle.sb_ctx.specs.Method.{Method}
-use Rattle.sb_ctx.specs.MethodAnswers.{Answers, AsksFor, Before, Changes, HasRoom, Holds, IsBroken, Looks, MayEnd, Reads, most_pages}
+use Rattle.sb_ctx.specs.MethodAnswers.{Answers, AsksFor, Before, Changes, HasRoom, Holds, IsBroken, Looks, MayEnd, Reads, TakesFor, most_pages}
 use Rattle.sb_ctx.specs.View.{View, given_at, dropped, stored, IsClean}
 use Rattle.sb_ctx.proofs.PageLaws.{AreSomeOf-given}
 use Rattle.sb_ctx.proofs.ViewLaws.{stored-clean}
@@ -22,6 +22,10 @@ HasRoom-reads : (most : ℕ) (P : Pages) (c : View) (move : Move) → Reads move
 HasRoom-reads most P c Fresh reads = absurd reads
 HasRoom-reads most P c move reads = tt
 
+TakesFor-reads : (m : Method) (inst : Instance) (call : MethodCall) (rows : Rows) (move : Move) → Reads move → TakesFor m inst call rows move
+TakesFor-reads m inst call rows Fresh reads = absurd reads
+TakesFor-reads m inst call rows move reads = tt
+
 -- a reading call is one that changes nothing
 pub Changes-Looks : (m : Method) (inst : Instance) (call : MethodCall) (old new : View) (move : Move) → ((P : Pages) (rows : Rows) → Before m inst call P rows → Holds m inst P rows) →
     IsClean old → Looks m inst call old new move → Changes m inst call old new move
@@ -34,6 +38,7 @@ Changes-Looks m inst call old new move before clean looks = record {
   spends = λ ctx P part rows hold. record {
     path = looks.path P part rows (before P rows hold);
     room = HasRoom-reads (most_pages m call (length rows)) P new move looks.reads;
+    gets = TakesFor-reads m inst call rows move looks.reads;
     edits = subst (λ n. n ≤ m.cost call rows) (sym (edits_of-clean new ctx.sound (ap dropped looks.same ∙ clean.unchanged ∙ sym looks.same))) (omega arith);
   };
 }

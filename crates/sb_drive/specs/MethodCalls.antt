@@ -1,5 +1,5 @@
 -- Driven calls of a storage method.
-use Rattle.std.specs.Prelude.{◌≡◌, ℕ, true, length}
+use Rattle.std.specs.Prelude.{◌≡◌, ℕ, true}
 use Rattle.sb_relation.specs.Db.{Rows}
 use Rattle.sb_forms.specs.Pages.{Pages}
 use Rattle.sb_ctx.specs.declared.instance.Instance.{Instance}
@@ -8,7 +8,7 @@ use Rattle.sb_ctx.specs.declared.calls.MethodCall.TheVariants as call
 use Rattle.sb_ctx.specs.declared.moves.Move.TheVariants.{Fresh}
 use Rattle.sb_ctx.specs.View.{View, HeldPages, AreSomeOf, dropped}
 use Rattle.sb_ctx.specs.Method.{Method, MayHold}
-use Rattle.sb_ctx.specs.MethodAnswers.{Answers, Before, Changes, HasRoom, MayEnd, NotNew, Spends, most_pages}
+use Rattle.sb_ctx.specs.MethodAnswers.{Answers, Before, Changes, MayEnd, NotNew, Spends}
 use Rattle.sb_drive.specs.declared.space.SpaceFault.{SpaceFault}
 use Rattle.sb_drive.specs.declared.space.SpaceFault.TheVariants as space
 use Rattle.sb_drive.specs.Promises.{Promise}
@@ -29,9 +29,9 @@ IsReading c = ⊥
 abbrev pub IsAsking : Method → Instance → MethodCall → View → Type 0
 IsAsking m inst call c = Changes m inst call (dropped c) c Fresh
 
--- over pages that hold rows a fresh page is within the room of the call
+-- over pages that hold rows a fresh page is within the room of the call, and a new row gets a key
 abbrev pub HasRoomFor : Method → Instance → MethodCall → Pages → View → Type 0
-HasRoomFor m inst call P c = (rows : Rows) → Before m inst call P rows → HasRoom (most_pages m call (length rows)) P c Fresh
+HasRoomFor m inst call P c = (rows : Rows) → Before m inst call P rows → Spends m inst call P rows c Fresh
 
 -- A page that the box may call broken, of some of these pages that it was given; when an instance is prepared, they aren't those of a new one.
 pub record IsDamaged (m : Method) (inst : Instance) (c : MethodCall) (P : Pages) (n : ℕ) : Type 0 where

@@ -1,6 +1,6 @@
 //! Spaces of pages: what a driver stands on, wherever the pages are.
 
-ghost use Rattle.std.specs.Prelude.{◌≡◌, ◌+◌, ◌≤◌, ℕ, Bool, IsTrue, List, IsOk, OnOk, OnErr, IfErr};
+ghost use Rattle.std.specs.Prelude.{◌≡◌, ◌≢◌, ◌+◌, ◌<◌, ◌≤◌, ℕ, Bool, IsTrue, List, [], IsOk, OnOk, OnErr, IfErr};
 ghost use Rattle.sb_ctx.specs.View.{HoldsPart, dropped, edits_of, stored};
 ghost use Rattle.sb_drive.specs.Slots.{AreWhole, Slots, owned};
 ghost use Rattle.sb_drive.specs.Spaces.{IsAnswerFault, IsAskFault, IsStoreFault, IsFull, IsGift, IsGivenIn, Leaves, LeadsWithin, UnlessDown, Wanted};
@@ -56,6 +56,9 @@ pub trait PageSpace {
 
     ghost durable: { Self → Bool };
 
+    /// How many pages, the first of them, it may take for itself. These show no bytes.
+    ghost table: { Self → ℕ };
+
     /// What calls make of it that make so many changes: none where they make none.
     ghost leads: { ℕ → Self → Self → Type 0 };
 
@@ -103,6 +106,9 @@ pub trait PageSpace {
 
     /// There are at most 65,536 pages.
     ghost few: { (want : Wanted) (s : Slots) (a : Self) → has want s a → (n : ℕ) → 65536 ≤ n → (s n).0 ≡ 0 };
+
+    /// A page that is somebody's has bytes, or is one that the space takes for itself.
+    ghost tabled: { (want : Wanted) (s : Slots) (a : Self) → has want s a → (n : ℕ) → (s n).0 ≢ 0 → (s n).1 ≡ [] → n < table a };
 }
 
 /// Stores the edits of the Ctx. A call that only reads has none, and nothing is stored.

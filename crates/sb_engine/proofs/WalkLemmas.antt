@@ -13,6 +13,7 @@ use Rattle.sb_node.specs.Entries.{Entry}
 use Rattle.sb_node.specs.Page.{has_form, node_of}
 use Rattle.sb_forms.specs.Pages.{Pages}
 use Rattle.sb_forms.specs.Read.{has, read_tree}
+use Rattle.sb_forms.proofs.Maps.{map_tree}
 use Rattle.sb_forms.specs.Tree.{level_of, nodes}
 use Rattle.sb_forms.specs.TreePages.{tree_met}
 use Rattle.sb_relation.specs.Db
@@ -200,7 +201,7 @@ entries_few P root es is few =
 
 pub kept_few : (m : Meanings) (root : ℕ) (s : Slots) (kept : List Kept) → Tables m IsDurable root s kept → ((n : ℕ) → 65536 ≤ n → (s n).0 ≡ 0) → length (db_of kept) < 2 ^ 48
 kept_few m root s kept tables few =
-    let entries = entries_few (owned s 2) root (map entry_of kept) tables.catalogue (λ n far. bytes_for-free 2 (s n) (few n far)) in
+    let entries = entries_few (owned s 2) root (map entry_of kept) (map_tree root (owned s 2) (map entry_of kept) tables.catalogue) (λ n far. bytes_for-free 2 (s n) (few n far)) in
     omega (arith, entries, length-map {B = Entry} kept (λ k. entry_of k), length-map {B = Name × Relation} kept (λ k. (k.name, k.relation)))
 
 -- a walk doesn't pass as many

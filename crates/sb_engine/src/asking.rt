@@ -1,17 +1,44 @@
-//! What attachments put off.
+//! What attachments put off. What is left to it goes by calls of `drop`.
 
 ghost use Rattle.std.specs.Prelude.{◌≡◌, ◌++◌, [], OnOk};
 ghost use Rattle.sb_deferred.specs.Waiting.{IsFront};
 ghost use Rattle.sb_engine.specs.Asking.{with_late};
 
+use sb_ctx::{Actions, Checks};
 use sb_deferred::Queue;
 use sb_rule::Action;
 use sb_value::{Bytes, Str};
 use std::alloc::{AllocError, Global};
 
+/// Puts off what an attachment of this name has left for the commit.
+pub(crate) fn put_left(
+    queue: &mut Queue,
+    alloc: Global,
+    relation: &Str,
+    name: Str,
+    late: Actions,
+    checks: Checks,
+) -> Result<(), AllocError>
+    ensures put { OnOk result (queue.new ≡ with_late queue.old relation.now name late checks) }
+    ensures front { IsFront queue.old queue.new }
+{
+    let put = put_off(
+        queue,
+        alloc,
+        relation,
+        &name,
+        late.as_slice(),
+        checks.as_slice(),
+    );
+    drop(name);
+    drop(late);
+    drop(checks);
+    put
+}
+
 /// Puts the actions that wait for the commit, and the entries that are tested then, behind what waits; where memory is wanting, the
 /// first of them.
-pub(crate) fn put_off(
+fn put_off(
     queue: &mut Queue,
     alloc: Global,
     relation: &Str,

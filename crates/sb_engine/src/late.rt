@@ -1,4 +1,4 @@
-//! An attachment, tested by an entry that waits.
+//! An attachment, tested by an entry that waits. What is made for a call goes by a call of `drop`.
 
 ghost use Rattle.std.specs.Prelude.{◌≡◌, List, IfOk, IfErr, option_copied};
 ghost use Rattle.std.specs.List.{slice_get};
@@ -44,8 +44,12 @@ pub(crate) fn entry_fails<S: PageSpace, B: Boxes>(
     };
     let copy = entry.copy()?;
     let call = AttachCall::Late(copy);
-    let made = ask(space, alloc, boxes, place, inst, &call)?;
-    Ok(is_veto(&made))
+    let asked = ask(space, alloc, boxes, place, inst, &call);
+    drop(call);
+    let made = asked?;
+    let fails = is_veto(&made);
+    drop(made);
+    Ok(fails)
 }
 
 /// The instance in this place of an open relation.

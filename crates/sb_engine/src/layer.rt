@@ -1,4 +1,4 @@
-//! An engine at work is what work on relations stands on.
+//! An engine at work is what work on relations stands on. What isn't handed on goes by calls of `drop`.
 
 ghost use Rattle.std.specs.Prelude.{◌≡◌, ◌⊎◌};
 ghost use Rattle.sb_fold.specs.declared.refusal.Refusal.TheVariants as refusal;
@@ -6,7 +6,7 @@ ghost use Rattle.sb_engine.specs.Goings.{goes_on, puts_fit, same_extensions, sta
 ghost use Rattle.sb_engine.specs.Refusals.{quiet_cause};
 ghost use Rattle.sb_engine.specs.Working.{GoesOpen, MayAsk, MayDo, MayWish, IsServing, IsStoppedBy, StandsFor, StandsAsking, extensions_in};
 
-use crate::asking::put_off;
+use crate::asking::put_left;
 use crate::failing::first_failing;
 use crate::fitting::{prepare, prepare_all};
 use crate::matching::keys_matching;
@@ -70,7 +70,10 @@ impl<B: Boxes, S: PageSpace> Layer for Running<'_, B, S> {
             Ok(Outcome::Made(change)) => {
                 match note_pick(&mut self.work.picks, method, &change) {
                     Ok(()) => Ok(change),
-                    Err(_) => Err(Refusal::NoMemory),
+                    Err(_) => {
+                        drop(change);
+                        Err(Refusal::NoMemory)
+                    }
                 }
             }
             Ok(Outcome::Refused(refusal)) => Err(refusal),
@@ -108,22 +111,29 @@ impl<B: Boxes, S: PageSpace> Layer for Running<'_, B, S> {
                     &mut self.work.opened,
                     &now,
                 ) {
-                    Ok(()) => match put_off(
-                        &mut self.work.queue,
-                        alloc,
-                        name,
-                        &label,
-                        late.as_slice(),
-                        checks.as_slice(),
-                    ) {
-                        Ok(()) => Ok(Some(now)),
-                        Err(_) => Err(Refusal::NoMemory),
-                    },
-                    Err(fault) => Err(refusal_of(fault)),
+                    Ok(()) => {
+                        match put_left(&mut self.work.queue, alloc, name, label, late, checks) {
+                            Ok(()) => Ok(Some(now)),
+                            Err(_) => {
+                                drop(now);
+                                Err(Refusal::NoMemory)
+                            }
+                        }
+                    }
+                    Err(fault) => {
+                        drop(label);
+                        drop(late);
+                        drop(checks);
+                        drop(now);
+                        Err(refusal_of(fault))
+                    }
                 }
             }
             Ok(Verdict::Vetoed) => Err(veto(name, label)),
-            Err(fault) => Err(refusal_of(fault)),
+            Err(fault) => {
+                drop(label);
+                Err(refusal_of(fault))
+            }
         }
     }
 
@@ -181,7 +191,10 @@ impl<B: Boxes, S: PageSpace> Layer for Running<'_, B, S> {
                 self.work.done = done + 1;
                 Ok(Some(action))
             }
-            Err(fault) => Err(refusal_of(fault)),
+            Err(fault) => {
+                drop(action);
+                Err(refusal_of(fault))
+            }
         }
     }
 

@@ -91,13 +91,17 @@ fn work_inside<B: Vectors, D: Disk>(
     match served {
         Ok(served) => {
             if space.is_down() {
+                drop(served);
                 return Err(Refusal::Fault);
             }
             Ok(reply_to(served, &mut current.transaction.work, alloc))
         }
         Err(refusal) => match back_to(space, disk, &mut current.transaction, point) {
             Ok(()) => Err(refusal),
-            Err(fault) => Err(fault),
+            Err(fault) => {
+                drop(refusal);
+                Err(fault)
+            }
         },
     }
 }

@@ -94,12 +94,17 @@ fn work_outside<B: Vectors, D: Disk>(
     match served {
         Ok(served) => {
             if space.is_down() {
+                drop(served);
+                drop(transaction);
                 return Err(Refusal::Fault);
             }
             match served {
                 Served::Read(reply) => match abort(space, disk, transaction) {
                     Ok(()) => Ok(reply),
-                    Err(fault) => Err(fault),
+                    Err(fault) => {
+                        drop(reply);
+                        Err(fault)
+                    }
                 },
                 Served::Worked(answer) => {
                     commit_answer(boxes, space, disk, place, transaction, answer, alloc)
@@ -108,7 +113,10 @@ fn work_outside<B: Vectors, D: Disk>(
         }
         Err(refusal) => match abort(space, disk, transaction) {
             Ok(()) => Err(refusal),
-            Err(fault) => Err(fault),
+            Err(fault) => {
+                drop(refusal);
+                Err(fault)
+            }
         },
     }
 }
@@ -154,7 +162,10 @@ pub(crate) fn test_outside<B: Vectors, D: Disk>(
             Ok(Some(refusal)) => Err(refusal),
             Err(refusal) => Err(refusal),
         },
-        Err(fault) => Err(fault),
+        Err(fault) => {
+            drop(tested);
+            Err(fault)
+        }
     }
 }
 
@@ -176,6 +187,7 @@ fn commit_answer<B: Vectors, D: Disk>(
     match commit(boxes, space, disk, place, transaction, alloc) {
         Ok(picks) => Ok(replied(answer, picks)),
         Err(uncommitted) => {
+            drop(answer);
             let Uncommitted {
                 refusal,
                 transaction,
@@ -183,7 +195,10 @@ fn commit_answer<B: Vectors, D: Disk>(
             match transaction {
                 Some(kept) => match abort(space, disk, kept) {
                     Ok(()) => Err(refusal),
-                    Err(fault) => Err(fault),
+                    Err(fault) => {
+                        drop(refusal);
+                        Err(fault)
+                    }
                 },
                 None => Err(refusal),
             }

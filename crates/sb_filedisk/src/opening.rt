@@ -16,6 +16,11 @@ pub struct Opened<F> {
     pub len: u64,
 }
 
+/// Whether a file is made where there is none.
+fn makes_file<F>(mounted: &Option<F>, create_size: Option<u64>) -> bool {
+    create_size.is_some() && mounted.is_none()
+}
+
 /// Opens the file of this name, with a size makes it that long, and syncs it. It has to be the file that is mounted, where one is.
 ///
 /// With a size it makes the file where there is none and none is mounted, and syncs its folder, so that a crash keeps its name.
@@ -30,23 +35,49 @@ pub fn open<R: Files>(
     let Ok(name) = str::from_utf8(name) else {
         return Err(ErrorKind::InvalidFilename.into());
     };
-    let makes = create_size.is_some() && mounted.is_none();
     let file = OpenOptions::new()
         .read(true)
         .write(true)
-        .create(makes)
+        .create(makes_file(mounted, create_size))
         .open(rt, name)?;
+    match settle(rt, mounted, name, &file, create_size) {
+        Ok(len) => Ok(Opened { file, len }),
+        Err(fault) => {
+            drop(file);
+            Err(fault)
+        }
+    }
+}
+
+/// Makes the file ready to be mounted, and its name too where it makes the file; answers how many bytes it has then.
+fn settle<R: Files>(
+    rt: &R,
+    mounted: &Option<R::File>,
+    name: &str,
+    file: &R::File,
+    create_size: Option<u64>,
+) -> io::Result<u64>
+    ensures size { IfOk result (λ len. IfSome create_size (λ size. size ≤ len)) }
+{
+    let len = ready(mounted, file, create_size)?;
+    if makes_file(mounted, create_size) {
+        sync_folder(rt, name)?;
+    }
+    Ok(len)
+}
+
+/// Makes the file that long and syncs it, unless another one is mounted; answers how many bytes it has then.
+fn ready<F: OpenFile>(mounted: &Option<F>, file: &F, create_size: Option<u64>) -> io::Result<u64>
+    ensures size { IfOk result (λ len. IfSome create_size (λ size. size ≤ len)) }
+{
     if let Some(mounted) = mounted {
-        if !is_same(mounted, &file)? {
+        if !is_same(mounted, file)? {
             return Err(ErrorKind::ResourceBusy.into());
         }
     }
-    let len = grow(&file, create_size)?;
+    let len = grow(file, create_size)?;
     file.sync_all()?;
-    if makes {
-        sync_folder(rt, name)?;
-    }
-    Ok(Opened { file, len })
+    Ok(len)
 }
 
 /// Syncs the folder in which the file of this name stands.

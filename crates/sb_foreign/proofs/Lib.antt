@@ -4,4 +4,4 @@ pub mod LimitLaws
 pub mod CountLaws
 pub mod OnceLaws
 pub mod LegendLaws
-mod ExampleLaws
+pub mod ExampleLaws

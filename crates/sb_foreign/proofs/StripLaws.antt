@@ -144,7 +144,7 @@ pub Holds-formed : (inst : Instance) (P : Pages) → is_numbers inst.schema ≡ 
 Holds-formed inst P numbers bytes = ap (λ t. cond (t && is_strip (strip_of (P inst.root))) (Some (rows_from 0 (strip_of (P inst.root)))) None) numbers ∙ ap (λ t. cond t (Some (rows_from 0 (strip_of (P inst.root)))) None) bytes
 
 pub IsMethod-strip : IsMethod strip
-IsMethod-strip = record { heap = λ is. cc; tree = λ is. cc; formed = λ inst P rows holds. kept inst P rows (IsFormed-held inst P rows holds) }
+IsMethod-strip = record { heap = λ is. cc; tree = λ is. cc; standard = λ ours. record { bound = λ rows. omega (arith, ours); prepares = λ rows. omega (arith, ours) }; formed = λ inst P rows holds. kept inst P rows (IsFormed-held inst P rows holds) }
   where
     few : (a b : ℕ) → a ≤ b → b == 100 ≡ true → a < 281474976710656
     few a b least is = grind (arith, nat_tests)
@@ -173,7 +173,7 @@ IsMethod-strip = record { heap = λ is. cc; tree = λ is. cc; formed = λ inst P
 
 -- ---- calls that leave all as it is
 pub boundless_strip : IsBoundless strip
-boundless_strip = record { bound = λ rows. refl; cost = λ c rows. refl; path = λ inst P c n. refl }
+boundless_strip = record { bound = λ rows. refl; cost = λ c rows. refl; path = λ inst P c n. refl; picks = refl }
 
 spending : (inst : Instance) (c : MethodCall) (old new : View) (made : Move) → dropped new ≡ old → IsCtx new → (P : Pages) → HoldsPart old P → (rows : Rows) → Before strip inst c P rows → Spends strip inst c P rows new made
 spending inst c old new made given ctx P part rows before = Spends-boundless strip inst c P rows old new made boundless_strip given ctx part

@@ -14,6 +14,3 @@ pub use legend::Legend;
 pub use limit::Limit;
 pub use once::Once;
 pub use strip::Strip;
-
-#[cfg(test)]
-mod tests;

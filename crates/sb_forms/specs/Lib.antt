@@ -4,3 +4,4 @@ pub mod Tree
 pub mod Read
 pub mod TreePages
 pub mod HeapPages
+pub mod Maps

@@ -6,6 +6,3 @@ mod laws;
 
 pub use halves::{Halves, Mark, Tx};
 pub use laws::an_abort_gives_what_was_at_begin;
-
-#[cfg(test)]
-mod tests;

@@ -106,7 +106,7 @@ Changes-cut inst old new key page slot bytes head i clean a some r = record {
       subst (λ (o : Option Row). Deleted heap_method inst key o rows (stored new P) move.Done) (sym (row_there inst old key page slot bytes head i clean a P part rows holds))
       (holds_after inst old new P rows M b.list clean part f (r.made.bare P) is b.heap
       ∙ ap Some (rows_less inst old key page slot bytes head i clean a P part rows holds M (subst (λ (es : List Entry). Becomes inst.root inst.schema (nodes P) M page es) cut b)));
-  spends = λ ctx P part rows before. record { path = tt; room = tt; edits = within_cost inst (call.Delete key) old new (deleting inst key) clean (r.made.given ∙ clean) (omega (arith, r.made.edits)) ctx P part rows };
+  spends = λ ctx P part rows before. record { path = tt; room = tt; gets = tt; edits = within_cost inst (call.Delete key) old new (deleting inst key) clean (r.made.given ∙ clean) (omega (arith, r.made.edits)) ctx P part rows };
 }
   where
     one_only : without i (node_in bytes).entries ≡ [] → head.count ≡ 1
@@ -138,7 +138,7 @@ Changes-dropped inst old new key page slot bytes head i clean a other count r = 
       subst (λ (o : Option Row). Deleted heap_method inst key o rows (stored new P) move.Done) (sym (row_there inst old key page slot bytes head i clean a P part rows holds))
       (holds_after inst old new P rows M b.list clean part f (r.made.bare P) is b.heap
       ∙ ap Some (rows_less inst old key page slot bytes head i clean a P part rows holds M (subst (λ (es : List Entry). Becomes inst.root inst.schema (nodes P) M page es) cut b)));
-  spends = λ ctx P part rows before. record { path = tt; room = tt; edits = within_cost inst (call.Delete key) old new (deleting inst key) clean (r.made.given ∙ clean) (omega (arith, r.made.edits)) ctx P part rows };
+  spends = λ ctx P part rows before. record { path = tt; room = tt; gets = tt; edits = within_cost inst (call.Delete key) old new (deleting inst key) clean (r.made.given ∙ clean) (omega (arith, r.made.edits)) ctx P part rows };
 }
   where
     one_roomy : (schema : List Column) (x : Node) → list_all (is_record schema) x.entries ≡ true → length x.entries ≡ 1 → x.head.used ≡ sizes x.entries → has_room x ≡ true
@@ -264,7 +264,7 @@ Changes-inserted inst tuple row old mid new spot key clean may row_is s mid_give
             (ap is_none ((λ j. row_at (f.same j) (key_is j)) ∙ row_found (nodes P) spot.page spot.slot g.low ∙ ap (option_map row_in) g.free)),
         holds_after inst old new P rows M g.becomes.list clean part f (spot_bare old mid new inst.root row spot s P M is (entries_some (M spot.page) spot.slot row (entries_of (nodes P spot.page)) g.becomes.here) (made.bare P)) is g.becomes.heap ∙ ap Some rows_are,
       );
-  spends = λ ctx P part rows before. record { path = tt; room = tt; edits = within_cost inst (call.Insert tuple) old new (inserting inst tuple) clean (made.given ∙ mid_given ∙ clean) (omega (arith, made.edits, s.edits)) ctx P part rows };
+  spends = λ ctx P part rows before. record { path = tt; room = tt; gets = tt; edits = within_cost inst (call.Insert tuple) old new (inserting inst tuple) clean (made.given ∙ mid_given ∙ clean) (omega (arith, made.edits, s.edits)) ctx P part rows };
 }
   where
     spelled : (is_row_in inst.schema row ≡ true) × (row_in row ≡ tuple)

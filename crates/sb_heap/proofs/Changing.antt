@@ -238,7 +238,7 @@ Changes-lacks-delete inst key old clean none = record {
   ends = tt;
   answers = λ P part rows holds. subst (λ (o : Option Row). Deleted heap_method inst key o rows (stored old P) move.NoRecord) (sym (no_row inst old P rows key clean part holds none))
       (ap (heap_rows inst.root inst.schema) (stored-clean old P clean part) ∙ holds);
-  spends = λ ctx P part rows before. record { path = tt; room = tt; edits = within_cost inst (call.Delete key) old old (deleting inst key) clean clean (omega arith) ctx P part rows };
+  spends = λ ctx P part rows before. record { path = tt; room = tt; gets = tt; edits = within_cost inst (call.Delete key) old old (deleting inst key) clean clean (omega arith) ctx P part rows };
 }
 
 pub Changes-lacks-update : (inst : Instance) (key : Key) (row : Row) (old : View) → dropped old ≡ old → NoRow old key → Changes heap_method inst (call.Update key row) old old move.NoRecord
@@ -249,7 +249,7 @@ Changes-lacks-update inst key row old clean none = record {
   ends = tt;
   answers = λ P part rows holds. subst (λ (o : Option Row). Updated heap_method inst key row o rows (stored old P) move.NoRecord) (sym (no_row inst old P rows key clean part holds none))
       (ap (heap_rows inst.root inst.schema) (stored-clean old P clean part) ∙ holds);
-  spends = λ ctx P part rows before. record { path = tt; room = tt; edits = within_cost inst (call.Update key row) old old (updating inst key row) clean clean (omega arith) ctx P part rows };
+  spends = λ ctx P part rows before. record { path = tt; room = tt; gets = tt; edits = within_cost inst (call.Update key row) old old (updating inst key row) clean clean (omega arith) ctx P part rows };
 }
 
 pub Stopped-replace : (inst : Instance) (key : Key) (row : Row) (old new : View) (head : Head) (s : Stop) → ((n : ℕ) → has n (turn_pages old inst.root head) ≡ true → n ≢ 0 → IsAsked inst (call.Update key row) old n) → dropped old ≡ old → ReplaceStops old new inst.root head s

@@ -22,9 +22,11 @@ use Rattle.sb_forms.specs.HeapPages.{is_record, is_heap_page, has_room, first_of
 use Rattle.sb_forms.specs.Stored.{is_row_in}
 use Rattle.sb_forms.proofs.RowBytes.{row_of_bytes}
 use Rattle.sb_ctx.specs.View.{HeldPages, AreSomeOf}
+use Rattle.sb_ctx.specs.declared.calls.MethodCall.{MethodCall}
+use Rattle.sb_ctx.specs.declared.calls.MethodCall.TheVariants.{Prepare, Insert, Delete, Update, Get, Next}
 use Rattle.sb_ctx.specs.Laws.{IsMethod}
 use Rattle.sb_heap.specs.Broken.{held_node, is_amiss, has_bytes, names, is_named, is_linked, breaks}
-use Rattle.sb_heap.specs.Heap.{heap_method}
+use Rattle.sb_heap.specs.Heap.{heap_method, heap_cost}
 use Rattle.sb_heap.proofs.Lists.{has_front, has_back, has_here, has_later, within_list, linked_at, last_of, last_in}
 use Rattle.sb_heap.proofs.Standing.{room_at}
 use Rattle.sb_heap.proofs.Rows.{rows_in, rows_of, rows_rising, rows_few, rows_each, pages_but}
@@ -217,10 +219,19 @@ module _ (root : ℕ) (schema : List Column) (P : Pages) (rows : Rows) (c : Core
           let one = and_parts (not (nat_eq n 0)) (is_amiss schema (held n)) two.0 in
           absurd (not_amiss n (held n) (some n) (had (λ e. true≢false (sym (eq-eqb n 0 e) ∙ not-true (nat_eq n 0) one.0)) two.1) one.1)
 
+heap_cost-most : (c : MethodCall) (rows : Rows) → heap_cost c ≤ 10
+heap_cost-most Prepare rows = omega arith
+heap_cost-most (Insert row) rows = omega arith
+heap_cost-most (Delete key) rows = omega arith
+heap_cost-most (Update key row) rows = omega arith
+heap_cost-most (Get key) rows = omega arith
+heap_cost-most (Next low) rows = omega arith
+
 pub IsMethod-heap_method : IsMethod heap_method
 IsMethod-heap_method = record {
-  heap = λ is. record { durable = refl; rows = λ inst P. refl };
+  heap = λ is. record { durable = refl; rows = λ inst P. refl; cost = heap_cost-most };
   tree = λ is. cc;
+  standard = λ ours. record { bound = λ rows. omega arith; prepares = λ rows. omega arith };
   formed = λ inst P rows holds.
       let c = core inst.root inst.schema P rows holds in
       record {

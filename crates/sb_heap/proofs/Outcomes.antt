@@ -25,7 +25,7 @@ use Rattle.sb_ctx.specs.MethodAnswers.{Before, Changes, NotNew, rows_after, most
 use Rattle.sb_ctx.proofs.ViewLaws.{as_it_was, given-page, stored-clean}
 use Rattle.sb_ctx.proofs.SoundLaws.{IsSound-dropped}
 use Rattle.sb_ctx.proofs.HeldLaws.{page_in-each}
-use Rattle.sb_ctx.proofs.BoundLaws.{count_below}
+use Rattle.sb_ctx.proofs.BoundLaws.{GetsKey-picked, count_below}
 use Rattle.sb_ctx.proofs.AuthorLaws.{edits_of-none}
 use Rattle.sb_heap.specs.Broken.{held_node, is_amiss, has_bytes, is_linked, breaks}
 use Rattle.sb_heap.specs.Heap.{heap_method, heap_path}
@@ -136,7 +136,7 @@ Changes-stop inst c old new stop.NoMemory is clean given edits stops = record {
   broken = tt;
   ends = tt;
   answers = λ P part. tt;
-  spends = λ ctx P part rows before. record { path = tt; room = tt; edits = within_cost inst c old new is clean given edits ctx P part rows };
+  spends = λ ctx P part rows before. record { path = tt; room = tt; gets = tt; edits = within_cost inst c old new is clean given edits ctx P part rows };
 }
 Changes-stop inst c old new stop.Fresh is clean given edits stops = record {
   given = given;
@@ -147,6 +147,7 @@ Changes-stop inst c old new stop.Fresh is clean given edits stops = record {
   spends = λ ctx P part rows before. record {
     path = tt;
     room = subst (λ (v : View). page_count P + length (fresh_pages v) < most_pages heap_method c (length rows)) (sym stops.0) (fresh_room inst c old P rows (subst IsSound given (IsSound-dropped new ctx.sound)) clean part (is.before P rows before) stops.1);
+    gets = GetsKey-picked heap_method inst c rows refl;
     edits = within_cost inst c old new is clean given edits ctx P part rows;
   };
 }
@@ -157,7 +158,7 @@ Changes-stop inst c old new (stop.Need n) is clean given edits stops = record {
   broken = tt;
   ends = tt;
   answers = λ P part. tt;
-  spends = λ ctx P part rows before. record { path = stops.2 P part rows (is.before P rows before); room = tt; edits = within_cost inst c old new is clean given edits ctx P part rows };
+  spends = λ ctx P part rows before. record { path = stops.2 P part rows (is.before P rows before); room = tt; gets = tt; edits = within_cost inst c old new is clean given edits ctx P part rows };
 }
 Changes-stop inst c old new (stop.Broken n) is clean given edits stops = record {
   given = given;
@@ -165,7 +166,7 @@ Changes-stop inst c old new (stop.Broken n) is clean given edits stops = record 
   broken = broken_given inst old n clean stops.2;
   ends = tt;
   answers = λ P part. is.old P;
-  spends = λ ctx P part rows before. record { path = tt; room = tt; edits = within_cost inst c old new is clean given edits ctx P part rows };
+  spends = λ ctx P part rows before. record { path = tt; room = tt; gets = tt; edits = within_cost inst c old new is clean given edits ctx P part rows };
 }
 
 pub Changes-tried : (inst : Instance) (c : MethodCall) (old new : View) (most : ℕ) → most ≤ 10 → IsChanging inst c → dropped old ≡ old → IsTried most old new → Changes heap_method inst c old new move.NoMemory

@@ -82,7 +82,7 @@ Changes-made inst old new clean is = record {
       rows_from inst.root inst.schema (stored new P) (inst.root ∷ []) (subst (λ (N : Nodes). Heap inst.root inst.schema N (inst.root ∷ [])) (sym there) (root_heap inst.root inst.schema is.low))
       (λ n none. bare P part fresh n none)
       ∙ ap (λ (N : Nodes). Some (rows_in N 0 65536)) there ∙ ap Some (rows_frame (λ n. None) (only_root inst.root) 0 65536 (λ n from to. by_page (λ n o. entries_of o ≡ []) inst.root (Some (new_root inst.root)) (λ n. None) refl (λ n other. refl) n) ∙ no_rows 0 65536);
-  spends = λ ctx P part rows before. record { path = tt; room = tt; edits = omega (arith, is.made.edits, edits_before old new P (is.made.given ∙ clean) clean ctx part) };
+  spends = λ ctx P part rows before. record { path = tt; room = tt; gets = tt; edits = omega (arith, is.made.edits, edits_before old new P (is.made.given ∙ clean) clean ctx part) };
 }
   where
     other_none : (P : Pages) → ((n : ℕ) → P n ≡ new_pages inst.root n) → (n : ℕ) → inst.root ≢ n → P n ≡ []
@@ -112,7 +112,7 @@ Changes-prepared inst old new (Err stop.NoMemory) clean is = record {
   broken = tt;
   ends = tt;
   answers = λ P part. tt;
-  spends = λ ctx P part rows before. record { path = tt; room = tt; edits = omega (arith, is.edits, edits_before old new P (is.given ∙ clean) clean ctx part) };
+  spends = λ ctx P part rows before. record { path = tt; room = tt; gets = tt; edits = omega (arith, is.edits, edits_before old new P (is.given ∙ clean) clean ctx part) };
 }
 Changes-prepared inst old new (Err stop.Fresh) clean is = absurd is
 Changes-prepared inst old new (Err (stop.After low)) clean is = absurd is
@@ -125,6 +125,7 @@ Changes-prepared inst old new (Err (stop.Need n)) clean is = record {
   spends = λ ctx P part rows before. record {
     path = and_from (not (nat_eq n 0)) (has n (inst.root ∷ [])) (ap not (ne_eqb n 0 (λ z. is.2 (sym is.1 ∙ z)))) (ap (λ m. has m (inst.root ∷ [])) is.1 ∙ has_here inst.root []);
     room = tt;
+    gets = tt;
     edits = omega (arith, ap edits_of is.0, edits_before old new P (ap dropped is.0 ∙ clean) clean ctx part);
   };
 }
@@ -134,7 +135,7 @@ Changes-prepared inst old new (Err (stop.Broken n)) clean is = record {
   broken = broken_given inst old n clean (ap (breaks inst.schema inst.root (page_of old)) is.1 ∙ root_breaks);
   ends = tt;
   answers = λ P part fresh. is.5 (ap length (sym (given-page old P inst.root is.3 clean part is.4)) ∙ ap length (fresh inst.root ∙ ap (λ b. cond b zeros []) (eq-eqb inst.root inst.root refl)) ∙ long_zeros);
-  spends = λ ctx P part rows before. record { path = tt; room = tt; edits = omega (arith, ap edits_of is.0, edits_before old new P (ap dropped is.0 ∙ clean) clean ctx part) };
+  spends = λ ctx P part rows before. record { path = tt; room = tt; gets = tt; edits = omega (arith, ap edits_of is.0, edits_before old new P (ap dropped is.0 ∙ clean) clean ctx part) };
 }
   where
     formless : (bytes : List ℕ) → length bytes ≢ 4096 → is_heap_page inst.schema (node_of bytes) ≡ false

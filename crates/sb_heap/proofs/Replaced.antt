@@ -83,7 +83,7 @@ Changes-replaced inst tuple row old new key page slot bytes head i clean may row
         and_from (is_record_key key) (bytes_eq key key || is_none (row_at rows key)) (ap (λ l. nat_le l 200) a.parts.six) (ap (λ b. b || is_none (row_at rows key)) (same_bytes key)),
         holds_after inst old new P rows M b.list clean part f (r.made.bare P) is b.heap ∙ ap Some rows_are,
       );
-  spends = λ ctx P part rows before. record { path = tt; room = tt; edits = within_cost inst (call.Update key tuple) old new (updating inst key tuple) clean (r.made.given ∙ clean) (omega (arith, r.made.edits)) ctx P part rows };
+  spends = λ ctx P part rows before. record { path = tt; room = tt; gets = tt; edits = within_cost inst (call.Update key tuple) old new (updating inst key tuple) clean (r.made.given ∙ clean) (omega (arith, r.made.edits)) ctx P part rows };
 }
   where
     spelled : (is_row_in inst.schema row ≡ true) × (row_in row ≡ tuple)
@@ -169,7 +169,7 @@ Changes-moved inst tuple row old new key now page slot bytes head i clean may ro
             (or_right (bytes_eq key now) (is_none (row_at rows now)) (ap is_none ((λ j. row_at (f.same j) (m.key_is j)) ∙ row_found N spot.page spot.slot g.low ∙ ap (λ (o : Option Node). option_map row_in (find key_cmp spot.slot (entries_of o))) (sym here) ∙ ap (option_map row_in) g.free))),
         holds_after inst old new P rows M g.becomes.list clean part f (spot_bare old m.mid new inst.root row spot m.spot_is P M is (entries_some (M spot.page) spot.slot row (entries_of (N1 spot.page)) g.becomes.here) (m.made.bare P)) is g.becomes.heap ∙ ap Some rows_are,
       );
-  spends = λ ctx P part rows before. record { path = tt; room = tt; edits = within_cost inst (call.Update key tuple) old new (updating inst key tuple) clean given (omega (arith, m.made.edits, m.spot_is.edits)) ctx P part rows };
+  spends = λ ctx P part rows before. record { path = tt; room = tt; gets = tt; edits = within_cost inst (call.Update key tuple) old new (updating inst key tuple) clean given (omega (arith, m.made.edits, m.spot_is.edits)) ctx P part rows };
 }
   where
     given : dropped new ≡ old

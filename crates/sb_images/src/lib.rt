@@ -8,6 +8,3 @@ pub use laws::{one_geometry, restores_one_way};
 pub use layout::{
     GATES, GATES_START, LOG_START, gate_region, is_geometry, log_region, need, place_of,
 };
-
-#[cfg(test)]
-mod tests;

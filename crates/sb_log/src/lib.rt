@@ -15,6 +15,3 @@ pub use laws::{bad_in_one_place, one_record, one_row_of_records, own_changes_sta
 pub use reading::read_rec;
 pub use record::Rec;
 pub use writing::{rec_len, write_rec};
-
-#[cfg(test)]
-mod tests;

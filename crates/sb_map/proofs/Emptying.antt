@@ -1,48 +1,48 @@
 -- A new map.
-use Rattle.std.proofs.Common.{◌≡◌, ◌≢◌, ℕ, ◌≤◌, true≢false, cond, List, [], ◌∷◌, length, Option, Some, None, IsSome, is_some, Result, IfErr, refl, sym, ap, subst, ◌∙◌, arith, eq-eqb}
+use Rattle.std.proofs.Common.{◌≡◌, ◌≢◌, ℕ, true≢false, cond, List, [], length, Option, Some, None, IsSome, is_some, Result, IfErr, refl, sym, ap, subst, ◌∙◌, eq-eqb}
 use Rattle.std.specs.Result.{IsErrAnd}
-use Rattle.sb_node.specs.Page.{node_of, empty_node}
-use Rattle.sb_forms.specs.Pages.{Pages, zeros}
-use Rattle.sb_forms.specs.Read.{read_tree}
-use Rattle.sb_forms.specs.Tree.{Apart, IsLeaf, IsRoot, IsTree, entries_of, items, level_of, met, nodes, tree_items}
-use Rattle.sb_ctx.specs.View.{View, HoldsPart, dropped, page_of, room_of, stored}
-use Rattle.sb_ctx.proofs.ViewLaws.{given-page, room_of-page, stored-same}
+use Rattle.sb_node.specs.Page.{node_of}
+use Rattle.sb_forms.specs.Maps.{map_in}
+use Rattle.sb_forms.specs.Pages.{ArePages, Pages, zeros}
+use Rattle.sb_forms.proofs.Maps.{MeetsAll-one, is_all-met, map_from}
+use Rattle.sb_ctx.specs.View.{View, HoldsPart, dropped, page_of, room_of, stored, with_page}
+use Rattle.sb_ctx.proofs.ViewLaws.{given-page, room_of-page, stored-clean, stored-other, stored-same}
 use Rattle.sb_btree.specs.Inserts.{MayAsk}
 use Rattle.sb_btree.specs.Prepared.{Prepares}
 use Rattle.sb_btree.specs.declared.walk.Walk.{Walk}
 use Rattle.sb_btree.specs.declared.walk.Walk.TheVariants.{Ready}
 use Rattle.sb_btree.proofs.Edits.{held_still}
-use Rattle.sb_btree.proofs.Reading.{reads_trees}
+use Rattle.sb_btree.proofs.OneLeaf.{IsOneLeaf, one_leaf}
 use Rattle.sb_drive.specs.declared.space.SpaceFault.{SpaceFault}
 use Rattle.sb_drive.specs.declared.space.SpaceFault.TheVariants.{Damaged}
 use Rattle.sb_drive.specs.Slots.{Slots, owned}
 use Rattle.sb_drive.specs.Spaces.{Wanted}
 use Rattle.sb_drive.proofs.SpacesLemmas.{IfErr-passed}
 use Rattle.sb_map.specs.declared.place.Place.{Place}
-use Rattle.sb_map.specs.Making.{IsNew, MakesEmpty}
+use Rattle.sb_map.specs.Making.{IsAlone, IsNew, MakesEmpty}
 use Rattle.sb_map.specs.Maps.{OverPages}
 use Rattle.sb_map.specs.Refusals.{IsUndamaged}
 use Rattle.sb_map.specs.Turns.{StopsBy}
+use Rattle.sb_map.proofs.Mapping.{there_low}
 use Rattle.sb_map.proofs.Walking.{Walking}
 
--- ---- a leaf without entries is a tree
-read_leaf : (root : ℕ) (P : Pages) → node_of (P root) ≡ Some (empty_node 2 0) → read_tree root P ≡ Some []
-read_leaf root P is =
-    let zero_level : level_of (nodes P root) ≡ 0 = ap level_of is in
-    let met_root : met (level_of (nodes P root)) (nodes P) root ≡ root ∷ [] = ap (λ l. met l (nodes P) root) zero_level in
-    let is_root : IsRoot (nodes P) root = record {
-      tree = subst (λ l. IsTree l (nodes P) root) (sym zero_level) (subst IsLeaf (sym is) (refl, refl, tt));
-      shallow = subst (λ l. l ≤ 16) (sym zero_level) (omega arith);
-      apart = subst (λ (l : List ℕ). Apart l) (sym met_root) (absurd, tt);
-    } in
-    let none : tree_items (nodes P) root ≡ [] = ap (λ l. items l (nodes P) root) zero_level ∙ ap entries_of is in
-    (reads_trees P root).0 is_root ∙ ap Some none
+-- ---- the root is a leaf without entries
+map_one : (root : ℕ) (P Q : Pages) → ArePages P → IsOneLeaf root Q → ((n : ℕ) → (root ≡ n → ⊥) → Q n ≡ P n) → IsAlone root P → map_in root Q ≡ Some []
+map_one root P Q are leaf others alone =
+    map_from root Q [] leaf.tree
+    (is_all-met root Q (MeetsAll-one root Q leaf.met_is (there_low P root are alone.there) (λ n ne. others n (λ same. ne (sym same)) ∙ alone.only n ne)))
 
-pub MakesEmpty-ended : (root : ℕ) (P : Pages) (c walked : View) (w : Walk (Unit {0})) (end : Unit {0}) → Prepares c walked root w → w ≡ Ready end → MakesEmpty root walked P
-MakesEmpty-ended root P c walked w end prepares is =
+pub MakesEmpty-ended : (root : ℕ) (P : Pages) (c walked : View) (w : Walk (Unit {0})) (end : Unit {0}) → dropped c ≡ c → HoldsPart c P → Prepares c walked root w → w ≡ Ready end → MakesEmpty root walked P
+MakesEmpty-ended root P c walked w end clean part prepares is =
     let made = subst (Prepares c walked root) is prepares in
-    let leaf : stored walked P root ≡ made.leaf = ap (λ (v : View). stored v P root) made.changed ∙ stored-same c P root made.leaf (ap is_some made.held) in
-    read_leaf root (stored walked P) (ap node_of leaf ∙ made.node_is)
+    let now : stored walked P ≡ stored (with_page root made.leaf c) P = ap (λ (v : View). stored v P) made.changed in
+    let leaf : stored walked P root ≡ made.leaf = ap (λ (Q : Pages). Q root) now ∙ stored-same c P root made.leaf (ap is_some made.held) in
+    let one = one_leaf root (stored walked P) (ap node_of leaf ∙ made.node_is) in
+    record {
+      tree = one.tree;
+      map = map_one root P (stored walked P) part.are_pages one
+          (λ n other. ap (λ (Q : Pages). Q n) now ∙ stored-other c P root n made.leaf other ∙ ap (λ (Q : Pages). Q n) (stored-clean c P clean part));
+    }
 
 -- ---- a new root has the bytes of a page
 long_zeros : length zeros ≡ 4096

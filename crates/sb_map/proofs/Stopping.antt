@@ -5,6 +5,7 @@ use Rattle.sb_fold.specs.Costs.{tree_cost}
 use Rattle.sb_node.specs.Entries.{Entry}
 use Rattle.sb_forms.specs.Pages.{Pages}
 use Rattle.sb_forms.specs.Read.{read_tree}
+use Rattle.sb_forms.proofs.Maps.{map_tree}
 use Rattle.sb_forms.specs.TreePages.{tree_met}
 use Rattle.sb_ctx.specs.Sound.{IsSound}
 use Rattle.sb_ctx.specs.View.{View, HoldsPart, dropped, edits_of, page_of, stored}
@@ -54,7 +55,7 @@ damaged Has Leads place first now c w r e before broken is stops =
 pub whole : {S U : Type 0} (Has : Wanted → Slots → S → Type 0) (place : Place) (first : S) (r : Result U SpaceFault)
     → IfErr r (λ x. OverPages Has place first (λ P. HasCause place.root P x)) → IfErr r (λ x. OverMap Has place first (λ es. IsUndamaged x))
 whole Has place first (Ok u) cause = tt
-whole Has place first (Err e) cause = λ want s has es read. IsUndamaged-tree place.root (owned s place.owner) es e read (cause want s has)
+whole Has place first (Err e) cause = λ want s has es read. IsUndamaged-tree place.root (owned s place.owner) es e (map_tree place.root (owned s place.owner) es read) (cause want s has)
 
 -- ---- a page that is wanting
 -- a walk asks for a fresh page

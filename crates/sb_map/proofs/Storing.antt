@@ -3,8 +3,8 @@ use Rattle.std.proofs.Common.{◌≡◌, ℕ, ◌≤◌, Bool, false, List, leng
 use Rattle.std.specs.Result.{IsErrAnd}
 use Rattle.sb_fold.specs.Costs.{tree_cost}
 use Rattle.sb_node.specs.Entries.{Entry}
+use Rattle.sb_forms.specs.Maps.{map_in}
 use Rattle.sb_forms.specs.Pages.{Pages}
-use Rattle.sb_forms.specs.Read.{read_tree}
 use Rattle.sb_ctx.specs.View.{View, HoldsPart, edits_of, stored}
 use Rattle.sb_drive.specs.declared.space.SpaceFault.{SpaceFault}
 use Rattle.sb_drive.specs.declared.space.SpaceFault.TheVariants.{DataFull, TempFull}
@@ -25,7 +25,7 @@ Leaves-same Has owner want s new IsSo has so = record { slots = s; has = has; ot
 pub Becomes-same : {S : Type 0} (Has : Wanted → Slots → S → Type 0) (place : Place) (first now : S) (key : List ℕ) (value : Option (List ℕ)) → ((want : Wanted) (s : Slots) → Has want s first → Has want s now)
     → OverTree Has place first (λ P es. is_change key value es ≡ false) → Becomes Has place first now (changed key value)
 Becomes-same Has place first now key value same none = λ want s es has read.
-    Leaves-same Has place.owner want s now (λ after. read_tree place.root after ≡ Some (changed key value es)) (same want s has)
+    Leaves-same Has place.owner want s now (λ after. map_in place.root after ≡ Some (changed key value es)) (same want s has)
     (read ∙ ap Some (sym (changed-none key value es (none want s has es read))))
 
 -- ---- what a Ctx holds is stored
@@ -47,11 +47,11 @@ Works-stored Has Leads Fails durable total place Asks first now new c x u goes_o
     }
 
 pub Becomes-stored : {S T : Type 0} (Has : Wanted → Slots → S → Type 0) (Leads : ℕ → S → S → Type 0) (Fails : SpaceFault → S → S → Type 0) (place : Place) (first now new : S) (c : View) (x : T) (change : List Entry → List Entry)
-    → Looks {T = T} Has Leads Fails first now (Ok x) → OverPages Has place first (HoldsPart c) → OverTree Has place first (λ P es. read_tree place.root (stored c P) ≡ Some (change es))
+    → Looks {T = T} Has Leads Fails first now (Ok x) → OverPages Has place first (HoldsPart c) → OverTree Has place first (λ P es. map_in place.root (stored c P) ≡ Some (change es))
     → Stores Has place.owner now new c (λ P after. after ≡ stored c P) → Becomes Has place first new change
 Becomes-stored Has Leads Fails place first now new c x change looks part tree stores = λ want s es has read.
-    Leaves-so Has place.owner want s new (λ after. after ≡ stored c (owned s place.owner)) (λ after. read_tree place.root after ≡ Some (change es))
-    (λ after so. ap (read_tree place.root) so ∙ tree want s has es read) (stores want s (looks.same want s has) (part want s has))
+    Leaves-so Has place.owner want s new (λ after. after ≡ stored c (owned s place.owner)) (λ after. map_in place.root after ≡ Some (change es))
+    (λ after so. ap (map_in place.root) so ∙ tree want s has es read) (stores want s (looks.same want s has) (part want s has))
 
 -- or isn't, where the space refuses it
 WhereFull-stored : (IsSo : Type 0) (e : SpaceFault) → IsStoreFault e → WhereFull e IsSo

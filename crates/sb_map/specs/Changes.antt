@@ -3,9 +3,9 @@ use Rattle.std.specs.Prelude.{◌≡◌, ℕ, ◌+◌, ◌≤◌, Bool, true, fa
 use Rattle.std.specs.FinMap.Entries.{find, put}
 use Rattle.sb_node.specs.Entries.{Entry, key_cmp}
 use Rattle.sb_fold.specs.Costs.{tree_cost}
+use Rattle.sb_forms.specs.Maps.{map_in}
 use Rattle.sb_forms.specs.Pages.{Pages}
-use Rattle.sb_forms.specs.Read.{read_tree}
-use Rattle.sb_ctx.specs.View.{View, edits_of, stored}
+use Rattle.sb_ctx.specs.View.{View, HoldsPart, edits_of, stored}
 use Rattle.sb_btree.specs.Removes.{entries_without}
 use Rattle.sb_btree.specs.declared.walk.Walk.{Walk}
 use Rattle.sb_btree.specs.declared.walk.Walk.TheVariants.{Ready}
@@ -35,14 +35,18 @@ pub record RemovesKey {S : Type 0} (Has : Wanted → Slots → S → Type 0) (Le
   pub becomes : Becomes Has place old new (entries_without key)
   pub none : stood ≡ false → Leads 0 old new
 
--- ---- over pages that are a tree
--- the end of a walk: whether there was a change to be made, and the tree with it
+-- ---- over pages that are a map
+-- what is so of all maps of which a Ctx holds a part
+abbrev pub OverMaps : View → ℕ → (Pages → List Entry → Type 0) → Type 0
+OverMaps c root IsSo = (P : Pages) (es : List Entry) → HoldsPart c P → map_in root P ≡ Some es → IsSo P es
+
+-- the end of a walk: whether there was a change to be made, and the map with it
 abbrev pub Makes : List ℕ → Option (List ℕ) → ℕ → Pages → List Entry → View → Walk Bool → Type 0
-Makes key value root P es c (Ready done) = (done ≡ is_change key value es) × (done ≡ true → read_tree root (stored c P) ≡ Some (changed key value es))
+Makes key value root P es c (Ready done) = (done ≡ is_change key value es) × (done ≡ true → map_in root (stored c P) ≡ Some (changed key value es))
 Makes key value root P es c walk = Unit {0}
 
 -- the same of a call, with what it costs
 pub record IsMade (key : List ℕ) (value : Option (List ℕ)) (root : ℕ) (P : Pages) (es : List Entry) (c : View) (done : Bool) : Type 0 where
   pub is : done ≡ is_change key value es
-  pub tree : done ≡ true → read_tree root (stored c P) ≡ Some (changed key value es)
+  pub tree : done ≡ true → map_in root (stored c P) ≡ Some (changed key value es)
   pub edits : edits_of c ≤ tree_cost (length es)

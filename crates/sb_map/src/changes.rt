@@ -12,7 +12,7 @@ ghost use Rattle.sb_drive.specs.Slots.{Slots, owned};
 ghost use Rattle.sb_drive.specs.Spaces.{IsFullFor, Wanted, WhereFull};
 ghost use Rattle.sb_fold.specs.Costs.{tree_cost};
 ghost use Rattle.sb_map.specs.Calls.{IsAsking, IsWithin, Looks, Works};
-ghost use Rattle.sb_map.specs.Changes.{IsMade, IsSmall, Makes, RemovesKey, changed, is_change};
+ghost use Rattle.sb_map.specs.Changes.{IsMade, IsSmall, Makes, OverMaps, RemovesKey, changed, is_change};
 ghost use Rattle.sb_map.specs.Maps.{Becomes, OverMap, OverPages, OverTree};
 ghost use Rattle.sb_map.specs.Refusals.{HasCause, IsUndamaged};
 ghost use Rattle.sb_node.specs.Entries.{key_cmp};
@@ -137,7 +137,7 @@ fn change_walk(
     ensures given { dropped ctx.new ≡ dropped ctx.old }
     ensures asks { MayAsk ctx.new result }
     ensures broken { Breaks (breaks root (page_of ctx.old)) result }
-    ensures makes { OverTrees ctx.old root
+    ensures makes { OverMaps ctx.old root
         (λ P es. Makes key.now (option_map (λ value. value.now) value.entry) root P es ctx.new result) }
     ensures edits { OverTrees ctx.old root (λ P es. edits_of ctx.new ≤ edits_of ctx.old + tree_cost (length es)) }
     ensures room { OverTrees ctx.old root (λ P es. AsksWithin (2 * length es) (length (tree_met root (stored ctx.old P))) ctx.old ctx.new result) }
@@ -155,7 +155,7 @@ fn put_walk(alloc: Global, ctx: &mut Ctx, root: u32, key: &[u8], value: &[u8]) -
     ensures given { dropped ctx.new ≡ dropped ctx.old }
     ensures asks { MayAsk ctx.new result }
     ensures broken { Breaks (breaks root (page_of ctx.old)) result }
-    ensures makes { OverTrees ctx.old root (λ P es. Makes key.now (Some value.now) root P es ctx.new result) }
+    ensures makes { OverMaps ctx.old root (λ P es. Makes key.now (Some value.now) root P es ctx.new result) }
     ensures edits { OverTrees ctx.old root (λ P es. edits_of ctx.new ≤ edits_of ctx.old + tree_cost (length es)) }
     ensures room { OverTrees ctx.old root (λ P es. AsksWithin (2 * length es) (length (tree_met root (stored ctx.old P))) ctx.old ctx.new result) }
 {

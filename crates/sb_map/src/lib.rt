@@ -2,12 +2,14 @@
 #![tactic(auto)]
 
 mod changes;
+mod laws;
 mod lookups;
 mod making;
 mod place;
 mod turns;
 
 pub use changes::{put, remove};
+pub use laws::maps_are_small;
 pub use lookups::{get, next};
 pub use making::make;
 pub use place::Place;

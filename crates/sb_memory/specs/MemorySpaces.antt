@@ -1,6 +1,7 @@
 -- A memory as a space of pages.
-use Rattle.std.specs.Prelude.{◌≡◌, ℕ, ◌+◌, ◌≤◌, ◌++◌, [], List, length, take, refl}
+use Rattle.std.specs.Prelude.{◌≡◌, ◌≢◌, ℕ, ◌+◌, ◌<◌, ◌≤◌, ◌++◌, nat_lt, Bool, true, false, [], List, length, take, refl}
 use Rattle.std.proofs.Common.{◌∙◌, sym, ap, arith, append_assoc}
+use Rattle.std.proofs.lemmas.Bool.{ltb-true, ltb-false}
 use Rattle.std.proofs.lemmas.List.{append-nil}
 use Rattle.sb_drive.specs.declared.space.SpaceFault.{SpaceFault}
 use Rattle.sb_drive.specs.declared.space.SpaceFault.TheVariants.{TempFull, NoMemory}
@@ -53,3 +54,11 @@ IsChanged-on k l a b c first second = record {
 
 pub HasPages-few : (s : Slots) (m : Contents) → HasPages s m → (n : ℕ) → 65536 ≤ n → (s n).0 ≡ 0
 HasPages-few s m has n far = has.few n (omega (arith, far))
+
+-- every page is one of so many
+pub HasPages-tabled : (s : Slots) (m : Contents) → HasPages s m → (n : ℕ) → (s n).0 ≢ 0 → (s n).1 ≡ [] → n < 16384
+HasPages-tabled s m has n some none = by (nat_lt n 16384) refl
+  where
+    by : (b : Bool) → nat_lt n 16384 ≡ b → n < 16384
+    by true low = ltb-true n 16384 low
+    by false high = absurd (some (has.few n (ltb-false n 16384 high)))

@@ -25,7 +25,7 @@ use std::alloc::Global;
 impl PageSpace for Memory {
     ghost use Rattle.std.specs.Prelude.{◌≡◌, false, refl};
     ghost use Rattle.std.proofs.Common.{◌∙◌};
-    ghost use Rattle.sb_memory.specs.MemorySpaces.{HasPages, IsChanged, IsMemoryFault, IsChanged-same, IsChanged-on, HasPages-few};
+    ghost use Rattle.sb_memory.specs.MemorySpaces.{HasPages, IsChanged, IsMemoryFault, IsChanged-same, IsChanged-on, HasPages-few, HasPages-tabled};
 
     ghost is_ready = { λ m. Unit {0} };
 
@@ -34,6 +34,8 @@ impl PageSpace for Memory {
     ghost total = { λ m. 16384 };
 
     ghost durable = { λ m. false };
+
+    ghost table = { λ m. 16384 };
 
     ghost leads = { λ k a b. IsChanged k a b };
 
@@ -48,6 +50,8 @@ impl PageSpace for Memory {
     ghost whole = { λ want s a there. there.whole };
 
     ghost few = { λ want s a there. HasPages-few s a there };
+
+    ghost tabled = { λ want s a there. HasPages-tabled s a there };
 
     fn answer(&mut self, owner: u16, ctx: &mut Ctx, ask: Ask) -> Result<(), SpaceFault> {
         answer(self, owner, ctx, ask)

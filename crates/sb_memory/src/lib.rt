@@ -17,6 +17,3 @@ pub use laws::going_back_gives_what_was;
 pub use memory::{Memory, MemoryMark, catalogue};
 pub use slots::{Slot, Write};
 pub use stores::store;
-
-#[cfg(test)]
-mod tests;

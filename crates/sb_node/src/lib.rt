@@ -18,6 +18,3 @@ pub use entries::{entry, place};
 pub use head::{CAPACITY, Head, clear, form, room, set_head};
 pub use laws::head_counts;
 pub use walk::Entries;
-
-#[cfg(test)]
-mod tests;

@@ -1,6 +1,6 @@
 -- Reading calls on a space, and refusals that aren't the space's.
 use Rattle.std.proofs.Common.{◌≡◌, inl, ℕ, Result, Ok, Err, IfErr, List, Some, map, subst, sym}
-use Rattle.sb_forms.specs.Read.{read_tree}
+use Rattle.sb_forms.specs.Maps.{map_in}
 use Rattle.sb_drive.specs.declared.space.SpaceFault.{SpaceFault}
 use Rattle.sb_drive.specs.declared.space.SpaceFault.TheVariants.{Damaged, NoMemory}
 use Rattle.sb_drive.specs.Slots.{Slots, owned}
@@ -28,8 +28,8 @@ Looks-own Has Leads Fails old new (Err NoMemory) own leads has = record { same =
 Looks-own Has Leads Fails old new (Err e) own leads has = absurd own
 
 -- the entries of the catalogue are a map of its owner
-pub catalogue-at : (place : Place) (s : Slots) (kept : List Kept) → place.owner ≡ 2 → read_tree place.root (owned s 2) ≡ Some (map entry_of kept) → read_tree place.root (owned s place.owner) ≡ Some (map entry_of kept)
-catalogue-at place s kept owner is = subst (λ (o : ℕ). read_tree place.root (owned s o) ≡ Some (map entry_of kept)) (sym owner) is
+pub catalogue-at : (place : Place) (s : Slots) (kept : List Kept) → place.owner ≡ 2 → map_in place.root (owned s 2) ≡ Some (map entry_of kept) → map_in place.root (owned s place.owner) ≡ Some (map entry_of kept)
+catalogue-at place s kept owner is = subst (λ (o : ℕ). map_in place.root (owned s o) ≡ Some (map entry_of kept)) (sym owner) is
 
 -- over a catalogue the map calls no page damaged
 IsSound-undamaged : (e : SpaceFault) → IsUndamaged e → IsSound e

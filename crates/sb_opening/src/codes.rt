@@ -53,10 +53,24 @@ pub(crate) fn take_census<S: PageSpace>(
         let Some((name, descriptor)) = next_descriptor(space, alloc, place, last.as_ref())? else {
             return Ok(Census { named, owners });
         };
-        add_codes(&mut named, &descriptor)?;
-        add_owners(&mut owners, &descriptor)?;
+        let added = add_both(&mut named, &mut owners, &descriptor);
+        drop(descriptor);
+        added?;
         last = Some(name);
     }
+}
+
+/// Puts the codes that a descriptor names and the owners of its relation's instances behind the others.
+fn add_both(
+    codes: &mut Vec<Named>,
+    owners: &mut Vec<u16>,
+    descriptor: &Descriptor,
+) -> Result<(), AllocError>
+    ensures codes { OnOk result (codes.new.items ≡ codes.old.items ++ named_by descriptor.now) }
+    ensures owners { OnOk result (owners.new.items ≡ owners.old.items ++ owners_of descriptor.now) }
+{
+    add_codes(codes, descriptor)?;
+    add_owners(owners, descriptor)
 }
 
 /// Puts the codes that a descriptor names behind the others.

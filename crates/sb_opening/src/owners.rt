@@ -1,6 +1,6 @@
 //! A look for pages whose owner no relation of the catalogue names.
 
-ghost use Rattle.std.specs.Prelude.{◌≡◌, ◌<◌, length, IfErr, IfOk, OnOk};
+ghost use Rattle.std.specs.Prelude.{◌≡◌, ◌<◌, length, IfErr, OnOk};
 ghost use Rattle.sb_drive.specs.Slots.{Slots};
 ghost use Rattle.sb_drive.specs.Spaces.{Wanted};
 ghost use Rattle.sb_space.specs.Instances.{unmarked};
@@ -12,18 +12,9 @@ ghost use Rattle.sb_opening.specs.Owners.{AreMarks, HasNoStray, IsKnown, IsStray
 
 use sb_disk::Disk;
 use sb_drive::SpaceFault;
-use sb_space::{catalogue, owner_of};
+use sb_space::{ENTRIES, FIRST_INSTANCE, OWNERS, catalogue, new_marks, owner_of};
 use sb_txn::Store;
-use std::alloc::{AllocError, Global};
-
-/// How many numbers of owners there are.
-const OWNERS: usize = u16::MAX as usize + 1;
-
-/// Below it are nobody, the table and the catalogue.
-const FIRST_INSTANCE: u16 = 3;
-
-/// How many entries a page of the owner table has.
-const ENTRIES: u32 = 2048;
+use std::alloc::Global;
 
 /// Asks each page behind the owner table for its owner. The first one whose owner is that of an instance, but none of these, is damage: of the
 /// page of the table in which its entry stands.
@@ -44,14 +35,6 @@ pub(crate) fn check_owners<D: Disk>(
     let mut marks = new_marks(alloc, OWNERS)?;
     mark_owners(&mut marks, owners);
     check_pages(store, disk, marks.as_slice())
-}
-
-/// So many marks, none of which is set.
-#[tactic(auto, unfolding(sb_space::specs::Instances::unmarked))]
-fn new_marks(alloc: Global, count: usize) -> Result<Vec<bool>, AllocError>
-    ensures { IfOk result (λ marks. marks.items ≡ unmarked count) }
-{
-    vec![in alloc; false; count]
 }
 
 /// Marks these owners among all.

@@ -13,6 +13,3 @@ pub use reading::{name_of, read_pred, term_of};
 pub use truth::{column_value, eval, value_in, value_of, well_typed_sides_have_values};
 pub use typing::{find_column, kind_of_column, kind_of_term, well_typed};
 pub use writing::{append_name, append_term, write_pred};
-
-#[cfg(test)]
-mod tests;

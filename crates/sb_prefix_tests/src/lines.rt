@@ -6,7 +6,10 @@ use std::alloc::Global;
 /// The column at which a line is bad, and 0 for a command.
 pub fn column_of(alloc: Global, line: &[u8]) -> Option<usize> {
     match parse_line(alloc, line) {
-        Ok(_) => Some(0),
+        Ok(command) => {
+            drop(command);
+            Some(0)
+        }
         Err(LineFault::Syntax { column }) => Some(column as usize),
         Err(LineFault::NoMemory) => None,
     }

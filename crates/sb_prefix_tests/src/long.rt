@@ -1,6 +1,7 @@
 //! Predicates that take a whole line.
 
 use crate::lines::column_of;
+use sb_plain::Command;
 use sb_printer::print_command;
 use sb_reader::parse_line;
 use sb_value::Bytes;
@@ -27,11 +28,23 @@ fn deep_check_line(alloc: Global, ors: usize) -> Result<Vec<u8>, AllocError> {
 
 /// Whether the line spells a command with this text.
 fn is_printed(alloc: Global, line: &[u8], text: &[u8]) -> bool {
-    let Ok(command) = parse_line(alloc, line) else {
-        return false;
-    };
+    match parse_line(alloc, line) {
+        Ok(command) => {
+            let has_text = has_text(alloc, &command, text);
+            drop(command);
+            has_text
+        }
+        Err(_) => false,
+    }
+}
+
+/// Whether the command has this text.
+fn has_text(alloc: Global, command: &Command, text: &[u8]) -> bool {
     let mut out = Bytes::new(alloc);
-    print_command(&command, &mut out).is_ok() && out.as_slice() == text
+    let is_written = print_command(command, &mut out).is_ok();
+    let is_text = out.as_slice() == text;
+    drop(out);
+    is_written && is_text
 }
 
 #[test]

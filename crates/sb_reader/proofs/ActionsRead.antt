@@ -13,14 +13,15 @@ use Rattle.sb_language.proofs.Front.{Reads}
 use Rattle.sb_language.proofs.Choice.{Marked, Avoids, Image, Alike, avoids_same, reads_same}
 use Rattle.sb_language.proofs.Parts.{Solid, Part, part_same}
 use Rattle.sb_language.proofs.Lists.{reads_items}
-use Rattle.sb_reader.specs.declared.form.Form.{Form}
-use Rattle.sb_reader.specs.declared.form.Form.TheVariants.{Full}
-use Rattle.sb_reader.specs.Commands.{◌⟫◌, is_word, word_at, mark_at, name_at, pair_at, pairs_at, matching_at, insert_action_at, delete_action_at, set_action_at, add_action_at, triggered_at, term_at, listed_at}
-use Rattle.sb_reader.proofs.Joined.{Goes, then_part, then_reads, image_part, image_reads, goes_then, goes_image, goes_same, goes_closed, goes_or, solid_or, OrNone, maybe_reads, maybe_avoids, maybe_goes, goes_items}
-use Rattle.sb_reader.proofs.PiecesRead.{tests_word, Word, Mark, part_word, part_mark, part_name}
-use Rattle.sb_reader.proofs.PhrasesRead.{Keyed, behind, Signed, Named, marked_keyed, avoids_keyed, solid_keyed, part_listed}
+use Rattle.sb_phrases.specs.declared.form.Form.{Form}
+use Rattle.sb_phrases.specs.declared.form.Form.TheVariants.{Full}
+use Rattle.sb_phrases.specs.Phrases.{◌⟫◌, is_word, word_at, mark_at, name_at, term_at, listed_at}
+use Rattle.sb_reader.specs.Commands.{pair_at, pairs_at, matching_at, insert_action_at, delete_action_at, set_action_at, add_action_at, triggered_at}
+use Rattle.sb_phrases.proofs.Joined.{Goes, then_part, then_reads, image_part, image_reads, goes_then, goes_image, goes_same, goes_closed, goes_or, solid_or, OrNone, maybe_reads, maybe_avoids, maybe_goes, goes_items}
+use Rattle.sb_phrases.proofs.PiecesRead.{tests_word, Word, Mark, part_word, part_mark, part_name}
+use Rattle.sb_phrases.proofs.PhrasesRead.{Keyed, behind, Signed, Named, marked_keyed, avoids_keyed, solid_keyed, part_listed}
 use Rattle.sb_reader.proofs.Branches.{Branch, Branches, keyed, last, or, reads_branches}
-use Rattle.sb_reader.proofs.PredicatesRead.{term_of, part_term, and_token}
+use Rattle.sb_phrases.proofs.PredicatesRead.{term_of, part_term, and_token}
 
 -- ---- NAME = TERM
 abbrev Equality : Form → List ℕ × (Unit {0} × Term) → Piece

@@ -1,5 +1,5 @@
 -- Attachments: reading them reads their grammar.
-use Rattle.std.proofs.Common.{ℕ, List, [], ◌∷◌, codes, refl, sym, subst, inl, inr, Bool, ℤ, arith}
+use Rattle.std.proofs.Common.{ℕ, List, [], ◌∷◌, codes, refl, sym, subst, inl, inr, Bool, ℤ}
 use Rattle.sb_pred.specs.Tree.{Tree}
 use Rattle.sb_rule.specs.declared.rule.Side.TheVariants.{Main, Mirror}
 use Rattle.sb_rule.specs.declared.rule.Mode.{Mode}
@@ -19,12 +19,13 @@ use Rattle.sb_grammar.specs.Grammar.{Piece, names, key, predicate, bare_term, fu
 use Rattle.sb_language.proofs.Front.{Reads}
 use Rattle.sb_language.proofs.Choice.{Image, Alike, avoids_or, avoids_sign}
 use Rattle.sb_language.proofs.Parts.{Part, part_same}
-use Rattle.sb_reader.specs.declared.form.Form.TheVariants.{Bare, Full}
-use Rattle.sb_reader.specs.Commands.{is_word, mode_at, event_at, foreign_code_at, tree_index_at, hash_index_at, join_index_at, stats_at, check_at, refers_at, trigger_at, foreign_at, rule_at, attachment_at}
-use Rattle.sb_reader.proofs.Joined.{then_reads, ended_reads, image_part, or_part}
-use Rattle.sb_reader.proofs.PiecesRead.{Word, part_word, part_mark, part_name, part_key, part_int, part_positive, part_number, int}
-use Rattle.sb_reader.proofs.PredicatesRead.{reads_predicate, goes_predicate, and_or}
-use Rattle.sb_reader.proofs.PhrasesRead.{Keyed, Signed, Named, Site, Sited, part_place, part_names, reads_word_if, avoids_word_if, marked_word, avoids_word}
+use Rattle.sb_phrases.specs.declared.form.Form.TheVariants.{Bare, Full}
+use Rattle.sb_phrases.specs.Phrases.{is_word}
+use Rattle.sb_reader.specs.Commands.{mode_at, event_at, tree_index_at, hash_index_at, join_index_at, stats_at, check_at, refers_at, trigger_at, foreign_at, rule_at, attachment_at}
+use Rattle.sb_phrases.proofs.Joined.{then_reads, ended_reads, image_part, or_part}
+use Rattle.sb_phrases.proofs.PiecesRead.{Word, part_word, part_mark, part_name, part_key, part_int, part_positive, int}
+use Rattle.sb_phrases.proofs.PredicatesRead.{reads_predicate, goes_predicate, and_or}
+use Rattle.sb_phrases.proofs.PhrasesRead.{Keyed, Signed, Named, part_foreign_code, Site, Sited, part_place, part_names, reads_word_if, avoids_word_if, marked_word, avoids_word}
 use Rattle.sb_reader.proofs.ActionsRead.{reads_triggered, goes_triggered, where_and}
 use Rattle.sb_reader.proofs.Branches.{Branch, Branches, keyed, last, or, reads_branches}
 
@@ -214,9 +215,6 @@ foreign x = command.Attach x.1.1.0.1.1 x.1.1.0.0 (Foreign x.1.0 x.1.1.1.1)
 
 abbrev ForeignLine : Command → Piece
 ForeignLine = Image foreign (Keyed (codes "code") Described)
-
-pub part_foreign_code : Part foreign_code foreign_code_at
-part_foreign_code = part_number 1000 65535 (omega arith)
 
 foreign_branch : Branch Attaches (codes "code") ForeignLine foreign_at
 unfolding foreign_at

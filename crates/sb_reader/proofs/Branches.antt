@@ -8,10 +8,10 @@ use Rattle.sb_language.specs.Reading.{or_else}
 use Rattle.sb_grammar.specs.Grammar.{Piece, word}
 use Rattle.sb_language.proofs.Front.{Reads}
 use Rattle.sb_language.proofs.Choice.{Marked, Avoids, Image, marked_image, avoids_image, avoids_or, reads_same}
-use Rattle.sb_reader.specs.Commands.{◌⟫◌, mapping, Reader, is_word, word_at}
-use Rattle.sb_reader.proofs.Joined.{then_reads, image_reads, or_reads}
-use Rattle.sb_reader.proofs.PiecesRead.{Word, part_word}
-use Rattle.sb_reader.proofs.PhrasesRead.{Keyed, marked_keyed, avoids_keyed, marked_word, avoids_word}
+use Rattle.sb_phrases.specs.Phrases.{◌⟫◌, mapping, Reader, is_word, word_at}
+use Rattle.sb_phrases.proofs.Joined.{then_reads, image_reads, or_reads}
+use Rattle.sb_phrases.proofs.PiecesRead.{Word, part_word}
+use Rattle.sb_phrases.proofs.PhrasesRead.{Keyed, marked_keyed, avoids_keyed, marked_word, avoids_word}
 
 -- ---- one branch
 -- the sentences of G that begin with this word

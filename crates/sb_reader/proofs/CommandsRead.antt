@@ -1,5 +1,5 @@
 -- Commands: reading them reads their grammar.
-use Rattle.std.proofs.Common.{ℕ, List, [], ◌∷◌, codes, refl, sym, subst, inl, inr, Bool, true, false, Option, arith}
+use Rattle.std.proofs.Common.{ℕ, List, [], ◌∷◌, codes, refl, sym, subst, inl, inr, Bool, true, false, Option, Some, None, arith}
 use Rattle.sb_value.specs.declared.schema.Column.{Column}
 use Rattle.sb_value.specs.declared.value.Value.{Value}
 use Rattle.sb_pred.specs.declared.predicate.Term.{Term}
@@ -12,17 +12,18 @@ use Rattle.sb_language.specs.Lang.{◌⨾◌, ◌∣◌}
 use Rattle.sb_grammar.specs.Grammar.{Piece, name, key, constants, constant_term, listed, column, key_columns, method, sort, any_code, after_key, row_limit, number_between, optional, matching_action, Spells}
 use Rattle.sb_language.proofs.Front.{Reads}
 use Rattle.sb_language.proofs.Choice.{Marked, Avoids, Image, Alike, marked_image, marked_same, avoids_image, avoids_same, reads_same}
-use Rattle.sb_language.proofs.Parts.{Part, part_same}
-use Rattle.sb_reader.specs.declared.form.Form.TheVariants.{Constant}
+use Rattle.sb_language.proofs.Parts.{Closed, Part, part_same}
+use Rattle.sb_phrases.specs.declared.form.Form.TheVariants.{Constant}
 use Rattle.sb_reader.specs.Commands as spec
-use Rattle.sb_reader.specs.Commands.{◌⟫◌, Reader, is_word, is_key, Rows, At, Matching, deleted}
-use Rattle.sb_reader.proofs.Joined.{then_part, then_reads, ended_reads, image_part, image_reads, or_part, or_reads}
-use Rattle.sb_reader.proofs.PiecesRead.{Word, part_word, part_name, part_key, part_number, marked_key}
-use Rattle.sb_reader.proofs.PhrasesRead.{Keyed, behind, Named, Site, Place, part_place, Sited, part_constants, marked_keyed, avoids_keyed, marked_word, avoids_word, reads_optional, avoids_optional, goes_optional}
+use Rattle.sb_phrases.specs.Phrases.{◌⟫◌, Reader, is_word, is_key, number_at}
+use Rattle.sb_reader.specs.Commands.{optional_at, Rows, At, Matching, deleted}
+use Rattle.sb_phrases.proofs.Joined.{Goes, then_part, then_reads, ended_reads, image_part, image_reads, or_part, or_reads, OrNone, maybe_reads, maybe_avoids, maybe_goes, goes_closed, goes_image, goes_same}
+use Rattle.sb_phrases.proofs.PiecesRead.{Word, part_word, part_name, part_key, part_number, marked_key}
+use Rattle.sb_phrases.proofs.PhrasesRead.{Keyed, behind, Named, Site, Place, part_place, Sited, part_constants, marked_keyed, avoids_keyed, marked_word, avoids_word}
 use Rattle.sb_reader.proofs.ActionsRead as actions
 use Rattle.sb_reader.proofs.ActionsRead.{matching_of, reads_matching, avoids_matching, SetAction, AddAction}
 use Rattle.sb_reader.proofs.AttachmentsRead.{Attaches, reads_attachment}
-use Rattle.sb_reader.proofs.RelationsRead.{part_method, part_schema, reads_key_columns}
+use Rattle.sb_phrases.proofs.RelationsRead.{part_method, part_schema, reads_key_columns}
 use Rattle.sb_reader.proofs.Branches.{Branch, Branches, keyed, alone, branch_image, last, or, reads_branches}
 
 -- ---- relations
@@ -308,6 +309,32 @@ add_branch : Branch Spells (codes "add") AddLine spec.add_at
 unfolding spec.add_at
 add_branch = let b : Branch (matching_action constant_term) (codes "add") (AddAction Constant) (spec.add_action_at Constant) = actions.add_branch Constant (λ x us s. s) in branch_image (codes "add") acts b.sound b
 
+-- ---- what may be left out
+abbrev some_of : {A : Type 0} → A → Option A
+some_of a = Some a
+
+optional_alike : {A : Type 0} (P : A → Piece) → Alike (OrNone None (Image some_of P)) (optional P)
+optional_alike {A} P = record { to = to; from = from }
+  where
+    to : (o : Option A) (us : List Token) → OrNone None (Image some_of P) o us → optional P o us
+    to o us (inl x) = subst (λ b. optional P b us) (sym x.is) x.spelled
+    to o us (inr x) = subst (λ b. optional P b us) (sym x.is) x.spelled
+
+    from : (o : Option A) (us : List Token) → optional P o us → OrNone None (Image some_of P) o us
+    from None us x = inr (record { source = tt; is = refl; spelled = x })
+    from (Some a) us x = inl (record { source = a; is = refl; spelled = x })
+
+reads_optional : {A : Type 0} (P : A → Piece) (R : Reader A) (p : Token → Bool) → Marked P p → Reads P R → Reads (optional P) (optional_at p R)
+reads_optional P R p k f = reads_same (OrNone None (Image some_of P)) (optional P) (optional_at p R) (optional_alike P) (maybe_reads p None (marked_image some_of P p k) (image_reads some_of f))
+
+avoids_optional : {A : Type 0} (P : A → Piece) (p : Token → Bool) → Avoids P p → Avoids (optional P) p
+avoids_optional P p v = avoids_same (OrNone None (Image some_of P)) (optional P) p (optional_alike P) (maybe_avoids (Image some_of P) None p (avoids_image some_of P p v))
+
+-- what may be left out goes on only with its first token
+goes_optional : {A : Type 0} (P : A → Piece) (p : Token → Bool) → Marked P p → Closed P → Goes (optional P) p
+goes_optional P p k c = goes_same (OrNone None (Image some_of P)) (optional P) p (optional_alike P)
+    (maybe_goes (Image some_of P) p p None (marked_image some_of P p k) (λ t e. e) (goes_image some_of P p (goes_closed P p c)))
+
 -- ---- scan
 abbrev AfterKey : List ℕ → Piece
 AfterKey = Image behind (Keyed (codes "after") key)
@@ -325,7 +352,7 @@ marked_after = marked_same AfterKey after_key (is_word (codes "after")) after_al
 abbrev Counted : ℕ → Piece
 Counted = number_between 0 1000000
 
-part_counted : Part Counted (spec.number_at 0 1000000)
+part_counted : Part Counted (number_at 0 1000000)
 part_counted = part_number 0 1000000 (omega arith)
 
 abbrev RowLimit : ℕ → Piece

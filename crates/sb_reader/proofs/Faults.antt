@@ -9,8 +9,8 @@ use Rattle.sb_tokens.specs.declared.token.Ending.TheVariants.{Whole, Stuck}
 use Rattle.sb_tokens.specs.Rows.{IsRow, HasOneRow, tokens_of}
 use Rattle.sb_grammar.specs.Grammar.{Spells}
 use Rattle.sb_grammar.specs.Columns.{IsCommand, IsFault, Begins, Misfit, FaultBehind, Says, Bad, IsItem, is_long}
-use Rattle.sb_reader.specs.declared.fault.Fault.{Fault}
-use Rattle.sb_reader.specs.declared.fault.Fault.TheVariants as fault
+use Rattle.sb_phrases.specs.declared.fault.Fault.{Fault}
+use Rattle.sb_phrases.specs.declared.fault.Fault.TheVariants as fault
 use Rattle.sb_reader.specs.declared.line.LineFault.{LineFault}
 use Rattle.sb_reader.specs.Outcome.{EndsAtMisfit, FaultIsMisfit}
 use Rattle.sb_reader.specs.Line.{IsRead, SaysOneThing, column_at, unless_stuck, line_fault}

@@ -1,14 +1,8 @@
-pub mod Joined
-pub mod PiecesRead
-pub mod PredicatesRead
-pub mod PhrasesRead
 pub mod ActionsRead
 pub mod Branches
 pub mod AttachmentsRead
 pub mod RulesRead
 pub mod VerbsRead
-pub mod RelationsRead
 pub mod CommandsRead
-pub mod Loops
 pub mod Whole
 pub mod Faults

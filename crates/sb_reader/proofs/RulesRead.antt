@@ -8,10 +8,11 @@ use Rattle.sb_plain.specs.declared.command.Command.TheVariants as command
 use Rattle.sb_tokens.specs.declared.token.Sign.TheVariants.{Open, Close}
 use Rattle.sb_tokens.specs.declared.token.Token.{Token}
 use Rattle.sb_language.specs.Reading.{Read, paired, and_then, mapped}
-use Rattle.sb_reader.specs.declared.form.Form.TheVariants.{Bare}
+use Rattle.sb_phrases.specs.declared.form.Form.TheVariants.{Bare}
 use Rattle.sb_reader.specs.declared.kind.RuleKind.{RuleKind}
 use Rattle.sb_reader.specs.declared.kind.RuleKind.TheVariants as kind
-use Rattle.sb_reader.specs.Commands.{◌⟫◌, Reader, word_at, mark_at, name_at, word_if_at, names_at, place_at, predicate_at, event_at, tree_index_at, hash_index_at, join_index_at, stats_at, check_at, refers_at, trigger_at}
+use Rattle.sb_phrases.specs.Phrases.{◌⟫◌, Reader, word_at, mark_at, name_at, word_if_at, names_at, place_at}
+use Rattle.sb_reader.specs.Commands.{predicate_at, event_at, tree_index_at, hash_index_at, join_index_at, stats_at, check_at, refers_at, trigger_at}
 use Rattle.sb_reader.specs.Rules.{tree_rule_at, hash_rule_at, join_rule_at, buckets_at, stats_rule_at, check_rule_at, target_at, refers_rule_at, deed_at, guarded_at, trigger_rule_at, rule_of, attached_at, attachment_of}
 
 abbrev Site : Type 0

@@ -6,7 +6,8 @@ use Rattle.sb_tokens.specs.declared.token.Token.{Token}
 use Rattle.sb_language.specs.Reading.{Read, paired, and_then, mapped}
 use Rattle.sb_reader.specs.declared.verb.Verb.{Verb}
 use Rattle.sb_reader.specs.declared.verb.Verb.TheVariants as verb
-use Rattle.sb_reader.specs.Commands.{◌⟫◌, Reader, name_at, word_at, key_at, constants_at, rows_at, deleted, optional_after_at, optional_limit_at, place_at, method_at, listed_at, column_at, key_columns_at, sort_at, any_code_at, insert_at, delete_at, update_at, get_at, scan_at, lookup_at, range_at, entries_at, create_at, drop_at, attach_at, detach_at, show_at, savepoint_at, rollback_at, register_at, retire_at}
+use Rattle.sb_phrases.specs.Phrases.{◌⟫◌, Reader, name_at, word_at, key_at, constants_at, place_at, method_at, listed_at, column_at, key_columns_at}
+use Rattle.sb_reader.specs.Commands.{rows_at, deleted, optional_after_at, optional_limit_at, sort_at, any_code_at, insert_at, delete_at, update_at, get_at, scan_at, lookup_at, range_at, entries_at, create_at, drop_at, attach_at, detach_at, show_at, savepoint_at, rollback_at, register_at, retire_at}
 use Rattle.sb_reader.specs.Verbs.{insert_behind_at, delete_behind_at, update_behind_at, get_behind_at, scan_behind_at, lookup_behind_at, range_behind_at, entries_behind_at, create_behind_at, drop_behind_at, detach_behind_at, show_behind_at, savepoint_behind_at, rollback_behind_at, register_behind_at, retire_behind_at, behind_of, keyed_at, command_of}
 
 abbrev behind : {A : Type 0} → Unit {0} × A → A

@@ -12,11 +12,11 @@ use Rattle.sb_language.specs.Reading.{Read}
 use Rattle.sb_language.proofs.Front.{Front, Next, left, reads_whole}
 use Rattle.sb_reader.specs.Commands.{command_at}
 use Rattle.std.specs.Borrow.{Bor}
-use Rattle.sb_reader.specs.Gives.{Fails}
+use Rattle.sb_phrases.specs.Gives.{Fails}
 use Rattle.sb_reader.specs.Outcome.{IsOrMemory, EndsAtMisfit, FaultIsMisfit, IsMisfitOfLast, SpellsOneCommand}
-use Rattle.sb_reader.specs.declared.fault.Fault.{Fault}
-use Rattle.sb_reader.specs.declared.fault.Fault.TheVariants as fault
-use Rattle.sb_reader.specs.declared.fault.Fault.TheVariants.{NoMemory}
+use Rattle.sb_phrases.specs.declared.fault.Fault.{Fault}
+use Rattle.sb_phrases.specs.declared.fault.Fault.TheVariants as fault
+use Rattle.sb_phrases.specs.declared.fault.Fault.TheVariants.{NoMemory}
 use Rattle.sb_reader.proofs.CommandsRead.{reads_command}
 
 -- ---- what is spelled

@@ -1,5 +1,4 @@
 pub mod Commands
-pub mod Gives
 pub mod Rules
 pub mod Verbs
 pub mod Outcome

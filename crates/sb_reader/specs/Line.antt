@@ -5,8 +5,8 @@ use Rattle.sb_tokens.specs.declared.token.Ending.{Ending}
 use Rattle.sb_tokens.specs.declared.token.Ending.TheVariants.{Whole, Stuck}
 use Rattle.sb_plain.specs.declared.command.Command.{Command}
 use Rattle.sb_grammar.specs.Columns.{Item, Says, Bad, IsItem}
-use Rattle.sb_reader.specs.declared.fault.Fault.{Fault}
-use Rattle.sb_reader.specs.declared.fault.Fault.TheVariants as fault
+use Rattle.sb_phrases.specs.declared.fault.Fault.{Fault}
+use Rattle.sb_phrases.specs.declared.fault.Fault.TheVariants as fault
 use Rattle.sb_reader.specs.declared.line.LineFault.{LineFault}
 use Rattle.sb_reader.specs.declared.line.LineFault.TheVariants.{Syntax, NoMemory}
 

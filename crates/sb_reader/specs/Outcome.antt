@@ -6,8 +6,8 @@ use Rattle.sb_tokens.specs.Rows.{tokens_of}
 use Rattle.sb_plain.specs.declared.command.Command.{Command}
 use Rattle.sb_grammar.specs.Grammar.{Spells}
 use Rattle.sb_grammar.specs.Columns.{FirstMisfit}
-use Rattle.sb_reader.specs.declared.fault.Fault.{Fault}
-use Rattle.sb_reader.specs.declared.fault.Fault.TheVariants.{NoMemory, Misfit}
+use Rattle.sb_phrases.specs.declared.fault.Fault.{Fault}
+use Rattle.sb_phrases.specs.declared.fault.Fault.TheVariants.{NoMemory, Misfit}
 
 -- this command, unless memory is wanting
 abbrev pub IsOrMemory : Result Command Fault → Command → Type 0

@@ -13,10 +13,11 @@ use Rattle.sb_tokens.specs.declared.token.Sign.TheVariants.{Open, Close}
 use Rattle.sb_tokens.specs.declared.token.Token.{Token}
 use Rattle.sb_tokens.specs.declared.token.Placed.{Placed}
 use Rattle.sb_tokens.specs.Rows.{tokens_of}
-use Rattle.sb_reader.specs.declared.form.Form.TheVariants.{Bare, Full}
+use Rattle.sb_phrases.specs.declared.form.Form.TheVariants.{Bare, Full}
 use Rattle.sb_reader.specs.declared.kind.RuleKind.{RuleKind}
 use Rattle.sb_reader.specs.declared.kind.RuleKind.TheVariants as kind
-use Rattle.sb_reader.specs.Commands.{◌⟫◌, mapping, Reader, word_at, mark_at, name_at, int_at, positive_at, word_if_at, names_at, place_at, predicate_at, triggered_at, mode_at, event_at, tree_index_at, hash_index_at, join_index_at, stats_at, check_at, refers_at, trigger_at}
+use Rattle.sb_phrases.specs.Phrases.{◌⟫◌, mapping, Reader, word_at, mark_at, name_at, int_at, positive_at, word_if_at, names_at, place_at}
+use Rattle.sb_reader.specs.Commands.{predicate_at, triggered_at, mode_at, event_at, tree_index_at, hash_index_at, join_index_at, stats_at, check_at, refers_at, trigger_at}
 
 -- ---- what readers hand back, as reading gives it
 -- a value behind a word

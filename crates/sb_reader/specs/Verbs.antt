@@ -4,7 +4,8 @@ use Rattle.sb_plain.specs.declared.command.Command.{Command}
 use Rattle.sb_plain.specs.declared.command.Command.TheVariants as command
 use Rattle.sb_reader.specs.declared.verb.Verb.{Verb}
 use Rattle.sb_reader.specs.declared.verb.Verb.TheVariants as verb
-use Rattle.sb_reader.specs.Commands.{◌⟫◌, mapping, Reader, name_at, word_at, key_at, constants_at, rows_at, deleted, optional_after_at, optional_limit_at, place_at, method_at, listed_at, column_at, key_columns_at, attachment_at, sort_at, any_code_at, insert_at, delete_at, update_at, get_at, scan_at, lookup_at, range_at, entries_at, create_at, drop_at, attach_at, detach_at, show_at, savepoint_at, rollback_at, register_at, retire_at}
+use Rattle.sb_phrases.specs.Phrases.{◌⟫◌, mapping, Reader, name_at, word_at, key_at, constants_at, place_at, method_at, listed_at, column_at, key_columns_at}
+use Rattle.sb_reader.specs.Commands.{rows_at, deleted, optional_after_at, optional_limit_at, attachment_at, sort_at, any_code_at, insert_at, delete_at, update_at, get_at, scan_at, lookup_at, range_at, entries_at, create_at, drop_at, attach_at, detach_at, show_at, savepoint_at, rollback_at, register_at, retire_at}
 
 -- ---- behind the word
 unfoldable pub insert_behind_at : Reader Command

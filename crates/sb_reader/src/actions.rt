@@ -3,14 +3,13 @@
 ghost use Rattle.std.specs.Prelude.{◌∷◌, codes};
 ghost use Rattle.sb_tokens.specs.Rows.{tokens_of};
 ghost use Rattle.sb_language.specs.Reading.{mapped, more_at, items_at};
-ghost use Rattle.sb_reader.specs.Gives.{Gives, beside, items_beside};
+ghost use Rattle.sb_phrases.specs.Gives.{Gives, beside, items_beside};
+ghost use Rattle.sb_phrases.specs.Phrases.{is_word};
 ghost use Rattle.sb_reader.specs.Commands as spec;
 
-use crate::fault::Fault;
-use crate::form::Form;
-use crate::lists::read_listed;
-use crate::pieces::{behind_word, is_word_next, read_mark, read_name, read_word};
-use crate::terms::read_term;
+use sb_phrases::{
+    Fault, Form, behind_word, is_word_next, read_listed, read_mark, read_name, read_term, read_word,
+};
 use sb_pred::Term;
 use sb_rule::{Action, Pairs, Terms};
 use sb_tokens::{Placed, Sign};
@@ -35,7 +34,7 @@ fn read_more_pairs<'a>(
     first: (Str, Term),
     tokens: &'a [Placed],
 ) -> Result<(Vec<(Str, Term)>, &'a [Placed]), Fault<'a>>
-    ensures { Gives items_beside result (mapped (λ pairs. first ∷ pairs) (more_at count (spec.is_word (codes "and")) (spec.pair_at form) (tokens_of tokens.now))) }
+    ensures { Gives items_beside result (mapped (λ pairs. first ∷ pairs) (more_at count (is_word (codes "and")) (spec.pair_at form) (tokens_of tokens.now))) }
 {
     let mut pairs = Vec::new(alloc);
     pairs.push(first)?;

@@ -2,15 +2,13 @@
 
 ghost use Rattle.std.specs.Prelude.{◌≡◌};
 ghost use Rattle.sb_tokens.specs.Rows.{tokens_of};
-ghost use Rattle.sb_reader.specs.Gives.{Gives, beside};
+ghost use Rattle.sb_phrases.specs.Gives.{Gives, beside};
 ghost use Rattle.sb_reader.specs.Commands as spec;
 ghost use Rattle.sb_reader.specs.Rules.{word_of as keyword, attached_at, attachment_of};
 
-use crate::fault::Fault;
 use crate::kind::RuleKind;
-use crate::phrases::{read_foreign_code, read_place};
-use crate::pieces::{is_word_next, read_key, read_word};
 use crate::rules::read_rule_of;
+use sb_phrases::{Fault, is_word_next, read_foreign_code, read_key, read_place, read_word};
 use sb_plain::Command;
 use sb_rule::Rule;
 use sb_tokens::Placed;

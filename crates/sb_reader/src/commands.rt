@@ -2,18 +2,17 @@
 
 ghost use Rattle.std.specs.Prelude.{◌≡◌};
 ghost use Rattle.sb_tokens.specs.Rows.{tokens_of};
-ghost use Rattle.sb_reader.specs.Gives.{Gives, beside};
+ghost use Rattle.sb_phrases.specs.Gives.{Gives, beside};
 ghost use Rattle.sb_reader.specs.Commands as spec;
 ghost use Rattle.sb_reader.specs.Verbs as verbs;
 
 use crate::attachments::read_attachment;
 use crate::control::{read_checkpoint, read_register, read_retire, read_rollback, read_savepoint};
 use crate::definitions::{read_create, read_detach, read_drop, read_show, read_tables};
-use crate::fault::Fault;
 use crate::indexes::{read_entries, read_lookup, read_range};
-use crate::pieces::{behind_word, is_word_next, read_word};
 use crate::rows::{read_add, read_delete, read_get, read_insert, read_scan, read_set, read_update};
 use crate::verb::Verb;
+use sb_phrases::{Fault, behind_word, is_word_next, read_word};
 use sb_plain::Command;
 use sb_tokens::Placed;
 use std::alloc::Global;
@@ -97,7 +96,7 @@ fn read_of<'a>(
 }
 
 /// A command on transactions or extensions.
-#[tactic(auto, unfolding(crate::specs::Commands::control_at, crate::specs::Commands::begin_at, crate::specs::Commands::commit_at, crate::specs::Commands::abort_at), using(crate::proofs::Loops::passes))]
+#[tactic(auto, unfolding(crate::specs::Commands::control_at, crate::specs::Commands::begin_at, crate::specs::Commands::commit_at, crate::specs::Commands::abort_at), using(sb_phrases::proofs::Loops::passes))]
 fn read_control<'a>(
     alloc: Global,
     tokens: &'a [Placed],

@@ -1,12 +1,11 @@
 //! Readers of commands on transactions and extensions, behind their first words.
 
 ghost use Rattle.sb_tokens.specs.Rows.{tokens_of};
-ghost use Rattle.sb_reader.specs.Gives.{Gives, beside};
+ghost use Rattle.sb_phrases.specs.Gives.{Gives, beside};
 ghost use Rattle.sb_reader.specs.Commands as spec;
 ghost use Rattle.sb_reader.specs.Verbs as verbs;
 
-use crate::fault::Fault;
-use crate::pieces::{behind_word, read_name, read_number, read_word};
+use sb_phrases::{Fault, behind_word, read_name, read_number, read_word};
 use sb_plain::Command;
 use sb_tokens::Placed;
 
@@ -35,7 +34,7 @@ pub fn read_checkpoint<'a>(tokens: &'a [Placed]) -> Result<(Command, &'a [Placed
 }
 
 /// Whether the extension is a storage method; else it is an attachment.
-#[tactic(auto, unfolding(crate::specs::Commands::sort_at), using(crate::proofs::Loops::passes))]
+#[tactic(auto, unfolding(crate::specs::Commands::sort_at), using(sb_phrases::proofs::Loops::passes))]
 fn read_sort<'a>(tokens: &'a [Placed]) -> Result<(bool, &'a [Placed]), Fault<'a>>
     ensures { Gives beside result (spec.sort_at (tokens_of tokens.now)) }
 {

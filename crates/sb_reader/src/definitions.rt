@@ -1,14 +1,13 @@
 //! Readers of commands on relations and their attachments, behind their first words.
 
 ghost use Rattle.sb_tokens.specs.Rows.{tokens_of};
-ghost use Rattle.sb_reader.specs.Gives.{Gives, beside};
+ghost use Rattle.sb_phrases.specs.Gives.{Gives, beside};
 ghost use Rattle.sb_reader.specs.Commands as spec;
 ghost use Rattle.sb_reader.specs.Verbs as verbs;
 
-use crate::fault::Fault;
-use crate::phrases::read_place;
-use crate::pieces::{read_name, read_word};
-use crate::relations::{read_key_columns, read_method, read_schema};
+use sb_phrases::{
+    Fault, read_key_columns, read_method, read_name, read_place, read_schema, read_word,
+};
 use sb_plain::Command;
 use sb_tokens::Placed;
 use std::alloc::Global;

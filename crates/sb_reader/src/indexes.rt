@@ -1,13 +1,10 @@
 //! Readers of commands on indexes, behind their first words.
 
 ghost use Rattle.sb_tokens.specs.Rows.{tokens_of};
-ghost use Rattle.sb_reader.specs.Gives.{Gives, beside};
+ghost use Rattle.sb_phrases.specs.Gives.{Gives, beside};
 ghost use Rattle.sb_reader.specs.Verbs as verbs;
 
-use crate::fault::Fault;
-use crate::lists::read_constants;
-use crate::phrases::read_place;
-use crate::pieces::read_word;
+use sb_phrases::{Fault, read_constants, read_place, read_word};
 use sb_plain::Command;
 use sb_tokens::Placed;
 use std::alloc::Global;

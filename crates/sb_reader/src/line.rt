@@ -4,8 +4,8 @@ ghost use Rattle.std.specs.Prelude.{◌≡◌, ℕ, List};
 ghost use Rattle.sb_reader.specs.Line as spec;
 ghost use Rattle.sb_reader.specs.Line.{IsRead, SaysOneThing};
 
-use crate::fault::Fault;
 use crate::reading::read_command;
+use sb_phrases::Fault;
 use sb_plain::Command;
 use sb_tokens::{Ending, Placed, Row, has_one_row, scan};
 use std::alloc::{AllocError, Global};

@@ -6,11 +6,11 @@ ghost use Rattle.sb_tokens.specs.Rows.{tokens_of};
 ghost use Rattle.sb_plain.specs.declared.command.Command.{Command as Order};
 ghost use Rattle.sb_grammar.specs.Grammar.{Spells};
 ghost use Rattle.sb_reader.specs.Commands.{command_at};
-ghost use Rattle.sb_reader.specs.Gives.{Fails};
+ghost use Rattle.sb_phrases.specs.Gives.{Fails};
 ghost use Rattle.sb_reader.specs.Outcome.{IsOrMemory, FaultIsMisfit, IsMisfitOfLast, SpellsOneCommand};
 
 use crate::commands::read_front;
-use crate::fault::Fault;
+use sb_phrases::Fault;
 use sb_plain::Command;
 use sb_tokens::Placed;
 use std::alloc::Global;

@@ -1,15 +1,15 @@
 //! Readers of commands on rows, behind their first words.
 
 ghost use Rattle.sb_tokens.specs.Rows.{tokens_of};
-ghost use Rattle.sb_reader.specs.Gives.{Gives, beside};
+ghost use Rattle.sb_phrases.specs.Gives.{Gives, beside};
 ghost use Rattle.sb_reader.specs.Commands as spec;
 ghost use Rattle.sb_reader.specs.Verbs as verbs;
 
 use crate::actions::{read_add_action, read_matching, read_set_action};
-use crate::fault::Fault;
-use crate::form::Form;
-use crate::lists::read_constants;
-use crate::pieces::{is_key_next, is_word_next, read_key, read_name, read_number, read_word};
+use sb_phrases::{
+    Fault, Form, is_key_next, is_word_next, read_constants, read_key, read_name, read_number,
+    read_word,
+};
 use sb_plain::Command;
 use sb_rule::Action;
 use sb_tokens::Placed;

@@ -1,26 +1,24 @@
 //! Readers of the rules of attachments, which stand behind their words and places.
 
 ghost use Rattle.sb_tokens.specs.Rows.{tokens_of};
-ghost use Rattle.sb_reader.specs.Gives.{Gives, beside};
+ghost use Rattle.sb_phrases.specs.Gives.{Gives, beside};
 ghost use Rattle.sb_reader.specs.Commands as commands;
 ghost use Rattle.sb_reader.specs.Rules.{keyed_beside, twice_keyed_beside};
 ghost use Rattle.sb_reader.specs.Rules as spec;
 
 use crate::actions::read_triggered;
-use crate::fault::Fault;
-use crate::form::Form;
 use crate::kind::RuleKind;
-use crate::lists::read_names;
-use crate::phrases::read_flag;
-use crate::pieces::{behind_word, read_int, read_mark, read_name, read_positive, read_word};
-use crate::predicates::read_predicate;
+use sb_phrases::{
+    Fault, Form, behind_word, read_flag, read_int, read_mark, read_name, read_names, read_positive,
+    read_predicate, read_word,
+};
 use sb_pred::Pred;
 use sb_rule::{Action, Event, Mode, Rule, Side};
 use sb_tokens::{Placed, Sign};
 use sb_value::Names;
 use std::alloc::Global;
 
-#[tactic(auto, unfolding(crate::specs::Commands::mode_at), using(crate::proofs::Loops::passes))]
+#[tactic(auto, unfolding(crate::specs::Commands::mode_at), using(sb_phrases::proofs::Loops::passes))]
 fn read_mode<'a>(tokens: &'a [Placed]) -> Result<(Mode, &'a [Placed]), Fault<'a>>
     ensures { Gives beside result (commands.mode_at (tokens_of tokens.now)) }
 {
@@ -31,7 +29,7 @@ fn read_mode<'a>(tokens: &'a [Placed]) -> Result<(Mode, &'a [Placed]), Fault<'a>
     Ok((Mode::Cascade, rest))
 }
 
-#[tactic(auto, unfolding(crate::specs::Commands::event_at), using(crate::proofs::Loops::passes))]
+#[tactic(auto, unfolding(crate::specs::Commands::event_at), using(sb_phrases::proofs::Loops::passes))]
 fn read_event<'a>(tokens: &'a [Placed]) -> Result<(Event, &'a [Placed]), Fault<'a>>
     ensures { Gives beside result (commands.event_at (tokens_of tokens.now)) }
 {

@@ -1,4 +1,4 @@
-//! The content of an attachment, as its live box answers it.
+//! The content of an attachment, as its live box answers it. What was made for a call goes by a call of `drop`.
 
 ghost use Rattle.std.specs.Prelude.{◌≡◌, ◌++◌, ◌∷◌, [], filter, find, option_copied, OnOk, IfOk, IfErr};
 ghost use Rattle.sb_relation.specs.Images.{is_before};
@@ -133,11 +133,21 @@ fn next_entry<S: PageSpace, B: Boxes>(
 {
     let copy = low.copy()?;
     let call = AttachCall::NextEntry(copy, after);
-    let made = ask(space, alloc, boxes, place, inst, &call)?;
-    if !is_risen(&call, &made) {
+    let made = match ask(space, alloc, boxes, place, inst, &call) {
+        Ok(made) => made,
+        Err(fault) => {
+            drop(call);
+            return Err(fault);
+        }
+    };
+    let is_risen = is_risen(&call, &made);
+    drop(call);
+    let entry = entry_in(made);
+    if !is_risen {
+        drop(entry);
         return Err(SpaceFault::Damaged { page: inst.root });
     }
-    Ok(entry_in(made))
+    Ok(entry)
 }
 
 /// Whether an entry that is answered to a read of the next one is behind the one of the call.
@@ -188,7 +198,9 @@ fn sums_of<S: PageSpace, B: Boxes>(
     ensures ready { S.is_ready space.new }
 {
     let call = AttachCall::Sums;
-    let made = ask(space, alloc, boxes, place, inst, &call)?;
+    let asked = ask(space, alloc, boxes, place, inst, &call);
+    drop(call);
+    let made = asked?;
     Ok(sums_in(made))
 }
 

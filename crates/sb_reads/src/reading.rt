@@ -1,4 +1,4 @@
-//! What commands answer that only read.
+//! What commands answer that only read. An open relation goes by a call of `drop`.
 
 ghost use Rattle.std.specs.Prelude.{◌≡◌, ℕ, List, None, Some, option_copied, IfOk, IfErr};
 ghost use Rattle.sb_fold.specs.Extensions.{Extensions};
@@ -53,7 +53,9 @@ pub fn read<S: PageSpace, B: Boxes>(
     let Some(opened) = open_relation(space, alloc, boxes, place, relation)? else {
         return Err(SpaceFault::Damaged { page: place.root });
     };
-    let reply = read_relation(space, alloc, boxes, place, &opened, command)?;
+    let answer = read_relation(space, alloc, boxes, place, &opened, command);
+    drop(opened);
+    let reply = answer?;
     Ok(Some(reply))
 }
 

@@ -150,5 +150,7 @@ pub fn refuse<C: Catalogue>(
         return Ok(Some(refusal));
     }
     let named = see_named(catalogue, alloc, command)?;
-    refuse_seen(catalogue, alloc, &named, command)
+    let made = refuse_seen(catalogue, alloc, &named, command);
+    drop(named);
+    made
 }

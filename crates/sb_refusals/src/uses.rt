@@ -139,10 +139,15 @@ fn step_over<C: Catalogue>(
     let Some((name, descriptor)) = catalogue.next(alloc, after)? else {
         return Ok(Step::End);
     };
-    match user_at(alloc, command, &name, &descriptor) {
+    let user = user_at(alloc, command, &name, &descriptor);
+    drop(descriptor);
+    match user {
         Ok(Some(user)) => Ok(Step::Used(name, user)),
         Ok(None) => Ok(Step::Unused(name)),
-        Err(_) => Err(Refusal::NoMemory),
+        Err(_) => {
+            drop(name);
+            Err(Refusal::NoMemory)
+        }
     }
 }
 
@@ -162,12 +167,15 @@ fn first_user<C: Catalogue>(
 {
     let mut after: Option<Str> = None;
     for _turn in 0..u64::MAX {
-        match step_over(catalogue, alloc, command, after.as_ref())? {
+        let step = step_over(catalogue, alloc, command, after.as_ref());
+        drop(after);
+        match step? {
             Step::Used(relation, name) => return Ok(Some((relation, name))),
             Step::Unused(relation) => after = Some(relation),
             Step::End => return Ok(None),
         }
     }
+    drop(after);
     Ok(None)
 }
 

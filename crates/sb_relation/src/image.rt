@@ -103,30 +103,3 @@ pub struct Image {
     pub entries: Entries,
     pub sums: Sums,
 }
-
-#[cfg(test)]
-mod tests {
-    use super::*;
-    use std::test::Fail;
-
-    #[test]
-    fn entries(rt: HostRuntime) -> Result<(), Fail> {
-        let alloc = rt.alloc();
-        let first = RecKey::from_vec(vec![in alloc; 1]?);
-        let second = RecKey::from_vec(vec![in alloc; 2]?);
-        let entries = Entries::from_vec(vec![in alloc; (first, second)]?);
-        assert!(rt; entries.len() == 1 && !entries.is_empty());
-        assert_eq!(rt; entries.as_slice().len(), 1);
-        assert_eq!(rt; entries.into_vec().len(), 1);
-        Ok(())
-    }
-
-    #[test]
-    fn sums(rt: HostRuntime) -> Result<(), Fail> {
-        let sums = Sums::from_vec(vec![in rt.alloc(); 3, -4]?);
-        assert!(rt; sums.len() == 2 && !sums.is_empty());
-        assert_eq!(rt; sums.as_slice(), [3, -4].as_slice());
-        assert_eq!(rt; sums.into_vec().len(), 2);
-        Ok(())
-    }
-}

@@ -2,4 +2,3 @@ pub mod CallsLemmas
 pub mod ScansLemmas
 pub mod PathLemmas
 pub mod PlacingsLemmas
-pub mod ExampleLaws

@@ -2,4 +2,3 @@ pub mod Live
 pub mod Placings
 pub mod Scans
 pub mod Paths
-pub mod Examples

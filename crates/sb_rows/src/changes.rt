@@ -95,8 +95,12 @@ pub fn delete_row<S: PageSpace, B: Boxes>(
     ensures ready { S.is_ready space.new }
 {
     let call = MethodCall::Delete(key);
-    let made = boxes.run_method(space, alloc, inst, &call)?;
-    Ok(is_gone(&made))
+    let made = boxes.run_method(space, alloc, inst, &call);
+    drop(call);
+    let made = made?;
+    let gone = is_gone(&made);
+    drop(made);
+    Ok(gone)
 }
 
 fn is_gone(made: &Move) -> bool
@@ -171,6 +175,9 @@ pub fn prepare_rows<S: PageSpace, B: Boxes>(
     ensures ready { S.is_ready space.new }
 {
     let call = MethodCall::Prepare;
-    boxes.run_method(space, alloc, inst, &call)?;
+    let made = boxes.run_method(space, alloc, inst, &call);
+    drop(call);
+    let made = made?;
+    drop(made);
     Ok(())
 }

@@ -75,8 +75,17 @@ pub fn next_row<S: PageSpace, B: Boxes>(
     ensures ready { S.is_ready space.new }
 {
     let call = MethodCall::Next(low);
-    let made = boxes.run_method(space, alloc, inst, &call)?;
-    if !is_risen(&call, &made) {
+    let made = match boxes.run_method(space, alloc, inst, &call) {
+        Ok(made) => made,
+        Err(fault) => {
+            drop(call);
+            return Err(fault);
+        }
+    };
+    let risen = is_risen(&call, &made);
+    drop(call);
+    if !risen {
+        drop(made);
         return Err(SpaceFault::Damaged { page: inst.root });
     }
     Ok(row_in(made))

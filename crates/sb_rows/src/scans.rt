@@ -175,29 +175,46 @@ fn scan_rows<S: PageSpace, B: Boxes, T: RowTest>(
     let mut last = low;
     'rows: for _ in 0..MOST_ROWS {
         if found.len() as u64 == limit {
+            drop(last);
             return Ok(found);
         }
-        let Some((key, row)) = next_row(space, alloc, boxes, inst, last)? else {
+        let next = match next_row(space, alloc, boxes, inst, last) {
+            Ok(next) => next,
+            Err(fault) => {
+                drop(found);
+                return Err(fault);
+            }
+        };
+        let Some((key, row)) = next else {
             return Ok(found);
         };
         let passed = test.passes(&row);
-        last = Some(key.copy()?);
-        add_row(&mut found, key, row, passed)?;
+        last = match add_row(&mut found, key, row, passed) {
+            Ok(copy) => Some(copy),
+            Err(_) => {
+                drop(found);
+                return Err(SpaceFault::NoMemory);
+            }
+        };
     }
+    drop(found);
+    drop(last);
     Err(SpaceFault::Damaged { page: inst.root })
 }
 
-/// Adds a row that passes.
+/// Adds a row that passes. A copy of the row's key is answered.
 fn add_row(
     found: &mut Vec<(RecKey, Tuple)>,
     key: RecKey,
     row: Tuple,
     passes: bool,
-) -> Result<(), AllocError>
-    ensures { OnOk result (found.new.items ≡ found.old.items ++ cond passes ((key, row) ∷ []) []) }
+) -> Result<RecKey, AllocError>
+    ensures copy { IfOk result (λ copy. copy ≡ key) }
+    ensures added { OnOk result (found.new.items ≡ found.old.items ++ cond passes ((key, row) ∷ []) []) }
 {
+    let copy = key.copy()?;
     if passes {
         found.push((key, row))?;
     }
-    Ok(())
+    Ok(copy)
 }

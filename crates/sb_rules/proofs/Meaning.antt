@@ -69,7 +69,7 @@ no_content-only code inst P content is = by (inst.owner == 0 && page_count P == 
     by false is = cc
 
 pub IsAttachment-pageless : (code : ℕ) → IsAttachment (pageless code)
-IsAttachment-pageless code = record { pageless = λ none_kept inst P owner none. formed code inst P owner none; formed = holds code }
+IsAttachment-pageless code = record { pageless = λ none_kept inst P owner none. formed code inst P owner none; searches = λ content query. refl; idle = λ none_kept c before after. refl; standard = λ ours content. omega arith; formed = holds code }
 
 -- ---- nothing is made of the pages
 and_false : (b : Bool) → (b && false) ≡ false

@@ -1,4 +1,4 @@
-//! The box of triggers.
+//! The box of triggers. What an instance keeps goes by calls of `drop`.
 
 ghost use Rattle.sb_rules.specs.Triggers.{trigger};
 
@@ -52,10 +52,14 @@ impl Attachment for Trigger {
             return Move::NoMemory;
         };
         if !meets(&kept, &inst.schema, change) {
+            drop(kept);
             return Move::Done;
         }
-        match bind(alloc, &kept.action, &inst.schema, change) {
-            Ok(action) => act(alloc, action, kept.deferred),
+        let deferred = kept.deferred;
+        let bound = bind(alloc, &kept.action, &inst.schema, change);
+        drop(kept);
+        match bound {
+            Ok(action) => act(alloc, action, deferred),
             Err(_) => Move::NoMemory,
         }
     }

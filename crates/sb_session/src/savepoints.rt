@@ -63,21 +63,24 @@ impl<B: Vectors> Session<B> {
         if self.down {
             return Err(Refusal::Down);
         }
-        let Some(mut current) = self.open.take() else {
-            return Err(Refusal::State);
-        };
-        let Some(i) = point_of(&current.points, name) else {
-            self.open = Some(current);
-            return Err(no_name(name));
-        };
-        let point = current.points[i].point;
-        match back_to(&mut self.space, disk, &mut current.transaction, point) {
-            Ok(()) => {
-                current.points.truncate(i + 1);
-                self.open = Some(current);
-                Ok(())
+        match &mut self.open {
+            None => Err(Refusal::State),
+            Some(current) => {
+                let Some(i) = point_of(&current.points, name) else {
+                    return Err(no_name(name));
+                };
+                let point = current.points[i].point;
+                match back_to(&mut self.space, disk, &mut current.transaction, point) {
+                    Ok(()) => {
+                        current.points.truncate(i + 1);
+                        Ok(())
+                    }
+                    Err(refusal) => {
+                        self.open = None;
+                        Err(self.refused(refusal))
+                    }
+                }
             }
-            Err(refusal) => Err(self.refused(refusal)),
         }
     }
 }

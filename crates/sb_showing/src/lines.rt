@@ -1,4 +1,4 @@
-//! The lines that make a relation, by its descriptor.
+//! The lines that make a relation, by its descriptor. Their commands go by calls of `drop`.
 
 ghost use Rattle.std.specs.Prelude.{◌≡◌, ◌++◌, IfOk, OnOk, All};
 ghost use Rattle.std.specs.List.{flat_map};
@@ -42,7 +42,9 @@ fn creation_line(alloc: Global, relation: &str, descriptor: &Descriptor) -> Resu
     ensures { IfOk result (λ line. line ≡ command_text (creation relation.now descriptor.now)) }
 {
     let command = creation(alloc, relation, descriptor)?;
-    line_of(alloc, &command)
+    let line = line_of(alloc, &command);
+    drop(command);
+    line
 }
 
 fn add_attachments(
@@ -86,7 +88,9 @@ fn attachment_line(alloc: Global, relation: &str, attached: &Attached) -> Result
     ensures { IfOk result (λ line. line ≡ command_text (attachment relation.now attached.now)) }
 {
     let command = attachment(alloc, relation, attached)?;
-    line_of(alloc, &command)
+    let line = line_of(alloc, &command);
+    drop(command);
+    line
 }
 
 /// Whether the rule came with a main instance.
@@ -115,11 +119,10 @@ fn creation(alloc: Global, relation: &str, descriptor: &Descriptor) -> Result<Co
 fn attachment(alloc: Global, relation: &str, attached: &Attached) -> Result<Command, AllocError>
     ensures { IfOk result (λ c. c ≡ attachment relation.now attached.now) }
 {
-    let copy = attached.copy(alloc)?;
     Ok(Command::Attach {
         relation: name_of(alloc, relation)?,
-        name: copy.name,
-        rule: copy.rule,
+        name: attached.name.copy()?,
+        rule: attached.rule.copy(alloc)?,
     })
 }
 

@@ -1,5 +1,5 @@
 -- The pages of a new store, with their owners.
-use Rattle.std.proofs.Common.{◌≡◌, ⊎_elim, ℕ, zero, suc, ◌+◌, ◌*◌, ◌<◌, ◌≤◌, ◌==◌, nat_lt, Bool, cond, true, false, ◌&&◌, Option, Some, None, List, [], ◌∷◌, replicate, refl, sym, ap, subst, ◌∙◌, arith}
+use Rattle.std.proofs.Common.{◌≡◌, ◌≢◌, ⊎_elim, ℕ, zero, suc, ◌+◌, ◌*◌, ◌<◌, ◌≤◌, ◌==◌, nat_lt, Bool, cond, true, false, ◌&&◌, Option, Some, None, List, [], ◌∷◌, replicate, refl, sym, ap, subst, ◌∙◌, arith}
 use Rattle.std.proofs.lemmas.Bool.{cases_lt, lt-ltb, le-ltb, eq-eqb}
 use Rattle.std.proofs.lemmas.List.Elements.{All-cons, All-replicate, All-append, All-nil}
 use Rattle.std.specs.Int.{to_be_bytes, w16}
@@ -7,6 +7,9 @@ use Rattle.std.specs.List.{All}
 use Rattle.sb_bytes.specs.Field.{number_at}
 use Rattle.sb_forms.specs.Pages.{Pages}
 use Rattle.sb_forms.specs.Read.{is_leaf, is_tree, is_upto, is_apart, is_root, read_tree}
+use Rattle.sb_forms.specs.Maps.{map_in}
+use Rattle.sb_forms.specs.TreePages.{tree_met}
+use Rattle.sb_forms.proofs.Maps.{MeetsAll-one, is_all-met, map_from}
 use Rattle.sb_forms.specs.Tree.{Nodes, nodes, met, items, entries_of, level_of, tree_items}
 use Rattle.sb_node.specs.Page.{Node, node_of, has_form, head_in, empty_node}
 use Rattle.sb_drive.specs.Slots.{nobodys, owned, bytes_for}
@@ -140,6 +143,34 @@ read-leaf P r is =
     let node = ap node_of is ∙ node-leaf in
     ap (λ (b : Bool). cond b (Some (tree_items (nodes P) r)) None) (root-leaf (nodes P) r node) ∙ ap Some (items-leaf (nodes P) r node)
 
+-- owner 2 has the root alone
+module _ (pages : ℕ) (least : 64 ≤ pages) (most : pages ≤ 65536) where
+  abbrev P : Pages
+  P = owned (slots_in pages (first_page pages)) 2
+
+  root-is : P (table_len pages) ≡ empty_leaf
+  root-is = ap (bytes_for 2) (slot-root pages least)
+
+  met-root : tree_met (table_len pages) P ≡ table_len pages ∷ []
+  met-root = ap (λ (l : ℕ). met l (nodes P) (table_len pages)) (level (nodes P) (table_len pages) (ap node_of root-is ∙ node-leaf))
+
+  none-other : (n : ℕ) → n ≢ table_len pages → P n ≡ []
+  none-other n other = ⊎_elim
+      (λ (low : n < table_len pages). ap (bytes_for 2) (slot pages least n 1 (omega (arith, low, behind pages least)) (owner-own pages n low)))
+      (λ (high : table_len pages ≤ n). ap (bytes_for 2) (slot-rest pages least n (rise high)))
+      (cases_lt n (table_len pages))
+    where
+      rise : table_len pages ≤ n → table_len pages < n
+      rise high = ⊎_elim
+          (λ (above : table_len pages < n). above)
+          (λ (last : n ≤ table_len pages). absurd (other (omega (arith, high, last))))
+          (cases_lt (table_len pages) n)
+
+  empty-map : map_in (table_len pages) P ≡ Some []
+  empty-map =
+      map_from (table_len pages) P [] (read-leaf P (table_len pages) root-is)
+      (is_all-met (table_len pages) P (MeetsAll-one (table_len pages) P met-root (omega (arith, behind pages least, most)) none-other))
+
 pub new_stores : NewStores
 new_stores g sizes =
     let pages = g.pages in
@@ -151,5 +182,5 @@ new_stores g sizes =
       own = λ n low. slot pages least n 1 (omega (arith, low, behind pages least)) (owner-own pages n low);
       root = root;
       rest = slot-rest pages least;
-      empty = read-leaf (owned (slots_in pages (first_page pages)) 2) (table_len pages) (ap (bytes_for 2) root);
+      empty = empty-map pages least sizes.pages.1;
     }

@@ -6,7 +6,7 @@ use Rattle.sb_disk.specs.Disk.{Story}
 use Rattle.sb_drive.specs.declared.space.SpaceFault.{SpaceFault}
 use Rattle.sb_drive.specs.declared.space.SpaceFault.TheVariants as space
 use Rattle.sb_drive.specs.Slots.{nobodys, owned}
-use Rattle.sb_forms.specs.Read.{read_tree}
+use Rattle.sb_forms.specs.Maps.{map_in}
 use Rattle.sb_images.specs.Layout.{IsGeometry}
 use Rattle.sb_images.specs.Store.{IfTold, IsMounted}
 use Rattle.sb_log.specs.declared.geometry.Geometry.{Geometry}
@@ -131,7 +131,7 @@ pub record IsNewStore (pages : ℕ) (want : ℕ → List ℕ) : Type 0 where
   pub own : (n : ℕ) → n < table_len pages → slots_in pages want n ≡ (1, [])
   pub root : slots_in pages want (table_len pages) ≡ (2, empty_leaf)
   pub rest : (n : ℕ) → table_len pages < n → slots_in pages want n ≡ nobodys
-  pub empty : read_tree (table_len pages) (owned (slots_in pages want) 2) ≡ Some []
+  pub empty : map_in (table_len pages) (owned (slots_in pages want) 2) ≡ Some []
 
 -- what was formatted as a store of these sizes is one
 abbrev pub NewStores : Type 0

@@ -1,14 +1,14 @@
 -- The laws of a space of pages, of a store that is borrowed.
-use Rattle.std.proofs.Common.{◌≡◌, ⊎_elim, inl, inr, ℕ, zero, suc, ◌+◌, ◌≤◌, nat_lt, Bool, true, false, cond, Option, List, refl, sym, ap, subst, ◌∙◌, arith}
-use Rattle.std.proofs.lemmas.Bool.{ltb-true, le-ltb}
+use Rattle.std.proofs.Common.{◌≡◌, ◌≢◌, ⊎_elim, inl, inr, ℕ, zero, suc, ◌+◌, ◌<◌, ◌≤◌, nat_lt, Bool, true, false, cond, Option, List, [], length, refl, sym, ap, subst, ◌∙◌, arith}
+use Rattle.std.proofs.lemmas.Bool.{ltb-true, ltb-false, le-ltb}
 use Rattle.sb_disk.specs.Disk.{Story}
 use Rattle.sb_forms.specs.Pages.{IsWhole}
 use Rattle.sb_drive.specs.declared.space.SpaceFault.{SpaceFault}
-use Rattle.sb_drive.specs.Slots.{Slots, nobodys, AreWhole, IsPage}
+use Rattle.sb_drive.specs.Slots.{Slot, Slots, nobodys, AreWhole, IsPage}
 use Rattle.sb_drive.specs.Spaces.{Wanted}
 use Rattle.sb_txn.specs.Parts.{Parts}
 use Rattle.sb_space.specs.Durable.{Lent, Leads}
-use Rattle.sb_space.specs.Table.{owner_at, shown}
+use Rattle.sb_space.specs.Table.{owner_at, shown, table_len}
 use Rattle.sb_space.specs.Works.{HasPages, Works, Fails}
 use Rattle.sb_disk.specs.Causes.{Rose}
 use Rattle.sb_disk.proofs.CauseLemmas.{Rose-before, Rose-later}
@@ -73,3 +73,27 @@ pub few_pages : (want : Wanted) (s : Slots) (p : Parts) → HasPages want s p �
 few_pages want s p has n beyond =
     let few = has.stands.store.2.serves.sizes.pages.1 in
     ap (λ (x : Slots). (x n).0) has.slots ∙ ap (λ (b : Bool). (cond b (shown (owner_at has.now n) (has.now n)) nobodys).0) (le-ltb n p.store.pool.geometry.pages (omega (arith, few, beyond)))
+
+-- a page that is taken and shows no bytes is one of the table
+pub table_pages : (want : Wanted) (s : Slots) (p : Parts) → HasPages want s p → (n : ℕ) → (s n).0 ≢ 0 → (s n).1 ≡ [] → n < table_len p.store.pool.geometry.pages
+table_pages want s p has n some none = by (nat_lt n pages) refl
+  where
+    pages : ℕ
+    pages = p.store.pool.geometry.pages
+
+    slot : (b : Bool) → nat_lt n pages ≡ b → s n ≡ cond b (shown (owner_at has.now n) (has.now n)) nobodys
+    slot b is = ap (λ (x : Slots). x n) has.slots ∙ ap (λ (b : Bool). cond b (shown (owner_at has.now n) (has.now n)) nobodys) is
+
+    of_owner : (o : ℕ) → owner_at has.now n ≡ o → s n ≡ shown o (has.now n) → n < pages → n < table_len pages
+    of_owner zero is same near = absurd (some (ap (λ (x : Slot). x.0) same))
+    of_owner (suc zero) is same near = in_table (nat_lt n (table_len pages)) refl
+      where
+        in_table : (b : Bool) → nat_lt n (table_len pages) ≡ b → n < table_len pages
+        in_table true low = ltb-true n (table_len pages) low
+        in_table false high = absurd (has.table.others n (ltb-false n (table_len pages) high) near is)
+    of_owner (suc (suc o)) is same near =
+        absurd (omega (arith, sym (has.stands.whole n near).long ∙ ap length (sym (ap (λ (x : Slot). x.1) same) ∙ none)))
+
+    by : (b : Bool) → nat_lt n pages ≡ b → n < table_len pages
+    by true is = of_owner (owner_at has.now n) refl (slot true is) (ltb-true n pages is)
+    by false is = absurd (some (ap (λ (x : Slot). x.0) (slot false is)))

@@ -25,14 +25,14 @@ use sb_drive::SpaceFault;
 use std::alloc::{AllocError, Global};
 
 /// How many numbers of owners there are.
-const OWNERS: usize = u16::MAX as usize + 1;
+pub const OWNERS: usize = u16::MAX as usize + 1;
 
-/// Below it are nobody, the table and the catalogue.
-const FIRST_INSTANCE: u16 = 3;
+/// The least owner of an instance. Below it are nobody, the table and the catalogue.
+pub const FIRST_INSTANCE: u16 = 3;
 
 /// So many marks, none of which is set.
 #[tactic(auto, unfolding(crate::specs::Instances::unmarked))]
-fn new_marks(alloc: Global, count: usize) -> Result<Vec<bool>, AllocError>
+pub fn new_marks(alloc: Global, count: usize) -> Result<Vec<bool>, AllocError>
     ensures { IfOk result (λ marks. marks.items ≡ unmarked count) }
 {
     vec![in alloc; false; count]

@@ -14,7 +14,7 @@ use sb_disk::Disk;
 use sb_drive::SpaceFault;
 
 /// How many entries a page of the table has, two bytes each.
-pub(crate) const ENTRIES: u32 = 2048;
+pub const ENTRIES: u32 = 2048;
 
 /// Below it are nobody and the table.
 pub(crate) const FIRST_OWNER: u16 = 2;

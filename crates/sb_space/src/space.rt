@@ -1,8 +1,9 @@
 //! The pages of a store as a space that boxed calls are driven over.
 
-ghost use Rattle.sb_space.specs.SpaceLaws.{few_pages, goes_on, stays, still_fails, whole_pages};
+ghost use Rattle.sb_space.specs.SpaceLaws.{few_pages, goes_on, stays, still_fails, table_pages, whole_pages};
 ghost use Rattle.std.specs.Prelude.{true};
 ghost use Rattle.sb_space.specs.Durable.{Leads, parts_in};
+ghost use Rattle.sb_space.specs.Table.{table_len};
 ghost use Rattle.sb_space.specs.View.{lent};
 ghost use Rattle.sb_space.specs.Works.{Fails, HasPages, Serves};
 
@@ -21,6 +22,8 @@ impl<D: Disk> PageSpace for Durable<'_, D> {
 
     ghost durable = { λ d. true };
 
+    ghost table = { λ d. table_len d.store.now.pool.geometry.pages };
+
     ghost leads = { λ k d e. Leads D.told D.len D.faults k (lent d) (lent e) };
 
     ghost fails = { λ x d e. Fails D.faults x d.disk.now e.disk.now d.store.now e.store.now };
@@ -34,6 +37,8 @@ impl<D: Disk> PageSpace for Durable<'_, D> {
     ghost whole = { λ want s a has. whole_pages want s (parts_in D.told D.len (lent a)) has };
 
     ghost few = { λ want s a has. few_pages want s (parts_in D.told D.len (lent a)) has };
+
+    ghost tabled = { λ want s a has. table_pages want s (parts_in D.told D.len (lent a)) has };
 
     fn answer(&mut self, owner: u16, ctx: &mut Ctx, ask: Ask) -> Result<(), SpaceFault> {
         ctx.drop_edits();

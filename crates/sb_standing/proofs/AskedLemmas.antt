@@ -12,7 +12,7 @@ use Rattle.sb_relation.specs.Changes.{changed, changed_rows}
 use Rattle.sb_relation.specs.Content.{Content}
 use Rattle.sb_relation.specs.Db
 use Rattle.sb_relation.specs.Db.{Rows, Relation, relation_at, rows_at}
-use Rattle.sb_forms.specs.Read.{read_tree}
+use Rattle.sb_forms.specs.Maps.{map_in}
 use Rattle.sb_ctx.specs.declared.instance.Instance.{Instance}
 use Rattle.sb_ctx.specs.Attachment.{AreLawful}
 use Rattle.sb_ctx.specs.AttachAnswers.{Holds, content_over, content_after}
@@ -111,7 +111,7 @@ Tables-first : (m : Meanings) (durable : ℕ → Bool) (root : ℕ) (s t : Slots
     IsOf kept name k.descriptor.owner → KeepsOthers k.descriptor.owner s t → HasRows m t (table_of durable k) (changed_rows k.relation.rows c) → Tables m durable root t (changed_kept name c kept)
 Tables-first m durable root s t gone kept name k c keeps at of others rows = record {
   rising = rising-changed name c kept keeps.tables.rising;
-  catalogue = ap (read_tree root) (others 2 of.catalogue) ∙ keeps.tables.catalogue ∙ ap Some (sym (entries-changed name c kept));
+  catalogue = ap (map_in root) (others 2 of.catalogue) ∙ keeps.tables.catalogue ∙ ap Some (sym (entries-changed name c kept));
   each = All-map (KeepsTable m durable t) (change_kept name c) kept (All-but (λ x. KeepsTable m durable t (change_kept name c x)) kept name k keeps.tables.rising at here (λ i d in'. elsewhere (get_or kept i d) (of.elsewhere i d in') (keeps.tables.each i d in')));
 }
   where

@@ -4,7 +4,7 @@ use Rattle.std.proofs.lemmas.List.Elements.{All-head, All-tail, All-cons, All-ni
 use Rattle.sb_relation.specs.Db
 use Rattle.sb_relation.specs.Db.{Rows}
 use Rattle.sb_forms.specs.Pages.{Pages}
-use Rattle.sb_forms.specs.Read.{read_tree}
+use Rattle.sb_forms.specs.Maps.{map_in}
 use Rattle.sb_ctx.specs.declared.instance.Instance.{Instance}
 use Rattle.sb_ctx.specs.Attachment.{IsOwned, keeps_pages}
 use Rattle.sb_ctx.specs.AttachAnswers.{content_over, Holds}
@@ -65,7 +65,7 @@ pub Tables-same : (m : Meanings) (durable : ℕ → Bool) (root : ℕ) (s t : Sl
     Tables m durable root s kept → Tables m durable root t kept
 Tables-same m durable root s t kept catalogue each tables = record {
   rising = tables.rising;
-  catalogue = ap (read_tree root) catalogue ∙ tables.catalogue;
+  catalogue = ap (map_in root) catalogue ∙ tables.catalogue;
   each = λ n d h. KeepsTable-same m durable s t _ (each n d h) (tables.each n d h);
 }
 

@@ -5,7 +5,7 @@ use Rattle.std.proofs.lemmas.List.Elements.{All-weaker}
 use Rattle.sb_relation.specs.Db
 use Rattle.sb_relation.specs.Db.{Rows}
 use Rattle.sb_forms.specs.Pages.{Pages}
-use Rattle.sb_forms.specs.Read.{read_tree}
+use Rattle.sb_forms.specs.Maps.{map_in}
 use Rattle.sb_ctx.specs.declared.instance.Instance.{Instance}
 use Rattle.sb_ctx.specs.AttachAnswers.{Holds as HoldsContent, content_over}
 use Rattle.sb_ctx.specs.MethodAnswers.{Holds}
@@ -66,7 +66,7 @@ pub Tables-pages : (m : Meanings) (durable : ℕ → Bool) (root : ℕ) (s t : S
     Tables m durable root s kept → Tables m durable root t kept
 Tables-pages m durable root s t kept catalogue same tables = record {
   rising = tables.rising;
-  catalogue = ap (read_tree root) catalogue ∙ tables.catalogue;
+  catalogue = ap (map_in root) catalogue ∙ tables.catalogue;
   each = λ i d in'. KeepsTable-pages m durable s t (get_or kept i d) (same i d in') (tables.each i d in');
 }
 

@@ -9,7 +9,7 @@ use Rattle.sb_relation.specs.Db
 use Rattle.sb_relation.specs.Db.{Name, Rows, Relation, Db, relation_at}
 use Rattle.sb_relation.specs.Fits.{first_missing, other_relations}
 use Rattle.sb_relation.specs.Lawful.{AreRows}
-use Rattle.sb_forms.specs.Read.{read_tree}
+use Rattle.sb_forms.specs.Maps.{map_in}
 use Rattle.sb_ctx.specs.Attachment.{AreLawful}
 use Rattle.sb_registry.specs.Boxes.{Meanings}
 use Rattle.sb_drive.specs.Slots.{Slots, owned}
@@ -237,7 +237,7 @@ Keeps-freed m durable root s t owner gone kept keeps freed =
     record {
       tables = record {
         rising = keeps.tables.rising;
-        catalogue = ap (read_tree root) (freed.others 2 (catalogues is)) ∙ keeps.tables.catalogue;
+        catalogue = ap (map_in root) (freed.others 2 (catalogues is)) ∙ keeps.tables.catalogue;
         each = All-both Stays (KeepsTable m durable s) (KeepsTable m durable t)
             (λ o stays table. KeepsTable-same m durable s t o (All-head IsSame o.descriptor.owner (map (λ a. a.owner) o.descriptor.attachments) stays) table) kept same keeps.tables.each;
       };
@@ -252,7 +252,7 @@ Keeps-freed m durable root s t owner gone kept keeps freed =
     catalogues (inr some) two = absurd (omega (arith, some, two))
 
 -- ---- a new store
-pub Keeps-new : (m : Meanings) (durable : ℕ → Bool) (root : ℕ) (s : Slots) → read_tree root (owned s 2) ≡ Some [] → ((o : ℕ) → 2 < o → (n : ℕ) → owned s o n ≡ []) → Keeps m durable root s [] []
+pub Keeps-new : (m : Meanings) (durable : ℕ → Bool) (root : ℕ) (s : Slots) → map_in root (owned s 2) ≡ Some [] → ((o : ℕ) → 2 < o → (n : ℕ) → owned s o n ≡ []) → Keeps m durable root s [] []
 Keeps-new m durable root s empty none = record {
   tables = record { rising = tt; catalogue = empty; each = All-nil (KeepsTable m durable s) };
   rules = All-nil (KeepsRules m durable s []);

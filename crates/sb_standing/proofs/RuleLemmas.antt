@@ -13,7 +13,7 @@ use Rattle.sb_relation.specs.Build.{with_instance, with_attached, with_rule, wit
 use Rattle.sb_relation.specs.Buckets.{standing_buckets}
 use Rattle.sb_relation.specs.Db
 use Rattle.sb_relation.specs.Db.{Name, Relation, Db, relation_at, with_relation}
-use Rattle.sb_forms.specs.Read.{read_tree}
+use Rattle.sb_forms.specs.Maps.{map_in}
 use Rattle.sb_registry.specs.Boxes.{Meanings}
 use Rattle.sb_drive.specs.Slots.{Slots, owned}
 use Rattle.sb_catalog.specs.declared.descriptor.Attached.{Attached}
@@ -66,7 +66,7 @@ pub record Reset (m : Meanings) (durable : ℕ → Bool) (root : ℕ) (s t : Slo
   pub takes : Retakes kept k new
   pub stays : All (Stays s t) kept
   pub table : KeepsTable m durable t new
-  pub catalogue : read_tree root (owned t 2) ≡ Some (put key_cmp new.name (descriptor_spelling new.descriptor) (map entry_of kept))
+  pub catalogue : map_in root (owned t 2) ≡ Some (put key_cmp new.name (descriptor_spelling new.descriptor) (map entry_of kept))
 
 pub Tables-reset : (m : Meanings) (durable : ℕ → Bool) (root : ℕ) (s t : Slots) (kept : List Kept) (k new : Kept) → Tables m durable root s kept → Reset m durable root s t kept k new →
     Tables m durable root t (put_kept new kept)

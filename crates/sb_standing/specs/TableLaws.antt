@@ -8,7 +8,7 @@ use Rattle.sb_relation.specs.Build.{mirror_of, with_attached, with_rule}
 use Rattle.sb_relation.specs.Buckets.{standing_buckets}
 use Rattle.sb_relation.specs.Db
 use Rattle.sb_relation.specs.Db.{Name, with_relation}
-use Rattle.sb_forms.specs.Read.{read_tree}
+use Rattle.sb_forms.specs.Maps.{map_in}
 use Rattle.sb_registry.specs.Boxes.{Meanings}
 use Rattle.sb_drive.specs.Slots.{Slots, owned}
 use Rattle.sb_rows.specs.Live.{HasRows}
@@ -36,7 +36,7 @@ pub record Created (m : Meanings) (durable : ℕ → Bool) (root : ℕ) (s t : S
   pub wide : IsWide k.descriptor.schema
   pub comes : Comes s t k.descriptor.owner
   pub has : HasRows m t (table_of durable k) []
-  pub catalogue : read_tree root (owned t 2) ≡ Some (put key_cmp k.name (descriptor_spelling k.descriptor) (map entry_of kept))
+  pub catalogue : map_in root (owned t 2) ≡ Some (put key_cmp k.name (descriptor_spelling k.descriptor) (map entry_of kept))
 
 -- what stands, stands with it
 abbrev pub CreatedKeeps : Type 0
@@ -54,7 +54,7 @@ pub record Dropped (root : ℕ) (s t : Slots) (kept : List Kept) (name : Name) (
   pub there : kept_at kept name ≡ Some k
   pub unnamed : IsUnnamed name kept
   pub others : KeepsOthers 2 s t
-  pub catalogue : read_tree root (owned t 2) ≡ Some (entries_without name (map entry_of kept))
+  pub catalogue : map_in root (owned t 2) ≡ Some (entries_without name (map entry_of kept))
 
 -- what stands, stands without it and its attachments, whose pages are to go
 abbrev pub DroppedKeeps : Type 0
@@ -76,7 +76,7 @@ pub record Attaches (m : Meanings) (durable : ℕ → Bool) (root : ℕ) (s t : 
   pub storable : IsStorableDescriptor (attached_kept d a k).descriptor
   pub comes : Comes s t d.owner
   pub keeps : IsKept m durable t (db_of (put_kept (attached_kept d a k) kept)) k d a
-  pub catalogue : read_tree root (owned t 2) ≡ Some (put key_cmp k.name (descriptor_spelling (attached_kept d a k).descriptor) (map entry_of kept))
+  pub catalogue : map_in root (owned t 2) ≡ Some (put key_cmp k.name (descriptor_spelling (attached_kept d a k).descriptor) (map entry_of kept))
 
 abbrev pub AttachedKeeps : Type 0
 AttachedKeeps =
@@ -106,7 +106,7 @@ AloneDb =
 pub record Detaches (root : ℕ) (s t : Slots) (kept : List Kept) (k : Kept) (label : Name) : Type 0 where
   pub there : kept_at kept k.name ≡ Some k
   pub others : KeepsOthers 2 s t
-  pub catalogue : read_tree root (owned t 2) ≡ Some (put key_cmp k.name (descriptor_spelling (detached_kept label k).descriptor) (map entry_of kept))
+  pub catalogue : map_in root (owned t 2) ≡ Some (put key_cmp k.name (descriptor_spelling (detached_kept label k).descriptor) (map entry_of kept))
 
 -- what stands, stands without them, and their pages are to go
 abbrev pub DetachedKeeps : Type 0
@@ -138,5 +138,5 @@ StaysKeeps =
 -- an empty catalogue and no other pages stand for no relations
 abbrev pub NewKeeps : Type 0
 NewKeeps =
-    (m : Meanings) (durable : ℕ → Bool) (root : ℕ) (s : Slots) → read_tree root (owned s 2) ≡ Some [] → ((o : ℕ) → 2 < o → (n : ℕ) → owned s o n ≡ [])
+    (m : Meanings) (durable : ℕ → Bool) (root : ℕ) (s : Slots) → map_in root (owned s 2) ≡ Some [] → ((o : ℕ) → 2 < o → (n : ℕ) → owned s o n ≡ [])
     → Keeps m durable root s [] []

@@ -7,7 +7,7 @@ use Rattle.sb_value.specs.Order.{bytes_cmp}
 use Rattle.sb_value.specs.declared.schema.Column.{Column}
 use Rattle.sb_node.specs.Entries.{Entry, key_cmp, is_below}
 use Rattle.sb_relation.specs.Db.{Name, Relation, Db}
-use Rattle.sb_forms.specs.Read.{read_tree}
+use Rattle.sb_forms.specs.Maps.{map_in}
 use Rattle.sb_ctx.specs.declared.instance.Instance.{Instance}
 use Rattle.sb_registry.specs.Boxes.{Meanings}
 use Rattle.sb_drive.specs.Slots.{Slots, owned}
@@ -101,8 +101,8 @@ pub record KeepsTable (m : Meanings) (durable : ℕ → Bool) (s : Slots) (k : K
   pub wide : IsWide k.descriptor.schema
   pub rows : HasRows m s (table_of durable k) k.relation.rows
 
--- The catalogue, a tree of owner 2, has the relations with their descriptors, in the order of their names; and the pages of their storage methods hold the rows.
+-- The catalogue, a tree of all pages of owner 2, has the relations with their descriptors, in the order of their names; and the pages of their storage methods hold the rows.
 pub record Tables (m : Meanings) (durable : ℕ → Bool) (root : ℕ) (s : Slots) (kept : List Kept) : Type 0 where
   pub rising : T (is_sorted bytes_cmp (db_of kept))
-  pub catalogue : read_tree root (owned s 2) ≡ Some (map entry_of kept)
+  pub catalogue : map_in root (owned s 2) ≡ Some (map entry_of kept)
   pub each : All (KeepsTable m durable s) kept

@@ -10,8 +10,9 @@ use sb_disk::Disk;
 use sb_memdisk::MemDisk;
 use sb_recover::{format, restart};
 use sb_txn::{Mark, Store, StoreFault, Tx};
-use std::alloc::{AllocError, Global};
-use std::test::Fail;
+use std::alloc::Global;
+use std::process::Abort;
+use std::test::*;
 
 /// The smallest store.
 const PAGES: u32 = 64;
@@ -41,10 +42,10 @@ const STATES: [Found; 4] = [
 const TORN: [u32; 5] = [0, 1, 11, 2050, 100_000];
 
 // A disk of so many zeros, on which a store is made.
-fn made(alloc: Global, size: u64) -> Result<MemDisk, Fail> {
-    let mut disk = MemDisk::new(alloc, size)?;
+fn made(rt: &impl Abort, alloc: Global, size: u64) -> MemDisk {
+    let mut disk = MemDisk::new(alloc, size).expect(rt, "memory");
     let _made = format(alloc, &mut disk, PAGES, LOG).is_ok();
-    Ok(disk)
+    disk
 }
 
 // Opens a store of at least 64 pages.
@@ -58,6 +59,7 @@ fn opened<D: Disk>(alloc: Global, disk: &mut D) -> Option<Store>
         Err(_) => return None,
     };
     if store.pages() < PAGES {
+        drop(store);
         return None;
     }
     Some(store)
@@ -77,15 +79,42 @@ fn three<D: Disk>(store: &mut Store, disk: &mut D, n: u32, at: usize) -> Result<
     Ok([page[at], page[at + 1], page[at + 2]])
 }
 
-// Those of the first four pages, and the others, by a store that is opened.
+// Those of the first four pages, and the others.
+fn found<D: Disk>(store: &mut Store, disk: &mut D) -> Result<Found, StoreFault>
+    requires ready { IsReady (parts D.told D.len disk.old store.old) }
+    requires pages { 64 ≤ store.old.pool.geometry.pages }
+{
+    let mut found = [[0; 3]; 5];
+    for n in 0..4u32 {
+        found[n as usize] = three(store, disk, n, LOW as usize)?;
+    }
+    found[4] = three(store, disk, 0, HIGH as usize)?;
+    Ok(found)
+}
+
+// What a store that is opened finds.
 fn look<D: Disk>(alloc: Global, disk: &mut D) -> Option<Found> {
     let mut store = opened(alloc, disk)?;
-    let first = three(&mut store, disk, 0, LOW as usize).ok()?;
-    let second = three(&mut store, disk, 1, LOW as usize).ok()?;
-    let third = three(&mut store, disk, 2, LOW as usize).ok()?;
-    let fourth = three(&mut store, disk, 3, LOW as usize).ok()?;
-    let other = three(&mut store, disk, 0, HIGH as usize).ok()?;
-    Some([first, second, third, fourth, other])
+    let found = found(&mut store, disk);
+    drop(store);
+    found.ok()
+}
+
+// Over these bytes.
+fn look_in(rt: &impl Abort, alloc: Global, image: &[u8]) -> Option<Found> {
+    let mut disk = MemDisk::from_image(alloc, image).expect(rt, "memory");
+    let found = look(alloc, &mut disk);
+    drop(disk);
+    found
+}
+
+// Over what a disk holds.
+fn look_at(rt: &impl Abort, alloc: Global, disk: MemDisk) -> Option<Found> {
+    let image = disk.image().expect(rt, "memory");
+    drop(disk);
+    let found = look_in(rt, alloc, image.as_slice());
+    drop(image);
+    found
 }
 
 // Puts bytes into a page, behind its first five.
@@ -367,7 +396,9 @@ fn run<D: Disk>(store: &mut Store, disk: &mut D) -> (u32, bool)
 // A run by a store that is opened.
 fn stopped<D: Disk>(alloc: Global, disk: &mut D) -> Option<(u32, bool)> {
     let mut store = opened(alloc, disk)?;
-    Some(run(&mut store, disk))
+    let ran = run(&mut store, disk);
+    drop(store);
+    Some(ran)
 }
 
 // How many commits make the first pages so.
@@ -389,95 +420,147 @@ fn is_kept(found: Option<Found>, committed: u32) -> bool {
     }
 }
 
+// Whether a restart of the image, stopped at a call, is done, and what it leaves.
+fn restarted(
+    rt: &impl Abort,
+    alloc: Global,
+    image: &[u8],
+    call: u64,
+    torn: u32,
+) -> (bool, Option<Found>) {
+    let mut disk = MemDisk::from_image(alloc, image).expect(rt, "memory");
+    disk.stop_at(call, torn);
+    let done = restart(alloc, &mut disk).is_ok();
+    (done, look_at(rt, alloc, disk))
+}
+
 // Whether a restart of the image, stopped at any call, leaves pages that are kept; a call that comes after the last one stops nothing.
-fn survives(alloc: Global, image: &[u8], torn: u32, committed: u32) -> Result<bool, AllocError> {
+fn survives(rt: &impl Abort, alloc: Global, image: &[u8], torn: u32, committed: u32) -> bool {
     for call in 0..12u64 {
-        let mut disk = MemDisk::from_image(alloc, image)?;
-        disk.stop_at(call, torn);
-        let restarted = restart(alloc, &mut disk).is_ok();
-        let mut again = MemDisk::from_image(alloc, disk.image()?.as_slice())?;
-        if !is_kept(look(alloc, &mut again), committed) || (call == 11 && !restarted) {
-            return Ok(false);
+        let (done, left) = restarted(rt, alloc, image, call, torn);
+        if !is_kept(left, committed) || (call == 11 && !done) {
+            return false;
         }
     }
-    Ok(true)
+    true
 }
 
-// Stops a run at a call, and tests what its image leaves, and what was synced.
-fn test_stop(alloc: Global, image: &[u8], call: u64, torn: u32) -> Result<bool, AllocError> {
-    let mut disk = MemDisk::from_image(alloc, image)?;
+// Tests what the image of a disk leaves, and what was synced.
+fn test_left(rt: &impl Abort, alloc: Global, disk: &MemDisk, torn: u32, committed: u32) -> bool {
+    let synced = disk.synced().expect(rt, "memory");
+    let found = look_in(rt, alloc, synced.as_slice());
+    drop(synced);
+    let image = disk.image().expect(rt, "memory");
+    let survived = survives(rt, alloc, image.as_slice(), torn, committed);
+    drop(image);
+    is_kept(found, committed) && survived
+}
+
+// Stops a run at a call, and tests what is left.
+fn test_stop(rt: &impl Abort, alloc: Global, image: &[u8], call: u64, torn: u32) -> bool {
+    let mut disk = MemDisk::from_image(alloc, image).expect(rt, "memory");
     disk.stop_at(call, torn);
-    let Some((committed, _)) = stopped(alloc, &mut disk) else {
-        return Ok(false);
+    let is_left = match stopped(alloc, &mut disk) {
+        Some((committed, _)) => test_left(rt, alloc, &disk, torn, committed),
+        None => false,
     };
-    let mut synced = MemDisk::from_image(alloc, disk.synced()?.as_slice())?;
-    Ok(
-        is_kept(look(alloc, &mut synced), committed)
-            && survives(alloc, disk.image()?.as_slice(), torn, committed)?,
-    )
+    drop(disk);
+    is_left
 }
 
-// The clock behind the opening, and behind the run.
-fn clocks(alloc: Global, image: &[u8]) -> Result<(u64, u64), AllocError> {
-    let mut disk = MemDisk::from_image(alloc, image)?;
-    let _opened = opened(alloc, &mut disk).is_some();
-    let from = disk.clock();
-    let mut disk = MemDisk::from_image(alloc, image)?;
+// The clock and the calls behind the opening, reads among these.
+fn behind_opening(rt: &impl Abort, alloc: Global, image: &[u8]) -> (u64, u64) {
+    let mut disk = MemDisk::from_image(alloc, image).expect(rt, "memory");
+    drop(opened(alloc, &mut disk));
+    let counts = (disk.clock(), disk.calls());
+    drop(disk);
+    counts
+}
+
+// The same behind the run.
+fn behind_run(rt: &impl Abort, alloc: Global, image: &[u8]) -> (u64, u64) {
+    let mut disk = MemDisk::from_image(alloc, image).expect(rt, "memory");
     let _run = stopped(alloc, &mut disk);
-    Ok((from, disk.clock()))
+    let counts = (disk.clock(), disk.calls());
+    drop(disk);
+    counts
+}
+
+// The first stop of a call that leaves something else.
+fn first_lost(
+    rt: &impl Abort,
+    alloc: Global,
+    image: &[u8],
+    from: u64,
+    to: u64,
+) -> Option<(u64, u32)> {
+    for call in from..to {
+        for torn in TORN.iter() {
+            if !test_stop(rt, alloc, image, call, *torn) {
+                return Some((call, *torn));
+            }
+        }
+    }
+    None
 }
 
 #[test]
-fn a_stop_leaves_a_prefix_with_each_acknowledged_commit(rt: HostRuntime) -> Result<(), Fail> {
+fn a_stop_leaves_a_prefix_with_each_acknowledged_commit(rt: HostRuntime) {
     let alloc = rt.alloc();
-    let image = made(alloc, SIZE)?.image()?;
-    let (from, to) = clocks(alloc, image.as_slice())?;
-    assert!(rt; from < to && to - from == 33, "{from} and {to}");
-    for call in from..to {
-        for torn in TORN {
-            assert!(rt;
-                test_stop(alloc, image.as_slice(), call, torn)?,
-                "call {call}, {torn} bytes"
-            );
-        }
-    }
-    Ok(())
+    let disk = made(&rt, alloc, SIZE);
+    let image = disk.image().expect(&rt, "memory");
+    drop(disk);
+    let (from, _) = behind_opening(&rt, alloc, image.as_slice());
+    let (to, _) = behind_run(&rt, alloc, image.as_slice());
+    let lost = first_lost(&rt, alloc, image.as_slice(), from, to);
+    drop(image);
+    assert_eq!(rt; (to.saturating_sub(from), lost), (33, None));
+}
+
+// Fails a call of a run: how many commits were acknowledged, and whether the run then ends, and the store answers Down without a call.
+fn failed(rt: &impl Abort, alloc: Global, disk: &mut MemDisk, call: u64) -> Option<(u32, bool)> {
+    let mut store = opened(alloc, disk)?;
+    disk.fail_at(&[call]).expect(rt, "memory");
+    let (committed, done) = run(&mut store, disk);
+    let calls = disk.calls();
+    let answer = three(&mut store, disk, 0, LOW as usize);
+    drop(store);
+    let down = matches!(answer, Err(StoreFault::Down));
+    Some((committed, !done && down && disk.calls() == calls))
 }
 
 // Fails a call of a run. The run then ends, the store answers Down without a call, and the image has each acknowledged commit.
-fn test_fault(alloc: Global, image: &[u8], call: u64) -> Result<bool, AllocError> {
-    let mut disk = MemDisk::from_image(alloc, image)?;
-    let Some(mut store) = opened(alloc, &mut disk) else {
-        return Ok(false);
-    };
-    disk.fail_at(&[call])?;
-    let (committed, done) = run(&mut store, &mut disk);
-    let calls = disk.calls();
-    let down = three(&mut store, &mut disk, 0, LOW as usize) == Err(StoreFault::Down);
-    let mut left = MemDisk::from_image(alloc, disk.image()?.as_slice())?;
-    Ok(!done && down && disk.calls() == calls && is_kept(look(alloc, &mut left), committed))
+fn test_fault(rt: &impl Abort, alloc: Global, image: &[u8], call: u64) -> bool {
+    let mut disk = MemDisk::from_image(alloc, image).expect(rt, "memory");
+    let failed = failed(rt, alloc, &mut disk, call);
+    let found = look_at(rt, alloc, disk);
+    match failed {
+        Some((committed, is_down)) => is_down && is_kept(found, committed),
+        None => false,
+    }
 }
 
-// The calls behind the opening, and behind the run, reads among them.
-fn calls_of(alloc: Global, image: &[u8]) -> Result<(u64, u64), AllocError> {
-    let mut disk = MemDisk::from_image(alloc, image)?;
-    let _opened = opened(alloc, &mut disk).is_some();
-    let from = disk.calls();
-    let mut disk = MemDisk::from_image(alloc, image)?;
-    let _run = stopped(alloc, &mut disk);
-    Ok((from, disk.calls()))
+// The first failing call that leaves something else.
+fn first_up(rt: &impl Abort, alloc: Global, image: &[u8], from: u64, to: u64) -> Option<u64> {
+    for call in from..to {
+        if !test_fault(rt, alloc, image, call) {
+            return Some(call);
+        }
+    }
+    None
 }
 
 #[test]
-fn after_a_failed_call_the_store_is_down(rt: HostRuntime) -> Result<(), Fail> {
+fn after_a_failed_call_the_store_is_down(rt: HostRuntime) {
     let alloc = rt.alloc();
-    let image = made(alloc, SIZE)?.image()?;
-    let (from, to) = calls_of(alloc, image.as_slice())?;
-    assert!(rt; from < to && to - from == 37, "{from} and {to}");
-    for call in from..to {
-        assert!(rt; test_fault(alloc, image.as_slice(), call)?, "call {call}");
-    }
-    Ok(())
+    let disk = made(&rt, alloc, SIZE);
+    let image = disk.image().expect(&rt, "memory");
+    drop(disk);
+    let (_, from) = behind_opening(&rt, alloc, image.as_slice());
+    let (_, to) = behind_run(&rt, alloc, image.as_slice());
+    let up = first_up(&rt, alloc, image.as_slice(), from, to);
+    drop(image);
+    assert_eq!(rt; (to.saturating_sub(from), up), (37, None));
 }
 
 // Changes of 4,000 bytes until one is refused: how many were made, and why no more.
@@ -510,6 +593,36 @@ fn leave<D: Disk>(store: &mut Store, disk: &mut D, tx: Tx) -> Result<(), StoreFa
     store.abort(disk, tx)
 }
 
+// Fills the log, and takes all out again.
+fn filled_once<D: Disk>(
+    store: &mut Store,
+    disk: &mut D,
+) -> Result<(u32, Option<StoreFault>), StoreFault>
+    requires ready { IsReady (parts D.told D.len disk.old store.old) }
+    requires none { store.old.book.actives ≡ [] }
+    requires pages { 64 ≤ store.old.pool.geometry.pages }
+    ensures ready { IsReady (parts D.told D.len disk.new store.new) }
+    ensures none { OnOk result (store.new.book.actives ≡ []) }
+    ensures pages { 64 ≤ store.new.pool.geometry.pages }
+{
+    let tx = store.begin(disk)?;
+    let filled = fill(store, disk, &tx);
+    leave(store, disk, tx)?;
+    Ok(filled)
+}
+
+// Commits something behind a checkpoint: what stood in page 0 before that.
+fn emptied<D: Disk>(store: &mut Store, disk: &mut D) -> Result<[u8; 3], StoreFault>
+    requires ready { IsReady (parts D.told D.len disk.old store.old) }
+    requires none { store.old.book.actives ≡ [] }
+    requires pages { 64 ≤ store.old.pool.geometry.pages }
+{
+    let back = three(store, disk, 0, LOW as usize)?;
+    store.checkpoint(disk)?;
+    first(store, disk)?;
+    Ok(back)
+}
+
 // Fills the log, takes all out again, and commits something behind a checkpoint. What stood in page 0 behind the abort comes third.
 fn full<D: Disk>(
     store: &mut Store,
@@ -519,38 +632,33 @@ fn full<D: Disk>(
     requires none { store.old.book.actives ≡ [] }
     requires pages { 64 ≤ store.old.pool.geometry.pages }
 {
-    let tx = store.begin(disk)?;
-    let (changes, fault) = fill(store, disk, &tx);
-    leave(store, disk, tx)?;
-    let back = three(store, disk, 0, LOW as usize)?;
-    store.checkpoint(disk)?;
-    first(store, disk)?;
+    let (changes, fault) = filled_once(store, disk)?;
+    let back = emptied(store, disk)?;
     Ok((changes, fault, back))
 }
 
 // By a store that is opened.
 fn filled<D: Disk>(alloc: Global, disk: &mut D) -> Option<(u32, Option<StoreFault>, [u8; 3])> {
     let mut store = opened(alloc, disk)?;
-    full(&mut store, disk).ok()
+    let filled = full(&mut store, disk);
+    drop(store);
+    filled.ok()
 }
 
 #[test]
-fn a_full_log_is_emptied_by_a_checkpoint(rt: HostRuntime) -> Result<(), Fail> {
+fn a_full_log_is_emptied_by_a_checkpoint(rt: HostRuntime) {
     let alloc = rt.alloc();
-    let mut disk = made(alloc, SIZE)?;
+    let mut disk = made(&rt, alloc, SIZE);
+    let filled = filled(alloc, &mut disk);
+    let found = look_at(&rt, alloc, disk);
     // Four Images of 4,101 bytes, 259 changes of 8,015, a Begin of 5 and a length field of 4 are used. One more change wants a length field and the reserve of 1,024.
     let refused = StoreFault::LogFull {
         used: 2_092_298,
         need: 9_043,
         total: LOG,
     };
-    assert_eq!(rt;
-        filled(alloc, &mut disk),
-        Some((259, Some(refused), [0; 3]))
-    );
-    let mut left = MemDisk::from_image(alloc, disk.image()?.as_slice())?;
-    assert_eq!(rt; look(alloc, &mut left), Some(STATES[1]));
-    Ok(())
+    assert!(rt; filled == Some((259, Some(refused), [0; 3])));
+    assert!(rt; commits_of(found) == Some(1));
 }
 
 // The number of a transaction that changes nothing.
@@ -584,13 +692,16 @@ fn numbers<D: Disk>(store: &mut Store, disk: &mut D) -> Result<[u32; 3], StoreFa
 // By a store that is opened.
 fn counted<D: Disk>(alloc: Global, disk: &mut D) -> Option<[u32; 3]> {
     let mut store = opened(alloc, disk)?;
-    numbers(&mut store, disk).ok()
+    let numbers = numbers(&mut store, disk);
+    drop(store);
+    numbers.ok()
 }
 
 #[test]
-fn numbers_begin_anew_behind_a_checkpoint(rt: HostRuntime) -> Result<(), Fail> {
+fn numbers_begin_anew_behind_a_checkpoint(rt: HostRuntime) {
     let alloc = rt.alloc();
-    let mut disk = made(alloc, SIZE)?;
-    assert_eq!(rt; counted(alloc, &mut disk), Some([1, 2, 1]));
-    Ok(())
+    let mut disk = made(&rt, alloc, SIZE);
+    let counted = counted(alloc, &mut disk);
+    drop(disk);
+    assert_eq!(rt; counted, Some([1, 2, 1]));
 }

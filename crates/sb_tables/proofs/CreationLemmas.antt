@@ -15,7 +15,7 @@ use Rattle.sb_relation.specs.Build.{main_of, mirror_name, mirror_of}
 use Rattle.sb_relation.specs.Db.{Name, Attached, Relation, Db, relation_at, with_relation}
 use Rattle.sb_relation.specs.Fits.{MayKeep}
 use Rattle.sb_forms.specs.Pages.{Pages}
-use Rattle.sb_forms.specs.Read.{read_tree}
+use Rattle.sb_forms.specs.Maps.{map_in}
 use Rattle.sb_ctx.specs.Laws.{IsMethod}
 use Rattle.sb_ctx.specs.Method.{Method}
 use Rattle.sb_fold.specs.Building.{rule_at, HasMirror}
@@ -163,12 +163,12 @@ module _ {S : Type 0} (Has : Wanted → Slots → S → Type 0) (m : Meanings) (
   new-in n = ap (λ (P : Pages). P n) come.pages
 
   module _ (rows : LeavesRows Has m (table_instance true name (new_descriptor method owner top schema key)) keeps.want come.slots late []) where
-    pub entries-late : read_tree root (owned rows.slots 2) ≡ Some (map entry_of keeps.kept)
-    entries-late = ap (λ (P : Pages). read_tree root P) (rows.others 2 two ∙ come.others 2 two) ∙ keeps.keeps.tables.catalogue
+    pub entries-late : map_in root (owned rows.slots 2) ≡ Some (map entry_of keeps.kept)
+    entries-late = ap (λ (P : Pages). map_in root P) (rows.others 2 two ∙ come.others 2 two) ∙ keeps.keeps.tables.catalogue
 
     pub created : IsStorableDescriptor (new_descriptor method owner top schema key)
         → Leaves Has 2 keeps.want rows.slots new
-        (λ after. read_tree root after ≡ Some (put key_cmp name (descriptor_spelling (new_descriptor method owner top schema key)) (map entry_of keeps.kept)))
+        (λ after. map_in root after ≡ Some (put key_cmp name (descriptor_spelling (new_descriptor method owner top schema key)) (map entry_of keeps.kept)))
         → KeepsDb Has m root gone (with_relation db name (new_relation method schema key)) new
     created storable left =
         let k = new_kept name method owner top schema key in
@@ -215,11 +215,11 @@ module _ {S : Type 0} (Has : Wanted → Slots → S → Type 0) (Fails : SpaceFa
         keeps.want come.slots come.has in_new
 
     in_entries : (rows : LeavesRows Has m (table_instance true name (new_descriptor method owner top schema key)) keeps.want come.slots late [])
-        → read_tree root (owned rows.slots 2) ≡ Some (map entry_of keeps.kept)
+        → map_in root (owned rows.slots 2) ≡ Some (map entry_of keeps.kept)
     in_entries rows = entries-late Has m root gone db name method owner top schema key old mid late new keeps may high come rows
 
     pub create_refused : (e : SpaceFault)
-        → ((want : Wanted) (s : Slots) (es : List Entry) → Has want s late → read_tree root (owned s 2) ≡ Some es → IsSmall name (descriptor_spelling d) → HasRefusalCause Fails (refusal_of e) new)
+        → ((want : Wanted) (s : Slots) (es : List Entry) → Has want s late → map_in root (owned s 2) ≡ Some es → IsSmall name (descriptor_spelling d) → HasRefusalCause Fails (refusal_of e) new)
         → HasRefusalCause Fails (refusal_of e) new
     create_refused e refused = of_rows in_rows
       where
@@ -228,8 +228,8 @@ module _ {S : Type 0} (Has : Wanted → Slots → S → Type 0) (Fails : SpaceFa
             refused keeps.want rows.slots (map entry_of keeps.kept) rows.has (in_entries rows)
             (subst (λ (x : Descriptor). IsSmall name (descriptor_spelling x)) (sym is) (small-new m db name method owner top schema key may))
 
-    pub create_entered : ((want : Wanted) (s : Slots) (es : List Entry) → Has want s late → read_tree root (owned s 2) ≡ Some es
-        → Leaves Has 2 want s new (λ after. read_tree root after ≡ Some (put key_cmp name (descriptor_spelling d) es)))
+    pub create_entered : ((want : Wanted) (s : Slots) (es : List Entry) → Has want s late → map_in root (owned s 2) ≡ Some es
+        → Leaves Has 2 want s new (λ after. map_in root after ≡ Some (put key_cmp name (descriptor_spelling d) es)))
         → (IsConsistent d → IsStorableDescriptor d) → KeepsDb Has m root gone (with_relation db name (new_relation method schema key)) new
     create_entered entered storable = of_rows in_rows
       where
@@ -238,6 +238,6 @@ module _ {S : Type 0} (Has : Wanted → Slots → S → Type 0) (Fails : SpaceFa
         of_rows rows =
             created Has m root gone db name method owner top schema key old mid late new keeps may high come rows
             (subst (λ (x : Descriptor). IsConsistent x → IsStorableDescriptor x) is storable (consistent-new m db name method owner top schema key may))
-            (subst (λ (x : Descriptor). (want : Wanted) (s : Slots) (es : List Entry) → Has want s late → read_tree root (owned s 2) ≡ Some es
-            → Leaves Has 2 want s new (λ after. read_tree root after ≡ Some (put key_cmp name (descriptor_spelling x) es))) is entered
+            (subst (λ (x : Descriptor). (want : Wanted) (s : Slots) (es : List Entry) → Has want s late → map_in root (owned s 2) ≡ Some es
+            → Leaves Has 2 want s new (λ after. map_in root after ≡ Some (put key_cmp name (descriptor_spelling x) es))) is entered
             keeps.want rows.slots (map entry_of keeps.kept) rows.has (in_entries rows))

@@ -7,7 +7,7 @@ use Rattle.sb_node.specs.Entries.{key_cmp}
 use Rattle.sb_relation.specs.Db.{Attached, Name, Relation, Db, relation_at}
 use Rattle.sb_relation.specs.Build.{mirror_of}
 use Rattle.sb_relation.specs.Fits.{other_relations}
-use Rattle.sb_forms.specs.Read.{read_tree}
+use Rattle.sb_forms.specs.Maps.{map_in}
 use Rattle.sb_fold.specs.Building.{without_attached, without_mirror, without_mirrors}
 use Rattle.sb_fold.specs.Fold.{attachments_at}
 use Rattle.sb_drive.specs.Slots.{Slots, owned}
@@ -69,14 +69,14 @@ module _ {S : Type 0} (Has : Wanted → Slots → S → Type 0) (m : Meanings) (
   -- ---- attachments of a name
   pub detached : (relation label : Name) (d : Descriptor) → HasKept keeps.kept relation d
       → Leaves Has 2 keeps.want keeps.slots new
-      (λ after. read_tree root after ≡ Some (put key_cmp relation (descriptor_spelling (record d { attachments = without_described label d.attachments })) (map entry_of keeps.kept)))
+      (λ after. map_in root after ≡ Some (put key_cmp relation (descriptor_spelling (record d { attachments = without_described label d.attachments })) (map entry_of keeps.kept)))
       → KeepsDb Has m root (gone ++ owners_named label d) (without_attached db relation label) new
   detached relation label d it left =
       let k = it.one in
       let named = kept_at-name keeps.kept relation k it.at in
       let there : kept_at keeps.kept k.name ≡ Some k = ap (λ (n : Name). kept_at keeps.kept n) named ∙ it.at in
       let Tree : Name → Descriptor → Type 0 = λ n x.
-      read_tree root (owned left.slots 2) ≡ Some (put key_cmp n (descriptor_spelling (record x { attachments = without_described label x.attachments })) (map entry_of keeps.kept)) in
+      map_in root (owned left.slots 2) ≡ Some (put key_cmp n (descriptor_spelling (record x { attachments = without_described label x.attachments })) (map entry_of keeps.kept)) in
       let is : without_attached db relation label ≡ db_of (put_kept (detached_kept label k) keeps.kept) =
       ap (λ (x : Db). without_attached x relation label) keeps.is
       ∙ ap (λ (o : Option Relation). without_in (db_of keeps.kept) relation label o) (relation_at-there keeps.kept relation k it.at)
@@ -132,8 +132,8 @@ module _ {S : Type 0} (Has : Wanted → Slots → S → Type 0) (m : Meanings) (
       → KeepsDb Has m root (gone ++ owners_of d) (without_name db name) new
   dropped place name d owner top it unnamed has becomes =
       let k = it.one in
-      let read : read_tree place.root (owned keeps.slots place.owner) ≡ Some (map entry_of keeps.kept) =
-      ap (λ (o : ℕ). read_tree place.root (owned keeps.slots o)) owner ∙ ap (λ (r : ℕ). read_tree r (owned keeps.slots 2)) top ∙ keeps.keeps.tables.catalogue in
+      let read : map_in place.root (owned keeps.slots place.owner) ≡ Some (map entry_of keeps.kept) =
+      ap (λ (o : ℕ). map_in place.root (owned keeps.slots o)) owner ∙ ap (λ (r : ℕ). map_in r (owned keeps.slots 2)) top ∙ keeps.keeps.tables.catalogue in
       let left = becomes keeps.want keeps.slots (map entry_of keeps.kept) has read in
       subst (λ (x : Descriptor). KeepsDb Has m root (gone ++ owners_of x) (without_name db name) new) it.same (record {
         want = keeps.want;
@@ -148,7 +148,7 @@ module _ {S : Type 0} (Has : Wanted → Slots → S → Type 0) (m : Meanings) (
               (ap attachments_of (ap (λ (y : Db). relation_at y x.name) keeps.is ∙ relation_at-there keeps.kept x.name x at)) (unnamed x.name other)) keeps.kept
               (All-own keeps.kept keeps.keeps.tables.rising);
           others = λ o two. left.others o (λ same. two (same ∙ owner));
-          catalogue = ap (λ (r : ℕ). read_tree r (owned left.slots 2)) (sym top) ∙ ap (λ (o : ℕ). read_tree place.root (owned left.slots o)) (sym owner) ∙ left.own;
+          catalogue = ap (λ (r : ℕ). map_in r (owned left.slots 2)) (sym top) ∙ ap (λ (o : ℕ). map_in place.root (owned left.slots o)) (sym owner) ∙ left.own;
         });
         lasting = All-map IsLasting (λ (x : Kept). x.descriptor) (without_kept name keeps.kept)
             (All-weaker (λ (x : Kept). (bytes_eq x.name name ≡ false) × IsLasting x.descriptor) (λ (x : Kept). IsLasting x.descriptor) (λ x both. both.1) (without_kept name keeps.kept)

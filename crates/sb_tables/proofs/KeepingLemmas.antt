@@ -8,6 +8,7 @@ use Rattle.sb_node.specs.Page.{Node}
 use Rattle.sb_forms.specs.Tree as tree
 use Rattle.sb_forms.specs.Tree.{AreChildren, Child, IsChild, IsLeaf, IsTree, Nodes, children_of, entries_of, items, level_of, nodes, over}
 use Rattle.sb_btree.proofs.Reading.{read_root}
+use Rattle.sb_forms.proofs.Maps.{map_tree}
 use Rattle.sb_relation.specs.Db.{Name}
 use Rattle.sb_drive.specs.declared.space.SpaceFault.{SpaceFault}
 use Rattle.sb_drive.specs.declared.space.SpaceFault.TheVariants.{Damaged, NoMemory}
@@ -44,7 +45,7 @@ items_small (suc l) N p is = of_children (λ c child. items_small l N c child) N
 
 pub small-kept : (m : Meanings) (root : ℕ) (s : Slots) (kept : List Kept) (name : Name) (k : Kept) → Tables m IsDurable root s kept → kept_at kept name ≡ Some k → IsSmall name (descriptor_spelling k.descriptor)
 small-kept m root s kept name k tables at =
-    let read = read_root (owned s 2) root (map entry_of kept) tables.catalogue in
+    let read = read_root (owned s 2) root (map entry_of kept) (map_tree root (owned s 2) (map entry_of kept) tables.catalogue) in
     let all : All tree.IsSmall (map entry_of kept) = subst (All tree.IsSmall) (sym read.1) (items_small (level_of (nodes (owned s 2) root)) (nodes (owned s 2)) root read.0.tree) in
     let one = kept_at-all (λ (x : Kept). tree.IsSmall (entry_of x)) kept name k (All-unmap tree.IsSmall entry_of kept all) at in
     subst (λ (n : Name). IsSmall n (descriptor_spelling k.descriptor)) (kept_at-name kept name k at) (record { short = one.0; both = one.1 })

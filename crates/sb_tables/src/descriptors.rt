@@ -4,7 +4,7 @@ ghost use Rattle.std.specs.Prelude.{◌≡◌, ◌↔◌, IsTrue, All, List, Som
 ghost use Rattle.std.specs.List.{filter};
 ghost use Rattle.std.specs.FinMap.Entries.{put};
 ghost use Rattle.sb_node.specs.Entries.{Entry, key_cmp};
-ghost use Rattle.sb_forms.specs.Read.{read_tree};
+ghost use Rattle.sb_forms.specs.Maps.{map_in};
 ghost use Rattle.sb_rule.specs.Spelling.{IsShortName};
 ghost use Rattle.sb_drive.specs.Slots.{Slots, owned};
 ghost use Rattle.sb_drive.specs.Spaces.{LeadsOn, Leaves, Wanted};
@@ -71,10 +71,10 @@ pub fn enter<S: PageSpace>(
     requires owner { place.owner ≡ 2 }
     requires short { IsShortDescriptor descriptor.now }
 
-    ensures entered { OnOk result ((want : Wanted) (s : Slots) (es : List Entry) → S.has want s space.old → read_tree place.root (owned s 2) ≡ Some es
-        → Leaves S.has 2 want s space.new (λ after. read_tree place.root after ≡ Some (put key_cmp name.now (descriptor_spelling descriptor.now) es))) }
+    ensures entered { OnOk result ((want : Wanted) (s : Slots) (es : List Entry) → S.has want s space.old → map_in place.root (owned s 2) ≡ Some es
+        → Leaves S.has 2 want s space.new (λ after. map_in place.root after ≡ Some (put key_cmp name.now (descriptor_spelling descriptor.now) es))) }
     ensures storable { OnOk result (IsConsistent descriptor.now → IsStorableDescriptor descriptor.now) }
-    ensures refused { IfErr result (λ e. (want : Wanted) (s : Slots) (es : List Entry) → S.has want s space.old → read_tree place.root (owned s 2) ≡ Some es
+    ensures refused { IfErr result (λ e. (want : Wanted) (s : Slots) (es : List Entry) → S.has want s space.old → map_in place.root (owned s 2) ≡ Some es
         → IsSmall name.now (descriptor_spelling descriptor.now) → HasRefusalCause S.fails (refusal_of e) space.new) }
     ensures leads { LeadsOn S.leads space.old space.new }
     ensures ready { S.is_ready space.new }

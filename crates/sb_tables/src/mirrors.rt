@@ -1,4 +1,4 @@
-//! Attachments that go by their names, and mirrors of a relation's attachments.
+//! Attachments that go by their names, and mirrors of a relation's attachments. What is made of an open relation goes by calls of `drop`.
 
 ghost use Rattle.std.specs.Prelude.{◌≡◌, ◌++◌, ◌∷◌, IfOk, IfErr, OnOk, option_copied, option_map, true};
 ghost use Rattle.sb_relation.specs.Build.{mirror_name, mirror_of};
@@ -8,6 +8,7 @@ ghost use Rattle.sb_fold.specs.Fold.{attachments_at};
 ghost use Rattle.sb_cascade.specs.Runs.{is_free};
 ghost use Rattle.sb_drive.specs.Spaces.{LeadsOn};
 ghost use Rattle.sb_catalog.specs.Descriptors.{IsStorableDescriptor};
+ghost use Rattle.sb_standing.specs.Standing.{owners_named, without_described};
 ghost use Rattle.sb_engine.specs.Refusals.{HasRefusalCause, refusal_of};
 ghost use Rattle.sb_engine.specs.Working.{Goes, IsServing};
 ghost use Rattle.sb_tables.specs.Keeping.{Closes, HasMore, KeepsDb, KeepsIn};
@@ -19,7 +20,7 @@ use sb_drive::{PageSpace, SpaceFault};
 use sb_engine::{Running, refusal_of};
 use sb_fold::Refusal;
 use sb_map::Place;
-use sb_opened::open_relation;
+use sb_opened::{OpenRelation, open_relation};
 use sb_registry::Boxes;
 use sb_rule::{Rule, Side};
 use sb_value::Str;
@@ -82,10 +83,49 @@ fn detach_kept<S: PageSpace, B: Boxes>(
     let Some(one) = open_relation(space, alloc, boxes, place, relation)? else {
         return Ok(());
     };
-    let owners = owners_named(alloc, &one.descriptor, label)?;
-    gone.extend_from_slice(&owners)?;
-    let descriptor = without_named(one.descriptor, label);
-    enter(space, alloc, place, relation, &descriptor)
+    let noted = note_named(alloc, gone, &one.descriptor, label);
+    let descriptor = left_of(one, label);
+    match noted {
+        Ok(()) => {
+            let entered = enter(space, alloc, place, relation, &descriptor);
+            drop(descriptor);
+            entered
+        }
+        Err(_) => {
+            drop(descriptor);
+            Err(SpaceFault::NoMemory)
+        }
+    }
+}
+
+/// Has the owners of the attachments of a name go.
+fn note_named(
+    alloc: Global,
+    gone: &mut Vec<u16>,
+    descriptor: &Descriptor,
+    label: &Str,
+) -> Result<(), AllocError>
+    ensures noted { OnOk result (gone.new.items ≡ gone.old.items ++ owners_named label.now descriptor.now) }
+    ensures more { HasMore gone.old.items gone.new.items }
+{
+    let owners = owners_named(alloc, descriptor, label)?;
+    gone.extend_from_slice(&owners)
+}
+
+/// The descriptor of an open relation without the attachments of a name.
+fn left_of(one: OpenRelation, label: &Str) -> Descriptor
+    ensures { result ≡ record one.descriptor { attachments = without_described label.now one.descriptor.attachments } }
+{
+    let OpenRelation {
+        name,
+        descriptor,
+        table,
+        rules,
+    } = one;
+    drop(name);
+    drop(table);
+    drop(rules);
+    without_named(descriptor, label)
 }
 
 /// Takes the mirrors of a relation's attachments off their relations, where the relation is there.

@@ -1,4 +1,4 @@
-//! Relations that go.
+//! Relations that go. An open relation itself goes by a call of `drop`.
 
 ghost use Rattle.std.specs.Prelude.{◌≡◌, IfErr, OnOk};
 ghost use Rattle.sb_relation.specs.Db.{Db};
@@ -102,7 +102,9 @@ fn drop_alone<S: PageSpace, B: Boxes>(
     let Some(one) = open_relation(space, alloc, boxes, place, name)? else {
         return Ok(());
     };
-    let owners = owners_of(alloc, &one.descriptor)?;
+    let listed = owners_of(alloc, &one.descriptor);
+    drop(one);
+    let owners = listed?;
     gone.extend_from_slice(&owners)?;
     remove(space, alloc, place, name.as_bytes())?;
     Ok(())

@@ -74,10 +74,14 @@ pub(crate) fn stop<D: Disk>(
                 refusal,
                 transaction: Some(transaction),
             },
-            Err(fault) => Uncommitted {
-                refusal: fault,
-                transaction: None,
-            },
+            Err(fault) => {
+                drop(refusal);
+                drop(transaction);
+                Uncommitted {
+                    refusal: fault,
+                    transaction: None,
+                }
+            }
         }
     } else {
         match abort(space, disk, transaction) {
@@ -85,10 +89,13 @@ pub(crate) fn stop<D: Disk>(
                 refusal,
                 transaction: None,
             },
-            Err(fault) => Uncommitted {
-                refusal: fault,
-                transaction: None,
-            },
+            Err(fault) => {
+                drop(refusal);
+                Uncommitted {
+                    refusal: fault,
+                    transaction: None,
+                }
+            }
         }
     }
 }

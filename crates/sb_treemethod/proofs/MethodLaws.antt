@@ -107,7 +107,7 @@ Looks-question inst c old walk.NoMemory over clean asks broken path = looks inst
 
 -- nothing was edited
 pub idle_within : (inst : Instance) (c : MethodCall) (old : View) → dropped old ≡ old → Within inst c old old NoMemory
-idle_within inst c old clean ctx P part rows before = record { path = tt; room = tt; edits = omega (arith, clean_edits old clean ctx.sound) }
+idle_within inst c old clean ctx P part rows before = record { path = tt; room = tt; gets = tt; edits = omega (arith, clean_edits old clean ctx.sound) }
 
 pub Changes-memory : (inst : Instance) (c : MethodCall) (old : View) → dropped old ≡ old → Changes tree_method inst c old old NoMemory
 Changes-memory inst c old clean = changes inst c old old NoMemory clean tt tt tt (λ P part. tt) (idle_within inst c old clean)

@@ -1,10 +1,11 @@
 -- What is answered when a row is added, and when an instance is made.
-use Rattle.std.proofs.Common.{◌≡◌, ◌≢◌, ℕ, ◌+◌, ◌<◌, ◌≤◌, nat_lt, length, Bool, true, false, cond, not, ◌&&◌, List, [], Option, Some, None, IsSome, is_some, option_map, is_none, refl, ap, sym, ◌∙◌, subst, arith, true≢false, eq-eqb}
+use Rattle.std.proofs.Common.{◌≡◌, ◌≢◌, ℕ, ◌+◌, ◌*◌, ◌<◌, ◌≤◌, nat_lt, length, Bool, true, false, cond, not, ◌&&◌, List, [], Option, Some, None, IsSome, is_some, option_map, is_none, refl, ap, sym, ◌∙◌, subst, arith, true≢false, eq-eqb}
 use Rattle.std.specs.List.{list_all}
 use Rattle.std.specs.FinMap.Entries.{find, put}
 use Rattle.std.proofs.lemmas.Bool.{ltb-true, ltb-false, or_from, le-leb}
 use Rattle.sb_relation.specs.Db.{Key, Row, Rows, row_at, with_row}
 use Rattle.sb_relation.specs.Keys.{NewKeys, Just, Taken, Coded, is_free, new_keys, is_record_key}
+use Rattle.sb_fold.specs.Costs.{tree_cost}
 use Rattle.sb_node.specs.Entries.{Entry, key_cmp}
 use Rattle.sb_node.specs.Page.{node_of}
 use Rattle.sb_forms.specs.Pages.{Pages, ArePages, new_pages, zeros}
@@ -13,13 +14,14 @@ use Rattle.sb_forms.specs.Stored.{row_in}
 use Rattle.sb_forms.specs.Tree.{entries_of}
 use Rattle.sb_forms.specs.TreePages.{is_row_entry, tree_rows}
 use Rattle.sb_ctx.specs.declared.instance.Instance.{Instance}
+use Rattle.sb_ctx.specs.declared.calls.MethodCall.{MethodCall}
 use Rattle.sb_ctx.specs.declared.calls.MethodCall.TheVariants as call
 use Rattle.sb_ctx.specs.declared.moves.Move.TheVariants.{Done, Duplicate, Key as Keyed}
 use Rattle.sb_ctx.specs.View.{View, HeldPages, AreSomeOf, page_of, room_of, dropped, edits_of, HoldsPart, stored}
 use Rattle.sb_ctx.proofs.ViewLaws.{given-page, stored-clean, stored-same, stored-other, room_of-page}
-use Rattle.sb_ctx.specs.Laws.{IsMethod}
+use Rattle.sb_ctx.specs.Laws.{IsMethod, operations_of}
 use Rattle.sb_ctx.specs.Method.{code_of, MayHold}
-use Rattle.sb_ctx.specs.MethodAnswers.{Changes, Gets, HasRoom, IsOnPath, most_pages}
+use Rattle.sb_ctx.specs.MethodAnswers.{Changes, Gets, HasRoom, IsGiven, IsOnPath, TakesFor, most_pages}
 use Rattle.sb_btree.specs.Broken.{breaks, held_node}
 use Rattle.sb_btree.specs.Inserts.{Inserts, MayAsk, OverTrees, Grew}
 use Rattle.sb_btree.specs.Leaves.{leads_to}
@@ -29,18 +31,19 @@ use Rattle.sb_btree.specs.declared.walk.Walk.{Walk}
 use Rattle.sb_btree.specs.declared.walk.Walk.TheVariants as walk
 use Rattle.sb_btree.proofs.Edits.{held_still}
 use Rattle.sb_btree.proofs.Leaves.{leaves_are_whole}
+use Rattle.sb_btree.proofs.PageCounts.{pages_few}
 use Rattle.sb_btree.proofs.Spending.{trees_are_small}
 use Rattle.sb_btree.proofs.Whole.{trees_are_whole}
-use Rattle.sb_treemethod.specs.TreeMethod.{tree_method, has_stray, IsEntryOf}
+use Rattle.sb_treemethod.specs.TreeMethod.{tree_method, call_cost, has_stray, IsEntryOf}
 use Rattle.sb_treemethod.specs.Answered.{prepare_move, put_move}
 use Rattle.sb_forms.proofs.Spelled.{row_in-spelling}
 use Rattle.sb_treemethod.proofs.Entries.{entry_of_row}
 use Rattle.sb_treemethod.proofs.RowsOf.{row_at-rows_of, with_row-rows_of}
 use Rattle.sb_treemethod.proofs.TreeRows.{Formed, formed, tree_of, rows_from, are_rows, rooted}
 use Rattle.sb_treemethod.proofs.Changing.{TreeOf-grown, TreeOf-prepared}
-use Rattle.sb_treemethod.proofs.Counted.{clean_edits, pages_few, sound_dropped}
+use Rattle.sb_treemethod.proofs.Counted.{clean_edits, sound_dropped}
 use Rattle.sb_treemethod.proofs.MethodLaws.{changes, Changes-question}
-use Rattle.sb_treemethod.proofs.Within.{AskedBy, Bounds, Within, as_many, reads_still, within}
+use Rattle.sb_treemethod.proofs.Within.{AskedBy, Bounds, GetsWhere, Within, as_many, reads_still, within}
 
 -- ---- the law of the box
 no_stray : (inst : Instance) (P : Pages) (es : List Entry) → read_tree inst.root P ≡ Some es → list_all (is_row_entry inst.schema inst.key) es ≡ true → (held : HeldPages) (n : ℕ) → AreSomeOf held P → has_stray inst held n ≡ false
@@ -50,10 +53,19 @@ no_stray inst P es read all held n some =
       | false ↦ λ off. refl
     ] refl
 
+call_cost-most : (c : MethodCall) (rows : ℕ) → call_cost c rows ≤ operations_of c * tree_cost rows
+call_cost-most call.Prepare rows = omega arith
+call_cost-most (call.Insert row) rows = omega arith
+call_cost-most (call.Delete key) rows = omega arith
+call_cost-most (call.Update key row) rows = omega arith
+call_cost-most (call.Get key) rows = omega arith
+call_cost-most (call.Next low) rows = omega arith
+
 pub IsMethod-tree_method : IsMethod tree_method
 IsMethod-tree_method = record {
   heap = λ is. cc;
-  tree = λ is. record { durable = refl; rows = λ inst P. refl };
+  tree = λ is. record { durable = refl; rows = λ inst P. refl; cost = λ c rows. call_cost-most c (length rows) };
+  standard = λ ours. record { bound = λ rows. omega arith; prepares = λ rows. omega arith };
   formed = λ inst P rows holds.
       let f = formed inst.root inst.schema inst.key P rows holds in
       record {
@@ -73,6 +85,9 @@ holds_still inst old P rows clean part holds = ap (tree_rows inst.root inst.sche
 pub got_key : (inst : Instance) (rows : Rows) (own : Option Key) (code : Key) (with_key : Key → Rows) (after : Pages) (key : Key) → is_free rows own code ≡ true → key ≡ code
     → tree_rows inst.root inst.schema inst.key after ≡ Some (with_key key) → Gets tree_method inst (new_keys Coded rows own code) rows with_key after (Keyed key)
 got_key inst rows own code with_key after key free is holds = subst (λ (n : NewKeys). Gets tree_method inst n rows with_key after (Keyed key)) (sym (ap (λ b. cond b (Just code) Taken) free)) (is, holds)
+
+pub given_key : (rows : Rows) (own : Option Key) (code : Key) → is_free rows own code ≡ true → IsGiven (new_keys Coded rows own code)
+given_key rows own code free = subst (λ (n : NewKeys). IsGiven n) (sym (ap (λ b. cond b (Just code) Taken) free)) tt
 
 pub got_none : (inst : Instance) (rows : Rows) (own : Option Key) (code : Key) (with_key : Key → Rows) (after : Pages) → is_free rows own code ≡ false
     → tree_rows inst.root inst.schema inst.key after ≡ Some rows → Gets tree_method inst (new_keys Coded rows own code) rows with_key after Duplicate
@@ -102,6 +117,16 @@ value_read inst row key value may entry = ap row_in entry.value_is ∙ row_in-sp
 pub grew_from : (root : ℕ) (old : View) (P Q : Pages) → dropped old ≡ old → HoldsPart old P → Grew old root (stored old P) Q → Grew old root P Q
 grew_from root old P Q clean part grew = subst (λ (R : Pages). Grew old root R Q) (stored-clean old P clean part) grew
 
+-- no row has the key that stands in no entry
+none_has : (inst : Instance) (row : Row) (code value : List ℕ) (P : Pages) (rows : Rows) → IsEntryOf inst row code value → (f : Formed inst.root inst.schema inst.key P rows) → find key_cmp code f.es ≡ None → is_free rows None (code_of inst row) ≡ true
+none_has inst row code value P rows entry f none = ap (λ k. is_none (row_at rows k)) (sym entry.key_is) ∙ ap is_none (row_under inst P rows code f) ∙ none_under (find key_cmp code f.es) none
+
+-- a fresh page is asked for only where the row gets a key
+pub put_gets : (inst : Instance) (row : Row) (code value : List ℕ) (old new : View) (w : Walk Bool) → dropped old ≡ old → IsEntryOf inst row code value → OverTrees old inst.root (λ P es. Inserts old new inst.root code value P es w) → GetsWhere inst (call.Insert row) old (w ≡ walk.Fresh)
+put_gets inst row code value old new w clean entry inserts P part rows f is =
+    given_key rows None (code_of inst row)
+    (none_has inst row code value P rows entry f (subst (λ (v : Walk Bool). Inserts old new inst.root code value P f.es v) is (inserts P f.es (reads_still inst old P f.es clean part f.tree))))
+
 Changes-inserted : (inst : Instance) (row : Row) (code value : List ℕ) (old new : View) → dropped old ≡ old → dropped new ≡ old → MayHold tree_method inst row → IsEntryOf inst row code value
     → OverTrees old inst.root (λ P es. Inserts old new inst.root code value P es (walk.Ready true)) → Within inst (call.Insert row) old new (Keyed code) → Changes tree_method inst (call.Insert row) old new (Keyed code)
 Changes-inserted inst row code value old new clean given may entry inserts spends =
@@ -112,7 +137,7 @@ Changes-inserted inst row code value old new clean given may entry inserts spend
     let t = tree_of inst.root inst.schema inst.key P rows part.are_pages f in
     let grown = TreeOf-grown inst.root inst.schema inst.key old P P (stored new P) f.es code value part t (row_is_entry inst row code value may entry) put_in.1 (grew_from inst.root old P (stored new P) clean part put_in.2) in
     got_key inst rows None (code_of inst row) (λ k. with_row rows k row) (stored new P) code
-    (ap (λ k. is_none (row_at rows k)) (sym entry.key_is) ∙ ap is_none (row_under inst P rows code f) ∙ none_under (find key_cmp code f.es) put_in.0) entry.key_is
+    (none_has inst row code value P rows entry f put_in.0) entry.key_is
     (rows_from inst.root inst.schema inst.key (stored new P) (put key_cmp code value f.es) grown
     ∙ ap Some (sym (with_row-rows_of code value f.es) ∙ (λ i. with_row (sym f.same i) code (value_read inst row code value may entry i)))))
     spends
@@ -192,6 +217,7 @@ made_within : (inst : Instance) (old new : View) (w : Walk (Unit {0})) → dropp
 made_within inst old new w clean given is few ctx P part rows before = record {
   path = path w is;
   room = room w is;
+  gets = gets w;
   edits = omega (arith, few, clean_edits old clean (sound_dropped new old given ctx.sound));
 }
   where
@@ -208,6 +234,13 @@ made_within inst old new w clean given is few ctx P part rows before = record {
     room walk.Fresh is = absurd is
     room (walk.Broken n) is = tt
     room walk.NoMemory is = tt
+
+    gets : (w : Walk (Unit {0})) → TakesFor tree_method inst call.Prepare rows (prepare_move w)
+    gets (walk.Ready end) = tt
+    gets (walk.Need n) = tt
+    gets walk.Fresh = tt
+    gets (walk.Broken n) = tt
+    gets walk.NoMemory = tt
 
 pub Changes-prepared : (inst : Instance) (old new : View) (w : Walk (Unit {0})) → dropped old ≡ old → dropped new ≡ old → MayAsk new w → Breaks (breaks inst.root (page_of old)) w → Prepares old new inst.root w → edits_of new ≤ edits_of old + 1
     → Changes tree_method inst call.Prepare old new (prepare_move w)

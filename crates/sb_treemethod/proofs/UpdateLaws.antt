@@ -43,11 +43,11 @@ use Rattle.sb_treemethod.specs.Answered.{question_of, was_broken, was_done, was_
 use Rattle.sb_treemethod.proofs.Changing.{TreeOf-grown, TreeOf-shrunk}
 use Rattle.sb_treemethod.proofs.Counted.{clean_edits, grown_few}
 use Rattle.sb_treemethod.proofs.MethodLaws.{OverOld, changes, Changes-question, none_found}
-use Rattle.sb_treemethod.proofs.PutLaws.{asked_put, got_key, got_none, grew_from, row_is_entry, row_under, short_key, some_under, value_read}
+use Rattle.sb_treemethod.proofs.PutLaws.{asked_put, given_key, got_key, got_none, grew_from, row_is_entry, row_under, short_key, some_under, value_read}
 use Rattle.sb_treemethod.proofs.RemoveLaws.{none_there, row_there, rows_still}
 use Rattle.sb_treemethod.proofs.RowsOf.{with_row-rows_of, without_row-rows_of}
 use Rattle.sb_treemethod.proofs.TreeRows.{Formed, TreeOf, formed, rising, rows_from, tree_of}
-use Rattle.sb_treemethod.proofs.Within.{AskedBy, Bounds, Within, reads_still, tree_bounds, within}
+use Rattle.sb_treemethod.proofs.Within.{AskedBy, Bounds, GetsWhere, Within, reads_still, tree_bounds, within}
 
 -- ---- entries
 other_key : (key code q : Key) → bytes_eq code key ≡ false → is_eq (key_cmp q code) ≡ true → not (bytes_eq q key) ≡ true
@@ -74,6 +74,21 @@ own_free inst P rows code f = ap (λ b. b || is_none (row_at rows code)) (same_b
 
 new_free : (inst : Instance) (P : Pages) (rows : Rows) (key code : Key) → (f : Formed inst.root inst.schema inst.key P rows) → find key_cmp code f.es ≡ None → is_free rows (Some key) code ≡ true
 new_free inst P rows key code f none = ap (λ o. bytes_eq key code || is_none o) (row_under inst P rows code f ∙ ap (option_map row_in) none) ∙ or_true (bytes_eq key code)
+
+-- a row under its own key gets that one
+pub own_gets : (inst : Instance) (row : Row) (code value : List ℕ) (old : View) (IsSo : Type 0) → IsEntryOf inst row code value → GetsWhere inst (call.Update code row) old IsSo
+own_gets inst row code value old IsSo entry P part rows f is =
+    given_key rows (Some code) (code_of inst row) (ap (is_free rows (Some code)) (sym entry.key_is) ∙ own_free inst P rows code f)
+
+-- a row under a key that stands in no entry gets it
+pub new_gets : (inst : Instance) (key : Key) (row : Row) (code value : List ℕ) (old : View) (IsSo : Type 0) → dropped old ≡ old → IsEntryOf inst row code value → (IsSo → OverTrees old inst.root (λ P es. find key_cmp code es ≡ None)) → GetsWhere inst (call.Update key row) old IsSo
+new_gets inst key row code value old IsSo clean entry none P part rows f is =
+    given_key rows (Some key) (code_of inst row) (ap (is_free rows (Some key)) (sym entry.key_is) ∙ new_free inst P rows key code f (none is P f.es (reads_still inst old P f.es clean part f.tree)))
+
+-- so where a fresh page is asked for to put it in
+pub unput_gets : (inst : Instance) (key : Key) (row : Row) (code value : List ℕ) (old new : View) (w : Walk Bool) → dropped old ≡ old → IsEntryOf inst row code value → OverTrees old inst.root (λ P es. Inserts old new inst.root code value P es w) → GetsWhere inst (call.Update key row) old (w ≡ walk.Fresh)
+unput_gets inst key row code value old new w clean entry inserts =
+    new_gets inst key row code value old (w ≡ walk.Fresh) clean entry (λ is P es read. subst (λ (v : Walk Bool). Inserts old new inst.root code value P es v) is (inserts P es read))
 
 -- a row more where one is gone, as rows of entries
 as_rows : (inst : Instance) (P : Pages) (rows : Rows) (key code : Key) (value : List ℕ) (row : Row) → (f : Formed inst.root inst.schema inst.key P rows) → row_in value ≡ row
@@ -312,6 +327,7 @@ module _ (inst : Instance) (key : Key) (row : Row) (code value : List ℕ) (old 
         let few = grown_few inst.root mid old P m.given sound part (λ n some. grew.to n (t.all n some)) now.all in
         let asks = subst (λ (v : Walk Bool). AsksWithin (2 * length (put key_cmp code value f.es)) (length (tree_met inst.root (stored mid P))) mid new v) is (m.room P (put key_cmp code value f.es) put_in.1) in
         omega (arith, few, asks, one_more code value f.es (rising inst.root P f.es f.tree) put_in.0);
+    gets = new_gets inst key row code value old (w ≡ walk.Fresh) m.clean entry (λ is P es read. (m.inserts P es read).0);
     edits = λ sound P part rows f.
         let reads = reads_still inst old P f.es m.clean part f.tree in
         let put_in = m.inserts P f.es reads in
@@ -362,8 +378,8 @@ asked_question walk.Fresh = refl
 asked_question (walk.Broken n) = tt
 asked_question walk.NoMemory = tt
 
-pub Changes-alone : (inst : Instance) (key : Key) (row : Row) (old start new : View) (w : Walk Bool) → dropped old ≡ old → start ≡ old → Removal inst key start new w → Changes tree_method inst (call.Update key row) old new (question_of w)
-Changes-alone inst key row old start new w clean same made = by (subst (λ (v : View). Removal inst key v new w) same made)
+pub Changes-alone : (inst : Instance) (key : Key) (row : Row) (old start new : View) (w : Walk Bool) → dropped old ≡ old → start ≡ old → Removal inst key start new w → GetsWhere inst (call.Update key row) old (w ≡ walk.Fresh) → Changes tree_method inst (call.Update key row) old new (question_of w)
+Changes-alone inst key row old start new w clean same made gets = by (subst (λ (v : View). Removal inst key v new w) same made)
   where
     by : Removal inst key old new w → Changes tree_method inst (call.Update key row) old new (question_of w)
     by r =
@@ -371,4 +387,4 @@ Changes-alone inst key row old start new w clean same made = by (subst (λ (v : 
         Changes-asked {T = Bool} inst key row old new w clean given r.asks r.broken
         (within inst (call.Update key row) old new w (question_of w) given r.asks (asked_question w)
         (tree_bounds inst (call.Update key row) old new w (λ P. is_on_removal_way inst.root P key) tree_cost clean (λ P es read n is. removal_ways_met P inst.root es read key n is) (λ n. omega arith) r.way
-        (λ P es read. let few = r.edits P es read in omega (arith, few)) r.room))
+        (λ P es read. let few = r.edits P es read in omega (arith, few)) r.room gets))

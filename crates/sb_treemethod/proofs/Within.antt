@@ -16,14 +16,15 @@ use Rattle.sb_ctx.specs.View.{View, edits_of, dropped, HoldsPart, stored}
 use Rattle.sb_ctx.proofs.ViewLaws.{stored-clean}
 use Rattle.sb_ctx.specs.Sized.{IsCtx}
 use Rattle.sb_ctx.specs.Sound.{IsSound}
-use Rattle.sb_ctx.specs.MethodAnswers.{Before, HasRoom, Holds, IsOnPath, Spends, most_pages, rows_after}
+use Rattle.sb_ctx.specs.MethodAnswers.{Before, GetsKey, HasRoom, Holds, IsOnPath, Spends, TakesFor, most_pages, rows_after}
 use Rattle.sb_btree.specs.Inserts.{MayAsk, OverTrees}
 use Rattle.sb_btree.specs.Spending.{AsksWithin, taken_of}
 use Rattle.sb_btree.specs.Walks.{AsksFor as MayAskFor, Needs, OnTree}
 use Rattle.sb_btree.specs.declared.walk.Walk.{Walk}
 use Rattle.sb_btree.specs.declared.walk.Walk.TheVariants as walk
+use Rattle.sb_btree.proofs.PageCounts.{pages_few}
 use Rattle.sb_treemethod.specs.TreeMethod.{tree_method, call_cost, is_on_call_path}
-use Rattle.sb_treemethod.proofs.Counted.{all_taken, clean_edits, clean_taken, pages_few, sound_dropped}
+use Rattle.sb_treemethod.proofs.Counted.{all_taken, clean_edits, clean_taken, sound_dropped}
 use Rattle.sb_treemethod.proofs.RowsOf.{as_row}
 use Rattle.sb_treemethod.proofs.TreeRows.{Formed, formed, tree_of}
 
@@ -31,10 +32,15 @@ use Rattle.sb_treemethod.proofs.TreeRows.{Formed, formed, tree_of}
 abbrev pub Within : Instance → MethodCall → View → View → Move → Type 0
 Within inst c old new move = IsCtx new → (P : Pages) → HoldsPart old P → (rows : Rows) → Before tree_method inst c P rows → Spends tree_method inst c P rows new move
 
+-- over the pages of a tree of rows, the row that a call puts in gets a key where this is so
+abbrev pub GetsWhere : Instance → MethodCall → View → Type 0 → Type 0
+GetsWhere inst c old IsSo = (P : Pages) → HoldsPart old P → (rows : Rows) → Formed inst.root inst.schema inst.key P rows → IsSo → GetsKey tree_method inst c rows
+
 -- what a walk has to keep to, over the pages of a tree of rows
 pub record Bounds {T : Type 0} (inst : Instance) (c : MethodCall) (old new : View) (w : Walk T) : Type 0 where
   pub way : (P : Pages) → HoldsPart old P → (rows : Rows) → Formed inst.root inst.schema inst.key P rows → Needs (is_on_call_path inst P c) w
   pub fresh : IsSound old → (P : Pages) → HoldsPart old P → (rows : Rows) → (f : Formed inst.root inst.schema inst.key P rows) → w ≡ walk.Fresh → page_count P + taken_of new < plain_bound (length f.es)
+  pub gets : GetsWhere inst c old (w ≡ walk.Fresh)
   pub edits : IsSound old → (P : Pages) → HoldsPart old P → (rows : Rows) → (f : Formed inst.root inst.schema inst.key P rows) → edits_of new ≤ call_cost c (length f.es)
 
 -- a question of a walk
@@ -55,6 +61,7 @@ pub within : {T : Type 0} (inst : Instance) (c : MethodCall) (old new : View) (w
 within {T} inst c old new w move given asks asked b ctx P part rows holds = record {
   path = path move asked;
   room = room move asked;
+  gets = gets move asked;
   edits = subst (λ n. edits_of new ≤ call_cost c n) (sym many) (b.edits sound P part rows f);
 }
   where
@@ -82,6 +89,10 @@ within {T} inst c old new w move given asks asked b ctx P part rows holds = reco
         )
     room _ is = tt
 
+    gets : (move : Move) → AskedBy w move → TakesFor tree_method inst c rows move
+    gets Fresh is = b.gets P part rows f is
+    gets _ is = tt
+
 -- ---- one walk over the tree as it was given
 weaker : {T : Type 0} (test path : ℕ → Bool) → ((n : ℕ) → test n ≡ true → path n ≡ true) → (w : Walk T) → Needs test w → Needs path w
 weaker test path on (walk.Ready end) h = tt
@@ -93,14 +104,15 @@ weaker test path on walk.NoMemory h = tt
 pub tree_bounds : {T : Type 0} (inst : Instance) (c : MethodCall) (old new : View) (w : Walk T) (test : Pages → ℕ → Bool) (cost : ℕ → ℕ) → dropped old ≡ old
     → ((P : Pages) (es : List Entry) → read_tree inst.root P ≡ Some es → (n : ℕ) → test P n ≡ true → is_on_call_path inst P c n ≡ true) → ((n : ℕ) → cost n ≤ call_cost c n)
     → OnTree old inst.root (λ P. Needs (test P) w) → OverTrees old inst.root (λ P es. edits_of new ≤ edits_of old + cost (length es))
-    → OverTrees old inst.root (λ P es. AsksWithin (2 * length es) (length (tree_met inst.root (stored old P))) old new w) → Bounds inst c old new w
-tree_bounds {T} inst c old new w test cost clean on cheap way edits room = record {
+    → OverTrees old inst.root (λ P es. AsksWithin (2 * length es) (length (tree_met inst.root (stored old P))) old new w) → GetsWhere inst c old (w ≡ walk.Fresh) → Bounds inst c old new w
+tree_bounds {T} inst c old new w test cost clean on cheap way edits room gets = record {
   way = λ P part rows f. weaker (test P) (is_on_call_path inst P c) (on P f.es f.tree) w (subst (λ (Q : Pages). Needs (test Q) w) (stored-clean old P clean part) (way P f.es (reads_still inst old P f.es clean part f.tree)));
   fresh = λ sound P part rows f is.
       let t = tree_of inst.root inst.schema inst.key P rows part.are_pages f in
       let few = subst (λ (v : Walk T). AsksWithin (2 * length f.es) (length (tree_met inst.root P)) old new v) is
       (subst (λ (Q : Pages). AsksWithin (2 * length f.es) (length (tree_met inst.root Q)) old new w) (stored-clean old P clean part) (room P f.es (reads_still inst old P f.es clean part f.tree))) in
       omega (arith, few, clean_taken old clean sound, pages_few inst.root P t.all);
+  gets = gets;
   edits = λ sound P part rows f. omega (arith, edits P f.es (reads_still inst old P f.es clean part f.tree), clean_edits old clean sound, cheap (length f.es));
 }
 
@@ -111,5 +123,6 @@ pub look_bounds : {T : Type 0} (inst : Instance) (c : MethodCall) (old : View) (
 look_bounds {T} inst c old w test clean asks on way = record {
   way = λ P part rows f. weaker (test P) (is_on_call_path inst P c) (on P f.es f.tree) w (subst (λ (Q : Pages). Needs (test Q) w) (stored-clean old P clean part) (way P f.es (reads_still inst old P f.es clean part f.tree)));
   fresh = λ sound P part rows f is. absurd (subst (λ (v : Walk T). MayAskFor old v) is asks);
+  gets = λ P part rows f is. absurd (subst (λ (v : Walk T). MayAskFor old v) is asks);
   edits = λ sound P part rows f. omega (arith, clean_edits old clean sound);
 }

@@ -7,8 +7,6 @@ mod fits;
 mod lists;
 mod schema;
 mod spelling;
-#[cfg(test)]
-mod tests;
 mod text;
 mod value;
 

@@ -6,6 +6,3 @@ mod vectors;
 
 pub use laws::{registering_moves_codes, retiring_moves_codes};
 pub use vectors::Vectors;
-
-#[cfg(test)]
-mod tests;

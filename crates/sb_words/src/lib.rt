@@ -3,8 +3,6 @@
 
 mod command;
 mod matches;
-#[cfg(test)]
-mod tests;
 mod words;
 
 pub use words::{Words, read_words};

@@ -4,19 +4,14 @@
 ghost use Rattle.std.specs.Prelude.{◌≡◌};
 ghost use Rattle.std.specs.Process.{exit_status};
 
-mod refusing;
-mod report;
-mod run;
-#[cfg(test)]
-mod tests;
+mod running;
 
-use refusing::refuse_words;
-pub use report::Report;
-pub use run::{run, run_to};
+pub use running::{run, run_to};
 use sb_filedisk::{FileDisk, ReadSource, WriteSink};
 use sb_heap::Heap;
 use sb_registry::Extensions;
 use sb_rules::{Check, Trigger};
+use sb_run::{Report, refuse_words};
 use sb_treemethod::TreeMethod;
 use sb_value::Str;
 use std::alloc::AllocError;

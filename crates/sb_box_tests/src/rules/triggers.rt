@@ -1,7 +1,7 @@
 //! A trigger on the relation `e` of salaries and departments: whoever comes with more than 100 adds that to the total of
 //! the department in `d`.
 
-ghost use Rattle.std.specs.Prelude.{◌≡◌, codes, ◌∷◌, [], IfOk, pos};
+ghost use Rattle.std.specs.Prelude.{◌≡◌, codes, ◌∷◌, [], pos};
 ghost use Rattle.sb_pred.specs.Spelling.{IsShortTerm};
 ghost use Rattle.sb_rule.specs.Spelling.{rule_spelling, IsStorableRule, IsShortAction};
 ghost use Rattle.sb_ctx.specs.View.{IsClean};
@@ -16,152 +16,154 @@ use sb_pred::{Op, Pred, Term};
 use sb_relation::{Action, Change, Event, Pairs, Rule, write_rule};
 use sb_rules::Trigger;
 use sb_value::{Bytes, Column, Kind, Names, Schema, Str, Tuple, Value};
-use std::alloc::{AllocError, Global};
+use std::alloc::Global;
+use std::process::Abort;
 use std::test::*;
 
-fn employees(alloc: Global) -> Result<Str, AllocError>
-    ensures { IfOk result (λ s. s ≡ codes "e") }
+fn employees(rt: &impl Abort, alloc: Global) -> Str
+    ensures { result ≡ codes "e" }
 {
-    Ok(Str::from_string(String::from_str(alloc, "e")?))
+    Str::from_string(String::from_str(alloc, "e").expect(rt, "memory"))
 }
 
-fn salary(alloc: Global) -> Result<Str, AllocError>
-    ensures { IfOk result (λ s. s ≡ codes "salary") }
+fn salary(rt: &impl Abort, alloc: Global) -> Str
+    ensures { result ≡ codes "salary" }
 {
-    Ok(Str::from_string(String::from_str(alloc, "salary")?))
+    Str::from_string(String::from_str(alloc, "salary").expect(rt, "memory"))
 }
 
-fn dept(alloc: Global) -> Result<Str, AllocError>
-    ensures { IfOk result (λ s. s ≡ codes "dept") }
+fn dept(rt: &impl Abort, alloc: Global) -> Str
+    ensures { result ≡ codes "dept" }
 {
-    Ok(Str::from_string(String::from_str(alloc, "dept")?))
+    Str::from_string(String::from_str(alloc, "dept").expect(rt, "memory"))
 }
 
-fn columns(alloc: Global) -> Result<Schema, AllocError>
-    ensures { IfOk result (λ s. s ≡ staff) }
+fn columns(rt: &impl Abort, alloc: Global) -> Schema
+    ensures { result ≡ staff }
 {
     let first = Column {
-        name: salary(alloc)?,
+        name: salary(rt, alloc),
         kind: Kind::Int,
         limit: 0,
     };
     let second = Column {
-        name: dept(alloc)?,
+        name: dept(rt, alloc),
         kind: Kind::Int,
         limit: 0,
     };
-    Ok(Schema::from_vec(vec![in alloc; first, second]?))
+    Schema::from_vec(vec![in alloc; first, second].expect(rt, "memory"))
 }
 
-fn predicate(alloc: Global) -> Result<Pred, AllocError>
-    ensures { IfOk result (λ pred. pred ≡ well_paid) }
+fn predicate(rt: &impl Abort, alloc: Global) -> Pred
+    ensures { result ≡ well_paid }
 {
-    Ok(Pred::cmp(
-        Op::Gt,
-        Term::New(salary(alloc)?),
-        Term::Const(Value::Int(100)),
-    ))
+    let hundred = Term::Const(Value::Int(100));
+    Pred::cmp(Op::Gt, Term::New(salary(rt, alloc)), hundred)
 }
 
-fn action(alloc: Global) -> Result<Action, AllocError>
-    ensures { IfOk result (λ action. action ≡ adds_salary) }
+fn action(rt: &impl Abort, alloc: Global) -> Action
+    ensures { result ≡ adds_salary }
 {
-    let id = Str::from_string(String::from_str(alloc, "id")?);
-    let pair = (id, Term::New(dept(alloc)?));
-    Ok(Action::Add {
-        relation: Str::from_string(String::from_str(alloc, "d")?),
-        column: Str::from_string(String::from_str(alloc, "total")?),
-        term: Term::New(salary(alloc)?),
-        pairs: Pairs::from_vec(vec![in alloc; pair]?),
-    })
+    let id = Str::from_string(String::from_str(alloc, "id").expect(rt, "memory"));
+    let pair = (id, Term::New(dept(rt, alloc)));
+    Action::Add {
+        relation: Str::from_string(String::from_str(alloc, "d").expect(rt, "memory")),
+        column: Str::from_string(String::from_str(alloc, "total").expect(rt, "memory")),
+        term: Term::New(salary(rt, alloc)),
+        pairs: Pairs::from_vec(vec![in alloc; pair].expect(rt, "memory")),
+    }
 }
 
-fn desc(alloc: Global, deferred: bool) -> Result<Bytes, AllocError>
-    ensures spelled { IfOk result (λ desc. desc ≡ rule_spelling (hires deferred)) }
-    ensures storable { IfOk result (λ desc. IsStorableRule (hires deferred)) }
+fn desc(rt: &impl Abort, alloc: Global, deferred: bool) -> Bytes
+    ensures spelled { result ≡ rule_spelling (hires deferred) }
+    ensures storable { IsStorableRule (hires deferred) }
 {
     let rule = Rule::Trigger {
         event: Event::Insert,
-        pred: predicate(alloc)?,
-        action: action(alloc)?,
+        pred: predicate(rt, alloc),
+        action: action(rt, alloc),
         deferred,
     };
     let mut desc = Bytes::new(alloc);
-    write_rule(&rule, &mut desc)?;
-    Ok(desc)
+    write_rule(&rule, &mut desc).expect(rt, "memory");
+    drop(rule);
+    desc
 }
 
-fn instance(alloc: Global, deferred: bool) -> Result<Instance, AllocError>
-    ensures trigger { IfOk result (IsInstance trigger) }
-    ensures columns { IfOk result (λ inst. inst.schema ≡ staff) }
+fn instance(rt: &impl Abort, alloc: Global, deferred: bool) -> Instance
+    ensures trigger { IsInstance trigger result }
+    ensures columns { result.schema ≡ staff }
 {
-    Ok(Instance {
-        relation: employees(alloc)?,
+    Instance {
+        relation: employees(rt, alloc),
         owner: 0,
         root: 0,
         durable: true,
         code: 7,
-        desc: desc(alloc, deferred)?,
-        schema: columns(alloc)?,
+        desc: desc(rt, alloc, deferred),
+        schema: columns(rt, alloc),
         key: Names::from_vec(Vec::new(alloc)),
-    })
+    }
 }
 
-fn row(alloc: Global, salary: i64) -> Result<Tuple, AllocError>
-    ensures { IfOk result (λ row. row ≡ Value.Int salary ∷ Value.Int (pos 7) ∷ []) }
+fn row(rt: &impl Abort, alloc: Global, salary: i64) -> Tuple
+    ensures { result ≡ Value.Int salary ∷ Value.Int (pos 7) ∷ [] }
 {
-    Ok(Tuple::from_vec(vec![in alloc; Value::Int(salary), Value::Int(7)]?))
+    let numbers = vec![in alloc; Value::Int(salary), Value::Int(7)];
+    Tuple::from_vec(numbers.expect(rt, "memory"))
 }
 
-fn built_row(alloc: Global, inst: &Instance, salary: i64) -> Result<Reply, AllocError>
+fn built_row(rt: &impl Abort, alloc: Global, inst: &Instance, salary: i64) -> Reply
     requires trigger { IsInstance trigger inst.now }
     requires columns { inst.now.schema ≡ staff }
 {
-    let row = row(alloc, salary)?;
-    Ok(built(&Trigger::new(), alloc, inst, &row))
+    let row = row(rt, alloc, salary);
+    let reply = built(&Trigger::new(), alloc, inst, &row);
+    drop(row);
+    reply
 }
 
 fn late_of_nothing(alloc: Global, inst: &Instance) -> Reply
     requires { IsInstance trigger inst.now }
 {
     let entry = Bytes::new(alloc);
-    late(&Trigger::new(), alloc, &mut Ctx::new(alloc), inst, &entry)
-}
-
-fn makes_nothing(alloc: Global) -> Result<bool, AllocError> {
-    let inst = instance(alloc, false)?;
-    let trigger = Trigger::new();
-    if !is_of(&trigger, &inst, 7) || !keeps_nothing(&trigger, alloc, &inst)? {
-        return Ok(false);
-    }
-    let built = built_row(alloc, &inst, 150)?;
-    Ok(built == Reply::Done && late_of_nothing(alloc, &inst) == Reply::Done)
+    let mut ctx = Ctx::new(alloc);
+    let reply = late(&Trigger::new(), alloc, &mut ctx, inst, &entry);
+    drop(ctx);
+    drop(entry);
+    reply
 }
 
 #[test]
-fn nothing_is_made(rt: HostRuntime) -> Result<(), Fail> {
-    assert!(rt; makes_nothing(rt.alloc())?);
-    Ok(())
+fn nothing_is_made(rt: HostRuntime) {
+    let alloc = rt.alloc();
+    let inst = instance(&rt, alloc, false);
+    let trigger = Trigger::new();
+    assert!(rt; is_of(&trigger, &inst, 7));
+    assert!(rt; keeps_nothing(&rt, &trigger, alloc, &inst));
+    assert!(rt; built_row(&rt, alloc, &inst, 150) == Reply::Done);
+    assert!(rt; late_of_nothing(alloc, &inst) == Reply::Done);
+    drop(inst);
 }
 
-fn change(alloc: Global, old: Option<i64>, new: Option<i64>) -> Result<Change, AllocError>
-    ensures { IfOk result (λ change. (inst : Seen) → inst.schema ≡ staff → MayMeet trigger inst change) }
+fn change(rt: &impl Abort, alloc: Global, old: Option<i64>, new: Option<i64>) -> Change
+    ensures { (inst : Seen) → inst.schema ≡ staff → MayMeet trigger inst result }
 {
     match (old, new) {
-        (Some(old), Some(new)) => Ok(Change::Update {
+        (Some(old), Some(new)) => Change::Update {
             from: key(alloc),
-            old: row(alloc, old)?,
+            old: row(rt, alloc, old),
             to: key(alloc),
-            new: row(alloc, new)?,
-        }),
-        (None, Some(new)) => Ok(Change::Insert {
+            new: row(rt, alloc, new),
+        },
+        (None, Some(new)) => Change::Insert {
             key: key(alloc),
-            new: row(alloc, new)?,
-        }),
-        (old, None) => Ok(Change::Delete {
+            new: row(rt, alloc, new),
+        },
+        (old, None) => Change::Delete {
             key: key(alloc),
-            old: row(alloc, old.unwrap_or(0))?,
-        }),
+            old: row(rt, alloc, old.unwrap_or(0)),
+        },
     }
 }
 
@@ -207,32 +209,24 @@ pub(super) fn is_one_raise(actions: &[Action]) -> bool {
     }
 }
 
-fn changed_row(
-    alloc: Global,
-    inst: &Instance,
-    old: Option<i64>,
-    new: Option<i64>,
-) -> Result<Reply, AllocError>
-    requires trigger { IsInstance trigger inst.now }
-    requires columns { inst.now.schema ≡ staff }
-{
-    let change = change(alloc, old, new)?;
-    Ok(changed(&Trigger::new(), alloc, inst, &change))
-}
-
 /// What the trigger, deferred or not, answers to the change.
 fn follow(
+    rt: &impl Abort,
     alloc: Global,
     deferred: bool,
     old: Option<i64>,
     new: Option<i64>,
-) -> Result<Reply, AllocError> {
-    let inst = instance(alloc, deferred)?;
-    changed_row(alloc, &inst, old, new)
+) -> Reply {
+    let inst = instance(rt, alloc, deferred);
+    let change = change(rt, alloc, old, new);
+    let reply = changed(&Trigger::new(), alloc, &inst, &change);
+    drop(change);
+    drop(inst);
+    reply
 }
 
 /// Whether the trigger is deferred, the salary of the row that goes, that of the row that comes, and what follows.
-const CHANGES: [(bool, Option<i64>, Option<i64>, Reply); 7] = [
+static CHANGES: [(bool, Option<i64>, Option<i64>, Reply); 7] = [
     (false, None, Some(150), Reply::AtOnce),
     (false, None, Some(100), Reply::Done),
     (false, Some(50), Some(150), Reply::Done),
@@ -242,23 +236,10 @@ const CHANGES: [(bool, Option<i64>, Option<i64>, Reply); 7] = [
     (true, Some(150), None, Reply::Done),
 ];
 
-/// How many changes, from the first one on, are followed so.
-fn followed_so(
-    alloc: Global,
-    rows: &[(bool, Option<i64>, Option<i64>, Reply)],
-) -> Result<usize, AllocError> {
-    let mut count = 0usize;
-    for (deferred, old, new, wanted) in rows {
-        if follow(alloc, *deferred, *old, *new)? != *wanted {
-            break;
-        }
-        count = count.saturating_add(1);
-    }
-    Ok(count)
-}
-
 #[test]
-fn actions_follow(rt: HostRuntime) -> Result<(), Fail> {
-    assert_eq!(rt; followed_so(rt.alloc(), &CHANGES)?, 7);
-    Ok(())
+fn actions_follow(rt: HostRuntime) {
+    for (number, (deferred, old, new, wanted)) in CHANGES.iter().enumerate() {
+        let reply = follow(&rt, rt.alloc(), *deferred, *old, *new);
+        assert!(rt; reply == *wanted, "row {number}");
+    }
 }

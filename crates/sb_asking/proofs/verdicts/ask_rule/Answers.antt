@@ -16,8 +16,8 @@ use Rattle.sb_asking.proofs.CallsLemmas.{Works-no_memory}
 use Rattle.sb_asking.proofs.VerdictsLemmas.{Holds-next, IsVerdict-final, Says-asked}
 use Rattle.sb_asking.proofs.verdicts.ask_rule.Goals as goal
 
-pub ask-requires-clause-fits : goal.ask-requires-clause-fits
-ask-requires-clause-fits g c = λ live. subst (λ (x : Change). MayMeet live.box c.args.inst.now x) (sym c.in_ok-copy.ensures) (c.requires.meets live)
+pub ask-made-requires-clause-fits : goal.ask-made-requires-clause-fits
+ask-made-requires-clause-fits g c = λ live. subst (λ (x : Change). MayMeet live.box c.args.inst.now x) (sym c.in_ok-copy.ensures) (c.requires.meets live)
 
 pub verdict_in-requires : goal.verdict_in-requires
 verdict_in-requires g c = IsVerdict-final c.in_ok-copy.copy c.in_ok-made.made c.in_ok-made.ensures.ends
@@ -35,7 +35,7 @@ returns-in_err-copy-clause-undamaged g c = IfErr-passed c.from_residual.result N
 -- ---- the call is refused
 pub returns-in_err-made-clause-works : goal.returns-in_err-made-clause-works
 returns-in_err-made-clause-works g c =
-    Works-passed g.S.PageSpace.has g.S.PageSpace.leads g.S.PageSpace.fails g.S.PageSpace.durable g.S.PageSpace.total c.args.inst.now.owner c.args.space.now c.ask.new.space c.from_residual-in_err-made.result c.in_err-made.field-0.0
+    Works-passed g.S.PageSpace.has g.S.PageSpace.leads g.S.PageSpace.fails g.S.PageSpace.durable g.S.PageSpace.total c.args.inst.now.owner c.args.space.now c.ask-made.new.space c.from_residual-in_err-made.result c.in_err-made.field-0.0
     c.from_residual-in_err-made.ensures.1 c.in_err-made.ensures.works
 
 pub returns-in_err-made-clause-undamaged : goal.returns-in_err-made-clause-undamaged
@@ -57,10 +57,10 @@ returns-clause-says g c = λ want s x has asks next.
     let change = c.args.change.now in
     let live = c.requires.live in
     let made = c.in_ok-made.made in
-    let left = subst (λ (d : Change). Leaves g.S.PageSpace.has inst.owner want s c.ask.new.space (λ after. IsAsked live.box inst (Changed d) (db_of (changed_kept x.name change x.before)) (owned s inst.owner) after made))
+    let left = subst (λ (d : Change). Leaves g.S.PageSpace.has inst.owner want s c.ask-made.new.space (λ after. IsAsked live.box inst (Changed d) (db_of (changed_kept x.name change x.before)) (owned s inst.owner) after made))
     c.in_ok-copy.ensures (c.in_ok-made.ensures.asked live want s (changed_kept x.name change x.before) has asks.tables) in
-    rw c.verdict_in.ensures (Says-asked g.S.PageSpace.has m c.args.place.root want s x change c.ask.new.space inst live.box made asks next live.live (IsVerdict-final c.in_ok-copy.copy made c.in_ok-made.ensures.ends) left)
+    rw c.verdict_in.ensures (Says-asked g.S.PageSpace.has m c.args.place.root want s x change c.ask-made.new.space inst live.box made asks next live.live (IsVerdict-final c.in_ok-copy.copy made c.in_ok-made.ensures.ends) left)
 
 pub returns-clause-works : goal.returns-clause-works
 returns-clause-works g c =
-    Works-made g.S.PageSpace.has g.S.PageSpace.leads g.S.PageSpace.fails g.S.PageSpace.durable g.S.PageSpace.total c.args.inst.now.owner c.args.space.now c.ask.new.space c.in_ok-made.made c.verdict_in.result c.in_ok-made.ensures.works
+    Works-made g.S.PageSpace.has g.S.PageSpace.leads g.S.PageSpace.fails g.S.PageSpace.durable g.S.PageSpace.total c.args.inst.now.owner c.args.space.now c.ask-made.new.space c.in_ok-made.made c.verdict_in.result c.in_ok-made.ensures.works

@@ -3,4 +3,4 @@ use Rattle.sb_rules.proofs.Examples.{IsInstance-numbers}
 use Rattle.sb_box_tests.proofs.rules.instance.Goals as goal
 
 pub returns-clause-check : goal.returns-clause-check
-returns-clause-check c = IsInstance-numbers _ c.args.deferred refl (c.from_vec.ensures ∙ c.new.ensures.items) refl c.in_ok-columns.ensures c.in_ok-desc.ensures.spelled c.in_ok-desc.ensures.storable
+returns-clause-check g c = IsInstance-numbers _ c.args.deferred refl (c.from_vec.ensures ∙ c.new.ensures.items) refl c.columns.ensures c.desc.ensures.spelled c.desc.ensures.storable

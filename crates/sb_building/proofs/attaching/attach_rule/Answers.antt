@@ -1,66 +1,64 @@
 use Rattle.std.proofs.Common.{◌≡◌, ◌∙◌, true≢false, Option, option_map, IfSome, sym, ap, subst}
 use Rattle.std.proofs.lemmas.Result.{IfOk-weaker, IfErr-weaker}
-use Rattle.sb_drive.proofs.SpacesLemmas.{IfErr-passed}
 use Rattle.sb_opened.specs.declared.relation.OpenRelation.{OpenRelation}
 use Rattle.sb_opened.specs.Opened.{IsOpen}
 use Rattle.sb_engine.specs.Refusals.{HasRefusalCause, refusal_of}
 use Rattle.sb_engine.proofs.RefusedLemmas.{refused_cause}
-use Rattle.sb_building.proofs.CallLemmas.{IfOk-failed, leads_later}
+use Rattle.sb_building.proofs.CallLemmas.{leads_later}
 use Rattle.sb_building.proofs.EndedLemmas.{store_of}
 use Rattle.sb_building.proofs.OpenLemmas.{caused_named, ended_named, opened_descriptor, opened_none}
 use Rattle.sb_building.proofs.attaching.attach_rule.Goals as goal
 
-pub returns-in_err-one-clause-refused : goal.returns-in_err-one-clause-refused
-returns-in_err-one-clause-refused g c =
-    let e = c.in_err-one.field-0.0 in
-    IfErr-passed c.from_residual.result e _ c.from_residual.ensures.1
-    (λ x has stores may.
+pub returns-in-Err-clause-refused : goal.returns-in-Err-clause-refused
+returns-in-Err-clause-refused g c =
+    let e = c.in-Err.fault in
+    λ x has stores may.
     let store = store_of g.S.PageSpace.has (g.B.Boxes.meanings c.args.boxes.now) c.args.place.root x c.args.relation.now stores c.args.space.now has in
-    refused_cause g.S.PageSpace.fails _ c.args.space.now c.open_relation.new.space e c.in_err-one.ensures.looks.refused
-    (c.in_err-one.ensures.undamaged x.want x.slots x.kept has store.tables store.stand))
+    refused_cause g.S.PageSpace.fails _ c.args.space.now c.open_relation.new.space e c.in-Err.ensures.looks.refused
+    (c.in-Err.ensures.undamaged x.want x.slots x.kept has store.tables store.stand)
 
-pub returns-in_err-one-clause-leads : goal.returns-in_err-one-clause-leads
-returns-in_err-one-clause-leads g c = (0, c.in_err-one.ensures.looks.leads)
+pub returns-in-Err-clause-leads : goal.returns-in-Err-clause-leads
+returns-in-Err-clause-leads g c = (0, c.in-Err.ensures.looks.leads)
 
-pub returns-in_default-clause-refused : goal.returns-in_default-clause-refused
-returns-in_default-clause-refused g c = λ x has stores may.
+pub returns-in-Ok-None-clause-refused : goal.returns-in-Ok-None-clause-refused
+returns-in-Ok-None-clause-refused g c = λ x has stores may.
     absurd (opened_none x.kept c.args.relation.now x.one
-    (ap (λ (o : Option OpenRelation). option_map (λ (q : OpenRelation). q.descriptor) o) (sym c.in_default.is) ∙ c.in_ok-one.ensures.found x.want x.slots x.kept has stores.keeps.tables) stores.there)
+    (ap (λ (o : Option OpenRelation). option_map (λ (q : OpenRelation). q.descriptor) o) (sym c.in-Ok-None.field-0-is) ∙ c.in-Ok-None.ensures.found x.want x.slots x.kept has stores.keeps.tables) stores.there)
 
-pub returns-in_default-clause-leads : goal.returns-in_default-clause-leads
-returns-in_default-clause-leads g c = (0, c.in_ok-one.ensures.looks.leads)
+pub returns-in-Ok-None-clause-leads : goal.returns-in-Ok-None-clause-leads
+returns-in-Ok-None-clause-leads g c = (0, c.in-Ok-None.ensures.looks.leads)
 
 pub attach_to-requires-clause-open : goal.attach_to-requires-clause-open
 attach_to-requires-clause-open g c =
-    (subst (λ (o : Option OpenRelation). IfSome o (λ q. IsOpen (g.B.Boxes.meanings c.args.boxes.now) q × (q.name ≡ c.args.relation.now))) c.in-Some.is c.in_ok-one.ensures.opened).0
+    (subst (λ (o : Option OpenRelation). IfSome o (λ q. IsOpen (g.B.Boxes.meanings c.args.boxes.now) q × (q.name ≡ c.args.relation.now))) c.in-Ok-Some.field-0-is c.in-Ok-Some.ensures.opened).0
 
-pub returns-clause-ended : goal.returns-clause-ended
-returns-clause-ended g c =
+pub returns-in-Ok-Some-clause-ended : goal.returns-in-Ok-Some-clause-ended
+returns-in-Ok-Some-clause-ended g c =
     let m = g.B.Boxes.meanings c.args.boxes.now in
     let relation = c.args.relation.now in
-    let one = c.in-Some.one in
-    let opened = subst (λ (o : Option OpenRelation). IfSome o (λ q. IsOpen m q × (q.name ≡ relation))) c.in-Some.is c.in_ok-one.ensures.opened in
+    let one = c.in-Ok-Some.one in
+    let opened = subst (λ (o : Option OpenRelation). IfSome o (λ q. IsOpen m q × (q.name ≡ relation))) c.in-Ok-Some.field-0-is c.in-Ok-Some.ensures.opened in
     IfOk-weaker c.attach_to.result _ _ (λ end ended x has stores may main.
-    let found = ap (λ (o : Option OpenRelation). option_map (λ (q : OpenRelation). q.descriptor) o) (sym c.in-Some.is) ∙ c.in_ok-one.ensures.found x.want x.slots x.kept has stores.keeps.tables in
+    let found = ap (λ (o : Option OpenRelation). option_map (λ (q : OpenRelation). q.descriptor) o) (sym c.in-Ok-Some.field-0-is) ∙ c.in-Ok-Some.ensures.found x.want x.slots x.kept has stores.keeps.tables in
     let same = opened_descriptor x.kept relation x.one one.descriptor found stores.there in
     ended_named g.S.PageSpace.has m c.args.place.root x c.args.name.now c.attach_to.new.space end c.args.rule one.name relation opened.1
-    (λ own adds alone. ended x (c.in_ok-one.ensures.looks.same x.want x.slots has) own same adds alone) stores may main) c.attach_to.ensures.ended
+    (λ own adds alone. ended x (c.in-Ok-Some.ensures.looks.same x.want x.slots has) own same adds alone) stores may main) c.attach_to.ensures.ended
 
-pub returns-clause-refused : goal.returns-clause-refused
-returns-clause-refused g c =
+pub returns-in-Ok-Some-clause-refused : goal.returns-in-Ok-Some-clause-refused
+returns-in-Ok-Some-clause-refused g c =
     let m = g.B.Boxes.meanings c.args.boxes.now in
     let relation = c.args.relation.now in
-    let one = c.in-Some.one in
-    let opened = subst (λ (o : Option OpenRelation). IfSome o (λ q. IsOpen m q × (q.name ≡ relation))) c.in-Some.is c.in_ok-one.ensures.opened in
+    let one = c.in-Ok-Some.one in
+    let opened = subst (λ (o : Option OpenRelation). IfSome o (λ q. IsOpen m q × (q.name ≡ relation))) c.in-Ok-Some.field-0-is c.in-Ok-Some.ensures.opened in
     IfErr-weaker c.attach_to.result _ _ (λ e refused x has stores may.
-    let found = ap (λ (o : Option OpenRelation). option_map (λ (q : OpenRelation). q.descriptor) o) (sym c.in-Some.is) ∙ c.in_ok-one.ensures.found x.want x.slots x.kept has stores.keeps.tables in
+    let found = ap (λ (o : Option OpenRelation). option_map (λ (q : OpenRelation). q.descriptor) o) (sym c.in-Ok-Some.field-0-is) ∙ c.in-Ok-Some.ensures.found x.want x.slots x.kept has stores.keeps.tables in
     let same = opened_descriptor x.kept relation x.one one.descriptor found stores.there in
     caused_named m c.args.place.root x c.args.name.now c.args.rule (HasRefusalCause g.S.PageSpace.fails (refusal_of e) c.attach_to.new.space) one.name relation opened.1
-    (λ own adds. refused x (c.in_ok-one.ensures.looks.same x.want x.slots has) own same adds) stores may) c.attach_to.ensures.refused
+    (λ own adds. refused x (c.in-Ok-Some.ensures.looks.same x.want x.slots has) own same adds) stores may) c.attach_to.ensures.refused
 
-pub returns-clause-leads : goal.returns-clause-leads
-returns-clause-leads g c =
-    leads_later g.S.PageSpace.leads g.met.S.PageSpace.goes_on c.args.space.now c.open_relation.new.space c.attach_to.new.space c.in_ok-one.ensures.looks.leads c.attach_to.ensures.leads
+pub returns-in-Ok-Some-clause-leads : goal.returns-in-Ok-Some-clause-leads
+returns-in-Ok-Some-clause-leads g c =
+    leads_later g.S.PageSpace.leads g.met.S.PageSpace.goes_on c.args.space.now c.open_relation.new.space c.attach_to.new.space c.in-Ok-Some.ensures.looks.leads c.attach_to.ensures.leads
 
 -- ---- the rest
 pub returns-then-not-is_short_name-clause-refused : goal.returns-then-not-is_short_name-clause-refused
@@ -78,17 +76,14 @@ open_relation-requires-clause-ready g c = c.requires.ready
 pub open_relation-requires-clause-owner : goal.open_relation-requires-clause-owner
 open_relation-requires-clause-owner g c = c.requires.owner
 
-pub returns-in_err-one-clause-ended : goal.returns-in_err-one-clause-ended
-returns-in_err-one-clause-ended g c = IfOk-failed c.from_residual.result _ _ c.from_residual.ensures.1
+pub returns-in-Err-clause-ready : goal.returns-in-Err-clause-ready
+returns-in-Err-clause-ready g c = c.in-Err.ensures.ready
 
-pub returns-in_err-one-clause-ready : goal.returns-in_err-one-clause-ready
-returns-in_err-one-clause-ready g c = c.in_err-one.ensures.ready
-
-pub returns-in_default-clause-ready : goal.returns-in_default-clause-ready
-returns-in_default-clause-ready g c = c.in_ok-one.ensures.ready
+pub returns-in-Ok-None-clause-ready : goal.returns-in-Ok-None-clause-ready
+returns-in-Ok-None-clause-ready g c = c.in-Ok-None.ensures.ready
 
 pub attach_to-requires-clause-ready : goal.attach_to-requires-clause-ready
-attach_to-requires-clause-ready g c = c.in_ok-one.ensures.ready
+attach_to-requires-clause-ready g c = c.in-Ok-Some.ensures.ready
 
 pub attach_to-requires-clause-owner : goal.attach_to-requires-clause-owner
 attach_to-requires-clause-owner g c = c.requires.owner
@@ -99,5 +94,5 @@ attach_to-requires-clause-storable g c = c.requires.storable
 pub attach_to-requires-clause-short : goal.attach_to-requires-clause-short
 attach_to-requires-clause-short g c = c.is_short_name.ensures.0 c.if-not-is_short_name.false
 
-pub returns-clause-ready : goal.returns-clause-ready
-returns-clause-ready g c = c.attach_to.ensures.ready
+pub returns-in-Ok-Some-clause-ready : goal.returns-in-Ok-Some-clause-ready
+returns-in-Ok-Some-clause-ready g c = c.attach_to.ensures.ready

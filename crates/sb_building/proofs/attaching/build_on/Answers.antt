@@ -1,9 +1,8 @@
 use Rattle.std.proofs.Common.{◌∙◌, refl, sym, ap, subst}
 use Rattle.sb_rule.specs.Spelling.{SpellsRule}
 use Rattle.sb_ctx.specs.declared.instance.Instance.{Instance}
-use Rattle.sb_drive.proofs.SpacesLemmas.{IfErr-passed}
 use Rattle.sb_engine.specs.Refusals.{HasRefusalCause, refusal_of}
-use Rattle.sb_building.proofs.CallLemmas.{IfOk-failed, leads_then}
+use Rattle.sb_building.proofs.CallLemmas.{leads_then}
 use Rattle.sb_building.proofs.OpenLemmas.{ended_placed, ended_vetoed, none_long, placed_refused, table_here}
 use Rattle.sb_building.proofs.attaching.build_on.Goals as goal
 
@@ -16,22 +15,21 @@ build_rows-requires-clause-spelled g c =
     subst (λ (i : Instance). SpellsRule i.code i.desc c.args.attached.rule) (sym c.requires.is) (record { coded = counted.coded; spelled = refl; storable = counted.storable; limited = counted.limited })
 
 -- ---- the rows
-pub returns-in_err-held-clause-refused : goal.returns-in_err-held-clause-refused
-returns-in_err-held-clause-refused g c =
+pub returns-in-Err-clause-refused : goal.returns-in-Err-clause-refused
+returns-in-Err-clause-refused g c =
     let m = g.B.Boxes.meanings c.args.boxes.now in
     let has = g.S.PageSpace.has in
     let root = c.args.place.root in
     let one = c.args.one in
     let d = c.args.attached in
     let inst = c.args.inst.now in
-    IfErr-passed c.from_residual.result c.in_err-held.field-0.0 _ c.from_residual.ensures.1
-    (λ live x stores same may begun short.
-    c.in_err-held.ensures.refused live (record x { slots = begun.slots }) begun.site
+    λ live x stores same may begun short.
+    c.in-Err.ensures.refused live (record x { slots = begun.slots }) begun.site
     (table_here has m root x one stores same c.requires.open d c.requires.storable inst c.requires.is live may c.args.space.now begun short) begun.content
-    (none_long has m root x one stores same c.requires.open d c.requires.storable inst c.requires.is live may c.args.space.now begun short))
+    (none_long has m root x one stores same c.requires.open d c.requires.storable inst c.requires.is live may c.args.space.now begun short)
 
-pub returns-then-not-held-clause-ended : goal.returns-then-not-held-clause-ended
-returns-then-not-held-clause-ended g c = λ live x stores same may main begun short.
+pub returns-in-Ok-false-clause-ended : goal.returns-in-Ok-false-clause-ended
+returns-in-Ok-false-clause-ended g c = λ live x stores same may main begun short.
     let m = g.B.Boxes.meanings c.args.boxes.now in
     let has = g.S.PageSpace.has in
     let root = c.args.place.root in
@@ -39,32 +37,31 @@ returns-then-not-held-clause-ended g c = λ live x stores same may main begun sh
     let d = c.args.attached in
     let inst = c.args.inst.now in
     let table = table_here has m root x one stores same c.requires.open d c.requires.storable inst c.requires.is live may c.args.space.now begun short in
-    ended_vetoed has m root x one stores same c.requires.open d c.requires.storable inst c.requires.is live may c.args.space.now begun short c.build_rows.new.space c.in_ok-held.held c.if-not-held.true main
-    (c.in_ok-held.ensures.built live (record x { slots = begun.slots }) begun.site table begun.content)
+    ended_vetoed has m root x one stores same c.requires.open d c.requires.storable inst c.requires.is live may c.args.space.now begun short c.build_rows.new.space c.in-Ok-false.field-0 c.in-Ok-false.field-0-test main
+    (c.in-Ok-false.ensures.built live (record x { slots = begun.slots }) begun.site table begun.content)
 
 -- ---- the descriptor
-pub returns-in_err-place_rule-clause-refused : goal.returns-in_err-place_rule-clause-refused
-returns-in_err-place_rule-clause-refused g c =
+pub returns-in-Err-placed-clause-refused : goal.returns-in-Err-placed-clause-refused
+returns-in-Err-placed-clause-refused g c =
     let m = g.B.Boxes.meanings c.args.boxes.now in
     let has = g.S.PageSpace.has in
     let root = c.args.place.root in
     let one = c.args.one in
     let d = c.args.attached in
     let inst = c.args.inst.now in
-    let e = c.in_err-place_rule.field-0.0 in
-    IfErr-passed c.from_residual-in_err-place_rule.result e _ c.from_residual-in_err-place_rule.ensures.1
-    (λ live x stores same may begun short.
+    let e = c.in-Err-placed.fault in
+    λ live x stores same may begun short.
     let table = table_here has m root x one stores same c.requires.open d c.requires.storable inst c.requires.is live may c.args.space.now begun short in
-    placed_refused has m root x one stores same c.requires.open d c.requires.storable inst c.requires.is live may c.args.space.now begun short c.build_rows.new.space c.place_rule.new.space c.in_ok-held.held c.if-not-held.false
-    (c.in_ok-held.ensures.built live (record x { slots = begun.slots }) begun.site table begun.content)
-    (HasRefusalCause g.S.PageSpace.fails (refusal_of e) c.place_rule.new.space) c.in_err-place_rule.ensures.refused)
+    placed_refused has m root x one stores same c.requires.open d c.requires.storable inst c.requires.is live may c.args.space.now begun short c.build_rows.new.space c.place_rule-placed.new.space c.in-Ok-true.field-0 c.in-Ok-true.field-0-test
+    (c.in-Ok-true.ensures.built live (record x { slots = begun.slots }) begun.site table begun.content)
+    (HasRefusalCause g.S.PageSpace.fails (refusal_of e) c.place_rule-placed.new.space) c.in-Err-placed.ensures.refused
 
-pub returns-in_err-place_rule-clause-leads : goal.returns-in_err-place_rule-clause-leads
-returns-in_err-place_rule-clause-leads g c =
-    leads_then g.S.PageSpace.leads g.met.S.PageSpace.goes_on c.args.space.now c.build_rows.new.space c.place_rule.new.space c.in_ok-held.ensures.leads c.in_err-place_rule.ensures.leads
+pub returns-in-Err-placed-clause-leads : goal.returns-in-Err-placed-clause-leads
+returns-in-Err-placed-clause-leads g c =
+    leads_then g.S.PageSpace.leads g.met.S.PageSpace.goes_on c.args.space.now c.build_rows.new.space c.place_rule-placed.new.space c.in-Ok-true.ensures.leads c.in-Err-placed.ensures.leads
 
-pub returns-clause-ended : goal.returns-clause-ended
-returns-clause-ended g c = λ live x stores same may main begun short.
+pub returns-in-Ok-clause-ended : goal.returns-in-Ok-clause-ended
+returns-in-Ok-clause-ended g c = λ live x stores same may main begun short.
     let m = g.B.Boxes.meanings c.args.boxes.now in
     let has = g.S.PageSpace.has in
     let root = c.args.place.root in
@@ -72,13 +69,13 @@ returns-clause-ended g c = λ live x stores same may main begun short.
     let d = c.args.attached in
     let inst = c.args.inst.now in
     let table = table_here has m root x one stores same c.requires.open d c.requires.storable inst c.requires.is live may c.args.space.now begun short in
-    ended_placed has m root x one stores same c.requires.open d c.requires.storable inst c.requires.is live may c.args.space.now begun short c.build_rows.new.space c.place_rule.new.space c.in_ok-held.held c.if-not-held.false
-    (c.in_ok-held.ensures.built live (record x { slots = begun.slots }) begun.site table begun.content) main
-    c.in_ok-place_rule.ensures.placed c.in_ok-place_rule.ensures.storable
+    ended_placed has m root x one stores same c.requires.open d c.requires.storable inst c.requires.is live may c.args.space.now begun short c.build_rows.new.space c.place_rule-placed.new.space c.in-Ok-true.field-0 c.in-Ok-true.field-0-test
+    (c.in-Ok-true.ensures.built live (record x { slots = begun.slots }) begun.site table begun.content) main
+    c.in-Ok.ensures.placed c.in-Ok.ensures.storable
 
-pub returns-clause-leads : goal.returns-clause-leads
-returns-clause-leads g c =
-    leads_then g.S.PageSpace.leads g.met.S.PageSpace.goes_on c.args.space.now c.build_rows.new.space c.place_rule.new.space c.in_ok-held.ensures.leads c.in_ok-place_rule.ensures.leads
+pub returns-in-Ok-clause-leads : goal.returns-in-Ok-clause-leads
+returns-in-Ok-clause-leads g c =
+    leads_then g.S.PageSpace.leads g.met.S.PageSpace.goes_on c.args.space.now c.build_rows.new.space c.place_rule-placed.new.space c.in-Ok-true.ensures.leads c.in-Ok.ensures.leads
 
 -- ---- the rest
 pub build_rows-requires-clause-ready : goal.build_rows-requires-clause-ready
@@ -93,38 +90,32 @@ build_rows-requires-clause-live g c = c.requires.open.live
 pub build_rows-requires-clause-live_rule : goal.build_rows-requires-clause-live_rule
 build_rows-requires-clause-live_rule g c = c.requires.live
 
-pub place_rule-requires-clause-ready : goal.place_rule-requires-clause-ready
-place_rule-requires-clause-ready g c = c.in_ok-held.ensures.ready
+pub place_rule-placed-requires-clause-ready : goal.place_rule-placed-requires-clause-ready
+place_rule-placed-requires-clause-ready g c = c.in-Ok-true.ensures.ready
 
-pub place_rule-requires-clause-owner : goal.place_rule-requires-clause-owner
-place_rule-requires-clause-owner g c = c.requires.owner
+pub place_rule-placed-requires-clause-owner : goal.place_rule-placed-requires-clause-owner
+place_rule-placed-requires-clause-owner g c = c.requires.owner
 
-pub place_rule-requires-clause-storable : goal.place_rule-requires-clause-storable
-place_rule-requires-clause-storable g c = c.requires.open.storable
+pub place_rule-placed-requires-clause-storable : goal.place_rule-placed-requires-clause-storable
+place_rule-placed-requires-clause-storable g c = c.requires.open.storable
 
-pub place_rule-requires-clause-attached : goal.place_rule-requires-clause-attached
-place_rule-requires-clause-attached g c = c.requires.storable
+pub place_rule-placed-requires-clause-attached : goal.place_rule-placed-requires-clause-attached
+place_rule-placed-requires-clause-attached g c = c.requires.storable
 
-pub returns-in_err-held-clause-ended : goal.returns-in_err-held-clause-ended
-returns-in_err-held-clause-ended g c = IfOk-failed c.from_residual.result _ _ c.from_residual.ensures.1
+pub returns-in-Err-clause-ready : goal.returns-in-Err-clause-ready
+returns-in-Err-clause-ready g c = c.in-Err.ensures.ready
 
-pub returns-in_err-held-clause-ready : goal.returns-in_err-held-clause-ready
-returns-in_err-held-clause-ready g c = c.in_err-held.ensures.ready
+pub returns-in-Err-clause-leads : goal.returns-in-Err-clause-leads
+returns-in-Err-clause-leads g c = c.in-Err.ensures.leads
 
-pub returns-in_err-held-clause-leads : goal.returns-in_err-held-clause-leads
-returns-in_err-held-clause-leads g c = c.in_err-held.ensures.leads
+pub returns-in-Ok-false-clause-leads : goal.returns-in-Ok-false-clause-leads
+returns-in-Ok-false-clause-leads g c = c.in-Ok-false.ensures.leads
 
-pub returns-then-not-held-clause-leads : goal.returns-then-not-held-clause-leads
-returns-then-not-held-clause-leads g c = c.in_ok-held.ensures.leads
+pub returns-in-Ok-false-clause-ready : goal.returns-in-Ok-false-clause-ready
+returns-in-Ok-false-clause-ready g c = c.in-Ok-false.ensures.ready
 
-pub returns-then-not-held-clause-ready : goal.returns-then-not-held-clause-ready
-returns-then-not-held-clause-ready g c = c.in_ok-held.ensures.ready
+pub returns-in-Err-placed-clause-ready : goal.returns-in-Err-placed-clause-ready
+returns-in-Err-placed-clause-ready g c = c.in-Err-placed.ensures.ready
 
-pub returns-in_err-place_rule-clause-ended : goal.returns-in_err-place_rule-clause-ended
-returns-in_err-place_rule-clause-ended g c = IfOk-failed c.from_residual-in_err-place_rule.result _ _ c.from_residual-in_err-place_rule.ensures.1
-
-pub returns-in_err-place_rule-clause-ready : goal.returns-in_err-place_rule-clause-ready
-returns-in_err-place_rule-clause-ready g c = c.in_err-place_rule.ensures.ready
-
-pub returns-clause-ready : goal.returns-clause-ready
-returns-clause-ready g c = c.in_ok-place_rule.ensures.ready
+pub returns-in-Ok-clause-ready : goal.returns-in-Ok-clause-ready
+returns-in-Ok-clause-ready g c = c.in-Ok.ensures.ready

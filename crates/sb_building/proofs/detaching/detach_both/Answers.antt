@@ -17,9 +17,9 @@ returns-in_default-clause-detached g c =
 
 pub returns-in-Ok-clause-refused : goal.returns-in-Ok-clause-refused
 returns-in-Ok-clause-refused g c =
-    if_err _ _ c.detach_named-in-Ok.result (λ r cause db keeps. cause (without_attached db c.args.relation.now c.args.name.now) (c.in-Ok.ensures.detached db keeps))
-    c.detach_named-in-Ok.ensures.refused
+    if_err _ _ c.detach_named-made.result (λ r cause db keeps. cause (without_attached db c.args.relation.now c.args.name.now) (c.in-Ok.ensures.detached db keeps))
+    c.detach_named-made.ensures.refused
 
 pub returns-in-Ok-clause-goes : goal.returns-in-Ok-clause-goes
 returns-in-Ok-clause-goes g c =
-    goes_then g.S.PageSpace.leads g.met.S.PageSpace.goes_on c.args.running.now c.detach_named-2.new.running c.detach_named-in-Ok.new.running c.detach_named-2.ensures.goes c.detach_named-in-Ok.ensures.goes
+    goes_then g.S.PageSpace.leads g.met.S.PageSpace.goes_on c.args.running.now c.detach_named-2.new.running c.detach_named-made.new.running c.detach_named-2.ensures.goes c.detach_named-made.ensures.goes

@@ -15,57 +15,55 @@ returns-in_err-attached-clause-leads g c = c.in_err-attached.ensures.leads
 pub test_entry-requires-clause-storable : goal.test_entry-requires-clause-storable
 test_entry-requires-clause-storable g c = c.in_ok-attached.ensures.entered.entry.storable
 
-pub returns-in_err-inst-clause-refused : goal.returns-in_err-inst-clause-refused
-returns-in_err-inst-clause-refused g c =
+pub returns-in-Err-clause-refused : goal.returns-in-Err-clause-refused
+returns-in-Err-clause-refused g c =
     let m = g.B.Boxes.meanings c.args.boxes.now in
-    let e = c.in_err-inst.field-0.0 in
-    IfErr-passed c.from_residual-in_err-inst.result e _ c.from_residual-in_err-inst.ensures.1
-    (λ x store same may.
-    refused_cause g.S.PageSpace.fails _ c.new_entry.new.space c.test_entry.new.space e c.in_err-inst.ensures.looks.refused
+    let e = c.in-Err.fault in
+    λ x store same may.
+    refused_cause g.S.PageSpace.fails _ c.new_entry.new.space c.test_entry.new.space e c.in-Err.ensures.looks.refused
     (test_sound g.S.PageSpace.has m c.args.place.root x c.args.opened.now.name c.args.label.now c.args.rule c.in_ok-attached.attached c.args.space.now c.new_entry.new.space store may
     c.in_ok-attached.ensures.entered c.requires.storable (law_of-code m c.args.rule c.code_of-code.result c.code_of-code.ensures c.learn_rule.ensures)
-    c.args.opened.now.descriptor same e c.in_err-inst.ensures.undamaged))
+    c.args.opened.now.descriptor same e c.in-Err.ensures.undamaged)
 
-pub returns-in_err-inst-clause-leads : goal.returns-in_err-inst-clause-leads
-returns-in_err-inst-clause-leads g c =
-    leads_then g.S.PageSpace.leads g.met.S.PageSpace.goes_on c.args.space.now c.new_entry.new.space c.test_entry.new.space c.in_ok-attached.ensures.leads (0, c.in_err-inst.ensures.looks.leads)
+pub returns-in-Err-clause-leads : goal.returns-in-Err-clause-leads
+returns-in-Err-clause-leads g c =
+    leads_then g.S.PageSpace.leads g.met.S.PageSpace.goes_on c.args.space.now c.new_entry.new.space c.test_entry.new.space c.in_ok-attached.ensures.leads (0, c.in-Err.ensures.looks.leads)
 
 -- ---- its content
 pub prepare-requires-clause-live : goal.prepare-requires-clause-live
-prepare-requires-clause-live g c = c.in_ok-inst.ensures.live
+prepare-requires-clause-live g c = c.in-Ok.ensures.live
 
-pub returns-in_err-prepare-clause-refused : goal.returns-in_err-prepare-clause-refused
-returns-in_err-prepare-clause-refused g c =
+pub returns-in-Err-prepare-clause-refused : goal.returns-in-Err-prepare-clause-refused
+returns-in-Err-prepare-clause-refused g c =
     let m = g.B.Boxes.meanings c.args.boxes.now in
-    let e = c.in_err-prepare.field-0.0 in
-    IfErr-passed c.from_residual-in_err-prepare.result e _ c.from_residual-in_err-prepare.ensures.1
-    (λ x store same may.
+    let e = c.in-Err-prepare.fault in
+    λ x store same may.
     prepared_refused g.S.PageSpace.has m c.args.place.root x c.args.opened.now.name c.args.label.now c.args.rule c.in_ok-attached.attached c.args.space.now c.new_entry.new.space store may
     c.in_ok-attached.ensures.entered c.requires.storable (law_of-code m c.args.rule c.code_of-code.result c.code_of-code.ensures c.learn_rule.ensures)
-    c.args.opened.now.descriptor same c.test_entry.new.space c.prepare.new.space c.in_ok-inst.ensures.looks.same c.in_ok-inst.inst c.in_ok-inst.ensures.is c.in_ok-inst.ensures.live
-    g.S.PageSpace.fails e c.in_err-prepare.ensures.refused)
+    c.args.opened.now.descriptor same c.test_entry.new.space c.prepare.new.space c.in-Ok.ensures.looks.same c.in-Ok.inst c.in-Ok.ensures.is c.in-Ok.ensures.live
+    g.S.PageSpace.fails e c.in-Err-prepare.ensures.refused
 
-pub returns-in_err-prepare-clause-leads : goal.returns-in_err-prepare-clause-leads
-returns-in_err-prepare-clause-leads g c =
+pub returns-in-Err-prepare-clause-leads : goal.returns-in-Err-prepare-clause-leads
+returns-in-Err-prepare-clause-leads g c =
     let leads = g.S.PageSpace.leads in
     let goes = g.met.S.PageSpace.goes_on in
     leads_then leads goes c.args.space.now c.test_entry.new.space c.prepare.new.space
-    (leads_then leads goes c.args.space.now c.new_entry.new.space c.test_entry.new.space c.in_ok-attached.ensures.leads (0, c.in_ok-inst.ensures.looks.leads)) c.in_err-prepare.ensures.leads
+    (leads_then leads goes c.args.space.now c.new_entry.new.space c.test_entry.new.space c.in_ok-attached.ensures.leads (0, c.in-Ok.ensures.looks.leads)) c.in-Err-prepare.ensures.leads
 
 -- ---- it has begun
-pub returns-clause-begun : goal.returns-clause-begun
-returns-clause-begun g c = λ live x store same may.
+pub returns-in-Ok-prepare-clause-begun : goal.returns-in-Ok-prepare-clause-begun
+returns-in-Ok-prepare-clause-begun g c = λ live x store same may.
     let m = g.B.Boxes.meanings c.args.boxes.now in
     prepared_begun g.S.PageSpace.has m c.args.place.root x c.args.opened.now.name c.args.label.now c.args.rule c.in_ok-attached.attached c.args.space.now c.new_entry.new.space store may
     c.in_ok-attached.ensures.entered c.requires.storable (law_of-code m c.args.rule c.code_of-code.result c.code_of-code.ensures c.learn_rule.ensures)
-    c.args.opened.now.descriptor same c.test_entry.new.space c.prepare.new.space c.in_ok-inst.ensures.looks.same c.in_ok-inst.inst c.in_ok-inst.ensures.is live c.in_ok-prepare.ensures.prepared
+    c.args.opened.now.descriptor same c.test_entry.new.space c.prepare.new.space c.in-Ok.ensures.looks.same c.in-Ok.inst c.in-Ok.ensures.is live c.in-Ok-prepare.ensures.prepared
 
-pub returns-clause-leads : goal.returns-clause-leads
-returns-clause-leads g c =
+pub returns-in-Ok-prepare-clause-leads : goal.returns-in-Ok-prepare-clause-leads
+returns-in-Ok-prepare-clause-leads g c =
     let leads = g.S.PageSpace.leads in
     let goes = g.met.S.PageSpace.goes_on in
     leads_then leads goes c.args.space.now c.test_entry.new.space c.prepare.new.space
-    (leads_then leads goes c.args.space.now c.new_entry.new.space c.test_entry.new.space c.in_ok-attached.ensures.leads (0, c.in_ok-inst.ensures.looks.leads)) c.in_ok-prepare.ensures.leads
+    (leads_then leads goes c.args.space.now c.new_entry.new.space c.test_entry.new.space c.in_ok-attached.ensures.leads (0, c.in-Ok.ensures.looks.leads)) c.in-Ok-prepare.ensures.leads
 
 -- ---- the rest
 pub new_entry-requires-clause-ready : goal.new_entry-requires-clause-ready
@@ -84,7 +82,7 @@ pub test_entry-requires-clause-owner : goal.test_entry-requires-clause-owner
 test_entry-requires-clause-owner g c = c.requires.owner
 
 pub prepare-requires-clause-ready : goal.prepare-requires-clause-ready
-prepare-requires-clause-ready g c = c.in_ok-inst.ensures.ready
+prepare-requires-clause-ready g c = c.in-Ok.ensures.ready
 
 pub prepare-requires-clause-owner : goal.prepare-requires-clause-owner
 prepare-requires-clause-owner g c = c.requires.owner
@@ -104,44 +102,20 @@ returns-in_err-attached-clause-begun g c = IfOk-failed c.from_residual.result _ 
 pub returns-in_err-attached-clause-ready : goal.returns-in_err-attached-clause-ready
 returns-in_err-attached-clause-ready g c = c.in_err-attached.ensures.ready
 
-pub returns-in_err-inst-clause-entry : goal.returns-in_err-inst-clause-entry
-returns-in_err-inst-clause-entry g c = IfOk-failed c.from_residual-in_err-inst.result _ _ c.from_residual-in_err-inst.ensures.1
+pub returns-in-Err-clause-ready : goal.returns-in-Err-clause-ready
+returns-in-Err-clause-ready g c = c.in-Err.ensures.ready
 
-pub returns-in_err-inst-clause-is : goal.returns-in_err-inst-clause-is
-returns-in_err-inst-clause-is g c = IfOk-failed c.from_residual-in_err-inst.result _ _ c.from_residual-in_err-inst.ensures.1
+pub returns-in-Err-prepare-clause-ready : goal.returns-in-Err-prepare-clause-ready
+returns-in-Err-prepare-clause-ready g c = c.in-Err-prepare.ensures.ready
 
-pub returns-in_err-inst-clause-live : goal.returns-in_err-inst-clause-live
-returns-in_err-inst-clause-live g c = IfOk-failed c.from_residual-in_err-inst.result _ _ c.from_residual-in_err-inst.ensures.1
+pub returns-in-Ok-prepare-clause-entry : goal.returns-in-Ok-prepare-clause-entry
+returns-in-Ok-prepare-clause-entry g c = c.in_ok-attached.ensures.entered.entry
 
-pub returns-in_err-inst-clause-begun : goal.returns-in_err-inst-clause-begun
-returns-in_err-inst-clause-begun g c = IfOk-failed c.from_residual-in_err-inst.result _ _ c.from_residual-in_err-inst.ensures.1
+pub returns-in-Ok-prepare-clause-is : goal.returns-in-Ok-prepare-clause-is
+returns-in-Ok-prepare-clause-is g c = c.in-Ok.ensures.is
 
-pub returns-in_err-inst-clause-ready : goal.returns-in_err-inst-clause-ready
-returns-in_err-inst-clause-ready g c = c.in_err-inst.ensures.ready
+pub returns-in-Ok-prepare-clause-live : goal.returns-in-Ok-prepare-clause-live
+returns-in-Ok-prepare-clause-live g c = c.in-Ok.ensures.live
 
-pub returns-in_err-prepare-clause-entry : goal.returns-in_err-prepare-clause-entry
-returns-in_err-prepare-clause-entry g c = IfOk-failed c.from_residual-in_err-prepare.result _ _ c.from_residual-in_err-prepare.ensures.1
-
-pub returns-in_err-prepare-clause-is : goal.returns-in_err-prepare-clause-is
-returns-in_err-prepare-clause-is g c = IfOk-failed c.from_residual-in_err-prepare.result _ _ c.from_residual-in_err-prepare.ensures.1
-
-pub returns-in_err-prepare-clause-live : goal.returns-in_err-prepare-clause-live
-returns-in_err-prepare-clause-live g c = IfOk-failed c.from_residual-in_err-prepare.result _ _ c.from_residual-in_err-prepare.ensures.1
-
-pub returns-in_err-prepare-clause-begun : goal.returns-in_err-prepare-clause-begun
-returns-in_err-prepare-clause-begun g c = IfOk-failed c.from_residual-in_err-prepare.result _ _ c.from_residual-in_err-prepare.ensures.1
-
-pub returns-in_err-prepare-clause-ready : goal.returns-in_err-prepare-clause-ready
-returns-in_err-prepare-clause-ready g c = c.in_err-prepare.ensures.ready
-
-pub returns-clause-entry : goal.returns-clause-entry
-returns-clause-entry g c = c.in_ok-attached.ensures.entered.entry
-
-pub returns-clause-is : goal.returns-clause-is
-returns-clause-is g c = c.in_ok-inst.ensures.is
-
-pub returns-clause-live : goal.returns-clause-live
-returns-clause-live g c = c.in_ok-inst.ensures.live
-
-pub returns-clause-ready : goal.returns-clause-ready
-returns-clause-ready g c = c.in_ok-prepare.ensures.ready
+pub returns-in-Ok-prepare-clause-ready : goal.returns-in-Ok-prepare-clause-ready
+returns-in-Ok-prepare-clause-ready g c = c.in-Ok-prepare.ensures.ready

@@ -3,13 +3,13 @@ use Rattle.sb_drive.proofs.SpacesLemmas.{IfErr-passed}
 use Rattle.sb_building.proofs.InstanceLemmas.{IsEntered-made}
 use Rattle.sb_building.proofs.instances.new_entry.Goals as goal
 
-pub returns-in_err-owner-clause-refused : goal.returns-in_err-owner-clause-refused
-returns-in_err-owner-clause-refused g c = IfErr-passed c.from_residual.result c.in_err-owner.field-0.0 _ c.from_residual.ensures.1 c.in_err-owner.ensures.refused
+pub returns-in-Err-clause-refused : goal.returns-in-Err-clause-refused
+returns-in-Err-clause-refused g c = c.in-Err.ensures.refused
 
 pub returns-in_err-attached-clause-refused : goal.returns-in_err-attached-clause-refused
-returns-in_err-attached-clause-refused g c = IfErr-passed c.from_residual-in_err-attached.result NoMemory _ c.from_residual-in_err-attached.ensures.1 tt
+returns-in_err-attached-clause-refused g c = IfErr-passed c.from_residual.result NoMemory _ c.from_residual.ensures.1 tt
 
 pub returns-clause-entered : goal.returns-clause-entered
 returns-clause-entered g c =
-    IsEntered-made g.S.PageSpace.has c.args.label.now c.args.rule c.code_of-code.result c.in_ok-owner.owner c.in_ok-owner.root c.in_ok-attached.attached c.args.space.now c.new_place.new.space c.code_of-code.ensures
-    c.in_ok-attached.ensures.entry c.in_ok-attached.ensures.owner c.in_ok-attached.ensures.root c.in_ok-owner.ensures.owns c.in_ok-owner.ensures.placed
+    IsEntered-made g.S.PageSpace.has c.args.label.now c.args.rule c.code_of-code.result c.in-Ok.made.0 c.in-Ok.made.1 c.in_ok-attached.attached c.args.space.now c.new_place.new.space c.code_of-code.ensures
+    c.in_ok-attached.ensures.entry c.in_ok-attached.ensures.owner c.in_ok-attached.ensures.root c.in-Ok.ensures.owns c.in-Ok.ensures.placed

@@ -2,7 +2,7 @@ use Rattle.std.proofs.Common.{◌≡◌, ◌<◌, Some, map, length, true≢fals
 use Rattle.std.specs.FinMap.Entries.{put}
 use Rattle.std.proofs.lemmas.Result.{IfErr-weaker}
 use Rattle.sb_node.specs.Entries.{key_cmp}
-use Rattle.sb_forms.specs.Read.{read_tree}
+use Rattle.sb_forms.specs.Maps.{map_in}
 use Rattle.sb_drive.specs.Spaces.{Leaves}
 use Rattle.sb_map.specs.Changes.{IsSmall}
 use Rattle.sb_catalog.specs.declared.descriptor.Descriptor.{Descriptor}
@@ -14,8 +14,8 @@ use Rattle.sb_building.proofs.CallLemmas.{OnOk-so, OnOk-then}
 use Rattle.sb_building.proofs.PlaceLemmas.{IsSmall-roomy, storable-with}
 use Rattle.sb_building.proofs.placing.place_rule.Goals as goal
 
-pub enter-requires-clause-short : goal.enter-requires-clause-short
-enter-requires-clause-short g c =
+pub enter-entered-requires-clause-short : goal.enter-entered-requires-clause-short
+enter-entered-requires-clause-short g c =
     let d = c.args.descriptor in
     let few : length d.attachments < 16 = (c.has_room.ensures.0 c.if-not-has_room.false).0 in
     subst IsShortDescriptor (sym c.in_ok-new.ensures)
@@ -23,21 +23,21 @@ enter-requires-clause-short g c =
 
 pub returns-clause-placed : goal.returns-clause-placed
 returns-clause-placed g c =
-    OnOk-then c.enter.result _ _ (λ entered x has tree.
-    subst (λ (d : Descriptor). Leaves g.S.PageSpace.has 2 x.want x.slots c.enter.new.space (λ after. read_tree c.args.place.root after ≡ Some (put key_cmp c.args.name.now (descriptor_spelling d) (map entry_of x.kept)))) c.in_ok-new.ensures
-    (entered x.want x.slots (map entry_of x.kept) has tree)) c.enter.ensures.entered
+    OnOk-then c.enter-entered.result _ _ (λ entered x has tree.
+    subst (λ (d : Descriptor). Leaves g.S.PageSpace.has 2 x.want x.slots c.enter-entered.new.space (λ after. map_in c.args.place.root after ≡ Some (put key_cmp c.args.name.now (descriptor_spelling d) (map entry_of x.kept)))) c.in_ok-new.ensures
+    (entered x.want x.slots (map entry_of x.kept) has tree)) c.enter-entered.ensures.entered
 
 pub returns-clause-storable : goal.returns-clause-storable
 returns-clause-storable g c =
     let d = c.args.descriptor in
     let few : length d.attachments < 16 = (c.has_room.ensures.0 c.if-not-has_room.false).0 in
-    OnOk-so c.enter.result _ (storable-with d c.args.attached few c.requires.storable c.requires.attached)
+    OnOk-so c.enter-entered.result _ (storable-with d c.args.attached few c.requires.storable c.requires.attached)
 
 pub returns-clause-refused : goal.returns-clause-refused
 returns-clause-refused g c =
-    IfErr-weaker c.enter.result _ _ (λ e refused x has tree roomy.
+    IfErr-weaker c.enter-entered.result _ _ (λ e refused x has tree roomy.
     refused x.want x.slots (map entry_of x.kept) has tree
-    (subst (λ (d : Descriptor). IsSmall c.args.name.now (descriptor_spelling d)) (sym c.in_ok-new.ensures) (IsSmall-roomy c.args.name.now c.args.descriptor c.args.attached roomy))) c.enter.ensures.refused
+    (subst (λ (d : Descriptor). IsSmall c.args.name.now (descriptor_spelling d)) (sym c.in_ok-new.ensures) (IsSmall-roomy c.args.name.now c.args.descriptor c.args.attached roomy))) c.enter-entered.ensures.refused
 
 pub returns-then-not-has_room-clause-refused : goal.returns-then-not-has_room-clause-refused
 returns-then-not-has_room-clause-refused g c = λ x has tree roomy. absurd (true≢false (sym (c.has_room.ensures.1 (roomy.few, roomy.short)) ∙ c.if-not-has_room.true))

@@ -28,5 +28,5 @@ returns-clause-full g c =
     (λ e. (want : Wanted) (s : Slots) → g.S.PageSpace.has want s c.args.space.now
     → WhereFull e (IsFullFor g.S.PageSpace.leads g.S.PageSpace.durable g.S.PageSpace.total inst.owner (IsAsking m inst call) (HasRoomFor m inst call (owned s inst.owner)) c.args.space.now s e))
     (λ e full want s has. WhereFull-within g.S.PageSpace.leads g.S.PageSpace.durable g.S.PageSpace.total inst.owner (IsAsking m inst call) (spends s) (HasRoomFor m inst call (owned s inst.owner)) c.args.space.now s e
-    (λ v within rows before. (within rows before).room) (full want s has))
+    (λ v within. within) (full want s has))
     c.run_call.ensures.full

@@ -22,8 +22,8 @@ returns-in_default-clause-tells g c = λ want s gone kept has keeps is a there.
     absurd (absent one.rules.items is.one.relation.attachments c.args.i a (as_many (g.B.Boxes.meanings c.args.boxes.now) c.args.place.root s gone kept one is keeps) none there)
 
 -- ---- it is asked
-pub ask-requires-clause-live : goal.ask-requires-clause-live
-ask-requires-clause-live g c =
+pub ask-asked-requires-clause-live : goal.ask-asked-requires-clause-live
+ask-asked-requires-clause-live g c =
     let one = c.args.one.now in
     let inst = c.in-Some.inst.now in
     let at : slice_get one.rules.items c.args.i ≡ Some inst = sym c.instance_at.ensures ∙ ap (λ (o : Option (Bor Instance)). option_copied o) c.in-Some.is in
@@ -52,7 +52,7 @@ returns-in_err-made-clause-undamaged g c =
 
 pub returns-in_err-made-clause-looks : goal.returns-in_err-made-clause-looks
 returns-in_err-made-clause-looks g c =
-    Looks-passed g.S.PageSpace.has g.S.PageSpace.leads g.S.PageSpace.fails c.args.space.now c.ask.new.space c.from_residual-in_err-made.result c.in_err-made.field-0.0 c.from_residual-in_err-made.ensures.1 (c.in_err-made.ensures.looks tt)
+    Looks-passed g.S.PageSpace.has g.S.PageSpace.leads g.S.PageSpace.fails c.args.space.now c.ask-asked.new.space c.from_residual-in_err-made.result c.in_err-made.field-0.0 c.from_residual-in_err-made.ensures.1 (c.in_err-made.ensures.looks tt)
 
 -- ---- what it says
 pub returns-clause-tells : goal.returns-clause-tells
@@ -64,10 +64,10 @@ returns-clause-tells g c = λ want s gone kept has keeps is a there.
     let live : IsLiveRule m inst = placed_all (IsLiveRule m) one.rules.items c.args.i inst c.requires.is_open.live_rules at in
     let placed = kept_rule m c.args.place.root s gone kept one is keeps c.args.i inst at in
     let made = c.in_ok-made.made in
-    let tells = kept_tells m s kept one is c.args.i inst live.box placed live.live g.S.PageSpace.has want c.ask.new.space c.in_ok-copy.copy made c.in_ok-made.ensures.ends
+    let tells = kept_tells m s kept one is c.args.i inst live.box placed live.live g.S.PageSpace.has want c.ask-asked.new.space c.in_ok-copy.copy made c.in_ok-made.ensures.ends
     (c.in_ok-made.ensures.asked live want s kept has keeps.tables) a there in
-    rw c.is_veto.ensures (subst (λ (e : List ℕ). Tells (db_of kept) one.name a.rule e (is_veto made)) c.in_ok-copy.ensures tells)
+    rw c.is_veto-fails.ensures (subst (λ (e : List ℕ). Tells (db_of kept) one.name a.rule e (is_veto made)) c.in_ok-copy.ensures tells)
 
 pub returns-clause-looks : goal.returns-clause-looks
 returns-clause-looks g c =
-    Looks-made g.S.PageSpace.has g.S.PageSpace.leads g.S.PageSpace.fails c.args.space.now c.ask.new.space c.in_ok-made.made c.is_veto.result (c.in_ok-made.ensures.looks tt)
+    Looks-made g.S.PageSpace.has g.S.PageSpace.leads g.S.PageSpace.fails c.args.space.now c.ask-asked.new.space c.in_ok-made.made c.is_veto-fails.result (c.in_ok-made.ensures.looks tt)

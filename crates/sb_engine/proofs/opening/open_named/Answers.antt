@@ -1,4 +1,5 @@
 use Rattle.std.proofs.Common.{true, ◌≡◌, ◌∷◌, ◌++◌, [], List, Option, Some, None, All, IfSome, is_some, sym, ap, ◌∙◌, subst}
+use Rattle.std.proofs.lemmas.List.{append-nil}
 use Rattle.std.proofs.lemmas.List.Elements.{All-append, All-cons, All-nil}
 use Rattle.sb_drive.proofs.SpacesLemmas.{IfErr-passed}
 use Rattle.sb_catalog.specs.declared.descriptor.Descriptor.{Descriptor}
@@ -53,3 +54,7 @@ returns-in-Ok-clause-are_open g c =
     let items : c.push.new.self.items ≡ c.args.opened.now.items ++ c.in-Some.relation ∷ [] = c.in-Ok.ensures.items in
     subst (λ (l : List OpenRelation). All (IsOpen m) l) (sym items)
     (All-append (IsOpen m) c.args.opened.now.items (c.in-Some.relation ∷ []) c.requires.are_open (All-cons (IsOpen m) c.in-Some.relation [] is.0 (All-nil (IsOpen m))))
+
+-- where memory was wanting, no relation more is open
+pub returns-in-Err-clause-grows : goal.returns-in-Err-clause-grows
+returns-in-Err-clause-grows g c = record { more = []; is = c.in-Err.ensures.items ∙ sym (append-nil c.args.opened.now.items) }

@@ -65,8 +65,8 @@ returns-in-Ok-abort g c =
     c.in-Some.kept.work stays c.abort.new.disk c.abort.new.space.store c.in-Ok-abort.ensures.any_moment (sym c.in-Err.ensures.wanting ∙ ap is_some c.in-Some.is)
     c.in-Ok-abort.ensures.remains c.in-Ok-abort.ensures.none c.in-Some.kept.tx.store.number (ap (λ (a : Tx). a.store.number) same) c.in-Ok-abort.ensures.rests
 
-pub returns-in-Some : goal.returns-in-Some
-returns-in-Some g c =
+pub returns-in-Err-abort : goal.returns-in-Err-abort
+returns-in-Err-abort g c =
     let told = g.D.Disk.told in
     let len = g.D.Disk.len in
     let faults = g.D.Disk.faults in
@@ -85,8 +85,8 @@ returns-in-Some g c =
     EndsAlone-not_let_go told len faults m place k d e v s t vs tx w (answer_of c.args.answer) has c.in-Err.uncommitted.refusal c.in-Err.ensures.remains c.in-Err.ensures.refused
     c.in-Some.kept.work stays c.abort.new.disk c.abort.new.space.store c.in-Err-abort.ensures.any_moment c.in-Err-abort.fault c.in-Err-abort.ensures.remains c.in-Err-abort.ensures.err
 
-pub returns : goal.returns
-returns g c =
+pub returns-in-None : goal.returns-in-None
+returns-in-None g c =
     let told = g.D.Disk.told in
     let len = g.D.Disk.len in
     let faults = g.D.Disk.faults in

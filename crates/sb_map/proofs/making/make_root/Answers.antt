@@ -60,7 +60,8 @@ pub returns-in-Some-clause-empty : goal.returns-in-Some-clause-empty
 returns-in-Some-clause-empty g c = λ want s has.
     let ended = Turned-ended g.S.PageSpace.has c.args.place.owner c.loop-ctx.space c.turn.new.space c.prepare-walk.new.ctx c.turn.new.ctx c.prepare-walk.result c.in_ok-turn.field-0 _ c.in-Some.is c.in_ok-turn.ensures.turned in
     subst (λ (v : View). MakesEmpty c.args.place.root v (owned s c.args.place.owner)) (sym ended.ctx)
-    (MakesEmpty-ended c.args.place.root (owned s c.args.place.owner) c.loop-ctx.ctx c.prepare-walk.new.ctx c.prepare-walk.result _ c.prepare-walk.ensures.prepares ended.is)
+    (MakesEmpty-ended c.args.place.root (owned s c.args.place.owner) c.loop-ctx.ctx c.prepare-walk.new.ctx c.prepare-walk.result _ c.loop-ctx.invariant.walking.clean.unchanged (c.loop-ctx.invariant.walking.holds want s has).part
+    c.prepare-walk.ensures.prepares ended.is)
 
 pub returns-in-Some-clause-edits : goal.returns-in-Some-clause-edits
 returns-in-Some-clause-edits g c =

@@ -39,16 +39,10 @@ returns-in_default-clause-looks g c =
     Looks-made g.S.PageSpace.has g.S.PageSpace.leads g.S.PageSpace.fails c.args.space.now c.next_descriptor.new.space c.in_ok-name.field-0 _
     (Looks-later g.S.PageSpace.has g.S.PageSpace.leads g.S.PageSpace.fails c.args.space.now c.relations.space c.next_descriptor.new.space (Ok c.in_ok-name.field-0) g.met.S.PageSpace.goes_on g.met.S.PageSpace.fails_on c.relations.invariant.leads c.relations.invariant.has c.in_ok-name.ensures.looks)
 
-pub returns-in_err-add_codes-clause-looks : goal.returns-in_err-add_codes-clause-looks
-returns-in_err-add_codes-clause-looks g c =
+pub returns-in_err-added-clause-looks : goal.returns-in_err-added-clause-looks
+returns-in_err-added-clause-looks g c =
     let looks = c.in_ok-name.ensures.looks in
-    Looks-no_memory g.S.PageSpace.has g.S.PageSpace.leads g.S.PageSpace.fails c.args.space.now c.next_descriptor.new.space c.from_residual-in_err-add_codes.result c.from_residual-in_err-add_codes.ensures.1
-    (g.met.S.PageSpace.goes_on 0 0 c.args.space.now c.relations.space c.next_descriptor.new.space c.relations.invariant.leads looks.leads) (λ want s has. looks.same want s (c.relations.invariant.has want s has))
-
-pub returns-in_err-add_owners-clause-looks : goal.returns-in_err-add_owners-clause-looks
-returns-in_err-add_owners-clause-looks g c =
-    let looks = c.in_ok-name.ensures.looks in
-    Looks-no_memory g.S.PageSpace.has g.S.PageSpace.leads g.S.PageSpace.fails c.args.space.now c.next_descriptor.new.space c.from_residual-in_err-add_owners.result c.from_residual-in_err-add_owners.ensures.1
+    Looks-no_memory g.S.PageSpace.has g.S.PageSpace.leads g.S.PageSpace.fails c.args.space.now c.next_descriptor.new.space c.from_residual-in_err-added.result c.from_residual-in_err-added.ensures.1
     (g.met.S.PageSpace.goes_on 0 0 c.args.space.now c.relations.space c.next_descriptor.new.space c.relations.invariant.leads looks.leads) (λ want s has. looks.same want s (c.relations.invariant.has want s has))
 
 pub relations-preserved : goal.relations-preserved
@@ -60,14 +54,14 @@ relations-preserved g c =
       has = λ want s has. looks.same want s (c.relations.invariant.has want s has);
       coded = λ m want s kept has tables.
           let before = c.relations.invariant in
-          IsRead-next named_by kept c.relations.last c.relations.named.items c.add_codes.new.codes.items c.in-Some.name c.in-Some.descriptor tables.rising
+          IsRead-next named_by kept c.relations.last c.relations.named.items c.add_both-added.new.codes.items c.in-Some.name c.in-Some.descriptor tables.rising
           (sym c.in-Some.is ∙ (c.in_ok-name.ensures.found m want s kept (before.has want s has) tables ∙ ap (λ (o : Option Name). option_map kept_header (first_above o kept)) c.as_ref.ensures.value))
-          c.in_ok-add_codes.ensures (before.coded m want s kept has tables);
+          c.in_ok-added.ensures.codes (before.coded m want s kept has tables);
       owned = λ m want s kept has tables.
           let before = c.relations.invariant in
-          IsRead-next owners_of kept c.relations.last c.relations.owners.items c.add_owners.new.owners.items c.in-Some.name c.in-Some.descriptor tables.rising
+          IsRead-next owners_of kept c.relations.last c.relations.owners.items c.add_both-added.new.owners.items c.in-Some.name c.in-Some.descriptor tables.rising
           (sym c.in-Some.is ∙ (c.in_ok-name.ensures.found m want s kept (before.has want s has) tables ∙ ap (λ (o : Option Name). option_map kept_header (first_above o kept)) c.as_ref.ensures.value))
-          c.in_ok-add_owners.ensures (before.owned m want s kept has tables);
+          c.in_ok-added.ensures.owners (before.owned m want s kept has tables);
     }
 
 pub relations-init : goal.relations-init

@@ -1,8 +1,9 @@
 use Rattle.std.proofs.Common.{◌-◌, codes}
 use Rattle.std.proofs.lemmas.Result.{err_from_is_err_and}
 use Rattle.sb_tokens.specs.Rows.{tokens_of}
-use Rattle.sb_reader.specs.Commands.{is_word, pair_at}
-use Rattle.sb_reader.proofs.Loops.{items_go_on, items_fail, items_stop, items_done}
+use Rattle.sb_phrases.specs.Phrases.{is_word}
+use Rattle.sb_reader.specs.Commands.{pair_at}
+use Rattle.sb_phrases.proofs.Loops.{items_go_on, items_fail, items_stop, items_done}
 use Rattle.sb_reader.proofs.actions.read_more_pairs.Goals as goal
 
 pub loop-preserved : goal.loop-preserved

@@ -1,8 +1,9 @@
 use Rattle.std.proofs.Common.{◌≡◌, ◌∷◌, ◌-◌, codes}
 use Rattle.sb_tokens.specs.Rows.{tokens_of}
 use Rattle.sb_language.specs.Reading.{mapped, more_at}
-use Rattle.sb_reader.specs.Commands.{is_word, pair_at}
-use Rattle.sb_reader.proofs.Loops.{with_front}
+use Rattle.sb_phrases.specs.Phrases.{is_word}
+use Rattle.sb_reader.specs.Commands.{pair_at}
+use Rattle.sb_phrases.proofs.Loops.{with_front}
 use Rattle.sb_reader.proofs.actions.read_more_pairs.Given as goal
 
 abbrev pub invariant-loop : goal.invariant-loop

@@ -35,8 +35,8 @@ returns-in_err-reply-clause-undamaged g c =
 pub returns-in_err-reply-clause-looks : goal.returns-in_err-reply-clause-looks
 returns-in_err-reply-clause-looks g c =
     let fault = c.in_err-reply.field-0.0 in
-    Looks-passed g.S.PageSpace.has g.S.PageSpace.leads g.S.PageSpace.fails c.args.space.now c.read_relation.new.space c.from_residual-in_err-reply.result fault c.from_residual-in_err-reply.ensures.1
-    (Looks-later g.S.PageSpace.has g.S.PageSpace.leads g.S.PageSpace.fails c.args.space.now c.open_relation.new.space c.read_relation.new.space (Err fault) g.met.S.PageSpace.goes_on g.met.S.PageSpace.fails_on c.in_ok-opened.ensures.looks.leads c.in_ok-opened.ensures.looks.same c.in_err-reply.ensures.looks)
+    Looks-passed g.S.PageSpace.has g.S.PageSpace.leads g.S.PageSpace.fails c.args.space.now c.read_relation-answer.new.space c.from_residual-in_err-reply.result fault c.from_residual-in_err-reply.ensures.1
+    (Looks-later g.S.PageSpace.has g.S.PageSpace.leads g.S.PageSpace.fails c.args.space.now c.open_relation.new.space c.read_relation-answer.new.space (Err fault) g.met.S.PageSpace.goes_on g.met.S.PageSpace.fails_on c.in_ok-opened.ensures.looks.leads c.in_ok-opened.ensures.looks.same c.in_err-reply.ensures.looks)
 
 pub returns-clause-reply : goal.returns-clause-reply
 returns-clause-reply g c = λ want s gone kept ext has keeps boxes may.
@@ -50,5 +50,5 @@ returns-clause-reply g c = λ want s gone kept ext has keeps boxes may.
 
 pub returns-clause-looks : goal.returns-clause-looks
 returns-clause-looks g c =
-    Looks-made g.S.PageSpace.has g.S.PageSpace.leads g.S.PageSpace.fails c.args.space.now c.read_relation.new.space c.in_ok-reply.reply _
-    (Looks-later g.S.PageSpace.has g.S.PageSpace.leads g.S.PageSpace.fails c.args.space.now c.open_relation.new.space c.read_relation.new.space (Ok c.in_ok-reply.reply) g.met.S.PageSpace.goes_on g.met.S.PageSpace.fails_on c.in_ok-opened.ensures.looks.leads c.in_ok-opened.ensures.looks.same c.in_ok-reply.ensures.looks)
+    Looks-made g.S.PageSpace.has g.S.PageSpace.leads g.S.PageSpace.fails c.args.space.now c.read_relation-answer.new.space c.in_ok-reply.reply _
+    (Looks-later g.S.PageSpace.has g.S.PageSpace.leads g.S.PageSpace.fails c.args.space.now c.open_relation.new.space c.read_relation-answer.new.space (Ok c.in_ok-reply.reply) g.met.S.PageSpace.goes_on g.met.S.PageSpace.fails_on c.in_ok-opened.ensures.looks.leads c.in_ok-opened.ensures.looks.same c.in_ok-reply.ensures.looks)

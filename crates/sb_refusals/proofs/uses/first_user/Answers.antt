@@ -7,8 +7,8 @@ loop-turn-init g c = (g.met.C.Catalogue.stays c.args.catalogue.now, c.requires.r
 
 pub loop-turn-preserved : goal.loop-turn-preserved
 loop-turn-preserved g c = (
-  g.met.C.Catalogue.goes_on c.args.catalogue.now c.loop-turn.catalogue c.step_over.new.catalogue c.loop-turn.invariant.0 c.step_over.ensures.leads,
-  c.step_over.ensures.ready,
+  g.met.C.Catalogue.goes_on c.args.catalogue.now c.loop-turn.catalogue c.step_over-step.new.catalogue c.loop-turn.invariant.0 c.step_over-step.ensures.leads,
+  c.step_over-step.ensures.ready,
   λ s sees.
       let so = c.loop-turn.invariant.2 s sees in
       let step = c.in_ok-relation.ensures.step s so.0 in (

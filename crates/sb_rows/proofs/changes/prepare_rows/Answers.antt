@@ -5,27 +5,27 @@ use Rattle.sb_rows.proofs.CallsLemmas.{Works-made, Works-passed}
 use Rattle.sb_rows.proofs.PlacingsLemmas.{LeavesRows-own, prepared}
 use Rattle.sb_rows.proofs.changes.prepare_rows.Goals as goal
 
-pub returns-in_err-run_method-clause-costs : goal.returns-in_err-run_method-clause-costs
-returns-in_err-run_method-clause-costs g c = λ want s has new live. (c.in_err-run_method.ensures.runs live).costs want s [] has (new, refl)
+pub returns-in_err-made-clause-costs : goal.returns-in_err-made-clause-costs
+returns-in_err-made-clause-costs g c = λ want s has new live. (c.in_err-made.ensures.runs live).costs want s [] has (new, refl)
 
-pub returns-in_err-run_method-clause-works : goal.returns-in_err-run_method-clause-works
-returns-in_err-run_method-clause-works g c =
-    Works-passed g.S.PageSpace.has g.S.PageSpace.leads g.S.PageSpace.fails g.S.PageSpace.durable g.S.PageSpace.total c.args.inst.now.owner c.args.space.now c.run_method.new.space c.from_residual.result c.in_err-run_method.field-0.0 c.from_residual.ensures.1 c.in_err-run_method.ensures.works
+pub returns-in_err-made-clause-works : goal.returns-in_err-made-clause-works
+returns-in_err-made-clause-works g c =
+    Works-passed g.S.PageSpace.has g.S.PageSpace.leads g.S.PageSpace.fails g.S.PageSpace.durable g.S.PageSpace.total c.args.inst.now.owner c.args.space.now c.run_method-made.new.space c.from_residual.result c.in_err-made.field-0.0 c.from_residual.ensures.1 c.in_err-made.ensures.works
 
-pub returns-in_err-run_method-clause-undamaged : goal.returns-in_err-run_method-clause-undamaged
-returns-in_err-run_method-clause-undamaged g c =
-    IfErr-passed c.from_residual.result c.in_err-run_method.field-0.0 _ c.from_residual.ensures.1 (λ want s has new. (c.in_err-run_method.ensures.runs c.requires.live).sound want s [] has (new, refl))
+pub returns-in_err-made-clause-undamaged : goal.returns-in_err-made-clause-undamaged
+returns-in_err-made-clause-undamaged g c =
+    IfErr-passed c.from_residual.result c.in_err-made.field-0.0 _ c.from_residual.ensures.1 (λ want s has new. (c.in_err-made.ensures.runs c.requires.live).sound want s [] has (new, refl))
 
 pub returns-clause-prepared : goal.returns-clause-prepared
 returns-clause-prepared g c = λ want s has new.
     let live = c.requires.live in
     let inst = c.args.inst.now in
-    let left = (c.in_ok-run_method.ensures.runs live).answers want s has in
-    LeavesRows-own g.S.PageSpace.has _ inst want s c.run_method.new.space _ left live []
-    (prepared live.box inst (owned s inst.owner) (owned left.slots inst.owner) c.in_ok-run_method.field-0 c.in_ok-run_method.ensures.may c.in_ok-run_method.ensures.ends left.own new)
+    let left = (c.in_ok-made.ensures.runs live).answers want s has in
+    LeavesRows-own g.S.PageSpace.has _ inst want s c.run_method-made.new.space _ left live []
+    (prepared live.box inst (owned s inst.owner) (owned left.slots inst.owner) c.in_ok-made.made c.in_ok-made.ensures.may c.in_ok-made.ensures.ends left.own new)
 
 pub returns-clause-costs : goal.returns-clause-costs
-returns-clause-costs g c = λ want s has new live. (c.in_ok-run_method.ensures.runs live).costs want s [] has (new, refl)
+returns-clause-costs g c = λ want s has new live. (c.in_ok-made.ensures.runs live).costs want s [] has (new, refl)
 
 pub returns-clause-works : goal.returns-clause-works
-returns-clause-works g c = Works-made g.S.PageSpace.has g.S.PageSpace.leads g.S.PageSpace.fails g.S.PageSpace.durable g.S.PageSpace.total c.args.inst.now.owner c.args.space.now c.run_method.new.space c.in_ok-run_method.field-0 _ c.in_ok-run_method.ensures.works
+returns-clause-works g c = Works-made g.S.PageSpace.has g.S.PageSpace.leads g.S.PageSpace.fails g.S.PageSpace.durable g.S.PageSpace.total c.args.inst.now.owner c.args.space.now c.run_method-made.new.space c.in_ok-made.made _ c.in_ok-made.ensures.works

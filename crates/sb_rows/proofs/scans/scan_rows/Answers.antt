@@ -1,12 +1,10 @@
-use Rattle.std.proofs.Common.{◌∙◌, ◌^◌, ◌≤◌, List, length, Option, IfSome, Ok, Err, All, arith, sym, subst}
+use Rattle.std.proofs.Common.{◌∙◌, ◌^◌, ◌≤◌, List, length, Option, IfSome, Ok, Err, All, arith, refl, sym, subst}
 use Rattle.std.proofs.lemmas.List.Elements.{All-nil}
 use Rattle.sb_relation.specs.Db.{Key, Row}
 use Rattle.sb_ctx.specs.MethodAnswers.{IsRowOf}
 use Rattle.sb_rows.proofs.CallsLemmas.{Looks-damaged, Looks-later, Looks-made, Looks-no_memory, Looks-passed}
 use Rattle.sb_rows.proofs.ScansLemmas.{All-more, IsMade-end, IsMade-few, IsMade-limit, IsMade-next, IsMade-none, length-more}
-use Rattle.sb_drive.specs.declared.space.SpaceFault.TheVariants.{NoMemory}
 use Rattle.sb_drive.specs.Slots.{owned}
-use Rattle.sb_drive.proofs.SpacesLemmas.{IfErr-passed}
 use Rattle.sb_rows.proofs.scans.scan_rows.Goals as goal
 
 pub rows-init : goal.rows-init
@@ -23,62 +21,49 @@ rows-init g c = record {
 pub rows-preserved : goal.rows-preserved
 rows-preserved g c =
     let before = c.rows.invariant in
-    let looks = c.in_ok-key.ensures.looks in
+    let looks = c.in-Ok.ensures.looks in
     let row : Key × Row = (c.in-Some.key, c.in-Some.row) in
     let new = c.add_row.new.found.items in
-    let more = c.in_ok-add_row.ensures in
+    let more = c.in-Ok-add_row.ensures.added in
     record {
-      ready = c.in_ok-key.ensures.ready;
+      ready = c.in-Ok.ensures.ready;
       leads = g.met.S.PageSpace.goes_on 0 0 c.args.space.now c.rows.space c.next_row.new.space before.leads looks.leads;
       has = λ want s has. looks.same want s (before.has want s has);
       each = All-more (λ row. IsRowOf c.args.inst.now row.0 row.1) c.rows.found.items new (row) c.passes-passed.result more before.each
-          (subst (λ (o : Option (Key × Row)). IfSome o (λ r. IsRowOf c.args.inst.now r.0 r.1)) c.in-Some.is c.in_ok-key.ensures.is_row);
+          (subst (λ (o : Option (Key × Row)). IfSome o (λ r. IsRowOf c.args.inst.now r.0 r.1)) c.in-Some.is c.in-Ok.ensures.is_row);
       within = length-more c.rows.found.items new row c.passes-passed.result c.args.limit more before.within (omega (arith, c.if-len-limit.false, c.len.ensures));
       made = λ want s rows has h.
           let law = (h.live.law.formed c.args.inst.now (owned s c.args.inst.now.owner) rows h.holds).lawful in
-          let next = c.in_ok-key.ensures.row want s rows (before.has want s has) h in
+          let next = c.in-Ok.ensures.row want s rows (before.has want s has) h in
           let made = IsMade-next (λ row. row) (g.T.RowTest.passes c.args.test.now) rows c.args.low c.rows.last c.rows.counter c.rows.found.items new row c.passes-passed.result law.rising
           (sym next ∙ c.in-Some.is) c.passes-passed.ensures more (before.made want s rows has h) in
-          rw c.in_ok-copy.ensures made;
+          rw c.in-Ok-add_row.ensures.copy made;
     }
 
 -- ---- a refusal
-pub returns-in_err-key-clause-looks : goal.returns-in_err-key-clause-looks
-returns-in_err-key-clause-looks g c =
-    let fault = c.in_err-key.field-0.0 in
-    Looks-passed g.S.PageSpace.has g.S.PageSpace.leads g.S.PageSpace.fails c.args.space.now c.next_row.new.space c.from_residual.result fault c.from_residual.ensures.1
-    (Looks-later g.S.PageSpace.has g.S.PageSpace.leads g.S.PageSpace.fails c.args.space.now c.rows.space c.next_row.new.space (Err fault) g.met.S.PageSpace.goes_on g.met.S.PageSpace.fails_on c.rows.invariant.leads c.rows.invariant.has c.in_err-key.ensures.looks)
+pub returns-in-Err-clause-looks : goal.returns-in-Err-clause-looks
+returns-in-Err-clause-looks g c =
+    let fault = c.in-Err.fault in
+    Looks-passed g.S.PageSpace.has g.S.PageSpace.leads g.S.PageSpace.fails c.args.space.now c.next_row.new.space _ fault refl
+    (Looks-later g.S.PageSpace.has g.S.PageSpace.leads g.S.PageSpace.fails c.args.space.now c.rows.space c.next_row.new.space (Err fault) g.met.S.PageSpace.goes_on g.met.S.PageSpace.fails_on c.rows.invariant.leads c.rows.invariant.has c.in-Err.ensures.looks)
 
-pub returns-in_err-key-clause-undamaged : goal.returns-in_err-key-clause-undamaged
-returns-in_err-key-clause-undamaged g c =
-    IfErr-passed c.from_residual.result c.in_err-key.field-0.0 _ c.from_residual.ensures.1 (λ want s rows has h. c.in_err-key.ensures.undamaged want s rows (c.rows.invariant.has want s has) h)
+pub returns-in-Err-clause-undamaged : goal.returns-in-Err-clause-undamaged
+returns-in-Err-clause-undamaged g c = λ want s rows has h. c.in-Err.ensures.undamaged want s rows (c.rows.invariant.has want s has) h
 
-pub returns-in_err-copy-clause-looks : goal.returns-in_err-copy-clause-looks
-returns-in_err-copy-clause-looks g c =
-    let looks = c.in_ok-key.ensures.looks in
-    Looks-no_memory g.S.PageSpace.has g.S.PageSpace.leads g.S.PageSpace.fails c.args.space.now c.next_row.new.space c.from_residual-in_err-copy.result c.from_residual-in_err-copy.ensures.1
+pub returns-in-Err-add_row-clause-looks : goal.returns-in-Err-add_row-clause-looks
+returns-in-Err-add_row-clause-looks g c =
+    let looks = c.in-Ok.ensures.looks in
+    Looks-no_memory g.S.PageSpace.has g.S.PageSpace.leads g.S.PageSpace.fails c.args.space.now c.next_row.new.space _ refl
     (g.met.S.PageSpace.goes_on 0 0 c.args.space.now c.rows.space c.next_row.new.space c.rows.invariant.leads looks.leads) (λ want s has. looks.same want s (c.rows.invariant.has want s has))
-
-pub returns-in_err-copy-clause-undamaged : goal.returns-in_err-copy-clause-undamaged
-returns-in_err-copy-clause-undamaged g c = IfErr-passed c.from_residual-in_err-copy.result NoMemory _ c.from_residual-in_err-copy.ensures.1 (λ want s rows has h. tt)
-
-pub returns-in_err-add_row-clause-looks : goal.returns-in_err-add_row-clause-looks
-returns-in_err-add_row-clause-looks g c =
-    let looks = c.in_ok-key.ensures.looks in
-    Looks-no_memory g.S.PageSpace.has g.S.PageSpace.leads g.S.PageSpace.fails c.args.space.now c.next_row.new.space c.from_residual-in_err-add_row.result c.from_residual-in_err-add_row.ensures.1
-    (g.met.S.PageSpace.goes_on 0 0 c.args.space.now c.rows.space c.next_row.new.space c.rows.invariant.leads looks.leads) (λ want s has. looks.same want s (c.rows.invariant.has want s has))
-
-pub returns-in_err-add_row-clause-undamaged : goal.returns-in_err-add_row-clause-undamaged
-returns-in_err-add_row-clause-undamaged g c = IfErr-passed c.from_residual-in_err-add_row.result NoMemory _ c.from_residual-in_err-add_row.ensures.1 (λ want s rows has h. tt)
 
 -- ---- the end
 pub returns-in_default-clause-looks : goal.returns-in_default-clause-looks
 returns-in_default-clause-looks g c =
-    Looks-made g.S.PageSpace.has g.S.PageSpace.leads g.S.PageSpace.fails c.args.space.now c.next_row.new.space c.in_ok-key.field-0 _ (Looks-later g.S.PageSpace.has g.S.PageSpace.leads g.S.PageSpace.fails c.args.space.now c.rows.space c.next_row.new.space (Ok c.in_ok-key.field-0) g.met.S.PageSpace.goes_on g.met.S.PageSpace.fails_on c.rows.invariant.leads c.rows.invariant.has c.in_ok-key.ensures.looks)
+    Looks-made g.S.PageSpace.has g.S.PageSpace.leads g.S.PageSpace.fails c.args.space.now c.next_row.new.space c.in-Ok.next _ (Looks-later g.S.PageSpace.has g.S.PageSpace.leads g.S.PageSpace.fails c.args.space.now c.rows.space c.next_row.new.space (Ok c.in-Ok.next) g.met.S.PageSpace.goes_on g.met.S.PageSpace.fails_on c.rows.invariant.leads c.rows.invariant.has c.in-Ok.ensures.looks)
 
 pub returns-in_default-clause-rows : goal.returns-in_default-clause-rows
 returns-in_default-clause-rows g c = λ want s rows has h.
-    let next = c.in_ok-key.ensures.row want s rows (c.rows.invariant.has want s has) h in
+    let next = c.in-Ok.ensures.row want s rows (c.rows.invariant.has want s has) h in
     IsMade-end (g.T.RowTest.passes c.args.test.now) rows c.args.low c.rows.last c.rows.counter c.args.limit c.rows.found.items c.rows.invariant.within (sym next ∙ c.in_default.is) (c.rows.invariant.made want s rows has h)
 
 -- ---- more rows than there are

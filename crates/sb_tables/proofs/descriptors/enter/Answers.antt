@@ -1,7 +1,7 @@
 use Rattle.std.proofs.Common.{◌≡◌, ℕ, List, Some, sym, ap, subst, ◌∙◌}
 use Rattle.std.specs.FinMap.Entries.{put}
 use Rattle.sb_node.specs.Entries.{key_cmp}
-use Rattle.sb_forms.specs.Read.{read_tree}
+use Rattle.sb_forms.specs.Maps.{map_in}
 use Rattle.sb_drive.specs.Slots.{owned}
 use Rattle.sb_drive.specs.Spaces.{Leaves}
 use Rattle.sb_drive.proofs.SpacesLemmas.{IfErr-passed, Leaves-so}
@@ -20,16 +20,16 @@ returns-clause-entered g c =
     let top = c.args.place.root in
     let spelled : c.as_slice.result.now ≡ descriptor_spelling c.args.descriptor.now = c.as_slice.ensures ∙ c.in_ok-bytes.ensures.spelled in
     on_ok c.put.result (λ becomes want s es has read.
-    let left = becomes want s es has (subst (λ (o : ℕ). read_tree top (owned s o) ≡ Some es) (sym c.requires.owner) read) in
-    Leaves-so g.S.PageSpace.has 2 want s c.put.new.space (λ after. read_tree top after ≡ Some (put key_cmp c.as_bytes.result.now c.as_slice.result.now es))
-    (λ after. read_tree top after ≡ Some (put key_cmp c.args.name.now (descriptor_spelling c.args.descriptor.now) es))
+    let left = becomes want s es has (subst (λ (o : ℕ). map_in top (owned s o) ≡ Some es) (sym c.requires.owner) read) in
+    Leaves-so g.S.PageSpace.has 2 want s c.put.new.space (λ after. map_in top after ≡ Some (put key_cmp c.as_bytes.result.now c.as_slice.result.now es))
+    (λ after. map_in top after ≡ Some (put key_cmp c.args.name.now (descriptor_spelling c.args.descriptor.now) es))
     (λ after is. is ∙ ap (λ (key : List ℕ). Some (put key_cmp key c.as_slice.result.now es)) c.as_bytes.ensures ∙ ap (λ (value : List ℕ). Some (put key_cmp c.args.name.now value es)) spelled)
-    (subst (λ (o : ℕ). Leaves g.S.PageSpace.has o want s c.put.new.space (λ after. read_tree top after ≡ Some (put key_cmp c.as_bytes.result.now c.as_slice.result.now es))) c.requires.owner left))
+    (subst (λ (o : ℕ). Leaves g.S.PageSpace.has o want s c.put.new.space (λ after. map_in top after ≡ Some (put key_cmp c.as_bytes.result.now c.as_slice.result.now es))) c.requires.owner left))
     c.put.ensures.put
 
 pub returns-clause-refused : goal.returns-clause-refused
 returns-clause-refused g c =
     if_err_both _ _ _ c.put.result (λ e refused whole want s es has read small.
     refused_cause g.S.PageSpace.fails _ c.args.space.now c.put.new.space e refused
-    (sound_undamaged e (whole want s has es (subst (λ (o : ℕ). read_tree c.args.place.root (owned s o) ≡ Some es) (sym c.requires.owner) read))))
+    (sound_undamaged e (whole want s has es (subst (λ (o : ℕ). map_in c.args.place.root (owned s o) ≡ Some es) (sym c.requires.owner) read))))
     c.put.ensures.works.refused c.put.ensures.whole

@@ -1,7 +1,7 @@
 use Rattle.std.proofs.Common.{◌≡◌, ℕ, ◌+◌, List, ◌++◌, map, Option, Some, option_map, IfSome, sym, ap, subst, ◌∙◌}
 use Rattle.std.specs.FinMap.Entries.{put}
 use Rattle.sb_node.specs.Entries.{key_cmp}
-use Rattle.sb_forms.specs.Read.{read_tree}
+use Rattle.sb_forms.specs.Maps.{map_in}
 use Rattle.sb_relation.specs.Db.{Db}
 use Rattle.sb_fold.specs.Building.{without_attached}
 use Rattle.sb_drive.proofs.SpacesLemmas.{IfErr-passed, Leaves-so}
@@ -34,15 +34,15 @@ returns-in_default-clause-detached g c = λ db keeps.
     (sym (none_detached g.S.PageSpace.has m c.args.place.root c.args.gone.now.items db c.args.space.now c.open_relation.new.space c.open_relation.new.space keeps c.args.relation.now c.args.label.now none))
     (keeps-later g.S.PageSpace.has m c.args.place.root c.args.gone.now.items db c.args.space.now c.open_relation.new.space c.open_relation.new.space keeps c.in_ok-one.ensures.looks.same)
 
-pub enter-requires-clause-short : goal.enter-requires-clause-short
-enter-requires-clause-short g c =
+pub enter-entered-requires-clause-short : goal.enter-entered-requires-clause-short
+enter-entered-requires-clause-short g c =
     let m = g.B.Boxes.meanings c.args.boxes.now in
     let opened = subst (λ (o : Option OpenRelation). IfSome o (λ x. IsOpen m x × (x.name ≡ c.args.relation.now))) c.in-Some.is c.in_ok-one.ensures.opened in
-    subst IsShortDescriptor (sym c.without_named-descriptor.ensures)
+    subst IsShortDescriptor (sym c.left_of-descriptor.ensures)
     (IsShortDescriptor_from_storable _ (storable-without c.args.label.now c.in-Some.one.descriptor opened.0.storable))
 
-pub returns-clause-detached : goal.returns-clause-detached
-returns-clause-detached g c =
+pub returns-in-Ok-clause-detached : goal.returns-in-Ok-clause-detached
+returns-in-Ok-clause-detached g c =
     let m = g.B.Boxes.meanings c.args.boxes.now in
     let top = c.args.place.root in
     let gone = c.args.gone.now.items in
@@ -50,10 +50,9 @@ returns-clause-detached g c =
     let relation = c.args.relation.now in
     let label = c.args.label.now in
     let mid = c.open_relation.new.space in
-    let new = c.enter.new.space in
-    let more : c.extend_from_slice.new.self.items ≡ gone ++ owners_named label d =
-    c.in_ok-extend_from_slice.ensures.items ∙ ap (λ (l : List ℕ). gone ++ l) (c.deref.ensures.value ∙ c.in_ok-owners.ensures) in
-    on_ok c.enter.result (λ entered db keeps.
+    let new = c.enter-entered.new.space in
+    let more : c.note_named-noted.new.gone.items ≡ gone ++ owners_named label d = c.in-Ok.ensures.noted in
+    on_ok c.enter-entered.result (λ entered db keeps.
     let found = ap (λ (o : Option OpenRelation). option_map (λ (x : OpenRelation). x.descriptor) o) (sym c.in-Some.is)
     ∙ c.in_ok-one.ensures.found keeps.want keeps.slots keeps.kept keeps.has keeps.keeps.tables in
     let it = has_kept keeps.kept relation d found in
@@ -61,26 +60,26 @@ returns-clause-detached g c =
     subst (λ (l : List ℕ). KeepsDb g.S.PageSpace.has m top l (without_attached db relation label) new) (sym more)
     (detached g.S.PageSpace.has m top gone db c.args.space.now mid new keeps relation label d it
     (Leaves-so g.S.PageSpace.has 2 keeps.want keeps.slots new
-    (λ after. read_tree top after ≡ Some (put key_cmp relation (descriptor_spelling c.without_named-descriptor.result) (map entry_of keeps.kept))) _
-    (λ after is. is ∙ ap (λ (x : Descriptor). Some (put key_cmp relation (descriptor_spelling x) (map entry_of keeps.kept))) c.without_named-descriptor.ensures) left)))
-    c.enter.ensures.entered
+    (λ after. map_in top after ≡ Some (put key_cmp relation (descriptor_spelling c.left_of-descriptor.result) (map entry_of keeps.kept))) _
+    (λ after is. is ∙ ap (λ (x : Descriptor). Some (put key_cmp relation (descriptor_spelling x) (map entry_of keeps.kept))) c.left_of-descriptor.ensures) left)))
+    c.enter-entered.ensures.entered
 
-pub returns-clause-refused : goal.returns-clause-refused
-returns-clause-refused g c =
+pub returns-in-Ok-clause-refused : goal.returns-in-Ok-clause-refused
+returns-in-Ok-clause-refused g c =
     let m = g.B.Boxes.meanings c.args.boxes.now in
     let d = c.in-Some.one.descriptor in
     let relation = c.args.relation.now in
-    if_err _ _ c.enter.result (λ e refused db keeps.
+    if_err _ _ c.enter-entered.result (λ e refused db keeps.
     let found = ap (λ (o : Option OpenRelation). option_map (λ (x : OpenRelation). x.descriptor) o) (sym c.in-Some.is)
     ∙ c.in_ok-one.ensures.found keeps.want keeps.slots keeps.kept keeps.has keeps.keeps.tables in
     let it = has_kept keeps.kept relation d found in
     let small = subst (λ (x : Descriptor). IsSmall relation (descriptor_spelling x)) it.same
     (small-kept m c.args.place.root keeps.slots keeps.kept relation it.one keeps.keeps.tables it.at) in
     refused keeps.want keeps.slots (map entry_of keeps.kept) (c.in_ok-one.ensures.looks.same keeps.want keeps.slots keeps.has) keeps.keeps.tables.catalogue
-    (subst (λ (x : Descriptor). IsSmall relation (descriptor_spelling x)) (sym c.without_named-descriptor.ensures) (small-without relation c.args.label.now d small)))
-    c.enter.ensures.refused
+    (subst (λ (x : Descriptor). IsSmall relation (descriptor_spelling x)) (sym c.left_of-descriptor.ensures) (small-without relation c.args.label.now d small)))
+    c.enter-entered.ensures.refused
 
-pub returns-clause-leads : goal.returns-clause-leads
-returns-clause-leads g c =
-    let later = c.enter.ensures.leads in
-    (0 + later.0, g.met.S.PageSpace.goes_on 0 later.0 c.args.space.now c.open_relation.new.space c.enter.new.space c.in_ok-one.ensures.looks.leads later.1)
+pub returns-in-Ok-clause-leads : goal.returns-in-Ok-clause-leads
+returns-in-Ok-clause-leads g c =
+    let later = c.enter-entered.ensures.leads in
+    (0 + later.0, g.met.S.PageSpace.goes_on 0 later.0 c.args.space.now c.open_relation.new.space c.enter-entered.new.space c.in_ok-one.ensures.looks.leads later.1)

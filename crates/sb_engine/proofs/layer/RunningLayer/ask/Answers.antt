@@ -1,4 +1,4 @@
-use Rattle.std.proofs.Common.{◌≡◌, ℕ, ◌+◌, ◌<◌, ◌≤◌, List, [], Option, Some, None, Bor, All, length, append-nil, refl, sym, ap, ◌∙◌, subst, arith}
+use Rattle.std.proofs.Common.{◌≡◌, ◌+◌, ◌<◌, ◌≤◌, List, [], Option, Some, None, Bor, All, length, append-nil, refl, sym, ap, ◌∙◌, subst, arith}
 use Rattle.std.specs.List.{slice_get}
 use Rattle.std.specs.Option.{option_copied}
 use Rattle.std.proofs.lemmas.Option.{same_Some, slice_get_read}
@@ -17,7 +17,6 @@ use Rattle.sb_opened.specs.declared.relation.OpenRelation.{OpenRelation}
 use Rattle.sb_opened.specs.Opened.{IsOpen}
 use Rattle.sb_wishes.specs.Outcomes.{MayBeMade}
 use Rattle.sb_engine.specs.Goings.{front_none, grows_none, stays}
-use Rattle.sb_engine.specs.Asking.{with_late}
 use Rattle.sb_engine.specs.Working.{MayDo, extensions_of, open_at}
 use Rattle.sb_engine.proofs.AskLemmas.{as_many, asked_all, asked_more, asked_veto, few_rules, is_asked, is_next, keeping_asked, live_rule, meets_rule, no_rule, now_fit, rule_at, rules_asked, situation}
 use Rattle.sb_engine.proofs.LateLemmas.{leads_more, within_front}
@@ -107,8 +106,8 @@ pub returns-in_default-copy-clause-leads : goal.returns-in_default-copy-clause-l
 returns-in_default-copy-clause-leads g c =
     stays g.S.PageSpace.leads g.met.S.PageSpace.stays c.args.self.now
 
-pub returns-in-Ok-put_off-clause-asked : goal.returns-in-Ok-put_off-clause-asked
-returns-in-Ok-put_off-clause-asked g c = λ h asking.
+pub returns-in-Ok-put_left-clause-asked : goal.returns-in-Ok-put_left-clause-asked
+returns-in-Ok-put_left-clause-asked g c = λ h asking.
     let a = c.args.self.now in
     let m = g.B.Boxes.meanings a.boxes.now in
     let w = a.work.now in
@@ -135,17 +134,16 @@ returns-in-Ok-put_off-clause-asked g c = λ h asking.
     (c.in-Ok-Admitted.ensures.says asking.want asking.slots x asking.has asking.asks next) in
     let mine : c.into_vec-now.result.items ≡ c.in-Ok-Admitted.now = c.into_vec-now.ensures in
     let more = asked_more has m a.place.root name change c.args.i h a.space.now w one asking at d asked says.box c.in-Ok-Admitted.now c.in-Ok-Admitted.late c.in-Ok-Admitted.checks c.in-Ok.label
-    mid c.prepare_all.new.space c.prepare_all.new.opened c.put_off.new.queue says.live says.judges says.leaves
+    mid c.prepare_all.new.space c.prepare_all.new.opened c.put_left.new.queue says.live says.judges says.leaves
     (c.in-Ok-prepare_all.ensures.looks.same asking.want says.leaves.slots says.leaves.has) c.in-Ok.ensures
     (c.prepare_all.ensures.opened asking.want says.leaves.slots (changed_kept name change asking.before)
     (keeping_asked has m a.place.root name change c.args.i h a.space.now w one asking at d asked mid says.leaves))
     c.requires.ready.within
-    (c.in-Ok-put_off.ensures.put ∙ ap (λ (l : List Action). with_late w.queue name c.in-Ok.label l c.as_slice-in-Ok-prepare_all-2.result.now) c.as_slice-in-Ok-prepare_all.ensures
-    ∙ ap (λ (l : List (List ℕ)). with_late w.queue name c.in-Ok.label c.in-Ok-Admitted.late l) c.as_slice-in-Ok-prepare_all-2.ensures) in
+    c.in-Ok-put_left.ensures.put in
     (subst (λ (l : List Action). IsAdmitted (extensions_of m) name change c.args.i h l) (sym mine) more.0, more.1)
 
-pub returns-in-Ok-put_off-clause-few : goal.returns-in-Ok-put_off-clause-few
-returns-in-Ok-put_off-clause-few g c =
+pub returns-in-Ok-put_left-clause-few : goal.returns-in-Ok-put_left-clause-few
+returns-in-Ok-put_left-clause-few g c =
     let a = c.args.self.now in
     let m = g.B.Boxes.meanings a.boxes.now in
     let w = a.work.now in
@@ -160,60 +158,60 @@ returns-in-Ok-put_off-clause-few g c =
     ∙ slice_get_read c.deref-2.result.now (length c.deref-2.result.now) c.args.i inst refl c.in-Some-get.ensures.lookup.3.0 c.in-Some-get.ensures.lookup.1 in
     few_rules m one c.args.i is below
 
-pub returns-in-Ok-put_off-clause-may : goal.returns-in-Ok-put_off-clause-may
-returns-in-Ok-put_off-clause-may g c =
+pub returns-in-Ok-put_left-clause-may : goal.returns-in-Ok-put_left-clause-may
+returns-in-Ok-put_left-clause-may g c =
     subst (λ (l : List Action). All (λ x. MayDo c.prepare_all.new.opened.items x) l) c.deref-in-Ok-Admitted.ensures.value c.in-Ok-prepare_all.ensures.may
 
-pub returns-in-Ok-put_off-clause-leads : goal.returns-in-Ok-put_off-clause-leads
-returns-in-Ok-put_off-clause-leads g c = record {
+pub returns-in-Ok-put_left-clause-leads : goal.returns-in-Ok-put_left-clause-leads
+returns-in-Ok-put_left-clause-leads g c = record {
   goes = record {
     same_space = refl;
     same_work = refl;
     boxes = refl;
     place = refl;
     leads = leads_more g.S.PageSpace.leads g.met.S.PageSpace.goes_on c.args.self.now.space.now c.ask_rule.new.space c.prepare_all.new.space c.in-Ok-Admitted.ensures.works.leads c.prepare_all.ensures.looks.leads;
-    queue = c.put_off.ensures.front;
+    queue = c.put_left.ensures.front;
     gone = ([], sym (append-nil c.args.self.now.work.now.gone.items));
   };
   opened = c.prepare_all.ensures.grows;
 }
 
-pub returns-in-Ok-put_off-clause-ready : goal.returns-in-Ok-put_off-clause-ready
-returns-in-Ok-put_off-clause-ready g c = record {
+pub returns-in-Ok-put_left-clause-ready : goal.returns-in-Ok-put_left-clause-ready
+returns-in-Ok-put_left-clause-ready g c = record {
   ready = c.prepare_all.ensures.ready;
   owner = c.requires.ready.owner;
   opened = c.prepare_all.ensures.are_open;
-  within = within_front c.args.self.now.work.now.queue c.put_off.new.queue c.args.self.now.work.now.done c.put_off.ensures.front c.requires.ready.within;
+  within = within_front c.args.self.now.work.now.queue c.put_left.new.queue c.args.self.now.work.now.done c.put_left.ensures.front c.requires.ready.within;
 }
 
-pub returns-in-Ok-prepare_all-clause-refused : goal.returns-in-Ok-prepare_all-clause-refused
-returns-in-Ok-prepare_all-clause-refused g c =
+pub returns-in-Err-put_left-clause-refused : goal.returns-in-Err-put_left-clause-refused
+returns-in-Err-put_left-clause-refused g c =
     λ h asking. record { vetoed = tt; stopped = tt }
 
-pub returns-in-Ok-prepare_all-clause-leads : goal.returns-in-Ok-prepare_all-clause-leads
-returns-in-Ok-prepare_all-clause-leads g c = record {
+pub returns-in-Err-put_left-clause-leads : goal.returns-in-Err-put_left-clause-leads
+returns-in-Err-put_left-clause-leads g c = record {
   goes = record {
     same_space = refl;
     same_work = refl;
     boxes = refl;
     place = refl;
     leads = leads_more g.S.PageSpace.leads g.met.S.PageSpace.goes_on c.args.self.now.space.now c.ask_rule.new.space c.prepare_all.new.space c.in-Ok-Admitted.ensures.works.leads c.prepare_all.ensures.looks.leads;
-    queue = c.put_off.ensures.front;
+    queue = c.put_left.ensures.front;
     gone = ([], sym (append-nil c.args.self.now.work.now.gone.items));
   };
   opened = c.prepare_all.ensures.grows;
 }
 
-pub returns-in-Ok-prepare_all-clause-ready : goal.returns-in-Ok-prepare_all-clause-ready
-returns-in-Ok-prepare_all-clause-ready g c = record {
+pub returns-in-Err-put_left-clause-ready : goal.returns-in-Err-put_left-clause-ready
+returns-in-Err-put_left-clause-ready g c = record {
   ready = c.prepare_all.ensures.ready;
   owner = c.requires.ready.owner;
   opened = c.prepare_all.ensures.are_open;
-  within = within_front c.args.self.now.work.now.queue c.put_off.new.queue c.args.self.now.work.now.done c.put_off.ensures.front c.requires.ready.within;
+  within = within_front c.args.self.now.work.now.queue c.put_left.new.queue c.args.self.now.work.now.done c.put_left.ensures.front c.requires.ready.within;
 }
 
-pub returns-in-Ok-Admitted-clause-refused : goal.returns-in-Ok-Admitted-clause-refused
-returns-in-Ok-Admitted-clause-refused g c = λ h asking.
+pub returns-in-Err-prepare_all-clause-refused : goal.returns-in-Err-prepare_all-clause-refused
+returns-in-Err-prepare_all-clause-refused g c = λ h asking.
     let a = c.args.self.now in
     let m = g.B.Boxes.meanings a.boxes.now in
     let w = a.work.now in
@@ -249,8 +247,8 @@ returns-in-Ok-Admitted-clause-refused g c = λ h asking.
     (refused_cause g.S.PageSpace.fails _ mid c.prepare_all.new.space c.in-Err-prepare_all.fault c.in-Err-prepare_all.ensures.looks.refused
     (c.in-Err-prepare_all.ensures.undamaged asking.want says.leaves.slots (changed_kept name change asking.before) keeping rules fit_all)))
 
-pub returns-in-Ok-Admitted-clause-leads : goal.returns-in-Ok-Admitted-clause-leads
-returns-in-Ok-Admitted-clause-leads g c = record {
+pub returns-in-Err-prepare_all-clause-leads : goal.returns-in-Err-prepare_all-clause-leads
+returns-in-Err-prepare_all-clause-leads g c = record {
   goes = record {
     same_space = refl;
     same_work = refl;
@@ -306,8 +304,8 @@ returns-in-Ok-Vetoed-clause-leads g c = record {
   opened = grows_none c.args.self.now.work.now.opened.items;
 }
 
-pub returns-clause-refused : goal.returns-clause-refused
-returns-clause-refused g c = λ h asking.
+pub returns-in-Err-clause-refused : goal.returns-in-Err-clause-refused
+returns-in-Err-clause-refused g c = λ h asking.
     let a = c.args.self.now in
     let m = g.B.Boxes.meanings a.boxes.now in
     let w = a.work.now in
@@ -332,8 +330,8 @@ returns-clause-refused g c = λ h asking.
     rw c.refusal_of-in-Err.ensures (not_asked _ (extensions_of m) name change c.args.i h c.in-Err.fault _
     (refused_cause g.S.PageSpace.fails _ a.space.now mid c.in-Err.fault c.in-Err.ensures.works.refused (c.in-Err.ensures.undamaged asking.want asking.slots x asking.has asking.asks next)))
 
-pub returns-clause-leads : goal.returns-clause-leads
-returns-clause-leads g c = record {
+pub returns-in-Err-clause-leads : goal.returns-in-Err-clause-leads
+returns-in-Err-clause-leads g c = record {
   goes = record {
     same_space = refl;
     same_work = refl;

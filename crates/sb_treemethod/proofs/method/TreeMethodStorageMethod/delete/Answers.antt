@@ -24,4 +24,4 @@ returns c =
     (subst (λ (key : List ℕ). OverTrees old root (λ P es. Removes old new root key P es c.remove.result)) c.as_slice.ensures made.removes)
     (tree_bounds inst (Delete c.args.key.now) old new c.remove.result (λ P. is_on_removal_way root P c.args.key.now) tree_cost clean (λ P es read n is. is) (λ n. omega arith)
     (subst (λ (key : List ℕ). OnTree old root (λ P. Needs (is_on_removal_way root P key) c.remove.result)) c.as_slice.ensures made.way)
-    (λ P es read. let few = made.edits P es read in omega (arith, few)) made.room))
+    (λ P es read. let few = made.edits P es read in omega (arith, few)) made.room (λ P part rows f is. tt)))

@@ -12,11 +12,11 @@ use Rattle.sb_btree.specs.Removes.{Removes, is_on_removal_way}
 use Rattle.sb_btree.specs.Walks.{Gives, Needs, OnTree, OverTree}
 use Rattle.sb_btree.specs.Ways.{is_on_way}
 use Rattle.sb_btree.specs.declared.walk.Walk.{Walk}
-use Rattle.sb_btree.specs.declared.walk.Walk.TheVariants.{Ready}
+use Rattle.sb_btree.specs.declared.walk.Walk.TheVariants.{Fresh, Ready}
 use Rattle.sb_btree.proofs.Whole.{ways_are_short}
 use Rattle.sb_treemethod.specs.TreeMethod.{tree_method}
 use Rattle.sb_treemethod.proofs.MethodLaws.{Changes-memory}
-use Rattle.sb_treemethod.proofs.UpdateLaws.{Changes-alone, Changes-missing, Changes-moved, Changes-replaced, Changes-unput, was_ready, was_there}
+use Rattle.sb_treemethod.proofs.UpdateLaws.{Changes-alone, Changes-missing, Changes-moved, Changes-replaced, Changes-unput, new_gets, own_gets, unput_gets, was_ready, was_there}
 use Rattle.sb_treemethod.proofs.Within.{look_bounds, tree_bounds}
 use Rattle.sb_treemethod.proofs.method.TreeMethodStorageMethod.update.Goals as goal
 
@@ -42,7 +42,8 @@ returns-then-eq c =
     (subst (λ (value : List ℕ). OverTrees old root (λ P es. Replaces old new root code value P es c.replace-walk.result)) c.as_slice-then-eq.ensures
     (subst (λ (key : List ℕ). OverTrees old root (λ P es. Replaces old new root key c.as_slice-then-eq.result.now P es c.replace-walk.result)) slice made.replaces))
     (tree_bounds inst (Update code row) old new c.replace-walk.result (λ P. is_on_way root P (Some code)) tree_cost clean (λ P es read n is. (ways_are_short P root es read (Some code)).1 n is) (λ n. omega arith)
-    (subst (λ (key : List ℕ). OnTree old root (λ P. Needs (is_on_way root P (Some key)) c.replace-walk.result)) slice made.way) made.edits made.room)))
+    (subst (λ (key : List ℕ). OnTree old root (λ P. Needs (is_on_way root P (Some key)) c.replace-walk.result)) slice made.way) made.edits made.room
+    (own_gets inst row code c.in-Ok.value old (c.replace-walk.result ≡ Fresh) c.in-Ok.ensures))))
 
 -- ---- under another key
 pub returns-then-not-is_found : goal.returns-then-not-is_found
@@ -74,12 +75,14 @@ returns-then-not-is_done c =
     let other : bytes_eq code key ≡ false = sym c.eq.ensures ∙ c.if-eq.false in
     let gives = subst (λ (k : List ℕ). OverTree old root (λ es. Gives (λ found. option_map entry_in found ≡ entry_at k es) c.find-found.result)) c.as_slice-2.ensures c.find-found.ensures.gives in
     let there : OverTree old root (λ es. IsSome (find key_cmp key es)) = was_there root key old c.find-found.result (sym c.if-not-is_found.ensures) gives in
+    let inserts =
+    subst (λ (value : List ℕ). OverTrees old root (λ P es. Inserts old new root code value P es c.insert-put.result)) c.as_slice-4.ensures
+    (subst (λ (k : List ℕ). OverTrees old root (λ P es. Inserts old new root k c.as_slice-4.result.now P es c.insert-put.result)) c.as_slice-3.ensures made.inserts) in
     subst (Changes tree_method inst (Update key row) old new) (sym c.inserted.ensures)
-    (Changes-unput inst key row code c.in-Ok.value old new c.insert-put.result clean (made.given ∙ clean) made.asks made.broken c.in-Ok.ensures other (sym c.if-not-is_done.ensures) there
-    (subst (λ (value : List ℕ). OverTrees old root (λ P es. Inserts old new root code value P es c.insert-put.result)) c.as_slice-4.ensures
-    (subst (λ (k : List ℕ). OverTrees old root (λ P es. Inserts old new root k c.as_slice-4.result.now P es c.insert-put.result)) c.as_slice-3.ensures made.inserts))
+    (Changes-unput inst key row code c.in-Ok.value old new c.insert-put.result clean (made.given ∙ clean) made.asks made.broken c.in-Ok.ensures other (sym c.if-not-is_done.ensures) there inserts
     (tree_bounds inst (Update key row) old new c.insert-put.result (λ P. is_on_way root P (Some code)) tree_cost clean (λ P es read n is. (ways_are_short P root es read (Some code)).1 n is) (λ n. omega arith)
-    (subst (λ (k : List ℕ). OnTree old root (λ P. Needs (is_on_way root P (Some k)) c.insert-put.result)) c.as_slice-3.ensures made.way) made.edits made.room))
+    (subst (λ (k : List ℕ). OnTree old root (λ P. Needs (is_on_way root P (Some k)) c.insert-put.result)) c.as_slice-3.ensures made.way) made.edits made.room
+    (unput_gets inst key row code c.in-Ok.value old new c.insert-put.result clean c.in-Ok.ensures inserts)))
 
 pub returns-then-not-is_broken : goal.returns-then-not-is_broken
 returns-then-not-is_broken c =
@@ -127,8 +130,14 @@ returns c =
     let root = inst.root in
     let key = c.args.key.now in
     let row = c.args.tuple.now in
+    let code = c.in-Ok.code in
+    let mid = c.insert-put.new.ctx in
     let alone = c.remove-alone.ensures in
     let clean = c.requires.clean.unchanged in
+    let done : c.insert-put.result ≡ Ready true = was_ready c.insert-put.result (sym c.if-not-is_done.ensures) in
+    let inserts =
+    subst (λ (w : Walk Bool). OverTrees old root (λ P es. Inserts old mid root code c.as_slice-4.result.now P es w)) done
+    (subst (λ (k : List ℕ). OverTrees old root (λ P es. Inserts old mid root k c.as_slice-4.result.now P es c.insert-put.result)) c.as_slice-3.ensures c.insert-put.ensures.inserts) in
     subst (Changes tree_method inst (Update key row) old new) (sym c.question.ensures)
     (Changes-alone inst key row old start new c.remove-alone.result clean (c.drop_edits.ensures ∙ c.remove-removal.ensures.given ∙ c.insert-put.ensures.given ∙ clean) (record {
       given = alone.given;
@@ -137,4 +146,4 @@ returns c =
       way = subst (λ (k : List ℕ). OnTree start root (λ P. Needs (is_on_removal_way root P k) c.remove-alone.result)) c.as_slice-6.ensures alone.way;
       edits = alone.edits;
       room = alone.room;
-    }))
+    }) (new_gets inst key row code c.in-Ok.value old (c.remove-alone.result ≡ Fresh) clean c.in-Ok.ensures (λ is P es read. (inserts P es read).0)))

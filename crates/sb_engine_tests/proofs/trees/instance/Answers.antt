@@ -1,6 +1,0 @@
-use Rattle.std.proofs.Common.{rules, refl}
-use Rattle.sb_treemethod.proofs.ExampleLaws.{IsExample-from}
-use Rattle.sb_engine_tests.proofs.trees.instance.Goals as goal
-
-pub returns : goal.returns
-returns c = IsExample-from _ refl refl (search rules) refl (search rules) (search rules)

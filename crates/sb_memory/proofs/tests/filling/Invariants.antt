@@ -1,8 +1,0 @@
-use Rattle.sb_memory.specs.Writes.{AreAmong, ArePagesTo}
-use Rattle.sb_memory.proofs.tests.filling.Given as goal
-
-abbrev pub invariant-loop-number : goal.invariant-loop-number
-invariant-loop-number l = record {
-  among : AreAmong 16384 l.writes.items;
-  whole : ArePagesTo l.writes.items;
-}
