@@ -5,7 +5,7 @@ use Rattle.std.proofs.lemmas.List.Elements.{All-nil, All-cons, All-head, All-tai
 use Rattle.sb_value.specs.declared.value.Value.{Value}
 use Rattle.sb_relation.specs.Db.{Db, Name}
 use Rattle.sb_relation.specs.Keys.{is_record_key}
-use Rattle.sb_forms.specs.Pages.{Pages, ArePages}
+use Rattle.sb_ctx.specs.Pages.{Pages, ArePages}
 use Rattle.sb_ctx.specs.View.{View, FoundIn, HoldsPart, IsClean, keys_with, holds_fresh}
 use Rattle.sb_ctx.specs.declared.instance.Instance.{Instance}
 use Rattle.sb_ctx.specs.declared.calls.AttachCall.{AttachCall}
@@ -21,7 +21,7 @@ use Rattle.sb_drive.specs.Spaces.{HoldsOf, IsReadFault, IsRefused, Leaves, Unles
 use Rattle.sb_drive.specs.Turns.{IsEnd}
 use Rattle.sb_drive.proofs.SpacesLemmas.{ArePages-few, GoesOn}
 use Rattle.sb_registry.specs.Runs.{IsFullOf, Looks, WasFull, Works}
-use Rattle.sb_rows.proofs.CallsLemmas.{FailsOn, Works-passed}
+use Rattle.sb_opened.proofs.CallsLemmas.{FailsOn, Works-passed}
 use Rattle.sb_asking.specs.declared.calls.Answer.{Answer}
 use Rattle.sb_asking.specs.Calls.{IsAsked, IsLast, found_of, knowing}
 

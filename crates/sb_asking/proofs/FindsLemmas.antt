@@ -11,11 +11,11 @@ use Rattle.sb_ctx.specs.declared.instance.Instance.{Instance}
 use Rattle.sb_ctx.specs.View.{keys_with}
 use Rattle.sb_registry.specs.Boxes.{Meanings}
 use Rattle.sb_drive.specs.Slots.{Slots}
-use Rattle.sb_rows.specs.Live.{HasRows}
+use Rattle.sb_opened.specs.Live.{HasRows}
 use Rattle.sb_catalog.specs.declared.descriptor.Descriptor.{Descriptor}
-use Rattle.sb_standing.specs.Instances.{table_instance}
-use Rattle.sb_standing.specs.Tables.{Kept, KeepsTable, Tables, db_of, kept_at, table_of}
-use Rattle.sb_standing.proofs.KeptLemmas.{kept_at-all, kept_at-name, relation_at-kept, relation_at-there}
+use Rattle.sb_opened.specs.Instances.{table_instance}
+use Rattle.sb_opened.specs.Tables.{Kept, KeepsTable, Tables, db_of, kept_at, table_of}
+use Rattle.sb_opened.proofs.KeptLemmas.{kept_at-all, kept_at-name, relation_at-kept, relation_at-there}
 use Rattle.sb_opened.specs.declared.relation.OpenRelation.{OpenRelation}
 use Rattle.sb_opened.specs.Opened.{IsDurable, IsOpen}
 

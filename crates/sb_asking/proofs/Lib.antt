@@ -1,3 +1,4 @@
+pub use Rattle.sb_opened.proofs.Faults
 pub mod FindsLemmas
 pub mod CallsLemmas
 mod VerdictsLemmas

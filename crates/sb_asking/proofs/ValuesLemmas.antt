@@ -8,7 +8,7 @@ use Rattle.sb_value.specs.Equal.{bytes_same, tuple_same}
 use Rattle.sb_pred.specs.Columns.{column_value}
 use Rattle.sb_relation.specs.Db.{Name, Row, values_in}
 use Rattle.sb_relation.specs.Rules.{has_values}
-use Rattle.sb_rows.specs.Paths.{IsFixed}
+use Rattle.sb_opened.specs.Paths.{IsFixed}
 use Rattle.sb_asking.specs.Finds.{value_at}
 
 length-filter_map : {A B : Type 0} (f : A → Option B) (xs : List A) → length (filter_map f xs) ≤ length xs

@@ -10,7 +10,7 @@ use Rattle.sb_relation.specs.Content.{Content}
 use Rattle.sb_relation.specs.Db
 use Rattle.sb_relation.specs.Db.{Name}
 use Rattle.sb_relation.specs.Rules.{admits}
-use Rattle.sb_forms.specs.Pages.{Pages}
+use Rattle.sb_ctx.specs.Pages.{Pages}
 use Rattle.sb_ctx.specs.declared.instance.Instance.{Instance}
 use Rattle.sb_ctx.specs.declared.calls.AttachCall.TheVariants as call
 use Rattle.sb_ctx.specs.declared.moves.Move.{Move}
@@ -21,13 +21,13 @@ use Rattle.sb_ctx.specs.AttachAnswers.{Admitted as AdmittedBy, Answers, BeforeCh
 use Rattle.sb_registry.specs.Boxes.{Meanings, attachment_of}
 use Rattle.sb_drive.specs.Slots.{Slots, owned}
 use Rattle.sb_drive.specs.Spaces.{Leaves, Wanted}
-use Rattle.sb_standing.specs.Asked.{Asks, changed_kept}
-use Rattle.sb_standing.specs.AskedLaws.{CanAsk, rule_of}
-use Rattle.sb_standing.specs.Standing.{IsKept}
-use Rattle.sb_standing.specs.Tables.{KeepsOthers, db_of}
-use Rattle.sb_standing.proofs.AskedLaws.{Asks-more, CanAsk-next}
-use Rattle.sb_standing.proofs.KeptChangedLemmas.{db_of-changed, rising-before}
-use Rattle.sb_standing.proofs.KeptLemmas.{kept_at-name}
+use Rattle.sb_opened.specs.Asked.{Asks, changed_kept}
+use Rattle.sb_opened.specs.AskedLaws.{CanAsk, rule_of}
+use Rattle.sb_opened.specs.Standing.{IsKept}
+use Rattle.sb_opened.specs.Tables.{KeepsOthers, db_of}
+use Rattle.sb_opened.proofs.AskedLaws.{Asks-more, CanAsk-next}
+use Rattle.sb_opened.proofs.KeptChangedLemmas.{db_of-changed, rising-before}
+use Rattle.sb_opened.proofs.KeptLemmas.{kept_at-name}
 use Rattle.sb_opened.specs.Opened.{IsDurable}
 use Rattle.sb_asking.specs.Calls.{IsAsked, IsFinal}
 use Rattle.sb_asking.specs.declared.verdicts.Verdict.{Verdict}

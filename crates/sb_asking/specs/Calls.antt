@@ -1,7 +1,7 @@
 -- What a call of an attachment says, once its finds are answered.
 use Rattle.std.specs.Prelude.{List, [], ◌∷◌}
 use Rattle.sb_relation.specs.Db.{Db}
-use Rattle.sb_forms.specs.Pages.{Pages}
+use Rattle.sb_ctx.specs.Pages.{Pages}
 use Rattle.sb_ctx.specs.declared.held.Found.{Found}
 use Rattle.sb_ctx.specs.declared.instance.Instance.{Instance}
 use Rattle.sb_ctx.specs.declared.calls.AttachCall.{AttachCall}

@@ -1,3 +1,9 @@
+pub use Rattle.sb_opened.specs.Changes
+pub use Rattle.sb_opened.specs.Maps
+pub use Rattle.sb_opened.specs.Opened
+pub use Rattle.sb_opened.specs.Place
+pub use Rattle.sb_opened.specs.Refusals
+pub use Rattle.sb_opened.specs.declared.relation.OpenRelation
 pub mod Calls
 pub mod Verdicts
 pub mod Finds

@@ -17,9 +17,9 @@ use Rattle.sb_registry.specs.Boxes.{Meanings, attachment_of}
 use Rattle.sb_drive.specs.Slots.{Slots}
 use Rattle.sb_drive.specs.Spaces.{Wanted}
 use Rattle.sb_catalog.specs.declared.descriptor.Attached.{Attached}
-use Rattle.sb_standing.specs.Instances.{rule_instance}
-use Rattle.sb_standing.specs.Tables.{Kept, KeepsOthers, db_of, kept_at}
-use Rattle.sb_standing.specs.Asked.{Asks}
+use Rattle.sb_opened.specs.Instances.{rule_instance}
+use Rattle.sb_opened.specs.Tables.{Kept, KeepsOthers, db_of, kept_at}
+use Rattle.sb_opened.specs.Asked.{Asks}
 use Rattle.sb_opened.specs.Opened.{IsDurable}
 use Rattle.sb_asking.specs.declared.verdicts.Verdict.{Verdict}
 use Rattle.sb_asking.specs.declared.verdicts.Verdict.TheVariants.{Vetoed, Admitted}

@@ -8,15 +8,15 @@ ghost use Rattle.sb_drive.specs.Slots.{Slots, owned};
 ghost use Rattle.sb_drive.specs.Spaces.{Leaves, Wanted};
 ghost use Rattle.sb_registry.specs.Live.{IsLiveRule};
 ghost use Rattle.sb_registry.specs.Runs.{IsNewFor, IsSound, Looks, Works};
-ghost use Rattle.sb_standing.specs.Standing.{StandRules};
-ghost use Rattle.sb_standing.specs.Tables.{Kept, Tables, db_of};
+ghost use Rattle.sb_opened.specs.Standing.{StandRules};
+ghost use Rattle.sb_opened.specs.Tables.{Kept, Tables, db_of};
 ghost use Rattle.sb_opened.specs.Opened.{IsDurable};
 ghost use Rattle.sb_asking.specs.Calls.{IsAsked, IsFinal, knowing};
 
 use crate::finds::find_keys;
 use sb_ctx::{AttachCall, Ctx, Instance, Keys, Move};
 use sb_drive::{PageSpace, SpaceFault};
-use sb_map::Place;
+use sb_opened::Place;
 use sb_registry::Boxes;
 use sb_value::{Names, Str, Tuple};
 use std::alloc::{AllocError, Global};

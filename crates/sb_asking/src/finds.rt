@@ -7,17 +7,15 @@ ghost use Rattle.sb_ctx.specs.View.{keys_with};
 ghost use Rattle.sb_drive.specs.Slots.{Slots};
 ghost use Rattle.sb_drive.specs.Spaces.{Wanted};
 ghost use Rattle.sb_registry.specs.Runs.{IsSound, Looks};
-ghost use Rattle.sb_standing.specs.Standing.{StandRules};
-ghost use Rattle.sb_standing.specs.Tables.{Kept, Tables, db_of};
+ghost use Rattle.sb_opened.specs.Standing.{StandRules};
+ghost use Rattle.sb_opened.specs.Tables.{Kept, Tables, db_of};
 ghost use Rattle.sb_opened.specs.Opened.{IsDurable};
 
 use crate::columns::{has_values, value_at};
 use sb_ctx::Keys;
 use sb_drive::{PageSpace, SpaceFault};
-use sb_map::Place;
-use sb_opened::open_relation;
+use sb_opened::{Place, RowTest, keys_where, open_relation};
 use sb_registry::{Boxes, has_columns};
-use sb_rows::{RowTest, keys_where};
 use sb_value::{Names, Schema, Str, Tuple, Value};
 use std::alloc::Global;
 

@@ -8,4 +8,8 @@ mod verdicts;
 
 pub use calls::ask;
 pub use finds::{ValueTest, find_keys};
+pub use sb_opened::{
+    OpenRelation, Place, check_rule, descriptor_at, next_descriptor, next_relation, open_relation,
+    put, remove, rule_instance,
+};
 pub use verdicts::{Verdict, ask_rule};

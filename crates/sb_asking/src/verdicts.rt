@@ -7,13 +7,13 @@ ghost use Rattle.sb_drive.specs.Spaces.{Wanted};
 ghost use Rattle.sb_registry.specs.Live.{IsLiveRule};
 ghost use Rattle.sb_registry.specs.Runs.{IsSound, Works};
 ghost use Rattle.sb_opened.specs.Opened.{IsDurable};
-ghost use Rattle.sb_standing.specs.Asked.{Asks};
+ghost use Rattle.sb_opened.specs.Asked.{Asks};
 ghost use Rattle.sb_asking.specs.Verdicts.{IsNext, IsVerdict, Says, Situation, verdict_in};
 
 use crate::calls::ask;
 use sb_ctx::{Actions, AttachCall, Checks, Instance, Move};
 use sb_drive::{PageSpace, SpaceFault};
-use sb_map::Place;
+use sb_opened::Place;
 use sb_registry::Boxes;
 use sb_relation::Change;
 use std::alloc::Global;

@@ -4,7 +4,7 @@ use Rattle.std.proofs.Math.Nat.{div-add-mod, pow-suc}
 use Rattle.std.proofs.lemmas.List.{length-map}
 use Rattle.std.proofs.lemmas.Bool.{lt-ltb, ltb-true, ltb-false}
 use Rattle.std.proofs.lemmas.Nat.{mod_below, mul-le}
-use Rattle.sb_fold.specs.Costs.{digits_within, digits}
+use Rattle.sb_ctx.specs.Costs.{digits_within, digits}
 use Rattle.sb_node.specs.Page.{Node}
 use Rattle.sb_forms.specs.Tree.{Nodes, Child, child_of, children_of, entries_of, over, items, met, AreChildren, IsFull, IsTree}
 

@@ -1,7 +1,7 @@
 -- A tree that meets all pages of an instance still does once it was changed.
 use Rattle.std.proofs.Common.{◌≡◌, ℕ, ◌<◌, true, false, true≢false, refl, ap, sym, ◌∙◌, inl, inr}
 use Rattle.std.proofs.lemmas.Bool.{true_from_ne_false}
-use Rattle.sb_relation.specs.Fits.{is_empty}
+use Rattle.sb_forms.specs.Fits.{is_empty}
 use Rattle.sb_forms.specs.Pages.{Pages}
 use Rattle.sb_forms.specs.Read.{has}
 use Rattle.sb_forms.specs.TreePages.{tree_met}

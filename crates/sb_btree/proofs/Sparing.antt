@@ -3,7 +3,7 @@ use Rattle.std.proofs.Common.{◌≡◌, ℕ, suc, ◌+◌, ◌-◌, ◌*◌, �
 use Rattle.std.specs.Prelude.{Result, Ok, Err}
 use Rattle.std.proofs.lemmas.List.{length-map}
 use Rattle.sb_ctx.specs.View.{View, page_of, stored, with_page, edits_of}
-use Rattle.sb_fold.specs.Costs.{digits}
+use Rattle.sb_ctx.specs.Costs.{digits}
 use Rattle.sb_forms.specs.Tree.{Nodes, child_of, children_of, entries_of, items, met, IsInner, IsTree}
 use Rattle.sb_forms.specs.TreePages.{tree_met}
 use Rattle.sb_node.specs.declared.head.Head.{Head}

@@ -1,7 +1,7 @@
 -- How many pages a tree has, and how many a change of it edits.
 use Rattle.std.proofs.Common.{ℕ, zero, suc, ◌+◌, ◌*◌, ◌≤◌, length, sym, subst, arith}
-use Rattle.sb_fold.specs.Bounds.{plain_bound}
-use Rattle.sb_fold.specs.Costs.{digits, tree_cost}
+use Rattle.sb_ctx.specs.Bounds.{plain_bound}
+use Rattle.sb_ctx.specs.Costs.{digits, tree_cost}
 use Rattle.sb_ctx.specs.View.{View, page_of, stored, edits_of}
 use Rattle.sb_forms.specs.Tree.{Nodes, nodes, items, met, IsTree, level_of}
 use Rattle.sb_forms.specs.TreePages.{tree_met}

@@ -4,7 +4,7 @@ use Rattle.std.specs.Str.{bytes_eq}
 use Rattle.std.proofs.lemmas.List.{length-map}
 use Rattle.std.proofs.lemmas.Bool.{cond-true, cond-false}
 use Rattle.std.proofs.lemmas.Option.{same_Some}
-use Rattle.sb_relation.specs.Fits.{is_empty}
+use Rattle.sb_forms.specs.Fits.{is_empty}
 use Rattle.sb_forms.specs.Pages.{zeros}
 use Rattle.sb_ctx.specs.View.{HeldPage, View, held_at, page_of, bytes_put, with_page, fresh_page, is_edited, is_freed, edits_of}
 use Rattle.sb_ctx.specs.Held.{Entries, page_in, with_bytes}

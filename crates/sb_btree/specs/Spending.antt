@@ -1,6 +1,6 @@
 -- How many pages a tree has, and what a change of it takes.
 use Rattle.std.specs.Prelude.{ℕ, ◌≡◌, ◌+◌, ◌-◌, ◌*◌, ◌<◌, ◌≤◌, cond, List, length, filter, Option, Some, None, Result, Ok, Err}
-use Rattle.sb_fold.specs.Bounds.{plain_bound}
+use Rattle.sb_ctx.specs.Bounds.{plain_bound}
 use Rattle.sb_forms.specs.Pages.{Pages}
 use Rattle.sb_forms.specs.Read.{read_tree}
 use Rattle.sb_forms.specs.Tree.{Nodes, entries_of, items, met}

@@ -2,7 +2,7 @@
 
 ghost use Rattle.std.specs.Prelude.{◌≡◌, ◌≢◌, ◌+◌, ◌-◌, ◌*◌, ◌<◌, ◌≤◌, ◌⊎◌, length, true, false, Some, None, IfOk, IfErr, OnOk, MatchOption};
 ghost use Rattle.sb_ctx.specs.View.{dropped, edits_of, free_page, page_of, room_of, stored, with_page};
-ghost use Rattle.sb_fold.specs.Costs.{tree_cost};
+ghost use Rattle.sb_ctx.specs.Costs.{tree_cost};
 ghost use Rattle.std.specs.FinMap.Entries.{find};
 ghost use Rattle.sb_node.specs.Entries.{key_cmp, size_of};
 ghost use Rattle.sb_node.specs.Page.{has_form, node_in, node_of};

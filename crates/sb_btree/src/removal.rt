@@ -2,7 +2,7 @@
 
 ghost use Rattle.std.specs.Prelude.{◌≡◌, ◌<◌, ◌≤◌, ◌+◌, ◌-◌, ◌*◌, length, true, Some, IsSome, IfOk, IfErr};
 ghost use Rattle.sb_ctx.specs.View.{dropped, edits_of, page_of, room_of, stored};
-ghost use Rattle.sb_fold.specs.Costs.{digits};
+ghost use Rattle.sb_ctx.specs.Costs.{digits};
 ghost use Rattle.sb_node.specs.Page.{has_form, node_in};
 ghost use Rattle.sb_btree.specs.Broken.{breaks, breaks_below, held_node};
 ghost use Rattle.sb_btree.specs.Held.{IsRootPage};

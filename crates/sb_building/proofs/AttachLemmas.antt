@@ -34,9 +34,9 @@ use Rattle.sb_drive.specs.Spaces.{Wanted}
 use Rattle.sb_standing.specs.Tables.{Kept, db_of}
 use Rattle.sb_standing.proofs.KeptLemmas.{IsThere, kept_at-relation}
 use Rattle.sb_standing.proofs.RuleLemmas.{with_rule-alone}
-use Rattle.sb_engine.specs.declared.running.Work.{Work as Beside}
-use Rattle.sb_engine.specs.Refusals.{HasRefusalCause}
-use Rattle.sb_engine.specs.Working.{ArePaired, IsNoneGone, Stands, extensions_of}
+use Rattle.sb_tables.specs.Work.{Work as Beside}
+use Rattle.sb_tables.specs.Refusals.{HasRefusalCause}
+use Rattle.sb_tables.specs.Working.{ArePaired, IsNoneGone, Stands, extensions_of}
 use Rattle.sb_tables.specs.Keeping.{KeepsDb}
 use Rattle.sb_building.specs.declared.attaching.Attaching.{Attaching}
 use Rattle.sb_building.specs.declared.attaching.Attaching.TheVariants.{TooLarge, TooLong, Vetoed, Attached}

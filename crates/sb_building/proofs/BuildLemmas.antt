@@ -19,7 +19,7 @@ use Rattle.sb_drive.specs.Slots.{Slots, owned}
 use Rattle.sb_drive.specs.Spaces.{Leaves, Wanted}
 use Rattle.sb_rows.specs.Live.{HasRows}
 use Rattle.sb_standing.specs.Tables.{KeepsOthers, db_of, table_of}
-use Rattle.sb_opened.specs.Opened.{IsDurable}
+use Rattle.sb_tables.specs.Opened.{IsDurable}
 use Rattle.sb_building.specs.Building.{HasNoLong, HoldsBuilt, IsBuilt, IsBuiltOver, IsNext, content_built}
 use Rattle.sb_building.specs.Held.{holds_of}
 use Rattle.sb_building.specs.Instances.{IsSite, Site}

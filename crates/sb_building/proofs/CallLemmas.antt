@@ -7,8 +7,8 @@ use Rattle.sb_drive.specs.Spaces.{IsRefused, LeadsOn}
 use Rattle.sb_drive.proofs.SpacesLemmas.{GoesOn}
 use Rattle.sb_owners.specs.Instances.{IsUnbroken}
 use Rattle.sb_registry.specs.Runs.{IsSound}
-use Rattle.sb_engine.specs.Refusals.{HasRefusalCause, refusal_of}
-use Rattle.sb_engine.proofs.RefusedLemmas.{refused_cause}
+use Rattle.sb_tables.specs.Refusals.{HasRefusalCause, refusal_of}
+use Rattle.sb_tables.proofs.RefusedLemmas.{refused_cause}
 
 -- a number of changes leads on behind another
 pub leads_then : {S : Type 0} (Leads : ℕ → S → S → Type 0) → GoesOn Leads → (a b c : S) → LeadsOn Leads a b → LeadsOn Leads b c → LeadsOn Leads a c

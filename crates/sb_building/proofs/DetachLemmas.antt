@@ -25,15 +25,15 @@ use Rattle.sb_catalog.specs.declared.descriptor.Descriptor.{Descriptor}
 use Rattle.sb_catalog.specs.Descriptors.{described, standing}
 use Rattle.sb_drive.specs.Slots.{Slots}
 use Rattle.sb_drive.specs.Spaces.{Wanted}
-use Rattle.sb_map.specs.declared.place.Place.{Place}
+use Rattle.sb_tables.specs.Place.{Place}
 use Rattle.sb_standing.specs.Tables.{Kept, KeepsTable, db_of, kept_at}
 use Rattle.sb_standing.proofs.KeptLemmas.{kept_at-all, relation_at-none, relation_at-there}
 use Rattle.sb_standing.proofs.RuleLemmas.{heads, tails}
-use Rattle.sb_opened.specs.Opened.{IsDurable}
-use Rattle.sb_engine.specs.declared.running.Running.{Running}
-use Rattle.sb_engine.specs.declared.running.Work.{Work as Beside}
-use Rattle.sb_engine.specs.Working.{Stands, StandsFor, extensions_in, extensions_of, left_of}
-use Rattle.sb_engine.proofs.GoneLemmas.{with_gone-some}
+use Rattle.sb_tables.specs.Opened.{IsDurable}
+use Rattle.sb_tables.specs.Running.{Running}
+use Rattle.sb_tables.specs.Work.{Work as Beside}
+use Rattle.sb_tables.specs.Working.{Stands, StandsFor, extensions_in, extensions_of, left_of}
+use Rattle.sb_tables.proofs.GoneLemmas.{with_gone-some}
 use Rattle.sb_tables.specs.Keeping.{Closes, KeepsDb, KeepsIn}
 use Rattle.sb_tables.proofs.StandsLemmas.{stands_on}
 use Rattle.sb_building.specs.Detaching.{MayDetach, mirror_among, mirror_named, without_both}

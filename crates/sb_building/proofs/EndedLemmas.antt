@@ -40,9 +40,9 @@ use Rattle.sb_standing.proofs.PutLemmas.{All-put}
 use Rattle.sb_standing.proofs.RuleLemmas.{IsKept-attached, Keeps-attached, db_of-attached, described-with}
 use Rattle.sb_standing.proofs.StandLemmas.{StandRules-keeps}
 use Rattle.sb_rows.specs.Live.{HasRows}
-use Rattle.sb_opened.specs.declared.relation.OpenRelation.{OpenRelation}
-use Rattle.sb_opened.specs.Opened.{IsDurable, IsOpen, rule_of}
-use Rattle.sb_engine.specs.Working.{AreLasting, IsLasting}
+use Rattle.sb_tables.specs.OpenRelation.{OpenRelation}
+use Rattle.sb_tables.specs.Opened.{IsDurable, IsOpen, rule_of}
+use Rattle.sb_tables.specs.Working.{AreLasting, IsLasting}
 use Rattle.sb_tables.specs.Keeping.{KeepsDb}
 use Rattle.sb_building.specs.Attaching.{HasBegun, IsEntryOf, IsRoomy, IsStore, MayAdd, Stores, new_attached}
 use Rattle.sb_building.specs.Building.{HasNoLong, IsBuiltOver, content_built}

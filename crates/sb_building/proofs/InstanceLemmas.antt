@@ -28,8 +28,8 @@ use Rattle.sb_standing.specs.Standing.{IsOwner, StandsRule, is_join}
 use Rattle.sb_standing.specs.Tables.{Kept, KeepsTable, KeepsOthers, Tables, db_of, kept_at}
 use Rattle.sb_standing.proofs.KeptLemmas.{kept_at-all, relation_at-there}
 use Rattle.sb_standing.proofs.LawfulLemmas.{AreLawful-tables, roots-tables}
-use Rattle.sb_opened.specs.Opened.{IsDurable, OwnsPages, rule_of}
-use Rattle.sb_engine.specs.Refusals.{HasRefusalCause, refusal_of}
+use Rattle.sb_tables.specs.Opened.{IsDurable, OwnsPages, rule_of}
+use Rattle.sb_tables.specs.Refusals.{HasRefusalCause, refusal_of}
 use Rattle.sb_building.specs.Attaching.{HasBegun, IsEntered, IsEntryOf, IsStore, MayAdd}
 use Rattle.sb_building.specs.Building.{content_built}
 use Rattle.sb_building.specs.Instances.{HasNewPages, HoldsFirst, IsApart, IsPlaced, IsSite, Site}

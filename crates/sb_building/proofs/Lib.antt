@@ -1,3 +1,7 @@
+pub use Rattle.sb_tables.proofs.OpenedLemmas
+pub use Rattle.sb_tables.proofs.OpeningLemmas
+pub use Rattle.sb_tables.proofs.RefusedLemmas
+pub use Rattle.sb_tables.proofs.StandingLemmas
 pub mod RowsLemmas
 pub mod HeldLemmas
 pub mod ContentLemmas

@@ -27,9 +27,9 @@ use Rattle.sb_catalog.specs.declared.descriptor.Descriptor.{Descriptor}
 use Rattle.sb_catalog.specs.Descriptors.{descriptor_spelling, IsStorableAttached, IsStorableDescriptor}
 use Rattle.sb_standing.specs.Standing.{with_described}
 use Rattle.sb_standing.specs.Tables.{Kept, db_of, entry_of, kept_at, table_of}
-use Rattle.sb_opened.specs.declared.relation.OpenRelation.{OpenRelation}
-use Rattle.sb_opened.specs.Opened.{IsDurable, IsOpen, rule_of}
-use Rattle.sb_engine.specs.Refusals.{HasRefusalCause, refusal_of}
+use Rattle.sb_tables.specs.OpenRelation.{OpenRelation}
+use Rattle.sb_tables.specs.Opened.{IsDurable, IsOpen, rule_of}
+use Rattle.sb_tables.specs.Refusals.{HasRefusalCause, refusal_of}
 use Rattle.sb_building.specs.declared.attaching.Attaching.{Attaching}
 use Rattle.sb_building.specs.declared.attaching.Attaching.TheVariants.{TooLong, Vetoed, Attached as Done}
 use Rattle.sb_building.specs.Attaching.{HasBegun, HasEnded, IsEntryOf, IsRoomy, IsStore, MayAdd, Stores}

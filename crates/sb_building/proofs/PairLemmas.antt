@@ -11,7 +11,7 @@ use Rattle.sb_relation.proofs.RuleLaws.{mirrors-mirror}
 use Rattle.sb_fold.specs.Building.{rule_at, without_attached, without_mirror, without_rule, HasMirror}
 use Rattle.sb_fold.specs.Fold.{attachments_at}
 use Rattle.sb_deferred.specs.Complete.{AreMirrored}
-use Rattle.sb_engine.specs.Working.{ArePaired, HasMainOf}
+use Rattle.sb_tables.specs.Working.{ArePaired, HasMainOf}
 use Rattle.sb_building.specs.Attaching.{new_attached}
 use Rattle.sb_building.proofs.NameLemmas.{All-attached, All-left, IsLeft, found-all, rule_at-left, rule_at-new, rule_at-still}
 

@@ -31,8 +31,8 @@ use Rattle.sb_standing.specs.Tables.{Kept, KeepsOthers, KeepsTable, Tables, db_o
 use Rattle.sb_standing.proofs.KeptLemmas.{kept_at-all, relation_at-there}
 use Rattle.sb_standing.proofs.LawfulLemmas.{AreRows-table}
 use Rattle.sb_standing.proofs.PagesLemmas.{Tables-pages}
-use Rattle.sb_opened.specs.Opened.{IsDurable}
-use Rattle.sb_asking.specs.Calls.{IsAsked, IsFinal}
+use Rattle.sb_tables.specs.Opened.{IsDurable}
+use Rattle.sb_tables.specs.Calls.{IsAsked, IsFinal}
 use Rattle.sb_building.specs.Building.{HoldsBuilt, IsBuilding, IsBuilt, IsNext, content_built, is_done}
 use Rattle.sb_building.specs.Instances.{IsApart, IsSite, Site}
 use Rattle.sb_building.proofs.ContentLemmas.{content-next}

@@ -21,9 +21,9 @@ use Rattle.sb_cascade.proofs.Stopping.{stops_free}
 use Rattle.sb_registry.specs.Boxes.{Meanings}
 use Rattle.sb_drive.specs.Slots.{Slots}
 use Rattle.sb_drive.specs.Spaces.{Wanted}
-use Rattle.sb_opened.specs.declared.relation.OpenRelation.{OpenRelation}
-use Rattle.sb_engine.specs.declared.running.Work.{Work as Beside}
-use Rattle.sb_engine.specs.Working.{AreOpened, ArePaired, IsNoneGone, IsOpened, Stands, extensions_of, left_of}
+use Rattle.sb_tables.specs.OpenRelation.{OpenRelation}
+use Rattle.sb_tables.specs.Work.{Work as Beside}
+use Rattle.sb_tables.specs.Working.{AreOpened, ArePaired, IsNoneGone, IsOpened, Stands, extensions_of, left_of}
 use Rattle.sb_tables.specs.Keeping.{KeepsDb}
 
 -- ---- trails

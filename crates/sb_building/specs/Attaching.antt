@@ -22,8 +22,8 @@ use Rattle.sb_catalog.specs.declared.descriptor.Descriptor.{Descriptor}
 use Rattle.sb_catalog.specs.Descriptors.{descriptor_spelling, IsCountedRule, IsStorableAttached}
 use Rattle.sb_standing.specs.Tables.{KeepsOthers, Tables, db_of, kept_at}
 use Rattle.sb_standing.specs.Standing.{IsOwner, Keeps, StandRules, is_join, with_described}
-use Rattle.sb_opened.specs.Opened.{IsDurable, OwnsPages}
-use Rattle.sb_engine.specs.Working.{AreLasting}
+use Rattle.sb_tables.specs.Opened.{IsDurable, OwnsPages}
+use Rattle.sb_tables.specs.Working.{AreLasting}
 use Rattle.sb_tables.specs.Keeping.{KeepsDb}
 use Rattle.sb_building.specs.declared.attaching.Attaching.{Attaching}
 use Rattle.sb_building.specs.declared.attaching.Attaching.TheVariants.{TooLarge, TooLong, Vetoed, Attached as Done}

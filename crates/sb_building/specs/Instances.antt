@@ -11,7 +11,7 @@ use Rattle.sb_drive.specs.Slots.{Slots, owned}
 use Rattle.sb_drive.specs.Spaces.{Wanted}
 use Rattle.sb_standing.specs.Tables.{Kept, KeepsOthers, Tables, db_of, kept_at}
 use Rattle.sb_standing.specs.Standing.{IsOwner, StandRules}
-use Rattle.sb_opened.specs.Opened.{IsDurable}
+use Rattle.sb_tables.specs.Opened.{IsDurable}
 
 -- ---- a new instance's place
 -- It has an owner that had no page, with a root of zeros, where its code keeps pages, and else none; the pages of all others stay.

@@ -1,3 +1,15 @@
+pub use Rattle.sb_standing.specs.Standing
+pub use Rattle.sb_standing.specs.Tables
+pub use Rattle.sb_tables.specs.Creation
+pub use Rattle.sb_tables.specs.Goings
+pub use Rattle.sb_tables.specs.OpenRelation
+pub use Rattle.sb_tables.specs.Opened
+pub use Rattle.sb_tables.specs.Opening
+pub use Rattle.sb_tables.specs.Removal
+pub use Rattle.sb_tables.specs.Running
+pub use Rattle.sb_tables.specs.Wished
+pub use Rattle.sb_tables.specs.Work
+pub use Rattle.sb_tables.specs.Working
 pub mod Held
 pub mod Instances
 pub mod Building

@@ -9,20 +9,18 @@ ghost use Rattle.sb_ctx.specs.Attachment.{MayHold};
 ghost use Rattle.sb_drive.specs.Spaces.{LeadsOn, Leaves};
 ghost use Rattle.sb_registry.specs.Live.{IsLive, IsLiveRule};
 ghost use Rattle.sb_standing.specs.Tables.{db_of, table_of};
-ghost use Rattle.sb_opened.specs.Opened.{IsDurable};
-ghost use Rattle.sb_engine.specs.Refusals.{HasRefusalCause, refusal_of};
+ghost use Rattle.sb_tables.specs.Opened.{IsDurable};
+ghost use Rattle.sb_tables.specs.Refusals.{HasRefusalCause, refusal_of};
 ghost use Rattle.sb_building.specs.Building.{HasNoLong, HoldsBuilt, IsBuilt, IsBuiltOver, IsNext, is_done};
 ghost use Rattle.sb_building.specs.Instances.{HasNewPages, HoldsFirst, IsSite, Site};
 
-use sb_asking::ask;
 use sb_ctx::{AttachCall, Instance, Move};
 use sb_drive::{PageSpace, SpaceFault};
-use sb_map::Place;
 use sb_registry::Boxes;
 use sb_rows::next_row;
 use sb_rule::Rule;
+use sb_tables::{Place, ask, is_long_for};
 use sb_value::{RecKey, Tuple};
-use sb_wishes::is_long_for;
 use std::alloc::Global;
 
 /// More rows than a relation has.

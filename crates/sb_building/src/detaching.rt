@@ -6,20 +6,17 @@ ghost use Rattle.sb_relation.specs.Db.{Attached as Standing, Db};
 ghost use Rattle.sb_fold.specs.Building as fold;
 ghost use Rattle.sb_fold.specs.Outcome.{Going};
 ghost use Rattle.sb_cascade.specs.Runs.{MadeFrom, StopsFrom, is_free};
-ghost use Rattle.sb_engine.specs.Refusals.{HasRefusalCause, refusal_of};
-ghost use Rattle.sb_engine.specs.Working.{Goes, IsServing, IsStoppedBy, StandsFor, extensions_in};
+ghost use Rattle.sb_tables.specs.Refusals.{HasRefusalCause, refusal_of};
+ghost use Rattle.sb_tables.specs.Working.{Goes, IsServing, IsStoppedBy, StandsFor, extensions_in};
 ghost use Rattle.sb_registry.specs.Runs.{Looks};
 ghost use Rattle.sb_tables.specs.Keeping.{Closes, KeepsDb, KeepsIn};
 ghost use Rattle.sb_building.specs.Detaching.{MayDetach, mirror_among, mirror_named, without_both};
 
 use sb_catalog::Attached;
 use sb_drive::{PageSpace, SpaceFault};
-use sb_engine::{Running, refusal_of};
 use sb_fold::Refusal;
-use sb_map::Place;
-use sb_opened::open_relation;
 use sb_registry::Boxes;
-use sb_tables::{detach_named, mirror_name, mirrored};
+use sb_tables::{Place, Running, detach_named, mirror_name, mirrored, open_relation, refusal_of};
 use sb_value::Str;
 use std::alloc::{AllocError, Global};
 

@@ -11,8 +11,8 @@ ghost use Rattle.sb_registry.specs.Live.{IsLiveRule};
 ghost use Rattle.sb_registry.specs.Runs.{IsSound, Looks};
 ghost use Rattle.sb_standing.specs.Standing.{StandsRule};
 ghost use Rattle.sb_standing.specs.Tables.{db_of};
-ghost use Rattle.sb_opened.specs.Opened.{OverTables, OwnsPages, rule_of};
-ghost use Rattle.sb_engine.specs.Refusals.{HasRefusalCause, refusal_of};
+ghost use Rattle.sb_tables.specs.Opened.{OverTables, OwnsPages, rule_of};
+ghost use Rattle.sb_tables.specs.Refusals.{HasRefusalCause, refusal_of};
 ghost use Rattle.sb_building.specs.Attaching.{HasBegun, IsEntered, IsEntryOf, IsStore, MayAdd};
 ghost use Rattle.sb_building.specs.Instances.{IsPlaced, Site};
 
@@ -21,11 +21,10 @@ use crate::rules::code_of;
 use sb_catalog::Attached;
 use sb_ctx::Instance;
 use sb_drive::{PageSpace, SpaceFault};
-use sb_map::Place;
-use sb_opened::{OpenRelation, check_rule, rule_instance};
 use sb_owners::Owners;
 use sb_registry::Boxes;
 use sb_rule::Rule;
+use sb_tables::{OpenRelation, Place, check_rule, rule_instance};
 use sb_value::Str;
 use std::alloc::{AllocError, Global};
 

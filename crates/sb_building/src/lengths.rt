@@ -15,8 +15,8 @@ use sb_drive::{PageSpace, SpaceFault};
 use sb_registry::Boxes;
 use sb_rows::{RowTest, rows_where};
 use sb_rule::Rule;
+use sb_tables::is_long_for;
 use sb_value::{RecKey, Schema, Str, Tuple, Value};
-use sb_wishes::is_long_for;
 use std::alloc::Global;
 
 /// Passes the rows of which the rule would keep too long a code.

@@ -11,3 +11,6 @@ mod rules;
 
 pub use attaching::attach;
 pub use detaching::detach;
+pub use sb_tables::{
+    OpenRelation, Place, Running, create, drop_relation, open_at, open_named, prepare, refusal_of,
+};

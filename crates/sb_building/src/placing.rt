@@ -10,14 +10,13 @@ ghost use Rattle.sb_drive.specs.Spaces.{LeadsOn, Leaves};
 ghost use Rattle.sb_catalog.specs.Descriptors.{descriptor_spelling, IsStorableAttached, IsStorableDescriptor};
 ghost use Rattle.sb_standing.specs.Standing.{with_described};
 ghost use Rattle.sb_standing.specs.Tables.{entry_of};
-ghost use Rattle.sb_engine.specs.Refusals.{HasRefusalCause, refusal_of};
+ghost use Rattle.sb_tables.specs.Refusals.{HasRefusalCause, refusal_of};
 ghost use Rattle.sb_building.specs.Attaching.{IsRoomy};
 ghost use Rattle.sb_building.specs.Instances.{Site};
 
 use sb_catalog::{Attached, AttachedList, Descriptor, descriptor_len};
 use sb_drive::{PageSpace, SpaceFault};
-use sb_map::Place;
-use sb_tables::enter;
+use sb_tables::{Place, enter};
 use sb_value::Str;
 use std::alloc::{AllocError, Global};
 

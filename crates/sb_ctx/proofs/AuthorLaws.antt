@@ -14,9 +14,9 @@ use Rattle.sb_rule.specs.declared.change.Change.{Change}
 use Rattle.sb_rule.specs.declared.rule.Rule.{Rule}
 use Rattle.sb_rule.specs.declared.rule.Rule.TheVariants.{TreeIndex, HashIndex, JoinIndex, Stats, Check, Refers, Trigger, Foreign}
 use Rattle.sb_rule.specs.Spelling.{SpellsRule}
-use Rattle.sb_relation.specs.Changes.{changed, changed_rows, with_change}
-use Rattle.sb_relation.specs.Db.{Name, Key, Row, Rows, Relation, Db, relation_at, row_at, rows_at, with_relation, with_row, with_rows, without_row}
-use Rattle.sb_relation.specs.Fits.{is_empty}
+use Rattle.sb_forms.specs.Changes.{changed, changed_rows, with_change}
+use Rattle.sb_forms.specs.Db.{Name, Key, Row, Rows, Relation, Db, relation_at, row_at, rows_at, with_relation, with_row, with_rows, without_row}
+use Rattle.sb_forms.specs.Fits.{is_empty}
 use Rattle.sb_forms.specs.Pages.{Pages, page_numbers, page_count}
 use Rattle.sb_ctx.specs.View.{HeldPage, View, held_at, given_at, is_edited, is_freed, edits_of, dropped, page_of, with_page, HoldsPart, stored}
 use Rattle.sb_ctx.specs.Held.{Entries, with_bytes}

@@ -8,10 +8,10 @@ use Rattle.std.proofs.lemmas.List.Elements.{All-nil}
 use Rattle.std.proofs.lemmas.List.Filters.{length-filter_both}
 use Rattle.std.proofs.lemmas.List.FromFn.{length-range_with_len}
 use Rattle.sb_value.specs.declared.value.Value.{Value}
-use Rattle.sb_relation.specs.Content.{Content}
-use Rattle.sb_relation.specs.Db.{Key, Rows}
-use Rattle.sb_relation.specs.Fits.{is_empty}
-use Rattle.sb_relation.specs.Keys.{Picked, is_record_key, keying_of, new_keys}
+use Rattle.sb_forms.specs.Content.{Content}
+use Rattle.sb_forms.specs.Db.{Key, Rows}
+use Rattle.sb_forms.specs.Fits.{is_empty}
+use Rattle.sb_forms.specs.Keys.{Picked, is_record_key, keying_of, new_keys}
 use Rattle.sb_forms.specs.Pages.{Pages, page_numbers, page_count}
 use Rattle.sb_ctx.specs.declared.instance.Instance.{Instance}
 use Rattle.sb_ctx.specs.declared.calls.MethodCall.{MethodCall}

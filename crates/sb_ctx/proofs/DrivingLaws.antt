@@ -5,8 +5,8 @@ use Rattle.std.specs.Option.{option_eq}
 use Rattle.std.proofs.lemmas.Bool.{cond-true}
 use Rattle.std.proofs.lemmas.List.Elements.{All-nil, All-cons}
 use Rattle.std.proofs.lemmas.Option.{same_Some}
-use Rattle.sb_relation.specs.Db.{Db}
-use Rattle.sb_relation.specs.Keys.{is_record_key}
+use Rattle.sb_forms.specs.Db.{Db}
+use Rattle.sb_forms.specs.Keys.{is_record_key}
 use Rattle.sb_forms.specs.Pages.{Pages, ArePages, IsNext}
 use Rattle.sb_ctx.specs.declared.held.Found.{Found}
 use Rattle.sb_ctx.specs.View.{HeldPage, View, nothing, held_at, page_of, next_of, as_given, dropped, with_held, given_page, fresh_page, with_next, with_found, HoldsPart, FoundIn, keys_with, IsClean}

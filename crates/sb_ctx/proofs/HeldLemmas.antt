@@ -8,7 +8,7 @@ use Rattle.std.proofs.lemmas.List.Folds.{find_at}
 use Rattle.std.proofs.lemmas.List.Quantifiers.{position-Some}
 use Rattle.std.proofs.lemmas.List.Sums.{take_while-cons}
 use Rattle.std.proofs.lemmas.Option.{slice_get_within, slice_get_read, slice_get_past, cond_some, same_Some}
-use Rattle.sb_relation.specs.Fits.{is_empty}
+use Rattle.sb_forms.specs.Fits.{is_empty}
 use Rattle.sb_ctx.specs.declared.held.Use.{Use}
 use Rattle.sb_ctx.specs.declared.held.Use.TheVariants.{Given, Edited, Freed, Fresh, Taken}
 use Rattle.sb_ctx.specs.Uses.{is_fresh_use, IsKept}

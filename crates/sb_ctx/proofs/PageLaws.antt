@@ -1,8 +1,8 @@
 -- The pages of an instance are whole, also once what a call made of them is stored; and no page of formed ones is called broken.
 use Rattle.std.proofs.Common.{◌≡◌, ◌≢◌, ℕ, ◌≤◌, Bool, true, false, cond, List, [], ◌∷◌, length, Option, Some, None, option_map, refl, sym, ap, ◌∙◌, arith, true≢false}
 use Rattle.std.proofs.lemmas.List.{nil_from_length}
-use Rattle.sb_relation.specs.Content.{Content}
-use Rattle.sb_relation.specs.Db.{Rows}
+use Rattle.sb_forms.specs.Content.{Content}
+use Rattle.sb_forms.specs.Db.{Rows}
 use Rattle.sb_forms.specs.Pages.{Pages, IsWhole, ArePages}
 use Rattle.sb_ctx.specs.declared.instance.Instance.{Instance}
 use Rattle.sb_ctx.specs.declared.moves.Move.TheVariants.{Broken}

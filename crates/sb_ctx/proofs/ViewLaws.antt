@@ -3,7 +3,7 @@ use Rattle.std.proofs.Common.{◌≡◌, ℕ, ◌<◌, ◌==◌, Bool, true, fal
 use Rattle.std.specs.List.{find as first}
 use Rattle.std.proofs.lemmas.Bool.{and_parts, and_right, cond-true, cond-false}
 use Rattle.std.proofs.lemmas.Option.{same_Some}
-use Rattle.sb_relation.specs.Fits.{is_empty}
+use Rattle.sb_forms.specs.Fits.{is_empty}
 use Rattle.sb_forms.specs.Pages.{Pages, IsNext}
 use Rattle.sb_ctx.specs.View.{HeldPage, View, held_at, page_of, room_of, next_of, bytes_put, with_page, free_page, as_given, dropped, HoldsPart, stored}
 use Rattle.sb_ctx.specs.Held.{Entries, page_in, with_bytes}

@@ -8,14 +8,14 @@ use Rattle.sb_rule.specs.declared.change.Change.{Change}
 use Rattle.sb_rule.specs.declared.change.Change.TheVariants as change
 use Rattle.sb_rule.specs.declared.rule.Rule.{Rule}
 use Rattle.sb_rule.specs.declared.rule.Rule.TheVariants.{TreeIndex, Check, Refers}
-use Rattle.sb_relation.specs.Buckets.{first_buckets, next_buckets}
-use Rattle.sb_relation.specs.Changes.{changed, changed_rows}
-use Rattle.sb_relation.specs.Content.{Content, content, page_content}
-use Rattle.sb_relation.specs.Db.{Key, Row, Rows, Db, row_at, rows_at, with_row, with_rows}
-use Rattle.sb_relation.specs.Images.{Entry, is_before}
-use Rattle.sb_relation.specs.Keys.{is_record_key}
-use Rattle.sb_relation.specs.Lawful.{AreRows}
-use Rattle.sb_relation.specs.Rules.{admits, follows, late_actions, late_checks, holds, entry_fails}
+use Rattle.sb_forms.specs.Buckets.{first_buckets, next_buckets}
+use Rattle.sb_forms.specs.Changes.{changed, changed_rows}
+use Rattle.sb_forms.specs.Content.{Content, content, page_content}
+use Rattle.sb_forms.specs.Db.{Key, Row, Rows, Db, row_at, rows_at, with_row, with_rows}
+use Rattle.sb_forms.specs.Images.{Entry, is_before}
+use Rattle.sb_forms.specs.Keys.{is_record_key}
+use Rattle.sb_forms.specs.Lawful.{AreRows}
+use Rattle.sb_forms.specs.Rules.{admits, follows, late_actions, late_checks, holds, entry_fails}
 use Rattle.sb_forms.specs.Pages.{Pages, new_pages}
 use Rattle.sb_ctx.specs.declared.instance.Instance.{Instance}
 use Rattle.sb_ctx.specs.declared.calls.AttachCall.{AttachCall}

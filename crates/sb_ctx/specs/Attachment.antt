@@ -9,12 +9,12 @@ use Rattle.sb_rule.specs.declared.rule.Rule.{Rule}
 use Rattle.sb_rule.specs.declared.rule.Rule.TheVariants.{JoinIndex}
 use Rattle.sb_rule.specs.Bound.{row_before, row_after}
 use Rattle.sb_rule.specs.Spelling.{SpellsRule}
-use Rattle.sb_relation.specs.Content.{Content}
-use Rattle.sb_relation.specs.Db.{Name, Key, Row, Rows, Relation, Db, relation_at, row_at}
-use Rattle.sb_relation.specs.Fits.{MayStand}
-use Rattle.sb_relation.specs.Foreign.{AttachRules}
-use Rattle.sb_relation.specs.Keys.{is_record_key}
-use Rattle.sb_relation.specs.Lawful.{IsRow, AreRows, is_long_for}
+use Rattle.sb_forms.specs.Content.{Content}
+use Rattle.sb_forms.specs.Db.{Name, Key, Row, Rows, Relation, Db, relation_at, row_at}
+use Rattle.sb_forms.specs.Fits.{MayStand}
+use Rattle.sb_forms.specs.Foreign.{AttachRules}
+use Rattle.sb_forms.specs.Keys.{is_record_key}
+use Rattle.sb_forms.specs.Lawful.{IsRow, AreRows, is_long_for}
 use Rattle.sb_forms.specs.Pages.{Pages}
 use Rattle.sb_ctx.specs.declared.instance.Instance.{Instance}
 use Rattle.sb_ctx.specs.declared.calls.AttachCall.{AttachCall}

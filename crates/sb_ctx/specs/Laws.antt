@@ -3,9 +3,9 @@ use Rattle.std.specs.Prelude.{◌≡◌, ◌≢◌, ◌+◌, ◌*◌, ◌<◌, �
 use Rattle.std.specs.Ordering.{is_lt}
 use Rattle.sb_value.specs.declared.value.Value.{Value}
 use Rattle.sb_value.specs.Order.{bytes_cmp}
-use Rattle.sb_relation.specs.Content.{Content, no_content, are_rising}
-use Rattle.sb_relation.specs.Db.{Key, Rows}
-use Rattle.sb_relation.specs.Lawful.{AreRows}
+use Rattle.sb_forms.specs.Content.{Content, no_content, are_rising}
+use Rattle.sb_forms.specs.Db.{Key, Rows}
+use Rattle.sb_forms.specs.Lawful.{AreRows}
 use Rattle.sb_fold.specs.Bounds.{plain_bound}
 use Rattle.sb_fold.specs.Costs.{tree_cost}
 use Rattle.sb_forms.specs.Pages.{Pages, ArePages, page_count}

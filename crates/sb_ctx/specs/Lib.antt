@@ -1,3 +1,14 @@
+pub use Rattle.sb_fold.specs.Bounds
+pub use Rattle.sb_fold.specs.Costs
+pub use Rattle.sb_forms.specs.Changes
+pub use Rattle.sb_forms.specs.Content
+pub use Rattle.sb_forms.specs.Db
+pub use Rattle.sb_forms.specs.Fits
+pub use Rattle.sb_forms.specs.Foreign
+pub use Rattle.sb_forms.specs.Keys
+pub use Rattle.sb_forms.specs.Lawful
+pub use Rattle.sb_forms.specs.Maps
+pub use Rattle.sb_forms.specs.Pages
 pub mod View
 pub mod Held
 pub mod Sound

@@ -1,10 +1,10 @@
 -- What a box of a storage method means, and the conditions of its calls.
 use Rattle.std.specs.Prelude.{◌≡◌, ◌≢◌, ℕ, ◌^◌, Bool, true, false, [], Option, Some}
-use Rattle.sb_relation.specs.Db.{Key, Row, Rows, values_in}
-use Rattle.sb_relation.specs.Fits.{MayKeep}
-use Rattle.sb_relation.specs.Foreign.{MethodRules}
-use Rattle.sb_relation.specs.Keys.{keying_of, Coded}
-use Rattle.sb_relation.specs.Lawful.{IsRow, is_long_code}
+use Rattle.sb_forms.specs.Db.{Key, Row, Rows, values_in}
+use Rattle.sb_forms.specs.Fits.{MayKeep}
+use Rattle.sb_forms.specs.Foreign.{MethodRules}
+use Rattle.sb_forms.specs.Keys.{keying_of, Coded}
+use Rattle.sb_forms.specs.Lawful.{IsRow, is_long_code}
 use Rattle.sb_value.specs.Code.{ordered_code}
 use Rattle.sb_forms.specs.Pages.{Pages}
 use Rattle.sb_ctx.specs.declared.instance.Instance.{Instance}

@@ -3,9 +3,9 @@ use Rattle.std.specs.Prelude.{◌≡◌, ℕ, ◌+◌, ◌-◌, ◌<◌, ◌≤�
 use Rattle.std.specs.Ordering.{is_lt}
 use Rattle.std.specs.List.{find as first}
 use Rattle.sb_value.specs.Order.{bytes_cmp}
-use Rattle.sb_relation.specs.Db.{Key, Row, Rows, row_at, with_row, without_row}
-use Rattle.sb_relation.specs.Keys.{NewKeys, AnyOf, Just, Taken, NoGreater, keying_of, new_keys, is_record_key}
-use Rattle.sb_relation.specs.Lawful.{IsRow}
+use Rattle.sb_forms.specs.Db.{Key, Row, Rows, row_at, with_row, without_row}
+use Rattle.sb_forms.specs.Keys.{NewKeys, AnyOf, Just, Taken, NoGreater, keying_of, new_keys, is_record_key}
+use Rattle.sb_forms.specs.Lawful.{IsRow}
 use Rattle.sb_forms.specs.Pages.{Pages, page_count, new_pages}
 use Rattle.sb_ctx.specs.declared.instance.Instance.{Instance}
 use Rattle.sb_ctx.specs.declared.calls.MethodCall.{MethodCall}

@@ -9,10 +9,10 @@ use Rattle.std.specs.Cmp.Lexicographic.{pointwise}
 use Rattle.sb_value.specs.declared.value.Value.{Value}
 use Rattle.sb_ctx.specs.declared.held.Found.{Found}
 use Rattle.sb_value.specs.Equal.{tuple_eq}
-use Rattle.sb_relation.specs.Db.{Name, Key, Db, rows_at, schema_at}
-use Rattle.sb_relation.specs.Fits.{is_empty, places_in, first_unnamed}
-use Rattle.sb_relation.specs.Keys.{is_record_key}
-use Rattle.sb_relation.specs.Rules.{has_values}
+use Rattle.sb_forms.specs.Db.{Name, Key, Db, rows_at, schema_at}
+use Rattle.sb_forms.specs.Fits.{is_empty, places_in, first_unnamed}
+use Rattle.sb_forms.specs.Keys.{is_record_key}
+use Rattle.sb_forms.specs.Rules.{has_values}
 use Rattle.sb_forms.specs.Pages.{Pages, ArePages, IsNext}
 
 -- A page that is held: its bytes as they were given, its bytes now, and whether it was given as a fresh one. A page without bytes isn't the instance's: it never was, or isn't taken yet, or was freed.

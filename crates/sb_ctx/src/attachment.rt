@@ -1,7 +1,7 @@
 //! The trait of attachments.
 
 ghost use Rattle.std.specs.Prelude.{◌≡◌, true, option_map};
-ghost use Rattle.sb_relation.specs.Keys.{is_record_key};
+ghost use Rattle.sb_forms.specs.Keys.{is_record_key};
 ghost use Rattle.sb_ctx.specs.View.{IsClean};
 ghost use Rattle.sb_ctx.specs.Attachment.{Attachment as Meaning, IsInstance, IsQuery, MayHold, MayMeet};
 ghost use Rattle.sb_ctx.specs.AttachAnswers.{Changes, Looks};
@@ -9,7 +9,7 @@ ghost use Rattle.sb_ctx.specs.Laws.{IsAttachment};
 ghost use Rattle.sb_ctx.specs.declared.calls.AttachCall.TheVariants.{Prepare, Build, Changed, Late, NextEntry, Sums, Seek};
 
 use crate::{Ctx, Instance, Move};
-use sb_relation::Change;
+use sb_forms::Change;
 use sb_value::{Bytes, RecKey, Schema, Tuple};
 use std::alloc::Global;
 

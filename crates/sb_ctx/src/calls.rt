@@ -1,6 +1,6 @@
 //! Boxed calls as values.
 
-use sb_relation::Change;
+use sb_forms::Change;
 use sb_value::{Bytes, RecKey, Tuple};
 
 /// A call of a storage method.

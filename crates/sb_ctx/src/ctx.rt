@@ -4,7 +4,7 @@ ghost use Rattle.std.specs.Prelude.{◌≡◌, ◌≢◌, ◌+◌, ◌-◌, ◌^
 ghost use Rattle.std.specs.List.{slice_get, position};
 ghost use Rattle.std.specs.Ordering.{nat_cmp};
 ghost use Rattle.std.specs.FinMap.Entries.{put};
-ghost use Rattle.sb_relation.specs.Fits.{is_empty};
+ghost use Rattle.sb_forms.specs.Fits.{is_empty};
 ghost use Rattle.sb_forms.specs.Pages.{zeros};
 ghost use Rattle.sb_ctx.specs.Sized.{IsSized, IsCtx};
 ghost use Rattle.sb_ctx.specs.Sound.{IsSound, MayBeHeld};

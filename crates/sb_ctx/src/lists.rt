@@ -2,7 +2,7 @@
 
 ghost use Rattle.std.specs.Prelude.{◌≡◌, [], IfOk};
 
-use sb_relation::Action;
+use sb_forms::Action;
 use sb_value::{Bytes, RecKey};
 use std::alloc::{AllocError, Global};
 use std::marker::Model;

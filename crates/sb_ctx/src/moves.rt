@@ -1,7 +1,7 @@
 //! What boxed calls answer.
 
 use crate::{Actions, Checks, Keys};
-use sb_relation::Sums;
+use sb_forms::Sums;
 use sb_value::{Names, RecKey, Str, Tuple};
 
 /// A question, or the end of a call. After a question the driver gives what is asked for and makes the call again.

@@ -1,7 +1,7 @@
 -- A Ctx that was given what it asked for.
 use Rattle.std.proofs.Common.{◌≡◌, ℕ, ◌<◌, ◌==◌, Bool, true, false, cond, Some, None, option_map, refl, sym, ap, subst, ◌∙◌, arith, eqb-true, true≢false}
 use Rattle.std.proofs.lemmas.Bool.{cond-false}
-use Rattle.sb_forms.specs.Pages.{ArePages}
+use Rattle.sb_ctx.specs.Pages.{ArePages}
 use Rattle.sb_ctx.specs.View.{HeldPage, View, nothing, page_of, holds_fresh, next_of, as_given, dropped, with_held, given_page, fresh_page, HoldsPart, IsClean}
 use Rattle.sb_ctx.proofs.DrivingLaws.{HoldsPart-nothing, HoldsPart-given, HoldsPart-fresh, HoldsPart-with_next, IsClean-given, IsClean-fresh, IsClean-with_next}
 use Rattle.sb_ctx.proofs.HeldLaws.{page_in-each}

@@ -1,8 +1,8 @@
 -- One call of an attachment, and what it promises to its driver.
 use Rattle.std.proofs.Common.{◌≡◌, true, List, All, sym, ap, subst, ◌∙◌}
-use Rattle.sb_relation.specs.Changes.{changed}
-use Rattle.sb_relation.specs.Db.{Db}
-use Rattle.sb_forms.specs.Pages.{Pages}
+use Rattle.sb_ctx.specs.Changes.{changed}
+use Rattle.sb_ctx.specs.Db.{Db}
+use Rattle.sb_ctx.specs.Pages.{Pages}
 use Rattle.sb_ctx.specs.declared.instance.Instance.{Instance}
 use Rattle.sb_ctx.specs.declared.calls.AttachCall.{AttachCall}
 use Rattle.sb_ctx.specs.declared.calls.AttachCall.TheVariants as calls

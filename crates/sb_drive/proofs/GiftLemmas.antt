@@ -6,7 +6,7 @@ use Rattle.std.proofs.Math.Nat.{min-le_left}
 use Rattle.std.proofs.lemmas.Bool.{cond-true, cond-false}
 use Rattle.std.proofs.lemmas.Bool.Decides.{nat_tests}
 use Rattle.std.proofs.lemmas.List.{length-map}
-use Rattle.sb_relation.specs.Fits.{is_empty}
+use Rattle.sb_ctx.specs.Fits.{is_empty}
 use Rattle.sb_ctx.specs.View.{HeldPage, View, page_of, holds_fresh, fresh_pages, as_given, dropped, with_held, given_page, fresh_page}
 use Rattle.sb_ctx.specs.Held.{Entries, page_in, each}
 use Rattle.sb_ctx.proofs.HeldLaws.{page_in-cons, page_in-put, page_in-each}

@@ -2,7 +2,7 @@
 use Rattle.std.proofs.Common.{◌≡◌, ◌≢◌, ℕ, ◌==◌, Bool, true, false, cond, List, [], refl, sym, ap, ◌∙◌, arith, eqb-true, eq-eqb, ne_eqb}
 use Rattle.std.proofs.lemmas.Bool.{cond-true, cond-false}
 use Rattle.std.proofs.lemmas.Bool.Decides.{nat_tests}
-use Rattle.sb_forms.specs.Pages.{new_pages, zeros}
+use Rattle.sb_ctx.specs.Pages.{new_pages, zeros}
 use Rattle.sb_drive.specs.Instances.{IsLeastOwner}
 use Rattle.sb_drive.specs.Slots.{Slot, Slots, nobodys, bytes_for, owned, with_slot}
 

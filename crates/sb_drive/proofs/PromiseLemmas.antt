@@ -1,6 +1,6 @@
 -- What a driver makes of a call that keeps its promise.
 use Rattle.std.proofs.Common.{◌≡◌, ℕ, true, refl, sym, subst, ◌∙◌}
-use Rattle.sb_forms.specs.Pages.{Pages}
+use Rattle.sb_ctx.specs.Pages.{Pages}
 use Rattle.sb_ctx.specs.declared.moves.Move.{Move}
 use Rattle.sb_ctx.specs.declared.moves.Move.TheVariants.{Need, Fresh, After, Find, Broken, NoMemory}
 use Rattle.sb_ctx.specs.AttachAnswers.{AsksFor}

@@ -1,7 +1,7 @@
 -- What calls over a space leave, whatever the space is.
 use Rattle.std.proofs.Common.{◌≡◌, inr, ℕ, ◌+◌, ◌≤◌, Bool, Result, Ok, Err, IfErr, refl, sym, subst, arith}
 use Rattle.std.specs.Result.{IsErrAnd}
-use Rattle.sb_forms.specs.Pages.{Pages, ArePages}
+use Rattle.sb_ctx.specs.Pages.{Pages, ArePages}
 use Rattle.sb_drive.specs.declared.space.SpaceFault.{SpaceFault}
 use Rattle.sb_ctx.specs.View.{View, dropped}
 use Rattle.sb_drive.specs.declared.space.SpaceFault.TheVariants.{Fault, DataFull, TempFull, Damaged, Down, NoMemory}

@@ -5,8 +5,8 @@ use Rattle.std.proofs.lemmas.Bool.{cond-false, and_right}
 use Rattle.std.proofs.lemmas.List.Folds.{list_any_at}
 use Rattle.std.proofs.lemmas.Option.{slice_get_within, get_or_from_slice_get}
 use Rattle.std.proofs.lemmas.Slice.Eq.{bytes_eq-Decides}
-use Rattle.sb_relation.specs.Fits.{is_empty}
-use Rattle.sb_forms.specs.Pages.{Pages}
+use Rattle.sb_ctx.specs.Fits.{is_empty}
+use Rattle.sb_ctx.specs.Pages.{Pages}
 use Rattle.sb_ctx.specs.View.{HeldPage, View, held_at, as_given, dropped, is_edited, is_freed, edited_pages, freed_pages, edits_of, stored}
 use Rattle.sb_ctx.specs.Held.{Entries, each}
 use Rattle.sb_ctx.proofs.HeldLaws.{page_in-place}

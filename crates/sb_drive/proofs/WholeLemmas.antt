@@ -1,6 +1,6 @@
 -- Each page that an owner sees is whole.
 use Rattle.std.proofs.Common.{◌≢◌, ℕ, ◌==◌, Bool, true, false, cond, [], refl}
-use Rattle.sb_forms.specs.Pages.{IsWhole}
+use Rattle.sb_ctx.specs.Pages.{IsWhole}
 use Rattle.sb_drive.specs.Slots.{Slot, IsPage, bytes_for}
 
 pub bytes_for-whole : (owner : ℕ) (slot : Slot) → IsPage slot → bytes_for owner slot ≢ [] → IsWhole (bytes_for owner slot)

@@ -1,7 +1,7 @@
 -- Driven calls of an attachment.
 use Rattle.std.specs.Prelude.{◌≡◌, ℕ, ◌+◌, ◌-◌, ◌≤◌, true, false, length, None, IsSome}
-use Rattle.sb_relation.specs.Keys.{is_record_key}
-use Rattle.sb_forms.specs.Pages.{Pages}
+use Rattle.sb_ctx.specs.Keys.{is_record_key}
+use Rattle.sb_ctx.specs.Pages.{Pages}
 use Rattle.sb_ctx.specs.declared.instance.Instance.{Instance}
 use Rattle.sb_ctx.specs.declared.calls.AttachCall.{AttachCall}
 use Rattle.sb_ctx.specs.declared.calls.AttachCall.TheVariants as call

@@ -1,7 +1,7 @@
 -- Driven calls of a storage method.
 use Rattle.std.specs.Prelude.{◌≡◌, ℕ, true}
-use Rattle.sb_relation.specs.Db.{Rows}
-use Rattle.sb_forms.specs.Pages.{Pages}
+use Rattle.sb_ctx.specs.Db.{Rows}
+use Rattle.sb_ctx.specs.Pages.{Pages}
 use Rattle.sb_ctx.specs.declared.instance.Instance.{Instance}
 use Rattle.sb_ctx.specs.declared.calls.MethodCall.{MethodCall}
 use Rattle.sb_ctx.specs.declared.calls.MethodCall.TheVariants as call

@@ -1,6 +1,6 @@
 -- What a call of a box promises to its driver, of whichever kind the box is.
 use Rattle.std.specs.Prelude.{◌≡◌, ℕ, true}
-use Rattle.sb_forms.specs.Pages.{Pages}
+use Rattle.sb_ctx.specs.Pages.{Pages}
 use Rattle.sb_ctx.specs.declared.moves.Move.{Move}
 use Rattle.sb_ctx.specs.declared.moves.Move.TheVariants.{Need, Fresh, Broken}
 use Rattle.sb_ctx.specs.AttachAnswers.{AsksFor}

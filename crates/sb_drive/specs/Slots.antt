@@ -1,6 +1,6 @@
 -- Pages of several owners.
 use Rattle.std.specs.Prelude.{◌≢◌, ℕ, ◌==◌, cond, List, []}
-use Rattle.sb_forms.specs.Pages.{Pages, IsWhole}
+use Rattle.sb_ctx.specs.Pages.{Pages, IsWhole}
 
 -- the owner of a page and its bytes; owner 0 is nobody
 abbrev pub Slot : Type 0

@@ -1,6 +1,6 @@
 -- Spaces of pages: what a driver reads and stores, wherever the pages are.
 use Rattle.std.specs.Prelude.{◌≡◌, ◌⊎◌, ℕ, ◌^◌, ◌<◌, ◌≤◌, Bool, true, false, List, All, Option, Result, Ok, Err}
-use Rattle.sb_forms.specs.Pages.{Pages, IsNext}
+use Rattle.sb_ctx.specs.Pages.{Pages, IsNext}
 use Rattle.sb_ctx.specs.View.{View, HoldsPart, holds_fresh, dropped, with_held, given_page, fresh_page, with_next}
 use Rattle.sb_drive.specs.declared.space.SpaceFault.{SpaceFault}
 use Rattle.sb_drive.specs.declared.space.SpaceFault.TheVariants.{Fault, DataFull, TempFull, LogFull, GatesFull, Damaged, Down, NoMemory}

@@ -51,8 +51,8 @@ use Rattle.sb_standing.proofs.AskedLaws.{CanAsk-next}
 use Rattle.sb_standing.proofs.AskedLemmas.{Keeps-asked}
 use Rattle.sb_standing.proofs.KeptChangedLemmas.{db_of-changed, kept_at-with_changed, rising-before, with_changed}
 use Rattle.sb_standing.proofs.KeptLemmas.{kept_at-relation, relation_at-there}
-use Rattle.sb_opened.specs.declared.relation.OpenRelation.{OpenRelation}
-use Rattle.sb_opened.specs.Opened.{IsDurable, IsOpen}
+use Rattle.sb_asking.specs.OpenRelation.{OpenRelation}
+use Rattle.sb_asking.specs.Opened.{IsDurable, IsOpen}
 use Rattle.sb_asking.specs.Verdicts.{Admits, IsNext, LeavesAsked, Situation}
 use Rattle.sb_wishes.specs.Outcomes.{MayBeMade}
 use Rattle.sb_engine.specs.declared.running.Work.{Work}

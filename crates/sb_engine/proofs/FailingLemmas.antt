@@ -44,8 +44,8 @@ use Rattle.sb_standing.specs.Tables.{Kept, KeepsTable, db_of, kept_at}
 use Rattle.sb_standing.proofs.KeptLemmas.{kept_at-all, kept_at-name, relation_at-none, relation_at-there}
 use Rattle.sb_standing.proofs.RuleLemmas.{heads, tails}
 use Rattle.sb_standing.proofs.SplitLemmas.{EachRule-length}
-use Rattle.sb_opened.specs.declared.relation.OpenRelation.{OpenRelation}
-use Rattle.sb_opened.specs.Opened.{IsDurable}
+use Rattle.sb_asking.specs.OpenRelation.{OpenRelation}
+use Rattle.sb_asking.specs.Opened.{IsDurable}
 use Rattle.sb_asking.specs.Calls.{IsAsked, IsFinal}
 use Rattle.sb_engine.specs.Failing.{FailsNowhere, Tells, TellsOwn, first_late, is_of, is_own, is_veto}
 use Rattle.sb_engine.specs.Working.{IsOpened}

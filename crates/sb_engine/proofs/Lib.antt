@@ -1,3 +1,4 @@
+pub use Rattle.sb_asking.proofs.Faults
 pub mod OpenedLemmas
 pub mod PicksLemmas
 pub mod RefusedLemmas

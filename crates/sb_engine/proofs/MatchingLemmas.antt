@@ -12,7 +12,7 @@ use Rattle.sb_pred.specs.Columns.{column_value}
 use Rattle.sb_relation.specs.Db.{Name, Row, values_in}
 use Rattle.sb_relation.specs.Rules.{has_values}
 use Rattle.sb_fold.specs.Wishes.{const_of, is_match}
-use Rattle.sb_rows.specs.Paths.{IsFixed}
+use Rattle.sb_standing.specs.Paths.{IsFixed}
 use Rattle.sb_engine.specs.Matching.{const_at, const_or}
 
 one_value : (found : Option Value) (v : Value) → cons_option found [] ≡ v ∷ [] → found ≡ Some v

@@ -13,15 +13,15 @@ use Rattle.sb_fold.specs.Wishes.{is_match, pairs_of}
 use Rattle.sb_cascade.specs.Steps.{wish_there}
 use Rattle.sb_registry.specs.Boxes.{Meanings}
 use Rattle.sb_drive.specs.Slots.{Slots}
-use Rattle.sb_rows.specs.Live.{HasRows}
+use Rattle.sb_standing.specs.Live.{HasRows}
 use Rattle.sb_ctx.specs.declared.instance.Instance.{Instance}
 use Rattle.sb_catalog.specs.declared.descriptor.Descriptor.{Descriptor}
 use Rattle.sb_catalog.specs.Descriptors.{IsDescriptorOf}
 use Rattle.sb_standing.specs.Instances.{table_instance}
 use Rattle.sb_standing.specs.Tables.{Kept, KeepsTable, Tables, db_of, kept_at, table_of}
 use Rattle.sb_standing.proofs.KeptLemmas.{kept_at-all, kept_at-name, relation_at-there}
-use Rattle.sb_opened.specs.declared.relation.OpenRelation.{OpenRelation}
-use Rattle.sb_opened.specs.Opened.{IsDurable, IsOpen}
+use Rattle.sb_asking.specs.OpenRelation.{OpenRelation}
+use Rattle.sb_asking.specs.Opened.{IsDurable, IsOpen}
 use Rattle.sb_engine.specs.Working.{AreOpened, IsOpened, open_at}
 
 -- ---- the open relation of a name

@@ -18,8 +18,8 @@ use Rattle.sb_cascade.proofs.Wishing.{wishes-fit}
 use Rattle.sb_registry.specs.Boxes.{Meanings}
 use Rattle.sb_standing.specs.Tables.{Kept, db_of, kept_at}
 use Rattle.sb_standing.proofs.KeptLemmas.{itself_name, relation_at-kept, relation_at-there}
-use Rattle.sb_opened.specs.declared.relation.OpenRelation.{OpenRelation}
-use Rattle.sb_opened.specs.Opened.{IsOpen}
+use Rattle.sb_asking.specs.OpenRelation.{OpenRelation}
+use Rattle.sb_asking.specs.Opened.{IsOpen}
 use Rattle.sb_wishes.specs.Wished.{MayBeWished}
 use Rattle.sb_engine.specs.Working.{AreOpened, IsOpened, MayDo, MayWish, open_at}
 use Rattle.sb_engine.proofs.OpenedLemmas.{open_at-all, open_at-name}

@@ -26,7 +26,7 @@ use Rattle.sb_registry.specs.Boxes.{Meanings}
 use Rattle.sb_drive.specs.Slots.{Slots}
 use Rattle.sb_drive.specs.Spaces.{Wanted}
 use Rattle.sb_ctx.specs.declared.instance.Instance.{Instance}
-use Rattle.sb_rows.specs.Live.{HasRows, LeavesRows}
+use Rattle.sb_standing.specs.Live.{HasRows, LeavesRows}
 use Rattle.sb_catalog.specs.declared.descriptor.Attached.{Attached}
 use Rattle.sb_catalog.specs.declared.descriptor.Descriptor.{Descriptor}
 use Rattle.sb_catalog.specs.Descriptors.{described, standing}
@@ -38,8 +38,8 @@ use Rattle.sb_standing.proofs.FrameLemmas.{All-unmap}
 use Rattle.sb_standing.proofs.KeptChangedLemmas.{change_kept-same, db_of-changed, descriptors-changed, kept_at-changed}
 use Rattle.sb_standing.proofs.KeptLemmas.{kept_at-all}
 use Rattle.sb_standing.proofs.RelationLemmas.{AreLawful-kept}
-use Rattle.sb_opened.specs.declared.relation.OpenRelation.{OpenRelation}
-use Rattle.sb_opened.specs.Opened.{IsDurable}
+use Rattle.sb_asking.specs.OpenRelation.{OpenRelation}
+use Rattle.sb_asking.specs.Opened.{IsDurable}
 use Rattle.sb_wishes.specs.Outcomes.{Makes, Refuses}
 use Rattle.sb_wishes.specs.Wished.{HasCounts, IsTableOf}
 use Rattle.sb_engine.specs.declared.running.Work.{Work as Kept_work}

@@ -20,9 +20,9 @@ use Rattle.sb_relation.specs.Db
 use Rattle.sb_relation.specs.Db.{Name, Relation, Db as Database}
 use Rattle.sb_fold.specs.Extensions.{Extensions}
 use Rattle.sb_fold.specs.Finish.{fails_late, first_failing}
-use Rattle.sb_btree.proofs.Frames.{met_node}
-use Rattle.sb_btree.proofs.Reading.{has_says, read_root}
-use Rattle.sb_treemethod.proofs.Few.{apart_few, items_few}
+use Rattle.sb_standing.proofs.Frames.{met_node}
+use Rattle.sb_standing.proofs.Reading.{has_says, read_root}
+use Rattle.sb_standing.proofs.Few.{apart_few, items_few}
 use Rattle.sb_registry.specs.Boxes.{Meanings}
 use Rattle.sb_drive.specs.Slots.{Slots, owned}
 use Rattle.sb_drive.proofs.OwnedLemmas.{bytes_for-free}
@@ -30,8 +30,8 @@ use Rattle.sb_standing.specs.Tables.{Kept, Tables, above, db_of, entry_of, first
 use Rattle.sb_standing.proofs.CatalogueLemmas.{first_above-all}
 use Rattle.sb_standing.proofs.PutLemmas.{All-own}
 use Rattle.sb_catalog.specs.declared.descriptor.Descriptor.{Descriptor}
-use Rattle.sb_opened.specs.declared.relation.OpenRelation.{OpenRelation}
-use Rattle.sb_opened.specs.Opened.{IsDurable, IsOpen, header_of, kept_header}
+use Rattle.sb_asking.specs.OpenRelation.{OpenRelation}
+use Rattle.sb_asking.specs.Opened.{IsDurable, IsOpen, header_of, kept_header}
 use Rattle.sb_engine.specs.Failing.{first_late}
 use Rattle.sb_engine.specs.Working.{IsOpened}
 

@@ -12,7 +12,7 @@ use Rattle.sb_fold.specs.Outcome.{Entry, Queue}
 use Rattle.sb_fold.specs.Wishes.{Put, const_of}
 use Rattle.sb_cascade.proofs.FittingColumns.{values_fit}
 use Rattle.sb_registry.specs.Boxes.{Meanings}
-use Rattle.sb_opened.specs.declared.relation.OpenRelation.{OpenRelation}
+use Rattle.sb_asking.specs.OpenRelation.{OpenRelation}
 use Rattle.sb_engine.specs.declared.running.Running.{Running}
 use Rattle.sb_deferred.specs.Waiting.{IsFront}
 use Rattle.sb_engine.specs.Working.{extensions_of, open_at, MayDo, MayWish, MayAsk, Grows, Goes, GoesOpen}

@@ -4,8 +4,8 @@ use Rattle.sb_registry.specs.Boxes.{Meanings}
 use Rattle.sb_drive.specs.Slots.{Slots}
 use Rattle.sb_drive.specs.Spaces.{Wanted}
 use Rattle.sb_standing.specs.Tables.{Kept, Tables}
-use Rattle.sb_opened.specs.declared.relation.OpenRelation.{OpenRelation}
-use Rattle.sb_opened.specs.Opened.{IsDurable}
+use Rattle.sb_asking.specs.OpenRelation.{OpenRelation}
+use Rattle.sb_asking.specs.Opened.{IsDurable}
 use Rattle.sb_engine.specs.Working.{AreOpened}
 
 -- a state of a space: its pages keep relations, which those that are open are of

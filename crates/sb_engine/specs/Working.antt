@@ -23,15 +23,15 @@ use Rattle.sb_fold.specs.declared.refusal.Refusal.{Refusal}
 use Rattle.sb_drive.specs.declared.space.SpaceFault.{SpaceFault}
 use Rattle.sb_drive.specs.Slots.{Slots}
 use Rattle.sb_drive.specs.Spaces.{LeadsOn, Wanted}
-use Rattle.sb_map.specs.declared.place.Place.{Place}
+use Rattle.sb_asking.specs.Place.{Place}
 use Rattle.sb_standing.specs.Tables.{Kept, db_of, kept_at}
 use Rattle.sb_standing.specs.Standing.{Keeps}
 use Rattle.sb_standing.specs.Asked.{Asks, changed_kept}
 use Rattle.sb_catalog.specs.declared.descriptor.Descriptor.{Descriptor}
 use Rattle.sb_relation.specs.Keys.{Counted, keying_of}
 use Rattle.sb_ctx.specs.Attachment.{AreLawful}
-use Rattle.sb_opened.specs.declared.relation.OpenRelation.{OpenRelation}
-use Rattle.sb_opened.specs.Opened.{IsDurable, IsOpen}
+use Rattle.sb_asking.specs.OpenRelation.{OpenRelation}
+use Rattle.sb_asking.specs.Opened.{IsDurable, IsOpen}
 use Rattle.sb_wishes.specs.Wished.{MayBeWished}
 use Rattle.sb_wishes.specs.Outcomes.{MayBeMade}
 use Rattle.sb_engine.specs.declared.running.Running.{Running}

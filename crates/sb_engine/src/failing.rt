@@ -9,16 +9,15 @@ ghost use Rattle.sb_deferred.specs.Complete.{AreMirrored, IsComplete};
 ghost use Rattle.sb_deferred.specs.Waiting.{check_of};
 ghost use Rattle.sb_registry.specs.Runs.{IsSound, Looks};
 ghost use Rattle.sb_standing.specs.Tables.{db_of, first_above};
-ghost use Rattle.sb_opened.specs.Opened.{IsOpen};
+ghost use Rattle.sb_asking.specs.Opened.{IsOpen};
 ghost use Rattle.sb_engine.specs.Failing.{OfAttached, OverKept, TellsOwn, first_late, is_own};
 ghost use Rattle.sb_engine.specs.Working.{IsOpened, extensions_of};
 
 use crate::late::{attached_at, entry_fails};
 use crate::waiting::some_entry_fails;
+use sb_asking::{OpenRelation, Place, next_relation};
 use sb_deferred::Queue;
 use sb_drive::{PageSpace, SpaceFault};
-use sb_map::Place;
-use sb_opened::{OpenRelation, next_relation};
 use sb_registry::Boxes;
 use sb_rule::{Rule, Side};
 use sb_value::Str;

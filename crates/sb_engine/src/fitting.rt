@@ -9,15 +9,14 @@ ghost use Rattle.sb_drive.specs.Spaces.{Wanted};
 ghost use Rattle.sb_registry.specs.Runs.{IsSound, Looks};
 ghost use Rattle.sb_standing.specs.Standing.{StandRules};
 ghost use Rattle.sb_standing.specs.Tables.{Kept, db_of};
-ghost use Rattle.sb_opened.specs.Opened.{IsDurable, IsOpen};
+ghost use Rattle.sb_asking.specs.Opened.{IsDurable, IsOpen};
 ghost use Rattle.sb_engine.specs.Opening.{IsKeeping};
 ghost use Rattle.sb_engine.specs.Working.{AreOpened, Grows, MayDo};
 
 use crate::opening::{open_at, open_named};
+use sb_asking::{OpenRelation, Place};
 use sb_drive::{PageSpace, SpaceFault};
 use sb_kinds::{action_fits, relation_of, unnamed_action};
-use sb_map::Place;
-use sb_opened::OpenRelation;
 use sb_registry::Boxes;
 use sb_rule::Action;
 use sb_value::Schema;

@@ -4,16 +4,14 @@ ghost use Rattle.std.specs.Prelude.{◌≡◌, List, IfOk, IfErr, option_copied}
 ghost use Rattle.std.specs.List.{slice_get};
 ghost use Rattle.sb_registry.specs.Runs.{IsSound, Looks};
 ghost use Rattle.sb_standing.specs.Tables.{db_of};
-ghost use Rattle.sb_opened.specs.Opened.{IsOpen};
+ghost use Rattle.sb_asking.specs.Opened.{IsOpen};
 ghost use Rattle.sb_engine.specs.Failing.{OfAttached, OverKept, Tells, is_veto};
 ghost use Rattle.sb_engine.specs.Working.{IsOpened};
 
-use sb_asking::ask;
+use sb_asking::{OpenRelation, Place, ask};
 use sb_catalog::Attached;
 use sb_ctx::{AttachCall, Instance, Move};
 use sb_drive::{PageSpace, SpaceFault};
-use sb_map::Place;
-use sb_opened::OpenRelation;
 use sb_registry::Boxes;
 use sb_value::Bytes;
 use std::alloc::Global;

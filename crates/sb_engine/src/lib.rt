@@ -18,3 +18,8 @@ pub use fitting::prepare;
 pub use opening::{open_at, open_named};
 pub use refusals::refusal_of;
 pub use running::{Running, Work};
+pub use sb_asking::{
+    OpenRelation, Place, ask, check_rule, descriptor_at, next_descriptor, open_relation, put,
+    remove, rule_instance,
+};
+pub use sb_wishes::is_long_for;

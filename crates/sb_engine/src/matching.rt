@@ -9,20 +9,19 @@ ghost use Rattle.sb_drive.specs.Slots.{Slots};
 ghost use Rattle.sb_drive.specs.Spaces.{Wanted};
 ghost use Rattle.sb_registry.specs.Runs.{IsSound, Looks};
 ghost use Rattle.sb_standing.specs.Tables.{Kept, db_of};
-ghost use Rattle.sb_opened.specs.Opened.{IsOpen};
+ghost use Rattle.sb_asking.specs.Opened.{IsOpen};
 ghost use Rattle.sb_engine.specs.Matching.{const_at};
 ghost use Rattle.sb_engine.specs.Opening.{IsKeeping};
 ghost use Rattle.sb_engine.specs.Working.{MayDo};
 
 use crate::opening::open_at;
+use sb_asking::{OpenRelation, Place};
 use sb_drive::{PageSpace, SpaceFault};
 use sb_kinds::relation_of;
-use sb_map::Place;
-use sb_opened::OpenRelation;
 use sb_pred::{Term, column_value};
 use sb_registry::Boxes;
-use sb_rows::{RowTest, keys_where};
 use sb_rule::Action;
+use sb_standing::{RowTest, keys_where};
 use sb_value::{RecKey, Schema, Str, Tuple, Value};
 use std::alloc::Global;
 

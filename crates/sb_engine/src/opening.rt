@@ -6,13 +6,12 @@ ghost use Rattle.sb_drive.specs.Spaces.{Wanted};
 ghost use Rattle.sb_registry.specs.Runs.{IsSound, Looks};
 ghost use Rattle.sb_standing.specs.Standing.{StandRules};
 ghost use Rattle.sb_standing.specs.Tables.{Kept, db_of, kept_at};
-ghost use Rattle.sb_opened.specs.Opened.{IsDurable, IsOpen};
+ghost use Rattle.sb_asking.specs.Opened.{IsDurable, IsOpen};
 ghost use Rattle.sb_engine.specs.Opening.{IsKeeping};
 ghost use Rattle.sb_engine.specs.Working.{AreOpened, Grows, open_at};
 
+use sb_asking::{OpenRelation, Place, open_relation};
 use sb_drive::{PageSpace, SpaceFault};
-use sb_map::Place;
-use sb_opened::{OpenRelation, open_relation};
 use sb_registry::Boxes;
 use sb_value::Str;
 use std::alloc::{AllocError, Global};

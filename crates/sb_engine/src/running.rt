@@ -2,10 +2,9 @@
 
 ghost use Rattle.std.specs.Prelude.{◌≡◌};
 
+use sb_asking::{OpenRelation, Place};
 use sb_deferred::Queue;
 use sb_drive::PageSpace;
-use sb_map::Place;
-use sb_opened::OpenRelation;
 use sb_registry::Boxes;
 use sb_value::RecKey;
 

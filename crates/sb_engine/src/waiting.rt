@@ -7,15 +7,14 @@ ghost use Rattle.sb_deferred.specs.CompleteLaws.{NoEntryFails};
 ghost use Rattle.sb_fold.specs.Outcome.{Entry};
 ghost use Rattle.sb_registry.specs.Runs.{IsSound, Looks};
 ghost use Rattle.sb_standing.specs.Tables.{db_of};
-ghost use Rattle.sb_opened.specs.Opened.{IsOpen};
+ghost use Rattle.sb_asking.specs.Opened.{IsOpen};
 ghost use Rattle.sb_engine.specs.Failing.{FailsNowhere, OfAttached, OverKept};
 ghost use Rattle.sb_engine.specs.Working.{IsOpened};
 
 use crate::late::{attached_at, entry_fails};
+use sb_asking::{OpenRelation, Place, open_relation};
 use sb_deferred::Queue;
 use sb_drive::{PageSpace, SpaceFault};
-use sb_map::Place;
-use sb_opened::{OpenRelation, open_relation};
 use sb_registry::Boxes;
 use sb_value::{Bytes, Str};
 use std::alloc::Global;

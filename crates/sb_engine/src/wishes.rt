@@ -10,21 +10,20 @@ ghost use Rattle.sb_drive.specs.Slots.{Slots};
 ghost use Rattle.sb_drive.specs.Spaces.{Wanted};
 ghost use Rattle.sb_registry.specs.Runs.{IsSound, Looks};
 ghost use Rattle.sb_standing.specs.Tables.{Kept, db_of};
-ghost use Rattle.sb_opened.specs.Opened.{IsOpen};
+ghost use Rattle.sb_asking.specs.Opened.{IsOpen};
 ghost use Rattle.sb_engine.specs.Opening.{IsKeeping};
 ghost use Rattle.sb_engine.specs.Working.{MayDo, MayWish};
 
 use crate::matching::{is_match, pairs_of};
 use crate::opening::open_at;
+use sb_asking::{OpenRelation, Place};
 use sb_cascade::Wish;
 use sb_drive::{PageSpace, SpaceFault};
 use sb_kinds::relation_of;
-use sb_map::Place;
-use sb_opened::OpenRelation;
 use sb_pred::{Term, find_column};
 use sb_registry::Boxes;
-use sb_rows::get_row;
 use sb_rule::Action;
+use sb_standing::get_row;
 use sb_value::{RecKey, Schema, Str, Tuple, Value};
 use std::alloc::{AllocError, Global};
 

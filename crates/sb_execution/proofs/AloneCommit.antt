@@ -18,9 +18,9 @@ use Rattle.sb_map.specs.declared.place.Place.{Place}
 use Rattle.sb_txn.specs.Clauses.{LeavesWanted}
 use Rattle.sb_txn.specs.Parts.{Parts, parts}
 use Rattle.sb_txn.specs.State.{State as StoreState}
-use Rattle.sb_transactions.specs.Calls.{IsOnlyFault, Remains}
-use Rattle.sb_transactions.specs.Commits.{LeavesOldOrFinished, StaysOpen, StopsAt, is_wanting}
-use Rattle.sb_transactions.specs.Transactions.{IsAt, Rests, WasBegun}
+use Rattle.sb_session.specs.Calls.{IsOnlyFault, Remains}
+use Rattle.sb_session.specs.Commits.{LeavesOldOrFinished, StaysOpen, StopsAt, is_wanting}
+use Rattle.sb_session.specs.Transactions.{IsAt, Rests, WasBegun}
 use Rattle.sb_execution.specs.Endings.{EndsAlone, HasAnswered}
 use Rattle.sb_execution.proofs.AloneLemmas.{EndsAlone-fault, EndsAlone-refused, fallen_commit, leaves_alone, moments_abort, refuses_commit, remains_abort, remains_alone, rests_abort, was_up}
 use Rattle.sb_execution.proofs.CallLemmas.{Remains-err, err_fault, ok_err}

@@ -31,10 +31,10 @@ use Rattle.sb_map.specs.declared.place.Place.{Place}
 use Rattle.sb_txn.specs.Clauses.{LeavesWanted}
 use Rattle.sb_txn.specs.Parts.{Parts, parts}
 use Rattle.sb_txn.specs.State.{State as StoreState}
-use Rattle.sb_transactions.specs.Calls.{IsOnlyFault, Remains}
-use Rattle.sb_transactions.specs.Commits.{FailsOn, Finishes, IsDone, LeavesEither, LeavesOldOrFinished, Mounted, StaysOpen, StopsAt}
-use Rattle.sb_transactions.specs.Transactions.{IsAt, IsCommitted, Rests, WasBegun}
-use Rattle.sb_transactions.proofs.EndLemmas.{Remains-behind}
+use Rattle.sb_session.specs.Calls.{IsOnlyFault, Remains}
+use Rattle.sb_session.specs.Commits.{FailsOn, Finishes, IsDone, LeavesEither, LeavesOldOrFinished, Mounted, StaysOpen, StopsAt}
+use Rattle.sb_session.specs.Transactions.{IsAt, IsCommitted, Rests, WasBegun}
+use Rattle.sb_session.proofs.EndLemmas.{Remains-behind}
 use Rattle.sb_execution.specs.Serving.{IsPosedIn}
 use Rattle.sb_session.specs.Ends.{IsFree, IsStep, is_end}
 use Rattle.sb_session.specs.Sessions.{HasFailed, IsNext, IsOpenFor, Lacks, LeavesNext, LeavesOldOrNext}

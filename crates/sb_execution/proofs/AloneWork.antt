@@ -26,11 +26,11 @@ use Rattle.sb_txn.specs.Clauses.{LeavesWanted}
 use Rattle.sb_txn.specs.Parts.{Parts, parts}
 use Rattle.sb_txn.specs.State.{State as StoreState}
 use Rattle.sb_space.specs.declared.transactions.Tx.{Tx}
-use Rattle.sb_transactions.specs.declared.transactions.Transaction.{Transaction}
-use Rattle.sb_transactions.specs.Calls.{IsOnlyFault, Remains}
-use Rattle.sb_transactions.specs.Commits.{FailsOn, IsLed}
-use Rattle.sb_transactions.specs.Transactions.{IsAt, IsFirst, IsUsable, Rests, WasBegun}
-use Rattle.sb_transactions.proofs.CallLemmas.{Fault-down, Remains-answered, up-earlier, up-later}
+use Rattle.sb_session.specs.Transaction.{Transaction}
+use Rattle.sb_session.specs.Calls.{IsOnlyFault, Remains}
+use Rattle.sb_session.specs.Commits.{FailsOn, IsLed}
+use Rattle.sb_session.specs.Transactions.{IsAt, IsFirst, IsUsable, Rests, WasBegun}
+use Rattle.sb_session.proofs.CallLemmas.{Fault-down, Remains-answered, up-earlier, up-later}
 use Rattle.sb_statements.specs.declared.answers.Answer as code
 use Rattle.sb_execution.specs.Serving.{IsPosedIn, IsSeenIn, IsServed, IsUnserved, is_managing}
 use Rattle.sb_statements.specs.Statements.{answer_of}

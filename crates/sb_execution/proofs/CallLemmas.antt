@@ -14,8 +14,8 @@ use Rattle.sb_txn.specs.Clauses.{IsReady, HoldsPages, LeavesWanted}
 use Rattle.sb_txn.specs.Parts.{parts}
 use Rattle.sb_txn.specs.State.{State}
 use Rattle.sb_space.specs.Works.{Works}
-use Rattle.sb_transactions.specs.Calls.{Remains}
-use Rattle.sb_transactions.specs.Commits.{IsLed}
+use Rattle.sb_session.specs.Calls.{Remains}
+use Rattle.sb_session.specs.Commits.{IsLed}
 pub use Rattle.sb_value.proofs.Truths.{ok_err}
 
 pub err_fault : {T : Type 0} (r : Refusal) → IsErrOf {T = T} (Err r) refusal.Fault → r ≡ refusal.Fault

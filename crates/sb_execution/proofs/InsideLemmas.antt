@@ -22,10 +22,10 @@ use Rattle.sb_map.specs.declared.place.Place.{Place}
 use Rattle.sb_txn.specs.Clauses.{LeavesWanted}
 use Rattle.sb_txn.specs.Parts.{Parts, parts}
 use Rattle.sb_txn.specs.State.{State as StoreState}
-use Rattle.sb_transactions.specs.Calls.{IsOnlyFault, Remains}
-use Rattle.sb_transactions.specs.Commits.{FailsOn, Mounted}
-use Rattle.sb_transactions.specs.Transactions.{IsAt, unused}
-use Rattle.sb_transactions.proofs.CallLemmas.{Fault-down}
+use Rattle.sb_session.specs.Calls.{IsOnlyFault, Remains}
+use Rattle.sb_session.specs.Commits.{FailsOn, Mounted}
+use Rattle.sb_session.specs.Transactions.{IsAt, unused}
+use Rattle.sb_session.proofs.CallLemmas.{Fault-down}
 use Rattle.sb_execution.specs.Serving.{IsPosedIn, IsServed, IsUnserved, is_managing}
 use Rattle.sb_statements.specs.Statements.{answer_of}
 use Rattle.sb_session.specs.declared.session.Open.{Open}

@@ -16,13 +16,13 @@ use Rattle.sb_txn.specs.Clauses.{LeavesWanted}
 use Rattle.sb_txn.specs.Parts.{Parts, parts}
 use Rattle.sb_txn.specs.State.{State as StoreState}
 use Rattle.sb_space.specs.declared.transactions.Tx.{Tx}
-use Rattle.sb_transactions.specs.declared.transactions.Point.{Point}
-use Rattle.sb_transactions.specs.declared.transactions.Transaction.{Transaction}
-use Rattle.sb_transactions.specs.Calls.{IsOnlyFault, Remains}
-use Rattle.sb_transactions.specs.Commits.{FailsOn, IsLed}
-use Rattle.sb_transactions.specs.Transactions.{IsAt, IsCleared, IsNotBehind, IsPointOf, IsUsable, WasBegun, WasSo, unused}
-use Rattle.sb_transactions.proofs.CallLemmas.{up-earlier, up-later}
-use Rattle.sb_transactions.proofs.EndLemmas.{Remains-behind, Remains-stopped}
+use Rattle.sb_session.specs.Point.{Point}
+use Rattle.sb_session.specs.Transaction.{Transaction}
+use Rattle.sb_session.specs.Calls.{IsOnlyFault, Remains}
+use Rattle.sb_session.specs.Commits.{FailsOn, IsLed}
+use Rattle.sb_session.specs.Transactions.{IsAt, IsCleared, IsNotBehind, IsPointOf, IsUsable, WasBegun, WasSo, unused}
+use Rattle.sb_session.proofs.CallLemmas.{up-earlier, up-later}
+use Rattle.sb_session.proofs.EndLemmas.{Remains-behind, Remains-stopped}
 use Rattle.sb_execution.specs.Serving.{IsPosedIn, IsSeenIn, IsServed, IsUnserved, is_managing}
 use Rattle.sb_session.specs.declared.session.Open.{Open}
 use Rattle.sb_session.specs.declared.session.Savepoint.{Savepoint}

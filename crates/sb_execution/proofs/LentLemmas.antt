@@ -22,13 +22,13 @@ use Rattle.sb_engine.specs.declared.running.Work.{Work}
 use Rattle.sb_engine.specs.Refusals.{HasRefusalCause}
 use Rattle.sb_engine.specs.Working.{extensions_of}
 use Rattle.sb_engine.specs.Working as engine
-use Rattle.sb_transactions.specs.declared.transactions.Point.{Point}
-use Rattle.sb_transactions.specs.Commits.{FailsOn, IsLed, Mounted}
-use Rattle.sb_transactions.specs.Driven.{HasLent, IsServed as IsReadyLent, LeadsLent, WorksOn}
-use Rattle.sb_transactions.specs.Transactions.{IsAt, IsPointOf, IsUsable, WasBegun, WasSo}
-use Rattle.sb_transactions.proofs.DrivenLemmas.{Stands-at, driven-begun, driven-each, driven-points, driven-stands}
-use Rattle.sb_transactions.proofs.FinishLemmas.{HasCause-map}
-use Rattle.sb_transactions.proofs.LentLemmas.{FailsLent, IsStoreLent}
+use Rattle.sb_session.specs.Point.{Point}
+use Rattle.sb_session.specs.Commits.{FailsOn, IsLed, Mounted}
+use Rattle.sb_session.specs.Driven.{HasLent, IsServed as IsReadyLent, LeadsLent, WorksOn}
+use Rattle.sb_session.specs.Transactions.{IsAt, IsPointOf, IsUsable, WasBegun, WasSo}
+use Rattle.sb_session.proofs.DrivenLemmas.{Stands-at, driven-begun, driven-each, driven-points, driven-stands}
+use Rattle.sb_session.proofs.FinishLemmas.{HasCause-map}
+use Rattle.sb_session.proofs.LentLemmas.{FailsLent, IsStoreLent}
 use Rattle.sb_session.specs.declared.session.Savepoint.{Savepoint}
 use Rattle.sb_execution.specs.Serving.{IsPosedIn, IsSeenIn, IsServed, IsUnserved}
 use Rattle.sb_execution.specs.declared.serving.Served.{Served}

@@ -16,7 +16,7 @@ use Rattle.sb_drive.specs.Slots.{Slots}
 use Rattle.sb_standing.specs.Tables as standing
 use Rattle.sb_standing.specs.Tables.{Kept, KeepsTable, Tables, db_of, first_above, kept_at}
 use Rattle.sb_standing.proofs.KeptLemmas.{kept_at-all, relation_at-kept}
-use Rattle.sb_opened.specs.Opened.{IsDurable, kept_header}
+use Rattle.sb_engine.specs.Opened.{IsDurable, kept_header}
 use Rattle.sb_vectors.specs.Vectors.{codes_in, has_box, live_codes, spare_codes}
 use Rattle.sb_vectors.proofs.BoxLemmas.{has_box-codes}
 use Rattle.sb_fold.specs.Extensions.{box_of}

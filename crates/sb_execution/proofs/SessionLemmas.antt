@@ -12,7 +12,7 @@ use Rattle.sb_drive.specs.Spaces.{Wanted}
 use Rattle.sb_txn.specs.Clauses.{LeavesWanted}
 use Rattle.sb_txn.specs.Parts.{Parts, parts}
 use Rattle.sb_space.specs.declared.transactions.Space.{Space}
-use Rattle.sb_transactions.specs.Calls.{Remains}
+use Rattle.sb_session.specs.Calls.{Remains}
 use Rattle.sb_execution.specs.Serving.{IsPosedIn}
 use Rattle.sb_session.specs.declared.session.Open.{Open}
 use Rattle.sb_session.specs.declared.session.Session.{Session}

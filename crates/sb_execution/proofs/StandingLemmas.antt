@@ -7,14 +7,14 @@ use Rattle.sb_registry.specs.Boxes.{Meanings}
 use Rattle.sb_drive.specs.Spaces.{Wanted}
 use Rattle.sb_map.specs.declared.place.Place.{Place}
 use Rattle.sb_standing.specs.Standing.{Keeps}
-use Rattle.sb_opened.specs.declared.relation.OpenRelation.{OpenRelation}
-use Rattle.sb_opened.specs.Opened.{IsDurable, IsOpen}
+use Rattle.sb_engine.specs.OpenRelation.{OpenRelation}
+use Rattle.sb_engine.specs.Opened.{IsDurable, IsOpen}
 use Rattle.sb_txn.specs.Parts.{Parts}
 use Rattle.sb_engine.specs.declared.running.Work.{Work}
 use Rattle.sb_engine.specs.Working.{AreOpened}
-use Rattle.sb_transactions.specs.declared.transactions.Point.{Point}
-use Rattle.sb_transactions.specs.Transactions.{IsAt, IsPointOf, IsUsable, WasBegun, WasSo, unused, waited_at}
-use Rattle.sb_transactions.proofs.WorkLemmas.{left_same}
+use Rattle.sb_session.specs.Point.{Point}
+use Rattle.sb_session.specs.Transactions.{IsAt, IsPointOf, IsUsable, WasBegun, WasSo, unused, waited_at}
+use Rattle.sb_session.proofs.WorkLemmas.{left_same}
 use Rattle.sb_plain.specs.State.{Point as PlainPoint, Transaction as PlainTransaction}
 use Rattle.sb_session.specs.declared.session.Open.{Open}
 use Rattle.sb_session.specs.declared.session.Savepoint.{Savepoint}

@@ -17,9 +17,9 @@ use Rattle.sb_engine.specs.declared.running.Work.{Work}
 use Rattle.sb_engine.specs.Goings.{front_none}
 use Rattle.sb_engine.specs.Refusals.{HasRefusalCause}
 use Rattle.sb_engine.specs.Working.{IsStoppedBy, Stands, StandsFor, extensions_of}
-use Rattle.sb_transactions.specs.Driven.{WorksOn}
-use Rattle.sb_transactions.proofs.FinishLemmas.{StopsFrom-map}
-use Rattle.sb_transactions.proofs.RunLemmas.{IsLent, parts-from, parts-to}
+use Rattle.sb_session.specs.Driven.{WorksOn}
+use Rattle.sb_session.proofs.FinishLemmas.{StopsFrom-map}
+use Rattle.sb_session.proofs.RunLemmas.{IsLent, parts-from, parts-to}
 use Rattle.sb_statements.specs.declared.answers.Answer.{Answer as Answered}
 use Rattle.sb_statements.specs.Statements.{IsDone, IsStopped, MayWork, answer_of}
 use Rattle.sb_execution.specs.declared.serving.Served.{Served}

@@ -20,9 +20,9 @@ use Rattle.sb_txn.specs.Parts.{Parts, parts}
 use Rattle.sb_txn.specs.State.{State as StoreState}
 use Rattle.sb_engine.specs.declared.running.Work.{Work as EngineWork}
 use Rattle.sb_engine.specs.Working.{extensions_of}
-use Rattle.sb_transactions.specs.Calls.{Remains}
-use Rattle.sb_transactions.specs.Commits.{IsLed, Mounted}
-use Rattle.sb_transactions.specs.Transactions.{IsAt, Rests, WasBegun}
+use Rattle.sb_session.specs.Calls.{Remains}
+use Rattle.sb_session.specs.Commits.{IsLed, Mounted}
+use Rattle.sb_session.specs.Transactions.{IsAt, Rests, WasBegun}
 use Rattle.sb_vectors.specs.Vectors.{AreSameBoxes, live_codes, spare_codes}
 use Rattle.sb_execution.specs.Serving.{IsPosedIn, is_managing}
 use Rattle.sb_statements.specs.Statements.{answer_of}

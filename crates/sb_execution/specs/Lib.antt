@@ -1,3 +1,4 @@
+pub use Rattle.sb_engine.specs.Working
 pub mod Serving
 pub mod Endings
 pub mod Seen

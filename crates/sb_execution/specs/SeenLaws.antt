@@ -17,7 +17,7 @@ use Rattle.sb_drive.specs.declared.space.SpaceFault.TheVariants as fault
 use Rattle.sb_drive.specs.Slots.{Slots}
 use Rattle.sb_drive.specs.Spaces.{IsRefused, Wanted}
 use Rattle.sb_standing.specs.Tables.{Kept, db_of}
-use Rattle.sb_opened.specs.Opened.{IsDurable}
+use Rattle.sb_engine.specs.Opened.{IsDurable}
 use Rattle.sb_engine.specs.Refusals.{HasRefusalCause, refusal_of}
 use Rattle.sb_engine.specs.Working.{extensions_of}
 use Rattle.sb_engine.proofs.RefusedLemmas.{free_refusal, refused_cause}

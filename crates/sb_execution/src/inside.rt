@@ -17,9 +17,8 @@ use sb_disk::Disk;
 use sb_fold::Refusal;
 use sb_map::Place;
 use sb_plain::{Command, Reply};
-use sb_session::{Open, Session};
+use sb_session::{Open, Session, back_to, mark, settle};
 use sb_space::Space;
-use sb_transactions::{back_to, mark, settle};
 use sb_vectors::Vectors;
 use std::alloc::Global;
 

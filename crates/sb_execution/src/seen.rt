@@ -7,10 +7,9 @@ ghost use Rattle.sb_execution.specs.Seen.{HasFailed, IsReady, LooksOn, Sees};
 
 use sb_catalog::Descriptor;
 use sb_drive::PageSpace;
-use sb_engine::{Work, refusal_of};
+use sb_engine::{Work, descriptor_at, next_descriptor, refusal_of};
 use sb_fold::Refusal;
 use sb_map::Place;
-use sb_opened::{descriptor_at, next_descriptor};
 use sb_refusals::Catalogue;
 use sb_session::Savepoint;
 use sb_value::{Bytes, Names, Schema, Str};

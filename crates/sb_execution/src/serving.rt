@@ -3,7 +3,7 @@
 ghost use Rattle.std.specs.Prelude.{◌≡◌, false, true, ℕ, IfErr, IfOk};
 ghost use Rattle.sb_relation.specs.Db.{Db};
 ghost use Rattle.sb_registry.specs.Boxes.{Meanings};
-ghost use Rattle.sb_transactions.specs.declared.transactions.Point.{Point};
+ghost use Rattle.sb_session.specs.Point.{Point};
 ghost use Rattle.sb_fold.specs.Outcome.{Going};
 ghost use Rattle.sb_drive.specs.Spaces.{Wanted};
 ghost use Rattle.sb_cascade.specs.Runs.{is_free};
@@ -14,11 +14,11 @@ ghost use Rattle.sb_plain.specs.Refusing.{refused};
 ghost use Rattle.sb_plain.specs.State.{State};
 ghost use Rattle.sb_execution.specs.Serving.{IsPosedIn, IsRefusedIn, IsSeenIn, IsServed, IsUnserved, Makes, MayServe};
 ghost use Rattle.sb_statements.specs.Statements.{MayWork, answer_of};
-ghost use Rattle.sb_transactions.specs.Driven.{WorksOn};
+ghost use Rattle.sb_session.specs.Driven.{WorksOn};
 ghost use Rattle.sb_txn.specs.Clauses.{LeavesWanted};
 ghost use Rattle.sb_txn.specs.Parts.{parts};
-ghost use Rattle.sb_transactions.specs.Commits.{FailsOn, IsLed};
-ghost use Rattle.sb_transactions.specs.Transactions.{IsAt, IsPointOf, IsUsable, WasBegun, WasSo};
+ghost use Rattle.sb_session.specs.Commits.{FailsOn, IsLed};
+ghost use Rattle.sb_session.specs.Transactions.{IsAt, IsPointOf, IsUsable, WasBegun, WasSo};
 
 use crate::seeing::refusal_over;
 use sb_disk::Disk;
@@ -29,10 +29,9 @@ use sb_owners::Owners;
 use sb_plain::{Command, Reply};
 use sb_reads::read;
 use sb_registry::Boxes;
-use sb_session::Savepoint;
+use sb_session::{Savepoint, Transaction};
 use sb_space::{Durable, Space};
 use sb_statements::Answer;
-use sb_transactions::Transaction;
 use sb_vectors::Vectors;
 use std::alloc::Global;
 

@@ -1,3 +1,13 @@
+pub use Rattle.sb_relation.specs.Buckets
+pub use Rattle.sb_relation.specs.Changes
+pub use Rattle.sb_relation.specs.Content
+pub use Rattle.sb_relation.specs.Db
+pub use Rattle.sb_relation.specs.Fits
+pub use Rattle.sb_relation.specs.Foreign
+pub use Rattle.sb_relation.specs.Images
+pub use Rattle.sb_relation.specs.Keys
+pub use Rattle.sb_relation.specs.Lawful
+pub use Rattle.sb_relation.specs.Rules
 pub mod Pages
 pub mod Stored
 pub mod Tree

@@ -5,3 +5,4 @@
 mod rows;
 
 pub use rows::row_from;
+pub use sb_relation::{Action, Change, Sums};

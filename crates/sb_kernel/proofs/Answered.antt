@@ -9,7 +9,7 @@ use Rattle.sb_grammar.specs.Columns.{Item}
 use Rattle.sb_lines.specs.Lines.{asking, asks, without_return, AreItems, AreFirstItems}
 use Rattle.sb_lines.proofs.ItemsLemmas.{AreItems-passed, AreItems-said, AreFirstItems-all, AreFirstItems-asking}
 use Rattle.sb_registry.specs.Boxes.{Meanings}
-use Rattle.sb_session.specs.declared.session.Session.{Session}
+use Rattle.sb_opening.specs.Session.{Session}
 use Rattle.sb_kernel.specs.declared.ending.Stop.{Stop}
 use Rattle.sb_kernel.specs.declared.ending.Stop.TheVariants.{SinkFailed, NoMemory, DiskFailed, Damaged}
 use Rattle.sb_kernel.specs.World.{World, At, at}

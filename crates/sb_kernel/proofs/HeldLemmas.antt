@@ -11,18 +11,18 @@ use Rattle.sb_plain.specs.declared.reply.Reply.{Reply}
 use Rattle.sb_plain.specs.State.{State, Transaction as PlainTransaction, committed}
 use Rattle.sb_registry.specs.Boxes.{Meanings}
 use Rattle.sb_drive.specs.Spaces.{Wanted}
-use Rattle.sb_map.specs.declared.place.Place.{Place}
+use Rattle.sb_opening.specs.Place.{Place}
 use Rattle.sb_txn.specs.Clauses.{HoldsPages, LeavesWanted}
 use Rattle.sb_txn.specs.Parts.{Parts, stored}
 use Rattle.sb_txn.proofs.KeepsLemmas.{LeavesWanted-none}
-use Rattle.sb_space.specs.Table.{table_len}
-use Rattle.sb_transactions.specs.Transactions.{IsCommitted}
+use Rattle.sb_opening.specs.Table.{table_len}
+use Rattle.sb_opening.specs.Transactions.{IsCommitted}
 use Rattle.sb_vectors.specs.Vectors.{AreSameBoxes}
 use Rattle.sb_opening.specs.Naming.{all_live}
 use Rattle.sb_opening.proofs.CommittedLemmas.{committed-by-all, committed-by-same}
-use Rattle.sb_session.specs.declared.session.Open.{Open}
-use Rattle.sb_session.specs.declared.session.Session.{Session}
-use Rattle.sb_session.specs.Sessions.{IsFor, IsOpenFor, KeepsSession, parts_of}
+use Rattle.sb_opening.specs.Open.{Open}
+use Rattle.sb_opening.specs.Session.{Session}
+use Rattle.sb_opening.specs.Sessions.{IsFor, IsOpenFor, KeepsSession, parts_of}
 use Rattle.sb_kernel.specs.World.{World, IsNow}
 use Rattle.sb_kernel.specs.Crashes.{HoldsDatabase}
 use Rattle.sb_kernel.specs.Answering.{Closes}

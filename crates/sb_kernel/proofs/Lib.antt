@@ -1,3 +1,5 @@
+pub use Rattle.sb_opening.proofs.MoveBoxes
+pub use Rattle.sb_opening.proofs.NewLemmas
 pub mod PlayLemmas
 pub mod CrashLemmas
 pub mod PlayedLemmas

@@ -16,18 +16,18 @@ use Rattle.sb_ctx.specs.Method.{Method}
 use Rattle.sb_ctx.specs.Attachment.{Attachment}
 use Rattle.sb_registry.specs.Boxes.{Meanings}
 use Rattle.sb_drive.specs.Spaces.{Wanted}
-use Rattle.sb_map.specs.declared.place.Place.{Place}
-use Rattle.sb_space.specs.Table.{table_len}
-use Rattle.sb_engine.specs.Working.{extensions_of}
+use Rattle.sb_opening.specs.Place.{Place}
+use Rattle.sb_opening.specs.Table.{table_len}
+use Rattle.sb_execution.specs.Working.{extensions_of}
 use Rattle.sb_posing.specs.Posing.{AreSingle}
 use Rattle.sb_posing.proofs.PosedLemmas.{read-posed}
 use Rattle.sb_vectors.specs.Vectors.{AreSameBoxes}
 use Rattle.sb_opening.specs.Naming.{all_live}
-use Rattle.sb_session.specs.declared.session.Session.{Session}
-use Rattle.sb_session.specs.Ends.{Ends}
-use Rattle.sb_session.specs.Sessions.{HasFailed, IsFor, IsNext, KeepsSession, Lacks, LeavesNext, LeavesOldOrNext, StandsBehind, parts_of}
-use Rattle.sb_session.proofs.MoveLists.{found_more}
-use Rattle.sb_session.proofs.SameBoxes.{same-then}
+use Rattle.sb_opening.specs.Session.{Session}
+use Rattle.sb_opening.specs.Ends.{Ends}
+use Rattle.sb_opening.specs.Sessions.{HasFailed, IsFor, IsNext, KeepsSession, Lacks, LeavesNext, LeavesOldOrNext, StandsBehind, parts_of}
+use Rattle.sb_opening.proofs.MoveLists.{found_more}
+use Rattle.sb_opening.proofs.SameBoxes.{same-then}
 use Rattle.sb_execution.specs.Serving.{IsPosedIn}
 use Rattle.sb_kernel.specs.World.{World, IsNow}
 use Rattle.sb_kernel.specs.Plays.{AreBoxesOf}

@@ -10,8 +10,8 @@ use Rattle.sb_plain.specs.Licences.{may_want_memory}
 use Rattle.sb_plain.specs.State.{State, downed}
 use Rattle.sb_grammar.specs.Columns.{Item, Says, Bad}
 use Rattle.sb_registry.specs.Boxes.{Meanings}
-use Rattle.sb_engine.specs.Working.{extensions_of}
-use Rattle.sb_session.specs.Ends.{Ends, IsFree, IsStep}
+use Rattle.sb_execution.specs.Working.{extensions_of}
+use Rattle.sb_opening.specs.Ends.{Ends, IsFree, IsStep}
 use Rattle.sb_execution.proofs.EndLemmas.{Ends-since}
 use Rattle.sb_kernel.specs.Plays.{Moves, MovesBy, Plays, last_state}
 

@@ -9,8 +9,8 @@ use Rattle.sb_plain.specs.declared.reply.Reply.{Reply}
 use Rattle.sb_plain.specs.State.{State, committed}
 use Rattle.sb_grammar.specs.Columns.{Item}
 use Rattle.sb_registry.specs.Boxes.{Meanings}
-use Rattle.sb_session.specs.declared.session.Session.{Session}
-use Rattle.sb_session.specs.Sessions.{Lacks}
+use Rattle.sb_opening.specs.Session.{Session}
+use Rattle.sb_opening.specs.Sessions.{Lacks}
 use Rattle.sb_kernel.specs.World.{World, At, IsNow, at}
 use Rattle.sb_kernel.specs.Plays.{last_state}
 use Rattle.sb_kernel.specs.Crashes.{HoldsDatabase, IsLeft}

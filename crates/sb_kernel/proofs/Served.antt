@@ -6,7 +6,7 @@ use Rattle.sb_disk.proofs.StreamLemmas.{Given-none, Taken-none, Taken-more, Take
 use Rattle.sb_lines.specs.Lines.{whole_lines, lines_of}
 use Rattle.sb_lines.proofs.InputLemmas.{AreFirstItems-whole}
 use Rattle.sb_registry.specs.Boxes.{Meanings}
-use Rattle.sb_session.specs.declared.session.Session.{Session}
+use Rattle.sb_opening.specs.Session.{Session}
 use Rattle.sb_kernel.specs.declared.ending.Stop.{Stop}
 use Rattle.sb_kernel.specs.declared.ending.Stop.TheVariants.{SinkFailed, NoMemory, DiskFailed, Damaged}
 use Rattle.sb_kernel.specs.declared.ending.Ending.{Ending}

@@ -8,8 +8,8 @@ use Rattle.sb_grammar.specs.Columns.{Item, IsItem}
 use Rattle.sb_posing.specs.Posing.{AreSingle}
 use Rattle.sb_registry.specs.Boxes.{Meanings}
 use Rattle.sb_opening.specs.Naming.{all_live}
-use Rattle.sb_session.specs.declared.session.Session.{Session}
-use Rattle.sb_session.specs.Sessions.{Lacks}
+use Rattle.sb_opening.specs.Session.{Session}
+use Rattle.sb_opening.specs.Sessions.{Lacks}
 use Rattle.sb_kernel.specs.World.{World, IsNow}
 use Rattle.sb_kernel.specs.Plays.{MovesBy}
 use Rattle.sb_kernel.specs.Crashes.{HoldsDatabase, IsLeft}

@@ -12,9 +12,9 @@ use Rattle.sb_plain.specs.Step.{Steps}
 use Rattle.sb_grammar.specs.Columns.{Item, Says, Bad}
 use Rattle.sb_registry.specs.Boxes.{Meanings}
 use Rattle.sb_drive.specs.Spaces.{Wanted}
-use Rattle.sb_engine.specs.Working.{extensions_of}
-use Rattle.sb_space.specs.Table.{table_len}
-use Rattle.sb_transactions.specs.Transactions.{IsCommitted}
+use Rattle.sb_execution.specs.Working.{extensions_of}
+use Rattle.sb_opening.specs.Table.{table_len}
+use Rattle.sb_opening.specs.Transactions.{IsCommitted}
 use Rattle.sb_opening.specs.Naming.{all_live}
 use Rattle.sb_kernel.specs.Plays.{AreBoxesOf}
 

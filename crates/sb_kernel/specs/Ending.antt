@@ -6,7 +6,7 @@ use Rattle.sb_plain.specs.declared.reply.Reply.TheVariants.{Refused}
 use Rattle.sb_plain.specs.Text.{reply_text, text_of}
 use Rattle.sb_disk.specs.Causes.{Rose}
 use Rattle.sb_lines.specs.Lines.{asking}
-use Rattle.sb_session.specs.Ends.{ends_with}
+use Rattle.sb_opening.specs.Ends.{ends_with}
 use Rattle.sb_kernel.specs.declared.ending.Stop.{Stop}
 use Rattle.sb_kernel.specs.declared.ending.Stop.TheVariants.{SinkFailed, NoMemory, DiskFailed, Damaged}
 use Rattle.sb_kernel.specs.declared.ending.Ending.{Ending}

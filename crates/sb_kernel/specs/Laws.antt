@@ -9,7 +9,7 @@ use Rattle.sb_registry.specs.Boxes.{Meanings}
 use Rattle.sb_drive.specs.Spaces.{Wanted}
 use Rattle.sb_vectors.specs.Vectors.{AreSameBoxes}
 use Rattle.sb_opening.specs.Opening.{IsStored}
-use Rattle.sb_session.specs.declared.session.Session.{Session}
+use Rattle.sb_opening.specs.Session.{Session}
 use Rattle.sb_kernel.specs.World.{World, IsNow}
 use Rattle.sb_kernel.specs.Crashes.{HoldsDatabase}
 

@@ -1,3 +1,13 @@
+pub use Rattle.sb_execution.specs.Working
+pub use Rattle.sb_opening.specs.Creating
+pub use Rattle.sb_opening.specs.Ends
+pub use Rattle.sb_opening.specs.Naming
+pub use Rattle.sb_opening.specs.Opening
+pub use Rattle.sb_opening.specs.Session
+pub use Rattle.sb_opening.specs.Sessions
+pub use Rattle.sb_opening.specs.Table
+pub use Rattle.sb_opening.specs.declared.codes.Named
+pub use Rattle.sb_posing.specs.Posing
 pub mod World
 pub mod Plays
 pub mod Crashes

@@ -8,9 +8,9 @@ use Rattle.sb_plain.specs.declared.reply.Reply.TheVariants.{Refused}
 use Rattle.sb_plain.specs.State.{State}
 use Rattle.sb_grammar.specs.Columns.{Item, Says, Bad}
 use Rattle.sb_registry.specs.Boxes.{Meanings}
-use Rattle.sb_engine.specs.Working.{extensions_of}
+use Rattle.sb_execution.specs.Working.{extensions_of}
 use Rattle.sb_vectors.specs.Vectors.{AreSameBoxes, live_codes, spare_codes}
-use Rattle.sb_session.specs.Ends.{Ends}
+use Rattle.sb_opening.specs.Ends.{Ends}
 
 -- The reply to an item, and the state after it: a bad line is answered by the column of its fault, and the state stays. A command ends as a step, or
 -- for want of room or memory, or because the disk has failed.

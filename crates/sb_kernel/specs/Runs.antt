@@ -12,7 +12,7 @@ use Rattle.sb_lines.specs.Lines.{asking, whole_lines, held_of, AreItems, AreFirs
 use Rattle.sb_posing.specs.Posing.{AreSingle}
 use Rattle.sb_registry.specs.Boxes.{Meanings}
 use Rattle.sb_opening.specs.Naming.{all_live}
-use Rattle.sb_session.specs.Sessions.{Lacks}
+use Rattle.sb_opening.specs.Sessions.{Lacks}
 use Rattle.sb_kernel.specs.declared.ending.Stop.{Stop}
 use Rattle.sb_kernel.specs.World.{World, At, IsNow}
 use Rattle.sb_kernel.specs.Plays.{Plays, last_state}

@@ -3,10 +3,10 @@ use Rattle.std.specs.Prelude.{◌≡◌, ℕ, List, Option}
 use Rattle.sb_disk.specs.Disk.{Story}
 use Rattle.sb_plain.specs.State.{State}
 use Rattle.sb_registry.specs.Boxes.{Meanings}
-use Rattle.sb_space.specs.Table.{table_len}
+use Rattle.sb_opening.specs.Table.{table_len}
 use Rattle.sb_vectors.specs.Vectors.{AreSameBoxes}
-use Rattle.sb_session.specs.declared.session.Session.{Session}
-use Rattle.sb_session.specs.Sessions.{StandsFor}
+use Rattle.sb_opening.specs.Session.{Session}
+use Rattle.sb_opening.specs.Sessions.{StandsFor}
 
 -- what the boxes mean, and what the disk tells: its bytes and moments, its length, its clock, and how often it has failed
 pub record World (B D : Type 0) : Type 0 where

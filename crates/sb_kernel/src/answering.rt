@@ -2,7 +2,7 @@
 
 ghost use Rattle.std.specs.Prelude.{◌≡◌, ◌∷◌, ◌++◌, [], ℕ, List, IfOk, OnErr, OnOk, false};
 ghost use Rattle.sb_grammar.specs.Columns.{IsItem, Says};
-ghost use Rattle.sb_session.specs.Sessions.{CanRun, KeepsSession};
+ghost use Rattle.sb_opening.specs.Sessions.{CanRun, KeepsSession};
 ghost use Rattle.sb_kernel.specs.World.{world};
 ghost use Rattle.sb_kernel.specs.Answering.{HasReplied};
 
@@ -10,9 +10,9 @@ use crate::starts::Starts;
 use sb_disk::Disk;
 use sb_execution::exec;
 use sb_fold::Refusal;
+use sb_opening::Session;
 use sb_plain::{Command, Reply};
 use sb_reader::{LineFault, parse_line};
-use sb_session::Session;
 use sb_vectors::Vectors;
 use std::alloc::{AllocError, Global};
 

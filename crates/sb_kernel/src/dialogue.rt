@@ -3,7 +3,7 @@
 ghost use Rattle.std.specs.Prelude.{◌≡◌, ◌≤◌, ℕ, List, [], ◌∷◌, ◌++◌, false, OnOk};
 ghost use Rattle.sb_registry.specs.Boxes.{Meanings};
 ghost use Rattle.sb_lines.specs.Lines.{whole_lines, lines_of};
-ghost use Rattle.sb_session.specs.Sessions.{CanRun};
+ghost use Rattle.sb_opening.specs.Sessions.{CanRun};
 ghost use Rattle.sb_kernel.specs.World.{At, at, world};
 ghost use Rattle.sb_kernel.specs.Ending.{SinkCause};
 ghost use Rattle.sb_kernel.specs.Answering.{Closes};
@@ -15,8 +15,8 @@ use crate::starts::Starts;
 use crate::writing::write_all;
 use sb_disk::{Disk, Sink};
 use sb_lines::{MOST_HELD, asks, content};
+use sb_opening::Session;
 use sb_printer::print_reply;
-use sb_session::Session;
 use sb_value::Bytes;
 use sb_vectors::Vectors;
 use std::alloc::Global;

@@ -12,6 +12,7 @@ mod writing;
 
 pub use ending::{Ending, Stop};
 pub use laws::{held_images_are_stored, rests_are_held};
+pub use sb_opening::{Session, create, open};
 pub use serving::serve;
 pub use starts::Starts;
 pub use writing::write_all;

@@ -2,7 +2,7 @@
 
 ghost use Rattle.std.specs.Prelude.{◌≡◌, ◌<◌, ◌≤◌, [], List, ℕ, Option, length, false};
 ghost use Rattle.sb_registry.specs.Boxes.{Meanings};
-ghost use Rattle.sb_session.specs.Sessions.{CanRun};
+ghost use Rattle.sb_opening.specs.Sessions.{CanRun};
 ghost use Rattle.sb_kernel.specs.World.{At, at, world};
 ghost use Rattle.sb_kernel.specs.Serving.{counted, Serves, PieceLeads, ContinuesWithin, NeverFall, HasEndingCause, BreaksWithCause, GoesOnUp, HasEnded, HasServed};
 
@@ -10,7 +10,7 @@ use crate::dialogue::Dialogue;
 use crate::ending::Ending;
 use crate::starts::Starts;
 use sb_disk::{Disk, Sink, Source};
-use sb_session::Session;
+use sb_opening::Session;
 use sb_vectors::Vectors;
 use std::alloc::Global;
 use std::ops::ControlFlow;

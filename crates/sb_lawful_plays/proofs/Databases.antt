@@ -11,9 +11,9 @@ use Rattle.sb_plain.specs.Step.{Steps}
 use Rattle.sb_grammar.specs.Columns.{Says, Bad}
 use Rattle.sb_ctx.specs.Method.{Method}
 use Rattle.sb_registry.specs.Boxes.{Meanings, method_of}
-use Rattle.sb_engine.specs.Working.{extensions_of}
+use Rattle.sb_kernel.specs.Working.{extensions_of}
 use Rattle.sb_vectors.specs.Vectors.{AreSameBoxes}
-use Rattle.sb_session.proofs.MoveBoxes.{SameRules-same}
+use Rattle.sb_kernel.proofs.MoveBoxes.{SameRules-same}
 use Rattle.sb_kernel.specs.Plays.{AreBoxesOf}
 use Rattle.sb_kernel.specs.Crashes.{IsMade}
 use Rattle.sb_lawful.specs.Laws.{HasDotlessNames}

@@ -14,13 +14,13 @@ use Rattle.sb_plain.specs.State.{State, committed}
 use Rattle.sb_grammar.specs.Columns.{Item, Says, Bad}
 use Rattle.sb_lines.specs.Lines.{asking, whole_lines, lines_of}
 use Rattle.sb_registry.specs.Boxes.{Meanings}
-use Rattle.sb_engine.specs.Working.{extensions_of}
-use Rattle.sb_session.specs.Ends.{Ends}
+use Rattle.sb_kernel.specs.Working.{extensions_of}
+use Rattle.sb_kernel.specs.Ends.{Ends}
 use Rattle.sb_kernel.specs.declared.ending.Ending.TheVariants.{InputEnded, SourceFailed, MostTaken, Stopped}
 use Rattle.sb_kernel.specs.World.{World}
 use Rattle.sb_kernel.specs.Plays.{AreBoxesOf, MovesBy, Plays, last_state}
 use Rattle.sb_kernel.specs.Crashes.{LeavesAlong, next_start}
-use Rattle.sb_opening.specs.Opening.{opened}
+use Rattle.sb_kernel.specs.Opening.{opened}
 use Rattle.sb_said.specs.Written.{IsWritten, IsWrittenItem}
 use Rattle.sb_said.proofs.Spelled.{items-written, first-written}
 use Rattle.sb_said.proofs.Stepping.{down-lawful}

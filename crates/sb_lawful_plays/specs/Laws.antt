@@ -8,10 +8,10 @@ use Rattle.sb_plain.specs.declared.reply.Reply.{Reply}
 use Rattle.sb_plain.specs.State.{State, committed}
 use Rattle.sb_grammar.specs.Columns.{Item}
 use Rattle.sb_registry.specs.Boxes.{Meanings}
-use Rattle.sb_engine.specs.Working.{extensions_of}
+use Rattle.sb_kernel.specs.Working.{extensions_of}
 use Rattle.sb_vectors.specs.Vectors.{AreSameBoxes}
-use Rattle.sb_opening.specs.Opening.{opened}
-use Rattle.sb_session.specs.Sessions.{Lacks}
+use Rattle.sb_kernel.specs.Opening.{opened}
+use Rattle.sb_kernel.specs.Sessions.{Lacks}
 use Rattle.sb_kernel.specs.declared.ending.Ending.{Ending}
 use Rattle.sb_kernel.specs.World.{World, At}
 use Rattle.sb_kernel.specs.Plays.{Plays}

@@ -1,3 +1,4 @@
+pub use Rattle.sb_cascade.proofs.Staying
 pub mod Wishing
 pub mod Storing
 pub mod Following

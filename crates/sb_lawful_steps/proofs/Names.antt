@@ -9,7 +9,7 @@ use Rattle.sb_relation.specs.Buckets.{grown}
 use Rattle.sb_relation.specs.Changes.{changed, changed_rows, with_change}
 use Rattle.sb_relation.specs.Db.{Name, Rows, Attached, Relation, Db, relation_at}
 use Rattle.sb_fold.specs.Building.{rule_at}
-use Rattle.sb_cascade.proofs.Staying.{changed_in, after_put, changed_columns}
+use Rattle.sb_lawful_rows.proofs.Staying.{changed_in, after_put, changed_columns}
 use Rattle.sb_plain.specs.Printing.{is_mirror}
 use Rattle.sb_lawful.specs.Laws.{IsDotless, HasDotlessNames}
 use Rattle.sb_lawful.proofs.Items.{is_named}

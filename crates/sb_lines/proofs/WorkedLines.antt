@@ -1,7 +1,7 @@
 -- Worked examples of lines, which the definitions compute.
 use Rattle.std.specs.Prelude.{◌≡◌, true, false, codes, refl, [], ◌∷◌, ◌++◌, replicate, take}
 use Rattle.std.proofs.Common.{inl}
-use Rattle.sb_plain.specs.declared.command.Command.TheVariants as command
+use Rattle.sb_grammar.specs.Command.TheVariants as command
 use Rattle.sb_tokens.specs.declared.token.Token.TheVariants as token
 use Rattle.sb_grammar.specs.Columns.{is_long, Says, Bad, IsItem}
 use Rattle.sb_lines.specs.Lines.{whole_lines, lines_of, without_return, asks, asking, most_held, Commands}

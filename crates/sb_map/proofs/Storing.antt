@@ -1,7 +1,7 @@
 -- What a call leaves that stores what a walk made.
 use Rattle.std.proofs.Common.{◌≡◌, ℕ, ◌≤◌, Bool, false, List, length, Option, Some, None, Result, Ok, Err, IfOk, OnOk, refl, sym, ap, ◌∙◌}
 use Rattle.std.specs.Result.{IsErrAnd}
-use Rattle.sb_fold.specs.Costs.{tree_cost}
+use Rattle.sb_ctx.specs.Costs.{tree_cost}
 use Rattle.sb_node.specs.Entries.{Entry}
 use Rattle.sb_forms.specs.Maps.{map_in}
 use Rattle.sb_forms.specs.Pages.{Pages}

@@ -1,6 +1,6 @@
 -- What calls on a map leave of the space.
 use Rattle.std.specs.Prelude.{◌≡◌, ℕ, ◌+◌, ◌*◌, ◌<◌, ◌≤◌, Bool, List, length, Some, None, Result, IfErr}
-use Rattle.sb_fold.specs.Costs.{tree_cost}
+use Rattle.sb_ctx.specs.Costs.{tree_cost}
 use Rattle.sb_drive.specs.declared.space.SpaceFault.{SpaceFault}
 use Rattle.sb_node.specs.Entries.{Entry}
 use Rattle.sb_forms.specs.Pages.{Pages}

@@ -2,7 +2,7 @@
 use Rattle.std.specs.Prelude.{◌≡◌, ℕ, ◌+◌, ◌≤◌, Bool, true, false, List, length, Option, Some, None, is_some}
 use Rattle.std.specs.FinMap.Entries.{find, put}
 use Rattle.sb_node.specs.Entries.{Entry, key_cmp}
-use Rattle.sb_fold.specs.Costs.{tree_cost}
+use Rattle.sb_ctx.specs.Costs.{tree_cost}
 use Rattle.sb_forms.specs.Maps.{map_in}
 use Rattle.sb_forms.specs.Pages.{Pages}
 use Rattle.sb_ctx.specs.View.{View, HoldsPart, edits_of, stored}

@@ -1,3 +1,4 @@
+pub use Rattle.sb_btree.specs.Ways
 pub mod Maps
 pub mod Refusals
 pub mod Calls

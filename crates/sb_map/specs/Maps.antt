@@ -1,6 +1,6 @@
 -- A map in the pages of one owner, over a space of pages: a tree that meets them all.
 use Rattle.std.specs.Prelude.{◌≡◌, ℕ, ◌≤◌, List, length, Some}
-use Rattle.sb_fold.specs.Bounds.{plain_bound}
+use Rattle.sb_ctx.specs.Bounds.{plain_bound}
 use Rattle.sb_node.specs.Entries.{Entry}
 use Rattle.sb_forms.specs.Maps.{map_in}
 use Rattle.sb_forms.specs.Pages.{Pages, page_count}

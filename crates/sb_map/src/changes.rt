@@ -10,7 +10,7 @@ ghost use Rattle.sb_ctx.specs.View.{HoldsPart, dropped, edits_of, page_of, store
 ghost use Rattle.sb_forms.specs.TreePages.{tree_met};
 ghost use Rattle.sb_drive.specs.Slots.{Slots, owned};
 ghost use Rattle.sb_drive.specs.Spaces.{IsFullFor, Wanted, WhereFull};
-ghost use Rattle.sb_fold.specs.Costs.{tree_cost};
+ghost use Rattle.sb_ctx.specs.Costs.{tree_cost};
 ghost use Rattle.sb_map.specs.Calls.{IsAsking, IsWithin, Looks, Works};
 ghost use Rattle.sb_map.specs.Changes.{IsMade, IsSmall, Makes, OverMaps, RemovesKey, changed, is_change};
 ghost use Rattle.sb_map.specs.Maps.{Becomes, OverMap, OverPages, OverTree};

@@ -3,7 +3,7 @@ use Rattle.std.proofs.Common.{◌≡◌, ℕ, List, map, All, Option, Some, None
 use Rattle.std.specs.List.{find as first}
 use Rattle.std.specs.FinMap.Entries.{find}
 use Rattle.sb_node.specs.Entries.{Entry, key_cmp}
-use Rattle.sb_btree.specs.Ways as ways
+use Rattle.sb_map.specs.Ways as ways
 use Rattle.sb_relation.specs.Db.{Name, Db, relation_at}
 use Rattle.sb_catalog.specs.declared.descriptor.Descriptor.{Descriptor}
 use Rattle.sb_catalog.specs.Descriptors.{descriptor_spelling, IsStorableDescriptor}

@@ -1,6 +1,6 @@
 -- Reading calls on a space, and refusals that aren't the space's.
 use Rattle.std.proofs.Common.{◌≡◌, inl, ℕ, Result, Ok, Err, IfErr, List, Some, map, subst, sym}
-use Rattle.sb_forms.specs.Maps.{map_in}
+use Rattle.sb_ctx.specs.Maps.{map_in}
 use Rattle.sb_drive.specs.declared.space.SpaceFault.{SpaceFault}
 use Rattle.sb_drive.specs.declared.space.SpaceFault.TheVariants.{Damaged, NoMemory}
 use Rattle.sb_drive.specs.Slots.{Slots, owned}

@@ -1,1 +1,12 @@
+pub use Rattle.sb_map.specs.Changes
+pub use Rattle.sb_map.specs.Maps
+pub use Rattle.sb_map.specs.Refusals
+pub use Rattle.sb_map.specs.declared.place.Place
+pub use Rattle.sb_standing.specs.Asked
+pub use Rattle.sb_standing.specs.AskedLaws
+pub use Rattle.sb_standing.specs.Instances
+pub use Rattle.sb_standing.specs.Live
+pub use Rattle.sb_standing.specs.Paths
+pub use Rattle.sb_standing.specs.Standing
+pub use Rattle.sb_standing.specs.Tables
 pub mod Opened

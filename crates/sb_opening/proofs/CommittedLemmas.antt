@@ -15,7 +15,7 @@ use Rattle.sb_registry.specs.Boxes.{Meanings, attachment_of, method_of}
 use Rattle.sb_drive.specs.Spaces.{Wanted}
 use Rattle.sb_standing.specs.Tables.{Kept, db_of}
 use Rattle.sb_space.specs.Table.{slots_in}
-use Rattle.sb_transactions.specs.Transactions.{IsCommitted}
+use Rattle.sb_session.specs.Transactions.{IsCommitted}
 use Rattle.sb_vectors.specs.Vectors.{AreSameBoxes, has_box}
 use Rattle.sb_session.proofs.MoveBoxes.{Keeps-still, SameRules, StillLive, rules_alike}
 use Rattle.sb_session.proofs.MoveLists.{found_more}

@@ -1,3 +1,6 @@
+pub use Rattle.sb_session.proofs.MoveBoxes
+pub use Rattle.sb_session.proofs.MoveLists
+pub use Rattle.sb_session.proofs.SameBoxes
 pub mod NamedLemmas
 pub mod BoxLemmas
 pub mod CommittedLemmas

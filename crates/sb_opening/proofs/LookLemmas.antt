@@ -7,15 +7,15 @@ use Rattle.sb_drive.specs.declared.space.SpaceFault.{SpaceFault}
 use Rattle.sb_drive.specs.declared.space.SpaceFault.TheVariants.{Fault, DataFull, TempFull, LogFull, GatesFull, Damaged, Down, NoMemory}
 use Rattle.sb_registry.specs.Boxes.{Meanings}
 use Rattle.sb_standing.specs.Tables.{Kept}
-use Rattle.sb_opened.specs.Opened.{OverTables}
+use Rattle.sb_session.specs.Opened.{OverTables}
 use Rattle.sb_txn.specs.Parts.{Parts, parts}
 use Rattle.sb_txn.specs.State.{State}
 use Rattle.sb_space.specs.declared.durable.Durable.{Durable}
 use Rattle.sb_space.specs.Durable.{Leads, parts_in}
 use Rattle.sb_space.specs.View.{lent}
 use Rattle.sb_space.specs.Works.{Fails, HasPages, MeansDown, Serves, Works}
-use Rattle.sb_transactions.specs.Driven.{HasLent}
-use Rattle.sb_transactions.proofs.LentLemmas.{FailsLent, IsStoreLent}
+use Rattle.sb_session.specs.Driven.{HasLent}
+use Rattle.sb_session.proofs.LentLemmas.{FailsLent, IsStoreLent}
 use Rattle.sb_opening.specs.Looking.{OverCatalogue}
 
 -- what is lent serves

@@ -14,7 +14,7 @@ use Rattle.sb_relation.specs.Db.{Name}
 use Rattle.sb_catalog.specs.declared.descriptor.Attached.{Attached}
 use Rattle.sb_catalog.specs.declared.descriptor.Descriptor.{Descriptor}
 use Rattle.sb_standing.specs.Tables.{Kept, db_of, first_above, is_above}
-use Rattle.sb_opened.specs.Opened.{kept_header}
+use Rattle.sb_session.specs.Opened.{kept_header}
 use Rattle.sb_opening.specs.declared.codes.Named.{Named}
 use Rattle.sb_opening.specs.Naming.{is_alike, is_named, named_attachment, named_by, named_in}
 

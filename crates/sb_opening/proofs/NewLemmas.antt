@@ -13,7 +13,7 @@ use Rattle.sb_space.specs.Opening.{IsNewStore}
 use Rattle.sb_space.specs.Table.{slots_in, table_len}
 use Rattle.sb_space.proofs.Looking.{bytes_for-other, not_eq}
 use Rattle.sb_space.proofs.NewStores.{new_stores}
-use Rattle.sb_transactions.specs.Transactions.{IsCommitted}
+use Rattle.sb_session.specs.Transactions.{IsCommitted}
 use Rattle.sb_opening.specs.Laws.{NewAreEmpty}
 use Rattle.sb_opening.specs.Naming.{all_live}
 use Rattle.sb_opening.specs.Opening.{IsStored}

@@ -20,7 +20,7 @@ use Rattle.sb_drive.specs.Spaces.{Wanted}
 use Rattle.sb_map.specs.declared.place.Place.{Place}
 use Rattle.sb_standing.specs.Standing.{owners_in}
 use Rattle.sb_standing.specs.Tables.{Kept, Tables}
-use Rattle.sb_opened.specs.Opened.{IsDurable}
+use Rattle.sb_session.specs.Opened.{IsDurable}
 use Rattle.sb_txn.specs.Book.{Book}
 use Rattle.sb_txn.specs.Clauses.{HoldsPages}
 use Rattle.sb_txn.specs.Parts.{Parts, parts, stored}
@@ -32,7 +32,7 @@ use Rattle.sb_space.specs.Telling.{told_from, told_map}
 use Rattle.sb_space.specs.Transactions.{AreFormed}
 use Rattle.sb_space.specs.Works.{HasPages}
 use Rattle.sb_space.proofs.TablePages.{tables_by_pages}
-use Rattle.sb_transactions.specs.Transactions.{IsCommitted, Rests}
+use Rattle.sb_session.specs.Transactions.{IsCommitted, Rests}
 use Rattle.sb_session.specs.declared.session.Session.{Session}
 use Rattle.sb_session.specs.Sessions.{CanRun, IsFor}
 use Rattle.sb_opening.specs.declared.codes.Named.{Named}

@@ -7,7 +7,7 @@ use Rattle.sb_recover.specs.FirstPages.{first_page}
 use Rattle.sb_relation.specs.Db.{Db}
 use Rattle.sb_registry.specs.Boxes.{Meanings, repeated_in}
 use Rattle.sb_drive.specs.Spaces.{Wanted}
-use Rattle.sb_transactions.specs.Transactions.{IsCommitted}
+use Rattle.sb_session.specs.Transactions.{IsCommitted}
 use Rattle.sb_vectors.specs.Vectors.{AreSameBoxes, Registers, Retires}
 use Rattle.sb_opening.specs.Naming.{all_live}
 use Rattle.sb_opening.specs.Opening.{IsStored}

@@ -1,3 +1,10 @@
+pub use Rattle.sb_map.specs.declared.place.Place
+pub use Rattle.sb_session.specs.Ends
+pub use Rattle.sb_session.specs.Sessions
+pub use Rattle.sb_session.specs.Transactions
+pub use Rattle.sb_session.specs.declared.session.Open
+pub use Rattle.sb_session.specs.declared.session.Session
+pub use Rattle.sb_space.specs.Table
 pub mod Naming
 pub mod Laws
 pub mod Opening

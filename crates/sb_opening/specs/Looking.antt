@@ -10,7 +10,7 @@ use Rattle.sb_drive.specs.declared.space.SpaceFault.TheVariants as space
 use Rattle.sb_drive.specs.Slots.{Slots}
 use Rattle.sb_drive.specs.Spaces.{Wanted}
 use Rattle.sb_standing.specs.Tables.{Kept, Tables}
-use Rattle.sb_opened.specs.Opened.{IsDurable}
+use Rattle.sb_session.specs.Opened.{IsDurable}
 use Rattle.sb_txn.specs.Clauses.{IsReady, LeavesWanted}
 use Rattle.sb_txn.specs.Parts.{Parts, parts}
 use Rattle.sb_txn.specs.State.{State}

@@ -17,8 +17,8 @@ use Rattle.sb_space.specs.Opening.{IsFirstDamaged, SpaceErr}
 use Rattle.sb_space.specs.Table.{AreWhole, IsTable, slots_in, table_len}
 use Rattle.sb_standing.specs.Standing.{owners_in}
 use Rattle.sb_standing.specs.Tables.{Kept, Tables}
-use Rattle.sb_opened.specs.Opened.{IsDurable}
-use Rattle.sb_transactions.specs.Transactions.{IsCommitted}
+use Rattle.sb_session.specs.Opened.{IsDurable}
+use Rattle.sb_session.specs.Transactions.{IsCommitted}
 use Rattle.sb_vectors.specs.Vectors.{live_codes, spare_codes}
 use Rattle.sb_opening.specs.declared.codes.Named.{Named}
 use Rattle.sb_opening.specs.Naming.{all_live, first_absent}

@@ -5,13 +5,13 @@ ghost use Rattle.sb_registry.specs.Boxes.{Meanings};
 ghost use Rattle.sb_registry.specs.Runs.{IsSound, Looks};
 ghost use Rattle.sb_standing.specs.Instances.{owners_of};
 ghost use Rattle.sb_standing.specs.Standing.{owners_in};
-ghost use Rattle.sb_opened.specs.Opened.{OverTables};
+ghost use Rattle.sb_session.specs.Opened.{OverTables};
 ghost use Rattle.sb_opening.specs.Naming.{named_by, named_in};
 
 use sb_catalog::Descriptor;
 use sb_drive::{PageSpace, SpaceFault};
 use sb_map::Place;
-use sb_opened::next_descriptor;
+use sb_session::next_descriptor;
 use std::alloc::{AllocError, Global};
 
 /// The kind and the code of a box: a storage method or an attachment.

@@ -13,3 +13,4 @@ pub use codes::Named;
 pub use creating::create;
 pub use laws::{boxes_may_be_live, boxes_may_move, new_stores_are_empty};
 pub use opening::open;
+pub use sb_session::Session;

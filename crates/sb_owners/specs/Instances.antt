@@ -1,6 +1,6 @@
 -- Instances that come and go in a space of pages.
 use Rattle.std.specs.Prelude.{◌≡◌, ℕ, ◌<◌, ◌==◌, cond, []}
-use Rattle.sb_forms.specs.Pages.{Pages, new_pages}
+use Rattle.sb_drive.specs.Pages.{Pages, new_pages}
 use Rattle.sb_drive.specs.Slots.{Slots, nobodys, owned}
 use Rattle.sb_drive.specs.Spaces.{Wanted}
 use Rattle.sb_drive.specs.declared.space.SpaceFault.{SpaceFault}

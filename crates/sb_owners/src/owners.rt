@@ -1,7 +1,7 @@
 //! What makes and frees the pages of instances.
 
 ghost use Rattle.std.specs.Prelude.{◌<◌, [], IfOk, IfErr, OnOk, OnErr};
-ghost use Rattle.sb_ctx.specs.View.{nothing};
+ghost use Rattle.sb_drive.specs.View.{nothing};
 ghost use Rattle.sb_drive.specs.Instances.{IsLeastFree, IsLeastOwner};
 ghost use Rattle.sb_drive.specs.Slots.{Slots};
 ghost use Rattle.sb_drive.specs.Spaces.{IsFull, IsStoreFault, Leaves, LeadsOn, LeadsWithin, UnlessDown, Wanted};

@@ -1,3 +1,4 @@
+pub use Rattle.sb_fold.specs.Extensions
 pub mod State
 pub mod Refusing
 pub mod Values

@@ -19,7 +19,7 @@ use Rattle.sb_grammar.specs.Columns.{IsCommand}
 use Rattle.sb_printer.proofs.Printed.{EachProper, row_proper}
 use Rattle.sb_registry.specs.Boxes.{Meanings}
 use Rattle.sb_vectors.specs.Vectors.{live_codes}
-use Rattle.sb_engine.specs.Working.{extensions_of}
+use Rattle.sb_statements.specs.Working.{extensions_of}
 use Rattle.sb_statements.specs.Posed.{IsOfNoMirror, IsPosedRelation, IsPosedRule}
 use Rattle.sb_statements.proofs.PassedLemmas.{IsPassed, found_first, passed}
 use Rattle.sb_posing.specs.Posing.{AreSingle, ReadIsPosed}

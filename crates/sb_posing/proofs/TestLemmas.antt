@@ -16,7 +16,7 @@ use Rattle.sb_refusals.proofs.Growing.{one_over}
 use Rattle.sb_registry.specs.Boxes.{Meanings}
 use Rattle.sb_vectors.specs.Vectors.{has_box, live_codes}
 use Rattle.sb_vectors.proofs.BoxLemmas.{has_box-codes}
-use Rattle.sb_standing.specs.Standing.{is_join}
+use Rattle.sb_statements.specs.Standing.{is_join}
 
 -- ---- codes
 pub passed_code : (codes : List ℕ) (code : ℕ) → code_where (not (has_code codes code)) code ≡ None → has_code codes code ≡ true

@@ -7,7 +7,7 @@ use Rattle.sb_grammar.specs.Columns.{IsItem, Says}
 use Rattle.sb_ctx.specs.Method.{Method}
 use Rattle.sb_registry.specs.Boxes.{Meanings, method_of}
 use Rattle.sb_vectors.specs.Vectors.{has_box, live_codes}
-use Rattle.sb_engine.specs.Working.{extensions_of}
+use Rattle.sb_statements.specs.Working.{extensions_of}
 use Rattle.sb_statements.specs.Posed.{IsPosed}
 
 -- The live storage methods keep what outlives the run, and temp, of code 3, is none of them. No live attachment is of two relations: neither join

@@ -9,7 +9,7 @@ use Rattle.sb_ctx.specs.MethodAnswers.{row_above}
 use Rattle.sb_rows.specs.Scans.{rows_above}
 use Rattle.sb_rows.proofs.ScansLemmas.{IsMade, IsMade-all, IsMade-next, IsMade-none, rows_above-all}
 use Rattle.sb_standing.specs.Tables.{Kept, db_of, first_above, is_above}
-use Rattle.sb_opened.specs.Opened.{kept_header}
+use Rattle.sb_asking.specs.Opened.{kept_header}
 use Rattle.sb_reads.proofs.EntriesLemmas.{filter-all}
 
 abbrev as_row : Kept → Key × Row

@@ -36,8 +36,8 @@ use Rattle.sb_standing.specs.Tables.{Kept, KeepsTable, db_of, kept_at, table_of}
 use Rattle.sb_standing.proofs.KeptLemmas.{kept_at-all, kept_at-name, relation_at-kept, relation_at-there}
 use Rattle.sb_standing.proofs.SplitLemmas.{no_joins}
 use Rattle.sb_standing.proofs.StandLemmas.{StandRules-keeps}
-use Rattle.sb_opened.specs.declared.relation.OpenRelation.{OpenRelation}
-use Rattle.sb_opened.specs.Opened.{IsDurable, IsOpen, rule_of}
+use Rattle.sb_asking.specs.OpenRelation.{OpenRelation}
+use Rattle.sb_asking.specs.Opened.{IsDurable, IsOpen, rule_of}
 use Rattle.sb_plain.specs.Reading.{image_at, index_columns}
 use Rattle.sb_plain.specs.Refusing.{is_lookup, is_range}
 use Rattle.sb_asking.specs.Calls.{IsFinal}

@@ -18,8 +18,8 @@ use Rattle.sb_catalog.specs.Descriptors.{described, standing}
 use Rattle.sb_rows.specs.Live.{HasRows}
 use Rattle.sb_standing.specs.Standing.{EachRule, Keeps, KeepsRule, StandRules, is_join}
 use Rattle.sb_standing.specs.Tables.{Kept, Tables, db_of}
-use Rattle.sb_opened.specs.declared.relation.OpenRelation.{OpenRelation}
-use Rattle.sb_opened.specs.Opened.{IsDurable, rule_of}
+use Rattle.sb_asking.specs.OpenRelation.{OpenRelation}
+use Rattle.sb_asking.specs.Opened.{IsDurable, rule_of}
 
 -- what is so of the relations of each store that the space has
 abbrev pub OnStore : {S : Type 0} → (Wanted → Slots → S → Type 0) → Meanings → ℕ → S → (List Kept → Type 0) → Type 0

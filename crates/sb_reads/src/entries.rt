@@ -8,10 +8,9 @@ ghost use Rattle.sb_registry.specs.Runs.{IsSound, Looks};
 ghost use Rattle.sb_reads.specs.Entries.{IsEntryOrEnd, IsSums, entry_in, is_beyond, is_risen, is_within, sums_in};
 ghost use Rattle.sb_reads.specs.Stores.{OnContent};
 
-use sb_asking::ask;
+use sb_asking::{Place, ask};
 use sb_ctx::{AttachCall, Instance, Move};
 use sb_drive::{PageSpace, SpaceFault};
-use sb_map::Place;
 use sb_registry::Boxes;
 use sb_relation::{Entries, Image, Sums};
 use sb_value::RecKey;

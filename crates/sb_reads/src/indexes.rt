@@ -9,7 +9,7 @@ ghost use Rattle.sb_registry.specs.Boxes.{boxes_of};
 ghost use Rattle.sb_registry.specs.Live.{IsLive};
 ghost use Rattle.sb_registry.specs.Runs.{IsSound, Looks};
 ghost use Rattle.sb_rows.specs.Live.{HasRows};
-ghost use Rattle.sb_opened.specs.Opened.{IsOpen};
+ghost use Rattle.sb_asking.specs.Opened.{IsOpen};
 ghost use Rattle.sb_plain.specs.declared.reply.Reply.TheVariants.{Rows as Rowed, Entries as Listed};
 ghost use Rattle.std.specs.List.{cons_option};
 ghost use Rattle.sb_plain.specs.Reading.{image_at, index_columns, looked_up, rows_between};
@@ -19,12 +19,11 @@ ghost use Rattle.sb_reads.specs.Stores.{OnOpen, attachment_in, columns_of, insta
 
 use crate::entries::{entries_within, image_of};
 use crate::rows::rows_with;
+use sb_asking::{OpenRelation, Place};
 use sb_catalog::Attached;
 use sb_codec::ordered_key;
 use sb_ctx::Instance;
 use sb_drive::{PageSpace, SpaceFault};
-use sb_map::Place;
-use sb_opened::OpenRelation;
 use sb_plain::{Reply, Rows};
 use sb_registry::Boxes;
 use sb_rows::get_row;

@@ -6,11 +6,11 @@ ghost use Rattle.sb_plain.specs.Printing.{shown};
 ghost use Rattle.sb_registry.specs.Boxes.{Meanings};
 ghost use Rattle.sb_registry.specs.Runs.{IsSound, Looks};
 ghost use Rattle.sb_standing.specs.Tables.{db_of};
-ghost use Rattle.sb_opened.specs.Opened.{OverTables};
+ghost use Rattle.sb_asking.specs.Opened.{OverTables};
 ghost use Rattle.sb_reads.specs.Reads.{IsThere};
 
+use sb_asking::Place;
 use sb_drive::{PageSpace, SpaceFault};
-use sb_map::Place;
 use sb_showing::show;
 use sb_value::{Names, Str};
 use std::alloc::Global;

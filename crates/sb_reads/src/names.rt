@@ -5,9 +5,8 @@ ghost use Rattle.sb_registry.specs.Runs.{IsSound, Looks};
 ghost use Rattle.sb_standing.specs.Tables.{db_of};
 ghost use Rattle.sb_reads.specs.Stores.{OnStore};
 
+use sb_asking::{Place, next_relation};
 use sb_drive::{PageSpace, SpaceFault};
-use sb_map::Place;
-use sb_opened::next_relation;
 use sb_registry::Boxes;
 use sb_value::{Names, Str};
 use std::alloc::{AllocError, Global};

@@ -8,15 +8,14 @@ ghost use Rattle.sb_drive.specs.Spaces.{Wanted};
 ghost use Rattle.sb_registry.specs.Live.{IsLive};
 ghost use Rattle.sb_registry.specs.Runs.{IsSound, Looks};
 ghost use Rattle.sb_rows.specs.Live.{HasRows};
-ghost use Rattle.sb_opened.specs.Opened.{IsOpen};
+ghost use Rattle.sb_asking.specs.Opened.{IsOpen};
 ghost use Rattle.sb_plain.specs.declared.reply.Reply.TheVariants.{Rows as Rowed};
 ghost use Rattle.sb_plain.specs.Reading.{at_most, row_reply, rows_after};
 ghost use Rattle.sb_reads.specs.Reads.{most_rows};
 
-use sb_asking::ValueTest;
+use sb_asking::{OpenRelation, ValueTest};
 use sb_ctx::Instance;
 use sb_drive::{PageSpace, SpaceFault};
-use sb_opened::OpenRelation;
 use sb_plain::{Picks, Refusal, Reply, Rows};
 use sb_registry::Boxes;
 use sb_rows::{RowTest, get_row, rows_where};

@@ -1,20 +1,20 @@
 -- Calls of live boxes over a space.
 use Rattle.std.proofs.Common.{◌≡◌, ℕ, Bool, Result, Ok, Err, IfErr, Some, sym, subst, ◌∙◌, true≢false}
-use Rattle.sb_relation.specs.Content.{Content}
-use Rattle.sb_relation.specs.Db.{Rows}
-use Rattle.sb_forms.specs.Pages.{Pages}
-use Rattle.sb_ctx.specs.declared.instance.Instance.{Instance}
-use Rattle.sb_ctx.specs.declared.calls.MethodCall.{MethodCall}
-use Rattle.sb_ctx.specs.declared.calls.MethodCall.TheVariants as calls
-use Rattle.sb_ctx.specs.declared.calls.AttachCall.{AttachCall}
-use Rattle.sb_ctx.specs.declared.calls.AttachCall.TheVariants as attach
-use Rattle.sb_ctx.specs.declared.moves.Move.{Move}
-use Rattle.sb_ctx.specs.View.{View}
-use Rattle.sb_ctx.specs.Method.{Method}
-use Rattle.sb_ctx.specs.MethodAnswers.{Before}
-use Rattle.sb_ctx.specs.Attachment.{Attachment}
-use Rattle.sb_ctx.specs.AttachAnswers.{Holds}
-use Rattle.sb_ctx.specs.Laws.{IsMethod, IsAttachment}
+use Rattle.sb_drive.specs.Content.{Content}
+use Rattle.sb_drive.specs.Db.{Rows}
+use Rattle.sb_drive.specs.Pages.{Pages}
+use Rattle.sb_drive.specs.Instance.{Instance}
+use Rattle.sb_drive.specs.MethodCall.{MethodCall}
+use Rattle.sb_drive.specs.MethodCall.TheVariants as calls
+use Rattle.sb_drive.specs.AttachCall.{AttachCall}
+use Rattle.sb_drive.specs.AttachCall.TheVariants as attach
+use Rattle.sb_drive.specs.Move.{Move}
+use Rattle.sb_drive.specs.View.{View}
+use Rattle.sb_drive.specs.Method.{Method}
+use Rattle.sb_drive.specs.MethodAnswers.{Before}
+use Rattle.sb_drive.specs.Attachment.{Attachment}
+use Rattle.sb_drive.specs.AttachAnswers.{Holds}
+use Rattle.sb_drive.specs.Laws.{IsMethod, IsAttachment}
 use Rattle.sb_drive.specs.declared.space.SpaceFault.{SpaceFault}
 use Rattle.sb_drive.specs.declared.space.SpaceFault.TheVariants.{DataFull, TempFull, Damaged}
 use Rattle.sb_drive.specs.AttachCalls.{Fits, HasSpaceCause as HasSpaceCauseFor}

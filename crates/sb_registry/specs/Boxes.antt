@@ -3,9 +3,9 @@ use Rattle.std.specs.Prelude.{◌≡◌, ℕ, ◌==◌, Bool, true, false, List,
 use Rattle.std.specs.List.{find}
 use Rattle.std.specs.declared.dyn_box.DynBox.{DynBox}
 use Rattle.std.specs.declared.alloc.Global.{Global}
-use Rattle.sb_ctx.specs.Method.{Method}
-use Rattle.sb_ctx.specs.Attachment.{Attachment}
-use Rattle.sb_relation.specs.Foreign.{Boxes}
+use Rattle.sb_drive.specs.Method.{Method}
+use Rattle.sb_drive.specs.Attachment.{Attachment}
+use Rattle.sb_drive.specs.Foreign.{Boxes}
 use Rattle.sb_registry.specs.declared.extensions.Extensions.{Extensions}
 use Rattle.sb_registry.specs.Codes.{repeated, GoesIf}
 

@@ -1,3 +1,10 @@
+pub use Rattle.sb_drive.specs.Attachment
+pub use Rattle.sb_drive.specs.Instances
+pub use Rattle.sb_drive.specs.Method
+pub use Rattle.sb_drive.specs.Slots
+pub use Rattle.sb_drive.specs.Spaces
+pub use Rattle.sb_drive.specs.Turns
+pub use Rattle.sb_drive.specs.declared.space.SpaceFault
 pub mod Boxes
 pub mod Codes
 pub mod Live

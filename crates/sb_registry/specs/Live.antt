@@ -1,14 +1,14 @@
 -- Instances whose box is live, and the rows that their calls take.
 use Rattle.std.specs.Prelude.{◌≡◌, false, Some}
-use Rattle.sb_relation.specs.Db.{Row}
-use Rattle.sb_relation.specs.Keys.{keying_of, Coded}
-use Rattle.sb_relation.specs.Lawful.{IsRow, is_long_code}
-use Rattle.sb_ctx.specs.declared.instance.Instance.{Instance}
-use Rattle.sb_ctx.specs.declared.calls.MethodCall.{MethodCall}
-use Rattle.sb_ctx.specs.declared.calls.MethodCall.TheVariants.{Insert, Update}
-use Rattle.sb_ctx.specs.Method.{Method, IsInstance}
-use Rattle.sb_ctx.specs.Attachment.{Attachment, IsInstance as IsAttached}
-use Rattle.sb_ctx.specs.Laws.{IsMethod, IsAttachment}
+use Rattle.sb_drive.specs.Db.{Row}
+use Rattle.sb_drive.specs.Keys.{keying_of, Coded}
+use Rattle.sb_drive.specs.Lawful.{IsRow, is_long_code}
+use Rattle.sb_drive.specs.Instance.{Instance}
+use Rattle.sb_drive.specs.MethodCall.{MethodCall}
+use Rattle.sb_drive.specs.MethodCall.TheVariants.{Insert, Update}
+use Rattle.sb_drive.specs.Method.{Method, IsInstance}
+use Rattle.sb_drive.specs.Attachment.{Attachment, IsInstance as IsAttached}
+use Rattle.sb_drive.specs.Laws.{IsMethod, IsAttachment}
 use Rattle.sb_registry.specs.Boxes.{Meanings, method_of, attachment_of}
 
 -- a live storage method of the instance's code keeps it

@@ -1,19 +1,19 @@
 -- What the call of a live box leaves of a space, whatever the space is.
 use Rattle.std.specs.Prelude.{◌≡◌, ℕ, Bool, true, false, Result, IfOk, IfErr}
-use Rattle.sb_relation.specs.Content.{Content}
-use Rattle.sb_relation.specs.Db.{Rows}
-use Rattle.sb_forms.specs.Pages.{Pages}
-use Rattle.sb_ctx.specs.declared.instance.Instance.{Instance}
-use Rattle.sb_ctx.specs.declared.calls.MethodCall.{MethodCall}
-use Rattle.sb_ctx.specs.declared.calls.AttachCall.{AttachCall}
-use Rattle.sb_ctx.specs.declared.calls.AttachCall.TheVariants.{Prepare}
-use Rattle.sb_ctx.specs.declared.moves.Move.{Move}
-use Rattle.sb_ctx.specs.declared.moves.Move.TheVariants.{Fresh}
-use Rattle.sb_ctx.specs.View.{View}
-use Rattle.sb_ctx.specs.Method.{Method}
-use Rattle.sb_ctx.specs.MethodAnswers.{Answers, Before}
-use Rattle.sb_ctx.specs.Attachment.{Attachment}
-use Rattle.sb_ctx.specs.AttachAnswers.{Answers as AnswersFor, Holds, Spends, pages_of_new}
+use Rattle.sb_drive.specs.Content.{Content}
+use Rattle.sb_drive.specs.Db.{Rows}
+use Rattle.sb_drive.specs.Pages.{Pages}
+use Rattle.sb_drive.specs.Instance.{Instance}
+use Rattle.sb_drive.specs.MethodCall.{MethodCall}
+use Rattle.sb_drive.specs.AttachCall.{AttachCall}
+use Rattle.sb_drive.specs.AttachCall.TheVariants.{Prepare}
+use Rattle.sb_drive.specs.Move.{Move}
+use Rattle.sb_drive.specs.Move.TheVariants.{Fresh}
+use Rattle.sb_drive.specs.View.{View}
+use Rattle.sb_drive.specs.Method.{Method}
+use Rattle.sb_drive.specs.MethodAnswers.{Answers, Before}
+use Rattle.sb_drive.specs.Attachment.{Attachment}
+use Rattle.sb_drive.specs.AttachAnswers.{Answers as AnswersFor, Holds, Spends, pages_of_new}
 use Rattle.sb_drive.specs.declared.space.SpaceFault.{SpaceFault}
 use Rattle.sb_drive.specs.declared.space.SpaceFault.TheVariants.{DataFull, TempFull, Damaged}
 use Rattle.sb_drive.specs.AttachCalls.{CostsIn, HandsUpIn, HasSpaceCause as HasCauseFor, IsAsking as IsAskingFor}

@@ -2,7 +2,7 @@
 
 ghost use Rattle.std.specs.Prelude.{◌≡◌, ℕ};
 
-use sb_ctx::{Attachment, StorageMethod};
+use sb_drive::{Attachment, StorageMethod};
 
 /// What bears a code.
 pub trait Coded: Drop {

@@ -1,13 +1,13 @@
 //! Calls of live boxes by their codes.
 
 ghost use Rattle.std.specs.Prelude.{◌≡◌, ◌↔◌, IsTrue, Some, is_some, option_map, IfOk};
-ghost use Rattle.sb_relation.specs.Fits.{foreign_rule_fits, is_empty, method_fits};
-ghost use Rattle.sb_ctx.specs.Attachment.{Attachment as Rule, IsInstance as IsAttached};
-ghost use Rattle.sb_ctx.specs.AttachAnswers.{MayEnd as MayEndFor};
-ghost use Rattle.sb_ctx.specs.Laws.{IsMethod, IsAttachment};
-ghost use Rattle.sb_ctx.specs.Method.{Method, IsInstance};
-ghost use Rattle.sb_ctx.specs.MethodAnswers.{MayEnd};
-ghost use Rattle.sb_ctx.specs.View.{IsClean};
+ghost use Rattle.sb_drive.specs.Fits.{foreign_rule_fits, is_empty, method_fits};
+ghost use Rattle.sb_drive.specs.Attachment.{Attachment as Rule, IsInstance as IsAttached};
+ghost use Rattle.sb_drive.specs.AttachAnswers.{MayEnd as MayEndFor};
+ghost use Rattle.sb_drive.specs.Laws.{IsMethod, IsAttachment};
+ghost use Rattle.sb_drive.specs.Method.{Method, IsInstance};
+ghost use Rattle.sb_drive.specs.MethodAnswers.{MayEnd};
+ghost use Rattle.sb_drive.specs.View.{IsClean};
 ghost use Rattle.sb_drive.specs.AttachCalls.{Fits as FitsFor, IsReading as IsReadingFor};
 ghost use Rattle.sb_drive.specs.MethodCalls.{Fits, IsReading};
 ghost use Rattle.sb_drive.specs.Slots.{Slots};
@@ -19,8 +19,10 @@ ghost use Rattle.sb_registry.specs.Runs.{Looks, Runs, RunsRule, Works};
 
 use crate::Registry;
 use crate::columns::has_columns;
-use sb_ctx::{AttachCall, Attachment, Ctx, Instance, MethodCall, Move, StorageMethod};
-use sb_drive::{PageSpace, SpaceFault, run_attachment, run_method};
+use sb_drive::{
+    AttachCall, Attachment, Ctx, Instance, MethodCall, Move, PageSpace, SpaceFault, StorageMethod,
+    run_attachment, run_method,
+};
 use sb_value::{Bytes, Names, Schema};
 use std::alloc::Global;
 

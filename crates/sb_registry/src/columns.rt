@@ -1,7 +1,7 @@
 //! Columns that are to be there.
 
 ghost use Rattle.std.specs.Prelude.{◌≡◌, is_none};
-ghost use Rattle.sb_relation.specs.Fits.{first_unnamed, places_in};
+ghost use Rattle.sb_drive.specs.Fits.{first_unnamed, places_in};
 
 use sb_pred::kind_of_column;
 use sb_value::{Schema, Str};

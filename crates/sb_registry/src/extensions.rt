@@ -2,7 +2,7 @@
 
 ghost use Rattle.sb_registry.specs.Boxes.{Meanings, meanings};
 
-use sb_ctx::{Attachment, StorageMethod};
+use sb_drive::{Attachment, StorageMethod};
 
 /// What holds boxes: what they mean is all that the contracts of their calls say of them.
 pub trait Meant {

@@ -12,3 +12,4 @@ pub use calls::Boxes;
 pub use columns::has_columns;
 pub use extensions::{Extensions, Meant};
 pub use registry::Registry;
+pub use sb_drive::{PageSpace, SpaceFault};

@@ -7,7 +7,7 @@ ghost use Rattle.sb_registry.specs.Boxes.{Registered, Retired};
 use crate::boxes::{lend_attachment, lend_method};
 use crate::coded::{first_repeated, move_over, place_of};
 use crate::{Extensions, Meant};
-use sb_ctx::{Attachment, StorageMethod};
+use sb_drive::{Attachment, StorageMethod};
 use std::alloc::AllocError;
 
 /// Boxes, live and spare. No code stands twice among the storage methods, and none twice among the attachments.

@@ -1,11 +1,11 @@
 -- What calls leave of a space, carried from one result to another.
 use Rattle.std.proofs.Common.{◌≡◌, inl, inr, ℕ, Bool, Result, Ok, Err, IfErr}
 use Rattle.std.specs.Result.{IsErrAnd}
-use Rattle.sb_drive.specs.declared.space.SpaceFault.{SpaceFault}
-use Rattle.sb_drive.specs.declared.space.SpaceFault.TheVariants.{Fault, Damaged, Down, NoMemory}
-use Rattle.sb_drive.specs.Slots.{Slots}
-use Rattle.sb_drive.specs.Spaces.{IsReadFault, IsRefused, Leaves, UnlessDown, Wanted}
-use Rattle.sb_drive.proofs.SpacesLemmas.{GoesOn, IfErr-passed, UnlessDown-passed}
+use Rattle.sb_registry.specs.SpaceFault.{SpaceFault}
+use Rattle.sb_registry.specs.SpaceFault.TheVariants.{Fault, Damaged, Down, NoMemory}
+use Rattle.sb_registry.specs.Slots.{Slots}
+use Rattle.sb_registry.specs.Spaces.{IsReadFault, IsRefused, Leaves, UnlessDown, Wanted}
+use Rattle.sb_registry.proofs.SpacesLemmas.{GoesOn, IfErr-passed, UnlessDown-passed}
 use Rattle.sb_registry.specs.Runs.{Looks, Works}
 
 -- ---- the same of another result

@@ -18,15 +18,15 @@ use Rattle.sb_relation.specs.Db.{Key, Name, Row, Rows, row_at, values_in}
 use Rattle.sb_relation.specs.Keys.{is_record_key}
 use Rattle.sb_relation.specs.Lawful.{IsRow}
 use Rattle.sb_node.specs.Entries.{Entry}
-use Rattle.sb_forms.specs.Stored.{row_in}
-use Rattle.sb_forms.specs.TreePages.{is_row_entry, rows_of}
-use Rattle.sb_ctx.specs.declared.instance.Instance.{Instance}
-use Rattle.sb_ctx.specs.Method.{code_of}
-use Rattle.sb_ctx.specs.MethodAnswers.{IsRowOf, is_above}
+use Rattle.sb_treemethod.specs.Stored.{row_in}
+use Rattle.sb_treemethod.specs.TreePages.{is_row_entry, rows_of}
+use Rattle.sb_treemethod.specs.Instance.{Instance}
+use Rattle.sb_treemethod.specs.Method.{code_of}
+use Rattle.sb_treemethod.specs.MethodAnswers.{IsRowOf, is_above}
 use Rattle.sb_treemethod.proofs.Entries.{row_entry}
 use Rattle.sb_treemethod.proofs.TreeRows.{formed}
 use Rattle.sb_registry.specs.Boxes.{Meanings}
-use Rattle.sb_drive.specs.Slots.{Slots, owned}
+use Rattle.sb_registry.specs.Slots.{Slots, owned}
 use Rattle.sb_value.proofs.Truths.{T-less, T-parts}
 use Rattle.sb_rows.specs.Live.{HasRows}
 use Rattle.sb_rows.specs.Paths.{FixesKey, is_wanted, kept, rows_under}

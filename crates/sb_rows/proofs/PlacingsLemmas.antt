@@ -3,17 +3,17 @@ use Rattle.std.proofs.Common.{◌≡◌, Bool, true, [], Option, Some, None, IfS
 use Rattle.sb_relation.specs.Db.{Key, Row, Rows, row_at, with_row, without_row}
 use Rattle.sb_relation.specs.Keys.{NewKeys, AnyOf, Just, Taken, NoGreater, keying_of, new_keys, is_record_key}
 use Rattle.sb_relation.specs.Lawful.{IsRow}
-use Rattle.sb_forms.specs.Pages.{Pages, new_pages}
-use Rattle.sb_ctx.specs.declared.instance.Instance.{Instance}
-use Rattle.sb_ctx.specs.declared.calls.MethodCall.TheVariants as call
-use Rattle.sb_ctx.specs.declared.moves.Move.{Move}
-use Rattle.sb_ctx.specs.declared.moves.Move.TheVariants as move
-use Rattle.sb_ctx.specs.Method.{Method, code_of}
-use Rattle.sb_ctx.specs.MethodAnswers.{Answers, Deleted, Gets, Got, Holds, Inserted, IsRowOf, MayEnd, NextIs, Updated, is_above, row_above}
+use Rattle.sb_treemethod.specs.Pages.{Pages, new_pages}
+use Rattle.sb_treemethod.specs.Instance.{Instance}
+use Rattle.sb_treemethod.specs.MethodCall.TheVariants as call
+use Rattle.sb_treemethod.specs.Move.{Move}
+use Rattle.sb_treemethod.specs.Move.TheVariants as move
+use Rattle.sb_treemethod.specs.Method.{Method, code_of}
+use Rattle.sb_treemethod.specs.MethodAnswers.{Answers, Deleted, Gets, Got, Holds, Inserted, IsRowOf, MayEnd, NextIs, Updated, is_above, row_above}
 use Rattle.sb_registry.specs.Boxes.{Meanings}
-use Rattle.sb_drive.specs.Slots.{Slots, owned}
-use Rattle.sb_drive.specs.Spaces.{Leaves, Wanted}
-use Rattle.sb_drive.specs.Turns.{IsEnd}
+use Rattle.sb_registry.specs.Slots.{Slots, owned}
+use Rattle.sb_registry.specs.Spaces.{Leaves, Wanted}
+use Rattle.sb_registry.specs.Turns.{IsEnd}
 use Rattle.sb_rows.specs.declared.changes.Placing.{Placing}
 use Rattle.sb_registry.specs.Live.{IsLive}
 use Rattle.sb_rows.specs.Live.{HasRows, LeavesRows}

@@ -9,7 +9,7 @@ use Rattle.std.proofs.lemmas.Cmp.{nat_list_cmp_total, tied_itself}
 use Rattle.sb_value.specs.Order.{bytes_cmp}
 use Rattle.sb_value.proofs.Truths.{T-parts, is_lt-less, T-less}
 use Rattle.sb_relation.specs.Db.{Key, Row, Rows}
-use Rattle.sb_ctx.specs.MethodAnswers.{is_above, row_above}
+use Rattle.sb_treemethod.specs.MethodAnswers.{is_above, row_above}
 use Rattle.sb_rows.specs.Scans.{rows_above}
 
 -- ---- rows above a key

@@ -1,3 +1,15 @@
+pub use Rattle.sb_registry.specs.Boxes
+pub use Rattle.sb_registry.specs.Instances
+pub use Rattle.sb_registry.specs.Slots
+pub use Rattle.sb_treemethod.specs.AttachAnswers
+pub use Rattle.sb_treemethod.specs.Attachment
+pub use Rattle.sb_treemethod.specs.Instance
+pub use Rattle.sb_treemethod.specs.Laws
+pub use Rattle.sb_treemethod.specs.Maps
+pub use Rattle.sb_treemethod.specs.MethodAnswers
+pub use Rattle.sb_treemethod.specs.Pages
+pub use Rattle.sb_treemethod.specs.Removes
+pub use Rattle.sb_treemethod.specs.View
 pub mod Live
 pub mod Placings
 pub mod Scans

@@ -1,13 +1,13 @@
 -- The rows in the pages of a relation.
 use Rattle.std.specs.Prelude.{◌≡◌, ℕ}
 use Rattle.sb_relation.specs.Db.{Rows}
-use Rattle.sb_forms.specs.Pages.{new_pages}
-use Rattle.sb_ctx.specs.declared.instance.Instance.{Instance}
-use Rattle.sb_ctx.specs.MethodAnswers.{Holds}
+use Rattle.sb_treemethod.specs.Pages.{new_pages}
+use Rattle.sb_treemethod.specs.Instance.{Instance}
+use Rattle.sb_treemethod.specs.MethodAnswers.{Holds}
 use Rattle.sb_registry.specs.Boxes.{Meanings}
 use Rattle.sb_registry.specs.Live.{IsLive}
-use Rattle.sb_drive.specs.Slots.{Slots, owned}
-use Rattle.sb_drive.specs.Spaces.{Wanted}
+use Rattle.sb_registry.specs.Slots.{Slots, owned}
+use Rattle.sb_registry.specs.Spaces.{Wanted}
 
 -- a live box keeps the relation, and its pages hold these rows
 pub record HasRows (m : Meanings) (s : Slots) (inst : Instance) (rows : Rows) : Type 0 where

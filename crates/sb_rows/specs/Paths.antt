@@ -4,9 +4,9 @@ use Rattle.sb_value.specs.declared.value.Value.{Value}
 use Rattle.sb_value.specs.declared.schema.Column.{Column}
 use Rattle.sb_pred.specs.Columns.{column_value}
 use Rattle.sb_relation.specs.Db.{Name, Key, Row, Rows}
-use Rattle.sb_ctx.specs.declared.instance.Instance.{Instance}
-use Rattle.sb_ctx.specs.Method.{code_of}
-use Rattle.sb_ctx.specs.MethodAnswers.{is_above}
+use Rattle.sb_treemethod.specs.Instance.{Instance}
+use Rattle.sb_treemethod.specs.Method.{code_of}
+use Rattle.sb_treemethod.specs.MethodAnswers.{is_above}
 
 -- each row that passes has this value in the column of the name
 abbrev pub IsFixed : (Row → Bool) → List Column → Name → Value → Type 0

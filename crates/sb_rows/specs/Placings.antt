@@ -2,8 +2,8 @@
 use Rattle.std.specs.Prelude.{◌≡◌, Bool, true, false, Option, Some, None}
 use Rattle.sb_relation.specs.Db.{Key, Row}
 use Rattle.sb_relation.specs.Keys.{NewKeys, AnyOf, Just, Taken, NoGreater}
-use Rattle.sb_ctx.specs.declared.moves.Move.{Move}
-use Rattle.sb_ctx.specs.declared.moves.Move.TheVariants as move
+use Rattle.sb_treemethod.specs.Move.{Move}
+use Rattle.sb_treemethod.specs.Move.TheVariants as move
 use Rattle.sb_rows.specs.declared.changes.Placing.{Placing}
 use Rattle.sb_rows.specs.declared.changes.Placing.TheVariants as placing
 

@@ -2,11 +2,11 @@
 use Rattle.std.specs.Prelude.{Bool, true, Option, Some, None}
 use Rattle.std.specs.List.{filter}
 use Rattle.sb_relation.specs.Db.{Key, Row, Rows}
-use Rattle.sb_ctx.specs.declared.moves.Move.{Move}
-use Rattle.sb_ctx.specs.declared.moves.Move.TheVariants.{End, NoRecord, Row as Rowed}
-use Rattle.sb_ctx.specs.declared.calls.MethodCall.{MethodCall}
-use Rattle.sb_ctx.specs.declared.calls.MethodCall.TheVariants as call
-use Rattle.sb_ctx.specs.MethodAnswers.{is_above}
+use Rattle.sb_treemethod.specs.Move.{Move}
+use Rattle.sb_treemethod.specs.Move.TheVariants.{End, NoRecord, Row as Rowed}
+use Rattle.sb_treemethod.specs.MethodCall.{MethodCall}
+use Rattle.sb_treemethod.specs.MethodCall.TheVariants as call
+use Rattle.sb_treemethod.specs.MethodAnswers.{is_above}
 
 -- the rows whose keys are above the low one, or all
 abbrev pub rows_above : Option Key → Rows → Rows

@@ -3,19 +3,18 @@
 ghost use Rattle.std.specs.Prelude.{◌≡◌, [], true, None, Some, OnOk, IfOk, IfErr, IfSome};
 ghost use Rattle.sb_relation.specs.Db.{Rows, row_at, with_row, without_row};
 ghost use Rattle.sb_relation.specs.Keys.{is_record_key, keying_of, new_keys};
-ghost use Rattle.sb_ctx.specs.Method.{code_of};
-ghost use Rattle.sb_ctx.specs.declared.calls.MethodCall.TheVariants.{Prepare, Insert, Delete, Update};
-ghost use Rattle.sb_drive.specs.Slots.{Slots};
-ghost use Rattle.sb_drive.specs.Spaces.{LeadsWithin, Wanted};
+ghost use Rattle.sb_treemethod.specs.Method.{code_of};
+ghost use Rattle.sb_treemethod.specs.MethodCall.TheVariants.{Prepare, Insert, Delete, Update};
+ghost use Rattle.sb_registry.specs.Slots.{Slots};
+ghost use Rattle.sb_registry.specs.Spaces.{LeadsWithin, Wanted};
 ghost use Rattle.sb_registry.specs.Runs.{IsSound, Works};
 ghost use Rattle.sb_registry.specs.Live.{IsLive, MayTake};
 ghost use Rattle.sb_rows.specs.Live.{HasRows, IsNewIn, LeavesRows};
 ghost use Rattle.sb_rows.specs.Placings.{IsDoneOrNone, IsGone, IsPlaced, IsPlacing, IsReplaced, IsReplacing, OfKey};
 ghost use Rattle.sb_rows.specs.Placings.{is_gone, placing_in, replacing_in};
 
-use sb_ctx::{Instance, MethodCall, Move};
-use sb_drive::{PageSpace, SpaceFault};
-use sb_registry::Boxes;
+use sb_registry::{Boxes, PageSpace, SpaceFault};
+use sb_treemethod::{Instance, MethodCall, Move};
 use sb_value::{RecKey, Tuple};
 use std::alloc::Global;
 

@@ -3,17 +3,16 @@
 ghost use Rattle.std.specs.Prelude.{◌≡◌, IsTrue, IfOk, IfErr, IfSome};
 ghost use Rattle.sb_relation.specs.Db.{Rows, row_at};
 ghost use Rattle.sb_relation.specs.Lawful.{IsRow};
-ghost use Rattle.sb_ctx.specs.MethodAnswers.{IsRowOf, is_above, row_above};
-ghost use Rattle.sb_drive.specs.Slots.{Slots};
-ghost use Rattle.sb_drive.specs.Spaces.{Wanted};
+ghost use Rattle.sb_treemethod.specs.MethodAnswers.{IsRowOf, is_above, row_above};
+ghost use Rattle.sb_registry.specs.Slots.{Slots};
+ghost use Rattle.sb_registry.specs.Spaces.{Wanted};
 ghost use Rattle.sb_registry.specs.Runs.{IsSound, Looks};
 ghost use Rattle.sb_registry.specs.Live.{IsLive};
 ghost use Rattle.sb_rows.specs.Live.{HasRows};
 ghost use Rattle.sb_rows.specs.Scans.{IsRowOrEnd, IsRowOrNone, is_risen, row_in, tuple_in};
 
-use sb_ctx::{Instance, MethodCall, Move};
-use sb_drive::{PageSpace, SpaceFault};
-use sb_registry::Boxes;
+use sb_registry::{Boxes, PageSpace, SpaceFault};
+use sb_treemethod::{Instance, MethodCall, Move};
 use sb_value::{RecKey, Tuple};
 use std::alloc::Global;
 

@@ -3,9 +3,9 @@
 ghost use Rattle.std.specs.Prelude.{◌≡◌, true, map, filter, All, IfOk, IfErr, IfSome};
 ghost use Rattle.sb_relation.specs.Db.{Row, Rows, values_in};
 ghost use Rattle.sb_relation.specs.Keys.{is_record_key};
-ghost use Rattle.sb_ctx.specs.MethodAnswers.{IsRowOf, is_above};
-ghost use Rattle.sb_drive.specs.Slots.{Slots};
-ghost use Rattle.sb_drive.specs.Spaces.{Wanted};
+ghost use Rattle.sb_treemethod.specs.MethodAnswers.{IsRowOf, is_above};
+ghost use Rattle.sb_registry.specs.Slots.{Slots};
+ghost use Rattle.sb_registry.specs.Spaces.{Wanted};
 ghost use Rattle.sb_registry.specs.Runs.{IsSound, Looks};
 ghost use Rattle.sb_registry.specs.Live.{IsLive};
 ghost use Rattle.sb_rows.specs.Live.{HasRows};
@@ -14,9 +14,8 @@ ghost use Rattle.sb_rows.specs.Paths.{FixesKey, is_wanted, kept, rows_under};
 use crate::lookups::get_row;
 use crate::scans::RowTest;
 use sb_codec::ordered_key;
-use sb_ctx::{Instance, Keys};
-use sb_drive::{PageSpace, SpaceFault};
-use sb_registry::Boxes;
+use sb_registry::{Boxes, PageSpace, SpaceFault};
+use sb_treemethod::{Instance, Keys};
 use sb_value::{RecKey, Tuple};
 use std::alloc::{AllocError, Global};
 

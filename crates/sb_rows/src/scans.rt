@@ -3,9 +3,9 @@
 ghost use Rattle.std.specs.Prelude.{◌≡◌, ◌++◌, ◌∷◌, [], true, cond, map, take, filter, All, OnOk, IfOk, IfErr};
 ghost use Rattle.sb_relation.specs.Db.{Rows};
 ghost use Rattle.sb_relation.specs.Keys.{is_record_key};
-ghost use Rattle.sb_ctx.specs.MethodAnswers.{IsRowOf};
-ghost use Rattle.sb_drive.specs.Slots.{Slots};
-ghost use Rattle.sb_drive.specs.Spaces.{Wanted};
+ghost use Rattle.sb_treemethod.specs.MethodAnswers.{IsRowOf};
+ghost use Rattle.sb_registry.specs.Slots.{Slots};
+ghost use Rattle.sb_registry.specs.Spaces.{Wanted};
 ghost use Rattle.sb_registry.specs.Runs.{IsSound, Looks};
 ghost use Rattle.sb_registry.specs.Live.{IsLive};
 ghost use Rattle.sb_rows.specs.Live.{HasRows};
@@ -13,9 +13,8 @@ ghost use Rattle.sb_rows.specs.Scans.{rows_above};
 
 use crate::lookups::next_row;
 use crate::paths::{fixed_key, is_wanted, keys_at, rows_at};
-use sb_ctx::{Instance, Keys};
-use sb_drive::{PageSpace, SpaceFault};
-use sb_registry::Boxes;
+use sb_registry::{Boxes, PageSpace, SpaceFault};
+use sb_treemethod::{Instance, Keys};
 use sb_value::{RecKey, Str, Tuple, Value};
 use std::alloc::{AllocError, Global};
 

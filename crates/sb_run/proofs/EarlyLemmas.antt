@@ -7,10 +7,10 @@ use Rattle.sb_relation.specs.Db.{Db}
 use Rattle.sb_plain.specs.State.{State}
 use Rattle.sb_grammar.specs.Columns.{Item}
 use Rattle.sb_registry.specs.Boxes.{Meanings}
-use Rattle.sb_opening.specs.Opening.{opened}
-use Rattle.sb_kernel.specs.Crashes.{HoldsDatabase, LeavesAlong, next_start}
-use Rattle.sb_kernel.specs.Plays.{last_state}
-use Rattle.sb_kernel.specs.Runs.{BeginsAt, GoesOn, HoldsLast}
+use Rattle.sb_sound_plays.specs.Opening.{opened}
+use Rattle.sb_sound_plays.specs.Crashes.{HoldsDatabase, LeavesAlong, next_start}
+use Rattle.sb_sound_plays.specs.Plays.{last_state}
+use Rattle.sb_sound_plays.specs.Runs.{BeginsAt, GoesOn, HoldsLast}
 
 tells-left : (told : Option Story) (t : ℕ) (image : List ℕ) → MayLeave told t image → is_some told ≡ true
 tells-left None t image left = absurd left

@@ -7,18 +7,18 @@ use Rattle.sb_relation.specs.Db.{Db}
 use Rattle.sb_plain.specs.declared.reply.Reply.{Reply}
 use Rattle.sb_grammar.specs.Columns.{Item}
 use Rattle.sb_registry.specs.Boxes.{Meanings, repeated_in}
-use Rattle.sb_session.specs.declared.session.Session.{Session}
-use Rattle.sb_opening.specs.declared.codes.Named.{Named}
-use Rattle.sb_opening.specs.Naming.{HasLive}
-use Rattle.sb_opening.specs.Opening.{opened}
-use Rattle.sb_kernel.specs.declared.ending.Ending.{Ending}
-use Rattle.sb_kernel.specs.Crashes.{HoldsDatabase}
-use Rattle.sb_kernel.specs.Ending.{status_of}
-use Rattle.sb_kernel.specs.Runs.{HasPlayedOut, PlaysOut}
-use Rattle.sb_kernel.specs.Serving.{AnswersItems, HasEndedSo, HasServed}
-use Rattle.sb_kernel.specs.World.{At, World, at}
-use Rattle.sb_lawful_plays.proofs.Databases.{nothing-over as nothing-lawful}
-use Rattle.sb_lawful_plays.proofs.Playing.{runs-lawful}
+use Rattle.sb_sound_plays.specs.Session.{Session}
+use Rattle.sb_sound_plays.specs.Named.{Named}
+use Rattle.sb_sound_plays.specs.Naming.{HasLive}
+use Rattle.sb_sound_plays.specs.Opening.{opened}
+use Rattle.sb_sound_plays.specs.DeclaredEnding.{Ending}
+use Rattle.sb_sound_plays.specs.Crashes.{HoldsDatabase}
+use Rattle.sb_sound_plays.specs.Ending.{status_of}
+use Rattle.sb_sound_plays.specs.Runs.{HasPlayedOut, PlaysOut}
+use Rattle.sb_sound_plays.specs.Serving.{AnswersItems, HasEndedSo, HasServed}
+use Rattle.sb_sound_plays.specs.World.{At, World, at}
+use Rattle.sb_sound_plays.proofs.LawfulPlaysDatabases.{nothing-over as nothing-lawful}
+use Rattle.sb_sound_plays.proofs.LawfulPlaysPlaying.{runs-lawful}
 use Rattle.sb_sound_plays.proofs.Databases.{nothing-over as nothing-sound}
 use Rattle.sb_sound_plays.proofs.Playing.{runs-sound}
 use Rattle.sb_words.specs.declared.words.Words.{Words}

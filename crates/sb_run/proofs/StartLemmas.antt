@@ -19,15 +19,15 @@ use Rattle.sb_recover.specs.declared.fault.OpenFault.TheVariants.{Fault, TooSmal
 use Rattle.sb_relation.specs.Db.{Db}
 use Rattle.sb_registry.specs.Boxes.{Meanings}
 use Rattle.sb_drive.specs.Spaces.{Wanted}
-use Rattle.sb_space.specs.Table.{table_len}
-use Rattle.sb_session.specs.declared.session.Session.{Session}
-use Rattle.sb_session.specs.Sessions.{IsFor}
-use Rattle.sb_opening.specs.Creating.{CreateErr}
-use Rattle.sb_opening.specs.Naming.{HasLive, all_live, named_in}
-use Rattle.sb_opening.specs.Opening.{IsStored, opened}
-use Rattle.sb_opening.proofs.NewLemmas.{committed-new}
-use Rattle.sb_kernel.specs.Crashes.{HoldsDatabase}
-use Rattle.sb_kernel.specs.World.{World}
+use Rattle.sb_sound_plays.specs.Table.{table_len}
+use Rattle.sb_sound_plays.specs.Session.{Session}
+use Rattle.sb_sound_plays.specs.Sessions.{IsFor}
+use Rattle.sb_sound_plays.specs.Creating.{CreateErr}
+use Rattle.sb_sound_plays.specs.Naming.{HasLive, all_live, named_in}
+use Rattle.sb_sound_plays.specs.Opening.{IsStored, opened}
+use Rattle.sb_sound_plays.proofs.NewLemmas.{committed-new}
+use Rattle.sb_sound_plays.specs.Crashes.{HoldsDatabase}
+use Rattle.sb_sound_plays.specs.World.{World}
 use Rattle.sb_words.specs.declared.words.Words.{Words}
 use Rattle.sb_run.specs.Run.{IsNoSession, Tells}
 use Rattle.sb_run.specs.Starting.{HasStarted}

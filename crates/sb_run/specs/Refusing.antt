@@ -5,7 +5,7 @@ use Rattle.std.specs.Fmt.{decimal}
 use Rattle.sb_disk.specs.Streams.{Given}
 use Rattle.sb_recover.specs.declared.fault.OpenFault.{OpenFault}
 use Rattle.sb_recover.specs.declared.fault.OpenFault.TheVariants as fault
-use Rattle.sb_kernel.specs.Ending.{BreaksOff}
+use Rattle.sb_sound_plays.specs.Ending.{BreaksOff}
 use Rattle.sb_run.specs.declared.report.Report.{Report}
 
 -- ---- lines

@@ -15,19 +15,19 @@ use Rattle.sb_recover.specs.SuperPage.{IsNoStore}
 use Rattle.sb_relation.specs.Db.{Db}
 use Rattle.sb_plain.specs.declared.reply.Reply.{Reply}
 use Rattle.sb_grammar.specs.Columns.{Item}
-use Rattle.sb_posing.specs.Posing.{AreSingle}
+use Rattle.sb_sound_plays.specs.Posing.{AreSingle}
 use Rattle.sb_registry.specs.Boxes.{Meanings, repeated_in}
 use Rattle.sb_drive.specs.Spaces.{Wanted}
-use Rattle.sb_opening.specs.declared.codes.Named.{Named}
-use Rattle.sb_opening.specs.Creating.{CreateErr}
-use Rattle.sb_opening.specs.Naming.{HasLive, all_live, named_in}
-use Rattle.sb_opening.specs.Opening.{IsStored, MayRefuse, NamesTable, OpeningErr, opened}
-use Rattle.sb_kernel.specs.declared.ending.Ending.{Ending}
-use Rattle.sb_kernel.specs.Crashes.{HoldsDatabase, next_start}
-use Rattle.sb_kernel.specs.Ending.{status_of}
-use Rattle.sb_kernel.specs.Runs.{HasPlayedOut}
-use Rattle.sb_kernel.specs.Serving.{HasEndedSo}
-use Rattle.sb_lawful_plays.specs.Laws.{IsLawfulOver, IsLawfulPlay}
+use Rattle.sb_sound_plays.specs.Named.{Named}
+use Rattle.sb_sound_plays.specs.Creating.{CreateErr}
+use Rattle.sb_sound_plays.specs.Naming.{HasLive, all_live, named_in}
+use Rattle.sb_sound_plays.specs.Opening.{IsStored, MayRefuse, NamesTable, OpeningErr, opened}
+use Rattle.sb_sound_plays.specs.DeclaredEnding.{Ending}
+use Rattle.sb_sound_plays.specs.Crashes.{HoldsDatabase, next_start}
+use Rattle.sb_sound_plays.specs.Ending.{status_of}
+use Rattle.sb_sound_plays.specs.Runs.{HasPlayedOut}
+use Rattle.sb_sound_plays.specs.Serving.{HasEndedSo}
+use Rattle.sb_sound_plays.specs.LawfulPlaysLaws.{IsLawfulOver, IsLawfulPlay}
 use Rattle.sb_sound_plays.specs.Laws.{IsSoundOver, IsSoundPlay}
 use Rattle.sb_words.specs.declared.words.Words.{Words}
 use Rattle.sb_words.specs.Words.{IsRead, IsRefused}

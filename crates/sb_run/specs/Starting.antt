@@ -10,12 +10,12 @@ use Rattle.sb_recover.specs.SuperPage.{IsNoStore}
 use Rattle.sb_relation.specs.Db.{Db}
 use Rattle.sb_registry.specs.Boxes.{Meanings}
 use Rattle.sb_drive.specs.Spaces.{Wanted}
-use Rattle.sb_session.specs.declared.session.Session.{Session}
-use Rattle.sb_opening.specs.declared.codes.Named.{Named}
-use Rattle.sb_opening.specs.Naming.{HasLive, named_in}
-use Rattle.sb_opening.specs.Opening.{IsStored, opened}
-use Rattle.sb_kernel.specs.World.{World, IsNow}
-use Rattle.sb_kernel.specs.Crashes.{HoldsDatabase}
+use Rattle.sb_sound_plays.specs.Session.{Session}
+use Rattle.sb_sound_plays.specs.Named.{Named}
+use Rattle.sb_sound_plays.specs.Naming.{HasLive, named_in}
+use Rattle.sb_sound_plays.specs.Opening.{IsStored, opened}
+use Rattle.sb_sound_plays.specs.World.{World, IsNow}
+use Rattle.sb_sound_plays.specs.Crashes.{HoldsDatabase}
 use Rattle.sb_words.specs.declared.words.Words.{Words}
 
 -- the sizes are those that a store may have, and so is the number of frames

@@ -6,8 +6,8 @@ ghost use Rattle.sb_run.specs.Refusing.{IsRefusedBy, RefusesWords, numbers_text,
 
 use crate::report::Report;
 use sb_disk::Sink;
-use sb_kernel::{Starts, write_all};
 use sb_recover::OpenFault;
+use sb_sound_plays::{Starts, write_all};
 use sb_value::Bytes;
 use std::alloc::{AllocError, Global};
 

@@ -1,6 +1,6 @@
 //! What a run reports.
 
-use sb_kernel::Starts;
+use sb_sound_plays::Starts;
 
 /// How a run ended, and the disk's clock when each item began: a command, or a bad line.
 #[derive(Drop)]

@@ -4,8 +4,8 @@ ghost use Rattle.std.specs.Prelude.{◌≡◌, [], None, Some, IfErr, IfOk, fals
 ghost use Rattle.sb_disk.specs.Causes.{Rose};
 ghost use Rattle.sb_images.specs.Layout.{need};
 ghost use Rattle.sb_registry.specs.Boxes.{Meanings, repeated_in};
-ghost use Rattle.sb_session.specs.Sessions.{CanRun};
-ghost use Rattle.sb_kernel.specs.World.{world};
+ghost use Rattle.sb_sound_plays.specs.Sessions.{CanRun};
+ghost use Rattle.sb_sound_plays.specs.World.{world};
 ghost use Rattle.sb_run.specs.Starting.{AreSizes, HasStarted};
 ghost use Rattle.sb_run.specs.Run.{AreTaken, IsNoSession, IsRun, RunsMounted, RunsOn, seen, tells};
 
@@ -13,10 +13,8 @@ use crate::refusing::{refuse_store, refuse_words};
 use crate::report::Report;
 use sb_disk::{Disk, Sink, Source};
 use sb_images::need;
-use sb_kernel::{Starts, serve};
-use sb_opening::{create, open};
 use sb_recover::OpenFault;
-use sb_session::Session;
+use sb_sound_plays::{Session, Starts, create, open, serve};
 use sb_value::Str;
 use sb_vectors::Vectors;
 use sb_words::{Words, read_words};

@@ -21,15 +21,15 @@ use Rattle.sb_plain.specs.State.{State, Transaction as PlainTransaction, committ
 use Rattle.sb_plain.specs.Step.{if_up, ok}
 use Rattle.sb_registry.specs.Boxes.{Meanings, repeated_in}
 use Rattle.sb_drive.specs.Spaces.{Wanted}
-use Rattle.sb_map.specs.declared.place.Place.{Place}
+use Rattle.sb_transactions.specs.Place.{Place}
 use Rattle.sb_txn.specs.Clauses.{IsReady, LeavesWanted}
 use Rattle.sb_txn.specs.Parts.{Parts, parts}
 use Rattle.sb_txn.proofs.KeepsLemmas.{LeavesWanted-none}
-use Rattle.sb_space.specs.declared.transactions.Space.{Space}
+use Rattle.sb_transactions.specs.Space.{Space}
 use Rattle.sb_transactions.specs.declared.transactions.Transaction.{Transaction}
 use Rattle.sb_transactions.specs.Calls.{IsOnlyFault, Remains}
 use Rattle.sb_transactions.specs.Transactions.{IsPointOf, IsUsable}
-use Rattle.sb_engine.specs.Working.{extensions_of}
+use Rattle.sb_transactions.specs.Working.{extensions_of}
 use Rattle.sb_vectors.specs.Vectors.{live_codes, spare_codes}
 use Rattle.sb_session.specs.declared.session.Open.{Open}
 use Rattle.sb_session.specs.declared.session.Savepoint.{Savepoint}

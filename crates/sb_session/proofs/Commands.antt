@@ -18,11 +18,11 @@ use Rattle.sb_plain.specs.State.{Point as PlainPoint, State, Transaction as Plai
 use Rattle.sb_plain.specs.Step.{first_spent, if_up, ok, with_savepoint}
 use Rattle.sb_registry.specs.Boxes.{Meanings}
 use Rattle.sb_drive.specs.Spaces.{Wanted}
-use Rattle.sb_map.specs.declared.place.Place.{Place}
+use Rattle.sb_transactions.specs.Place.{Place}
 use Rattle.sb_txn.specs.Parts.{Parts, parts}
-use Rattle.sb_engine.specs.Working.{extensions_of}
-use Rattle.sb_space.specs.declared.transactions.Space.{Space}
-use Rattle.sb_space.specs.declared.transactions.Tx.{Tx}
+use Rattle.sb_transactions.specs.Working.{extensions_of}
+use Rattle.sb_transactions.specs.Space.{Space}
+use Rattle.sb_transactions.specs.Tx.{Tx}
 use Rattle.sb_transactions.specs.declared.transactions.Point.{Point}
 use Rattle.sb_transactions.specs.declared.transactions.Transaction.{Transaction}
 use Rattle.sb_transactions.specs.Calls.{Remains}

@@ -26,11 +26,11 @@ use Rattle.sb_registry.specs.Boxes.{Meanings}
 use Rattle.sb_drive.specs.Spaces.{Wanted}
 use Rattle.sb_txn.specs.Clauses.{LeavesWanted}
 use Rattle.sb_txn.specs.Parts.{Parts, parts}
-use Rattle.sb_engine.specs.Refusals.{HasRefusalCause}
-use Rattle.sb_engine.specs.Working.{extensions_of}
-use Rattle.sb_engine.specs.declared.running.Work.{Work as EngineWork}
-use Rattle.sb_space.specs.declared.transactions.Space.{Space}
-use Rattle.sb_space.specs.declared.transactions.Tx.{Tx}
+use Rattle.sb_transactions.specs.Refusals.{HasRefusalCause}
+use Rattle.sb_transactions.specs.Working.{extensions_of}
+use Rattle.sb_transactions.specs.Work.{Work as EngineWork}
+use Rattle.sb_transactions.specs.Space.{Space}
+use Rattle.sb_transactions.specs.Tx.{Tx}
 use Rattle.sb_transactions.specs.declared.transactions.Transaction.{Transaction}
 use Rattle.sb_transactions.specs.Calls.{IsOnlyFault, Remains}
 use Rattle.sb_transactions.specs.Commits.{FailsOn, Finishes, IsDone, LeavesEither, LeavesOldOrFinished, Mounted, StaysOpen, StopsAt, is_wanting}

@@ -16,9 +16,9 @@ use Rattle.sb_registry.specs.Codes.{Goes}
 use Rattle.sb_drive.specs.Slots.{Slots}
 use Rattle.sb_catalog.specs.declared.descriptor.Attached.{Attached}
 use Rattle.sb_catalog.specs.Descriptors.{described, standing}
-use Rattle.sb_standing.specs.Standing.{EachRule, IsKept, Keeps}
-use Rattle.sb_standing.specs.Tables.{Kept, KeepsTable, db_of}
-use Rattle.sb_opened.specs.Opened.{IsDurable}
+use Rattle.sb_transactions.specs.Standing.{EachRule, IsKept, Keeps}
+use Rattle.sb_transactions.specs.Tables.{Kept, KeepsTable, db_of}
+use Rattle.sb_transactions.specs.Opened.{IsDurable}
 use Rattle.sb_plain.specs.Refusing.{first_attached, first_kept_by}
 use Rattle.sb_vectors.specs.Vectors.{AreSameBoxes, Registers, Retires}
 use Rattle.sb_vectors.proofs.CodesLemmas.{AreSingle}

@@ -24,15 +24,15 @@ use Rattle.sb_registry.specs.Boxes.{Meanings, repeated_in}
 use Rattle.sb_registry.specs.Codes.{Goes}
 use Rattle.sb_drive.specs.Slots.{Slots}
 use Rattle.sb_drive.specs.Spaces.{Wanted}
-use Rattle.sb_map.specs.declared.place.Place.{Place}
-use Rattle.sb_standing.specs.Standing.{Keeps as KeepsPages}
-use Rattle.sb_standing.specs.Tables.{Kept, db_of}
-use Rattle.sb_opened.specs.Opened.{IsDurable}
+use Rattle.sb_transactions.specs.Place.{Place}
+use Rattle.sb_transactions.specs.Standing.{Keeps as KeepsPages}
+use Rattle.sb_transactions.specs.Tables.{Kept, db_of}
+use Rattle.sb_transactions.specs.Opened.{IsDurable}
 use Rattle.sb_txn.specs.Clauses.{IsReady}
 use Rattle.sb_txn.specs.Parts.{Parts, parts}
-use Rattle.sb_space.specs.declared.transactions.Space.{Space}
-use Rattle.sb_space.specs.Table.{slots_in}
-use Rattle.sb_engine.specs.Working.{extensions_of}
+use Rattle.sb_transactions.specs.Space.{Space}
+use Rattle.sb_transactions.specs.Table.{slots_in}
+use Rattle.sb_transactions.specs.Working.{extensions_of}
 use Rattle.sb_transactions.specs.Transactions.{Rests}
 use Rattle.sb_vectors.specs.Vectors.{Registers, Retires, codes_in, has_box, live_codes, spare_codes}
 use Rattle.sb_vectors.proofs.BoxLemmas.{has_box-codes}

@@ -5,10 +5,10 @@ use Rattle.sb_fold.specs.Outcome.{Going, Gone, Queue}
 use Rattle.sb_plain.specs.State.{Transaction as PlainTransaction}
 use Rattle.sb_registry.specs.Boxes.{Meanings}
 use Rattle.sb_drive.specs.Spaces.{Wanted}
-use Rattle.sb_map.specs.declared.place.Place.{Place}
+use Rattle.sb_transactions.specs.Place.{Place}
 use Rattle.sb_txn.specs.Parts.{Parts}
-use Rattle.sb_engine.specs.declared.running.Work.{Work}
-use Rattle.sb_engine.specs.Working.{IsNoneGone}
+use Rattle.sb_transactions.specs.Work.{Work}
+use Rattle.sb_transactions.specs.Working.{IsNoneGone}
 use Rattle.sb_transactions.specs.declared.transactions.Transaction.{Transaction}
 use Rattle.sb_transactions.specs.Transactions.{IsAt, IsSettled, Rests, WasBegun}
 use Rattle.sb_session.specs.declared.session.Open.{Open}

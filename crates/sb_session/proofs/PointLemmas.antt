@@ -11,9 +11,9 @@ use Rattle.sb_plain.specs.State.{Point as PlainPoint, Transaction as PlainTransa
 use Rattle.sb_plain.specs.Step.{back_to}
 use Rattle.sb_registry.specs.Boxes.{Meanings}
 use Rattle.sb_drive.specs.Spaces.{Wanted}
-use Rattle.sb_map.specs.declared.place.Place.{Place}
+use Rattle.sb_transactions.specs.Place.{Place}
 use Rattle.sb_txn.specs.Parts.{Parts}
-use Rattle.sb_engine.specs.declared.running.Work.{Work}
+use Rattle.sb_transactions.specs.Work.{Work}
 use Rattle.sb_transactions.specs.declared.transactions.Point.{Point}
 use Rattle.sb_transactions.specs.Transactions.{IsNotBehind, WasSo}
 use Rattle.sb_session.specs.declared.session.Savepoint.{Savepoint}

@@ -11,7 +11,7 @@ use Rattle.sb_plain.specs.State.{Point as PlainPoint, State, Transaction as Plai
 use Rattle.sb_plain.specs.Step.{back_to, begin, first_spent, ok, with_savepoint}
 use Rattle.sb_registry.specs.Boxes.{Meanings}
 use Rattle.sb_drive.specs.Spaces.{Wanted}
-use Rattle.sb_map.specs.declared.place.Place.{Place}
+use Rattle.sb_transactions.specs.Place.{Place}
 use Rattle.sb_txn.specs.Parts.{Parts}
 use Rattle.sb_transactions.specs.Transactions.{Rests}
 use Rattle.sb_session.specs.declared.session.Open.{Open}

@@ -6,7 +6,7 @@ use Rattle.sb_deferred.specs.Waiting.{nothing}
 use Rattle.sb_plain.specs.declared.command.Command.TheVariants as command
 use Rattle.sb_plain.specs.Licences.{is_none_gone, may_want_memory}
 use Rattle.sb_plain.specs.State.{State, Transaction}
-use Rattle.sb_engine.specs.Working.{IsNoneGone}
+use Rattle.sb_transactions.specs.Working.{IsNoneGone}
 
 -- whether something waits or is gone
 abbrev is_left : List Action → List Entry → List ℕ → List ℕ → Bool

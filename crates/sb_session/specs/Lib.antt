@@ -1,3 +1,10 @@
+pub use Rattle.sb_transactions.specs.Calls
+pub use Rattle.sb_transactions.specs.Commits
+pub use Rattle.sb_transactions.specs.Driven
+pub use Rattle.sb_transactions.specs.Opened
+pub use Rattle.sb_transactions.specs.Transactions
+pub use Rattle.sb_transactions.specs.declared.transactions.Point
+pub use Rattle.sb_transactions.specs.declared.transactions.Transaction
 pub mod Ends
 pub mod Points
 pub mod Sessions

@@ -16,11 +16,11 @@ use Rattle.sb_plain.specs.State.{Point as PlainPoint, State, Transaction as Plai
 use Rattle.sb_relation.specs.Db.{Db}
 use Rattle.sb_registry.specs.Boxes.{Meanings, repeated_in}
 use Rattle.sb_drive.specs.Spaces.{Wanted}
-use Rattle.sb_map.specs.declared.place.Place.{Place}
+use Rattle.sb_transactions.specs.Place.{Place}
 use Rattle.sb_txn.specs.Clauses.{IsReady}
 use Rattle.sb_txn.specs.Parts.{Parts, parts}
-use Rattle.sb_engine.specs.declared.running.Work.{Work}
-use Rattle.sb_engine.specs.Refusals.{HasRefusalCause}
+use Rattle.sb_transactions.specs.Work.{Work}
+use Rattle.sb_transactions.specs.Refusals.{HasRefusalCause}
 use Rattle.sb_transactions.specs.Commits.{FailsOn, Mounted}
 use Rattle.sb_transactions.specs.Transactions.{HasNothingLeft, IsAt, IsCommitted, IsNotBehind, IsPointOf, IsUsable, Rests, WasBegun, WasSo}
 use Rattle.sb_vectors.specs.Vectors.{live_codes, spare_codes}

@@ -2,7 +2,7 @@
 
 ghost use Rattle.std.specs.Prelude.{◌≡◌, IsErrOf};
 ghost use Rattle.sb_drive.specs.Spaces.{Wanted};
-ghost use Rattle.sb_engine.specs.Working.{extensions_of};
+ghost use Rattle.sb_transactions.specs.Working.{extensions_of};
 ghost use Rattle.sb_plain.specs.State.{State};
 ghost use Rattle.sb_plain.specs.declared.command.Command.TheVariants as command;
 ghost use Rattle.sb_session.specs.Ends.{Ends, picked_reply};

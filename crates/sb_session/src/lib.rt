@@ -7,4 +7,7 @@ mod savepoints;
 mod session;
 mod transactions;
 
+pub use sb_transactions::{
+    Transaction, Uncommitted, abort, back_to, begin, commit, mark, next_descriptor, settle,
+};
 pub use session::{Open, Savepoint, Session};

@@ -3,7 +3,7 @@
 ghost use Rattle.std.specs.Prelude.{◌≡◌, ◌≤◌, true, false, length, position, List, IfErr, OnErr, OnOk};
 ghost use Rattle.std.specs.List.{list_any};
 ghost use Rattle.sb_drive.specs.Spaces.{Wanted};
-ghost use Rattle.sb_engine.specs.Working.{extensions_of};
+ghost use Rattle.sb_transactions.specs.Working.{extensions_of};
 ghost use Rattle.sb_plain.specs.State.{State};
 ghost use Rattle.sb_plain.specs.declared.command.Command.TheVariants as command;
 ghost use Rattle.sb_txn.specs.Clauses.{LeavesWanted};
@@ -15,8 +15,7 @@ ghost use Rattle.sb_session.specs.Sessions.{CanRun, HasFailed, IsFor, KeepsSessi
 use crate::session::{Open, Savepoint, Session};
 use sb_disk::Disk;
 use sb_fold::Refusal;
-use sb_space::Space;
-use sb_transactions::{back_to, mark};
+use sb_transactions::{Space, back_to, mark};
 use sb_value::Str;
 use sb_vectors::Vectors;
 

@@ -4,9 +4,7 @@ ghost use Rattle.std.specs.Prelude.{◌≡◌, false, ◌||◌, Bool};
 ghost use Rattle.sb_session.specs.Ends.{is_end};
 
 use sb_fold::Refusal;
-use sb_map::Place;
-use sb_space::Space;
-use sb_transactions::{Point, Transaction};
+use sb_transactions::{Place, Point, Space, Transaction};
 use sb_value::Str;
 
 /// A savepoint: its name, and where the work of its transaction stood.

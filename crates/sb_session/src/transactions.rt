@@ -3,7 +3,7 @@
 ghost use Rattle.std.specs.Prelude.{◌≡◌, OnOk};
 ghost use Rattle.sb_journal.specs.State.{used_of};
 ghost use Rattle.sb_drive.specs.Spaces.{Wanted};
-ghost use Rattle.sb_engine.specs.Working.{extensions_of};
+ghost use Rattle.sb_transactions.specs.Working.{extensions_of};
 ghost use Rattle.sb_plain.specs.State.{State};
 ghost use Rattle.sb_plain.specs.declared.command.Command.TheVariants as command;
 ghost use Rattle.sb_txn.specs.Clauses.{LeavesWanted};
@@ -12,9 +12,8 @@ ghost use Rattle.sb_session.specs.Sessions.{CanRun, HasFailed, IsFor, KeepsSessi
 
 use crate::session::{Open, Session};
 use sb_disk::Disk;
-use sb_engine::refusal_of;
 use sb_fold::Refusal;
-use sb_transactions::{abort, begin};
+use sb_transactions::{abort, begin, refusal_of};
 use sb_vectors::Vectors;
 use std::alloc::Global;
 

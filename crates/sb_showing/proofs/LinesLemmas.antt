@@ -11,8 +11,8 @@ use Rattle.sb_plain.specs.declared.command.Command.TheVariants as command
 use Rattle.sb_plain.specs.Printing.{attaching, command_text, is_mirror, shown}
 use Rattle.sb_drive.specs.Slots.{Slots}
 use Rattle.sb_registry.specs.Boxes.{Meanings}
-use Rattle.sb_standing.specs.Tables.{Kept, KeepsTable, Tables, db_of, kept_at}
-use Rattle.sb_standing.proofs.KeptLemmas.{kept_at-all, relation_at-none, relation_at-there}
+use Rattle.sb_opened.specs.Tables.{Kept, KeepsTable, Tables, db_of, kept_at}
+use Rattle.sb_opened.proofs.KeptLemmas.{kept_at-all, relation_at-none, relation_at-there}
 use Rattle.sb_opened.specs.Opened.{IsDurable}
 use Rattle.sb_showing.specs.Lines.{IsStorableCommand, attachment, attachment_lines, creation, descriptor_lines}
 

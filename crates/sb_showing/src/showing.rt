@@ -5,13 +5,12 @@ ghost use Rattle.sb_relation.specs.Db.{relation_at};
 ghost use Rattle.sb_plain.specs.Printing.{shown};
 ghost use Rattle.sb_registry.specs.Boxes.{Meanings};
 ghost use Rattle.sb_registry.specs.Runs.{IsSound, Looks};
-ghost use Rattle.sb_standing.specs.Tables.{db_of};
+ghost use Rattle.sb_opened.specs.Tables.{db_of};
 ghost use Rattle.sb_opened.specs.Opened.{OverTables};
 
 use crate::lines::lines_of;
 use sb_drive::{PageSpace, SpaceFault};
-use sb_map::Place;
-use sb_opened::descriptor_at;
+use sb_opened::{Place, descriptor_at};
 use sb_value::{Names, Str};
 use std::alloc::Global;
 

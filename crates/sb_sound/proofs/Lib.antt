@@ -1,3 +1,4 @@
+pub use Rattle.sb_sound_rows.proofs.Finishing
 pub mod Holding
 pub mod Building
 pub mod Commands

@@ -1,1 +1,2 @@
+pub use Rattle.sb_sound_rows.specs.Work
 pub mod Laws

@@ -11,18 +11,18 @@ use Rattle.sb_plain.specs.Step.{Steps}
 use Rattle.sb_grammar.specs.Columns.{Says, Bad}
 use Rattle.sb_ctx.specs.Method.{Method}
 use Rattle.sb_registry.specs.Boxes.{Meanings, method_of}
-use Rattle.sb_engine.specs.Working.{extensions_of}
+use Rattle.sb_lawful_plays.specs.Working.{extensions_of}
 use Rattle.sb_vectors.specs.Vectors.{AreSameBoxes}
-use Rattle.sb_session.proofs.MoveBoxes.{SameRules-same}
-use Rattle.sb_kernel.specs.Plays.{AreBoxesOf}
-use Rattle.sb_kernel.specs.Crashes.{IsMade}
+use Rattle.sb_lawful_plays.proofs.MoveBoxes.{SameRules-same}
+use Rattle.sb_lawful_plays.specs.Plays.{AreBoxesOf}
+use Rattle.sb_lawful_plays.specs.Crashes.{IsMade}
 use Rattle.sb_plain.specs.Lawful.{IsLawful, IsSound}
 use Rattle.sb_lawful.proofs.Steps.{of_view}
-use Rattle.sb_lawful_steps.specs.Laws.{AreAlike}
+use Rattle.sb_lawful_plays.specs.LawfulStepsLaws.{AreAlike}
 use Rattle.sb_lawful_plays.specs.Laws.{IsLawfulOver}
 use Rattle.sb_lawful_plays.proofs.Databases.{commits-lawful}
 use Rattle.sb_sound_said.specs.Laws.{IsSoundWithin}
-use Rattle.sb_said.specs.Written.{IsWritten}
+use Rattle.sb_sound_said.specs.Written.{IsWritten}
 use Rattle.sb_sound_said.proofs.Stepping.{written-steps, nothing-sound, alike-sound}
 use Rattle.sb_sound_plays.specs.Laws.{IsSoundFor, IsSoundOver, CommitsAreSound, NothingIsSound, SameBoxesAreSound, CrashesLeaveSound}
 

@@ -13,13 +13,13 @@ use Rattle.sb_plain.specs.declared.reply.Reply.TheVariants.{Refused}
 use Rattle.sb_plain.specs.State.{State, committed}
 use Rattle.sb_grammar.specs.Columns.{Item, Says, Bad}
 use Rattle.sb_registry.specs.Boxes.{Meanings}
-use Rattle.sb_engine.specs.Working.{extensions_of}
-use Rattle.sb_session.specs.Ends.{Ends}
-use Rattle.sb_kernel.specs.World.{World}
-use Rattle.sb_kernel.specs.Plays.{AreBoxesOf, MovesBy, Plays, last_state}
-use Rattle.sb_kernel.specs.Crashes.{LeavesAlong, next_start}
-use Rattle.sb_opening.specs.Opening.{opened}
-use Rattle.sb_said.specs.Written.{IsWritten, IsWrittenItem}
+use Rattle.sb_lawful_plays.specs.Working.{extensions_of}
+use Rattle.sb_lawful_plays.specs.Ends.{Ends}
+use Rattle.sb_lawful_plays.specs.World.{World}
+use Rattle.sb_lawful_plays.specs.Plays.{AreBoxesOf, MovesBy, Plays, last_state}
+use Rattle.sb_lawful_plays.specs.Crashes.{LeavesAlong, next_start}
+use Rattle.sb_lawful_plays.specs.Opening.{opened}
+use Rattle.sb_sound_said.specs.Written.{IsWritten, IsWrittenItem}
 use Rattle.sb_lawful_plays.proofs.Playing.{answers-written}
 use Rattle.sb_sound_said.proofs.Stepping.{down-sound}
 use Rattle.sb_sound_plays.specs.Laws.{IsSoundFor, HoldsSound, PlaysAreSound, PlayedAreSound, PlayedOutAreSound, RunsAreSound, MadeRunsAreSound}

@@ -8,18 +8,18 @@ use Rattle.sb_plain.specs.declared.reply.Reply.{Reply}
 use Rattle.sb_plain.specs.State.{State, committed}
 use Rattle.sb_grammar.specs.Columns.{Item}
 use Rattle.sb_registry.specs.Boxes.{Meanings}
-use Rattle.sb_engine.specs.Working.{extensions_of}
+use Rattle.sb_lawful_plays.specs.Working.{extensions_of}
 use Rattle.sb_vectors.specs.Vectors.{AreSameBoxes}
-use Rattle.sb_opening.specs.Opening.{opened}
-use Rattle.sb_session.specs.Sessions.{Lacks}
-use Rattle.sb_kernel.specs.declared.ending.Ending.{Ending}
-use Rattle.sb_kernel.specs.World.{World, At}
-use Rattle.sb_kernel.specs.Plays.{Plays}
-use Rattle.sb_kernel.specs.Crashes.{HoldsDatabase, IsLeft, next_start}
-use Rattle.sb_kernel.specs.Runs.{HasPlayed, HasPlayedOut}
-use Rattle.sb_kernel.specs.Serving.{AnswersItems}
+use Rattle.sb_lawful_plays.specs.Opening.{opened}
+use Rattle.sb_lawful_plays.specs.Sessions.{Lacks}
+use Rattle.sb_lawful_plays.specs.DeclaredEnding.{Ending}
+use Rattle.sb_lawful_plays.specs.World.{World, At}
+use Rattle.sb_lawful_plays.specs.Plays.{Plays}
+use Rattle.sb_lawful_plays.specs.Crashes.{HoldsDatabase, IsLeft, next_start}
+use Rattle.sb_lawful_plays.specs.Runs.{HasPlayed, HasPlayedOut}
+use Rattle.sb_lawful_plays.specs.Serving.{AnswersItems}
 use Rattle.sb_sound_said.specs.Laws.{IsSoundWithin}
-use Rattle.sb_said.specs.Written.{IsWrittenItem}
+use Rattle.sb_sound_said.specs.Written.{IsWrittenItem}
 
 -- ---- states and databases
 -- a sound state, with these boxes' extensions

@@ -1,6 +1,6 @@
 //! Laws of plays, on which rules hold.
 
-ghost use Rattle.sb_kernel.specs.World.{world};
+ghost use Rattle.sb_lawful_plays.specs.World.{world};
 ghost use Rattle.sb_sound_plays.specs.Laws.{PlaysAreSound, PlayedAreSound, PlayedOutAreSound};
 ghost use Rattle.sb_sound_plays.specs.Laws.{RunsAreSound, MadeRunsAreSound, CommitsAreSound, CrashesLeaveSound, NothingIsSound, SameBoxesAreSound};
 

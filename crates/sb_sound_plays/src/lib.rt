@@ -2,3 +2,5 @@
 #![tactic(auto)]
 
 pub mod laws;
+
+pub use sb_lawful_plays::{Session, Starts, create, open, serve, write_all};

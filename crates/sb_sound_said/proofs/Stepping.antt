@@ -40,14 +40,14 @@ use Rattle.sb_lawful.proofs.Commands.{begins, is_kinded, is_within}
 use Rattle.sb_lawful.proofs.Steps.{of_view}
 use Rattle.sb_lawful_rows.specs.Storable.{HasStorableValue, PutsStorable, RulePutsStorable}
 use Rattle.sb_lawful_rows.proofs.Stepping.{when_up}
-use Rattle.sb_lawful_steps.specs.Laws.{IsSaid}
+use Rattle.sb_said.specs.LawfulStepsLaws.{IsSaid}
 use Rattle.sb_said.specs.Laws.{HasLimits}
 use Rattle.sb_said.specs.Written.{IsWrittenRow, HasWrittenValue, PutsWritten, RulePutsWritten, IsWrittenAction, IsLimited, IsWritten}
 use Rattle.sb_said.proofs.Halting.{Halts, Stays, next_halts, row_short, put_halts, replace_halts, set_stays}
 use Rattle.sb_said.proofs.Limits.{no_limits}
 use Rattle.sb_said.proofs.Stepping as said
-use Rattle.sb_sound_rows.specs.Work.{IsSoundWork}
-use Rattle.sb_sound_rows.proofs.Finishing.{made_next}
+use Rattle.sb_sound.specs.Work.{IsSoundWork}
+use Rattle.sb_sound.proofs.Finishing.{made_next}
 use Rattle.sb_sound.proofs.Alike.{alike-are-sound, down-is-sound}
 use Rattle.sb_sound.proofs.Stepping.{steps-leave, beginning-sound}
 use Rattle.sb_sound.proofs.Turns.{begins_sound, changing_sound}

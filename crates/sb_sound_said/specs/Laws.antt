@@ -6,7 +6,7 @@ use Rattle.sb_plain.specs.declared.command.Command.{Command}
 use Rattle.sb_plain.specs.Lawful.{IsLawfulState}
 use Rattle.sb_plain.specs.State.{Codes, State, downed}
 use Rattle.sb_plain.specs.Step.{step}
-use Rattle.sb_lawful_steps.specs.Laws.{AreAlike, beginning}
+use Rattle.sb_said.specs.LawfulStepsLaws.{AreAlike, beginning}
 use Rattle.sb_said.specs.Laws.{IsLawfulWithin}
 use Rattle.sb_said.specs.Written.{IsWritten}
 

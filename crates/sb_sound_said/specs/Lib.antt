@@ -1,1 +1,2 @@
+pub use Rattle.sb_said.specs.Written
 pub mod Laws

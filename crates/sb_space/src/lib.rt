@@ -20,4 +20,5 @@ pub use instances::{FIRST_INSTANCE, OWNERS, new_marks};
 pub use laws::going_back_gives_what_was;
 pub use opening::{catalogue, open_store, owner_of};
 pub use owners::ENTRIES;
+pub use sb_owners::Owners;
 pub use transactions::{Mark, Space, Tx};

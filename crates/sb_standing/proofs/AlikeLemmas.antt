@@ -15,11 +15,11 @@ use Rattle.sb_relation.specs.Foreign.{AttachRules}
 use Rattle.sb_relation.specs.Images.{Entry, entries_only, index_entries, join_entries, stats_sums, column_ints, foreign_image}
 use Rattle.sb_relation.specs.Lawful.{AreRows}
 use Rattle.sb_relation.specs.Rules.{has_values}
-use Rattle.sb_ctx.specs.declared.instance.Instance.{Instance}
-use Rattle.sb_ctx.specs.Attachment.{Attachment, AreLawful, StandsOn}
-use Rattle.sb_ctx.specs.AttachAnswers.{Holds, content_over}
-use Rattle.sb_registry.specs.Boxes.{Meanings}
-use Rattle.sb_drive.specs.Slots.{Slots, owned}
+use Rattle.sb_rows.specs.Instance.{Instance}
+use Rattle.sb_rows.specs.Attachment.{Attachment, AreLawful, StandsOn}
+use Rattle.sb_rows.specs.AttachAnswers.{Holds, content_over}
+use Rattle.sb_rows.specs.Boxes.{Meanings}
+use Rattle.sb_rows.specs.Slots.{Slots, owned}
 use Rattle.sb_standing.specs.Standing.{KeepsRule}
 
 -- ---- relations

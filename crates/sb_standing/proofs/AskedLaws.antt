@@ -8,10 +8,10 @@ use Rattle.sb_relation.specs.Changes.{changed, changed_rows}
 use Rattle.sb_relation.specs.Db
 use Rattle.sb_relation.specs.Db.{Name, Rows, Relation, relation_at, rows_at}
 use Rattle.sb_relation.specs.Lawful.{AreRows}
-use Rattle.sb_ctx.specs.View.{FoundIn}
-use Rattle.sb_ctx.specs.Attachment.{IsChangeOf}
-use Rattle.sb_registry.specs.Boxes.{Meanings}
-use Rattle.sb_drive.specs.Slots.{Slots}
+use Rattle.sb_rows.specs.View.{FoundIn}
+use Rattle.sb_rows.specs.Attachment.{IsChangeOf}
+use Rattle.sb_rows.specs.Boxes.{Meanings}
+use Rattle.sb_rows.specs.Slots.{Slots}
 use Rattle.sb_standing.specs.Asked.{Suits, Asks, changed_kept}
 use Rattle.sb_standing.specs.AskedLaws.{PutAsksNone, NextCanAsk, AskedAsksMore, CanAsk}
 use Rattle.sb_standing.specs.Standing.{IsKept}

@@ -12,12 +12,12 @@ use Rattle.sb_relation.specs.Changes.{changed, changed_rows}
 use Rattle.sb_relation.specs.Content.{Content}
 use Rattle.sb_relation.specs.Db
 use Rattle.sb_relation.specs.Db.{Rows, Relation, relation_at, rows_at}
-use Rattle.sb_forms.specs.Maps.{map_in}
-use Rattle.sb_ctx.specs.declared.instance.Instance.{Instance}
-use Rattle.sb_ctx.specs.Attachment.{AreLawful}
-use Rattle.sb_ctx.specs.AttachAnswers.{Holds, content_over, content_after}
-use Rattle.sb_registry.specs.Boxes.{Meanings}
-use Rattle.sb_drive.specs.Slots.{Slots, owned}
+use Rattle.sb_rows.specs.Maps.{map_in}
+use Rattle.sb_rows.specs.Instance.{Instance}
+use Rattle.sb_rows.specs.Attachment.{AreLawful}
+use Rattle.sb_rows.specs.AttachAnswers.{Holds, content_over, content_after}
+use Rattle.sb_rows.specs.Boxes.{Meanings}
+use Rattle.sb_rows.specs.Slots.{Slots, owned}
 use Rattle.sb_rows.specs.Live.{HasRows}
 use Rattle.sb_catalog.specs.declared.descriptor.Attached.{Attached}
 use Rattle.sb_catalog.specs.Descriptors.{IsDescriptorOf, standing}

@@ -9,8 +9,8 @@ use Rattle.sb_relation.specs.Db.{Name, Relation, relation_at}
 use Rattle.sb_catalog.specs.declared.descriptor.Descriptor.{Descriptor}
 use Rattle.sb_catalog.specs.Descriptors.{descriptor_spelling, IsDescriptorOf, IsStorableDescriptor}
 use Rattle.sb_catalog.proofs.Described.{one_descriptor}
-use Rattle.sb_registry.specs.Boxes.{Meanings}
-use Rattle.sb_drive.specs.Slots.{Slots}
+use Rattle.sb_rows.specs.Boxes.{Meanings}
+use Rattle.sb_rows.specs.Slots.{Slots}
 use Rattle.sb_standing.specs.Tables.{Kept, entry_of, db_of, kept_at, is_above, is_behind, first_above, above, IsFirst, Describes, KeepsTable, Tables}
 use Rattle.sb_standing.specs.CatalogueLaws.{IsEntry, HasNoEntry, IsFirstEntry}
 use Rattle.sb_standing.proofs.KeptLemmas.{entry_at-kept, relation_at-there, relation_at-none, kept_at-all}

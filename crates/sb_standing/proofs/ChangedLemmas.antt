@@ -16,9 +16,9 @@ use Rattle.sb_relation.specs.Db.{Name, Rows, Relation, Db, relation_at, with_rel
 use Rattle.sb_relation.specs.Fits.{MayStand, relation_of, other_relations, first_unnamed, places_in, pred_places, action_places, rule_places, are_one_kind, kinds_at, rule_fits}
 use Rattle.sb_relation.specs.Foreign.{AttachRules}
 use Rattle.sb_relation.specs.Images.{entries_only, index_entries, stats_sums, column_ints, foreign_image}
-use Rattle.sb_ctx.specs.declared.instance.Instance.{Instance}
-use Rattle.sb_ctx.specs.Attachment.{Attachment, AreLawful, StandsOn}
-use Rattle.sb_ctx.specs.AttachAnswers.{content_over}
+use Rattle.sb_rows.specs.Instance.{Instance}
+use Rattle.sb_rows.specs.Attachment.{Attachment, AreLawful, StandsOn}
+use Rattle.sb_rows.specs.AttachAnswers.{content_over}
 use Rattle.sb_standing.specs.Standing.{is_join}
 
 -- ---- its relations

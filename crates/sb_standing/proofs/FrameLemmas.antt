@@ -3,14 +3,14 @@ use Rattle.std.proofs.Common.{◌≡◌, ◌≢◌, inl, inr, ℕ, ◌<◌, Bool
 use Rattle.std.proofs.lemmas.List.Elements.{All-head, All-tail, All-cons, All-nil, All-append, All-map, All-weaker}
 use Rattle.sb_relation.specs.Db
 use Rattle.sb_relation.specs.Db.{Rows}
-use Rattle.sb_forms.specs.Pages.{Pages}
-use Rattle.sb_forms.specs.Maps.{map_in}
-use Rattle.sb_ctx.specs.declared.instance.Instance.{Instance}
-use Rattle.sb_ctx.specs.Attachment.{IsOwned, keeps_pages}
-use Rattle.sb_ctx.specs.AttachAnswers.{content_over, Holds}
-use Rattle.sb_ctx.specs.MethodAnswers.{Holds as HoldsRows}
-use Rattle.sb_registry.specs.Boxes.{Meanings}
-use Rattle.sb_drive.specs.Slots.{Slots, owned}
+use Rattle.sb_rows.specs.Pages.{Pages}
+use Rattle.sb_rows.specs.Maps.{map_in}
+use Rattle.sb_rows.specs.Instance.{Instance}
+use Rattle.sb_rows.specs.Attachment.{IsOwned, keeps_pages}
+use Rattle.sb_rows.specs.AttachAnswers.{content_over, Holds}
+use Rattle.sb_rows.specs.MethodAnswers.{Holds as HoldsRows}
+use Rattle.sb_rows.specs.Boxes.{Meanings}
+use Rattle.sb_rows.specs.Slots.{Slots, owned}
 use Rattle.sb_rows.specs.Live.{HasRows}
 use Rattle.sb_catalog.specs.declared.descriptor.Attached.{Attached}
 use Rattle.sb_standing.specs.Instances.{owners_of}

@@ -2,9 +2,9 @@
 use Rattle.std.proofs.Common.{◌≡◌, ◌≢◌, inl, inr, ℕ, zero, suc, ◌+◌, ◌<◌, ◌≤◌, ◌==◌, Bool, true, false, cond, List, [], ◌∷◌, ◌++◌, All, refl, sym, ap, subst, ◌∙◌, arith, eqb-true, true≢false}
 use Rattle.std.proofs.lemmas.Bool.{eq-eqb}
 use Rattle.std.proofs.lemmas.List.Elements.{All-tail}
-use Rattle.sb_forms.specs.Pages.{Pages}
-use Rattle.sb_drive.specs.Instances.{IsLeastOwner}
-use Rattle.sb_drive.specs.Slots.{Slots, owned}
+use Rattle.sb_rows.specs.Pages.{Pages}
+use Rattle.sb_rows.specs.Instances.{IsLeastOwner}
+use Rattle.sb_rows.specs.Slots.{Slots, owned}
 use Rattle.sb_standing.specs.Tables.{KeepsOthers}
 use Rattle.sb_standing.specs.Standing.{IsOwner, IsAmong, HasPage, Own}
 use Rattle.sb_standing.specs.TableLaws.{Comes, Freed}

@@ -13,12 +13,12 @@ use Rattle.sb_rule.specs.Bound.{row_before, row_after}
 use Rattle.sb_relation.specs.Db
 use Rattle.sb_relation.specs.Db.{Key, Row, Rows, Relation, relation_at, row_at, tree}
 use Rattle.sb_relation.specs.Lawful.{IsRow, AreRows, is_long_code, is_long_row, is_long_for, is_too_long}
-use Rattle.sb_ctx.specs.declared.instance.Instance.{Instance}
-use Rattle.sb_ctx.specs.Attachment.{AreLawful, MayHold, MayMeet, IsChangeOf}
-use Rattle.sb_ctx.specs.AttachAnswers.{content_over}
-use Rattle.sb_ctx.specs.Laws.{HoldRows}
-use Rattle.sb_registry.specs.Boxes.{Meanings}
-use Rattle.sb_drive.specs.Slots.{Slots, owned}
+use Rattle.sb_rows.specs.Instance.{Instance}
+use Rattle.sb_rows.specs.Attachment.{AreLawful, MayHold, MayMeet, IsChangeOf}
+use Rattle.sb_rows.specs.AttachAnswers.{content_over}
+use Rattle.sb_rows.specs.Laws.{HoldRows}
+use Rattle.sb_rows.specs.Boxes.{Meanings}
+use Rattle.sb_rows.specs.Slots.{Slots, owned}
 use Rattle.sb_catalog.specs.declared.descriptor.Attached.{Attached}
 use Rattle.sb_catalog.proofs.Parts.{one_rule}
 use Rattle.sb_standing.specs.Asked.{Suits}

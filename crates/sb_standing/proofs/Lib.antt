@@ -1,3 +1,7 @@
+pub use Rattle.sb_rows.proofs.CallsLemmas
+pub use Rattle.sb_rows.proofs.Few
+pub use Rattle.sb_rows.proofs.Frames
+pub use Rattle.sb_rows.proofs.Reading
 pub mod KeptLemmas
 pub mod PutLemmas
 pub mod TimesLemmas

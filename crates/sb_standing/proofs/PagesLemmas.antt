@@ -4,13 +4,13 @@ use Rattle.std.proofs.lemmas.Bool.{eqb-false}
 use Rattle.std.proofs.lemmas.List.Elements.{All-weaker}
 use Rattle.sb_relation.specs.Db
 use Rattle.sb_relation.specs.Db.{Rows}
-use Rattle.sb_forms.specs.Pages.{Pages}
-use Rattle.sb_forms.specs.Maps.{map_in}
-use Rattle.sb_ctx.specs.declared.instance.Instance.{Instance}
-use Rattle.sb_ctx.specs.AttachAnswers.{Holds as HoldsContent, content_over}
-use Rattle.sb_ctx.specs.MethodAnswers.{Holds}
-use Rattle.sb_registry.specs.Boxes.{Meanings}
-use Rattle.sb_drive.specs.Slots.{Slots, owned}
+use Rattle.sb_rows.specs.Pages.{Pages}
+use Rattle.sb_rows.specs.Maps.{map_in}
+use Rattle.sb_rows.specs.Instance.{Instance}
+use Rattle.sb_rows.specs.AttachAnswers.{Holds as HoldsContent, content_over}
+use Rattle.sb_rows.specs.MethodAnswers.{Holds}
+use Rattle.sb_rows.specs.Boxes.{Meanings}
+use Rattle.sb_rows.specs.Slots.{Slots, owned}
 use Rattle.sb_rows.specs.Live.{HasRows}
 use Rattle.sb_catalog.specs.declared.descriptor.Attached.{Attached}
 use Rattle.sb_standing.specs.AskedLaws.{ArePages}

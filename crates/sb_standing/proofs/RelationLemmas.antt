@@ -9,10 +9,10 @@ use Rattle.sb_relation.specs.Db
 use Rattle.sb_relation.specs.Db.{Name, Rows, Relation, Db, relation_at}
 use Rattle.sb_relation.specs.Fits.{first_missing, other_relations}
 use Rattle.sb_relation.specs.Lawful.{AreRows}
-use Rattle.sb_forms.specs.Maps.{map_in}
-use Rattle.sb_ctx.specs.Attachment.{AreLawful}
-use Rattle.sb_registry.specs.Boxes.{Meanings}
-use Rattle.sb_drive.specs.Slots.{Slots, owned}
+use Rattle.sb_rows.specs.Maps.{map_in}
+use Rattle.sb_rows.specs.Attachment.{AreLawful}
+use Rattle.sb_rows.specs.Boxes.{Meanings}
+use Rattle.sb_rows.specs.Slots.{Slots, owned}
 use Rattle.sb_rows.specs.Live.{HasRows}
 use Rattle.sb_catalog.specs.declared.descriptor.Attached.{Attached}
 use Rattle.sb_catalog.specs.declared.descriptor.Descriptor.{Descriptor}

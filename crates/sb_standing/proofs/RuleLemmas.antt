@@ -13,9 +13,9 @@ use Rattle.sb_relation.specs.Build.{with_instance, with_attached, with_rule, wit
 use Rattle.sb_relation.specs.Buckets.{standing_buckets}
 use Rattle.sb_relation.specs.Db
 use Rattle.sb_relation.specs.Db.{Name, Relation, Db, relation_at, with_relation}
-use Rattle.sb_forms.specs.Maps.{map_in}
-use Rattle.sb_registry.specs.Boxes.{Meanings}
-use Rattle.sb_drive.specs.Slots.{Slots, owned}
+use Rattle.sb_rows.specs.Maps.{map_in}
+use Rattle.sb_rows.specs.Boxes.{Meanings}
+use Rattle.sb_rows.specs.Slots.{Slots, owned}
 use Rattle.sb_catalog.specs.declared.descriptor.Attached.{Attached}
 use Rattle.sb_catalog.specs.Descriptors.{descriptor_spelling, described, standing}
 use Rattle.sb_standing.specs.Instances.{owners_of, rule_instance}

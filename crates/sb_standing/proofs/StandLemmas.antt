@@ -8,10 +8,10 @@ use Rattle.sb_relation.specs.Buckets.{grown}
 use Rattle.sb_relation.specs.Changes.{changed, changed_rows}
 use Rattle.sb_relation.specs.Db
 use Rattle.sb_relation.specs.Db.{Name}
-use Rattle.sb_ctx.specs.declared.instance.Instance.{Instance}
-use Rattle.sb_ctx.specs.Attachment.{AreLawful}
-use Rattle.sb_registry.specs.Boxes.{Meanings}
-use Rattle.sb_drive.specs.Slots.{Slots}
+use Rattle.sb_rows.specs.Instance.{Instance}
+use Rattle.sb_rows.specs.Attachment.{AreLawful}
+use Rattle.sb_rows.specs.Boxes.{Meanings}
+use Rattle.sb_rows.specs.Slots.{Slots}
 use Rattle.sb_catalog.specs.declared.descriptor.Attached.{Attached}
 use Rattle.sb_standing.specs.Instances.{rule_instance}
 use Rattle.sb_standing.specs.Tables.{Kept, db_of}

@@ -7,9 +7,9 @@ use Rattle.sb_relation.specs.Changes.{changed, changed_rows, with_change}
 use Rattle.sb_relation.specs.Db
 use Rattle.sb_relation.specs.Db.{Name, Relation, relation_at}
 use Rattle.sb_relation.specs.Lawful.{IsRow, is_too_long}
-use Rattle.sb_ctx.specs.Attachment.{AreKeys, IsChangeOf}
-use Rattle.sb_registry.specs.Boxes.{Meanings}
-use Rattle.sb_drive.specs.Slots.{Slots}
+use Rattle.sb_rows.specs.Attachment.{AreKeys, IsChangeOf}
+use Rattle.sb_rows.specs.Boxes.{Meanings}
+use Rattle.sb_rows.specs.Slots.{Slots}
 use Rattle.sb_catalog.specs.declared.descriptor.Attached.{Attached}
 use Rattle.sb_standing.specs.Tables.{Kept, db_of, Tables}
 use Rattle.sb_standing.specs.Standing.{EachRule, IsKept, KeepsRules, has_no_join, owners_in, Own}

@@ -7,12 +7,12 @@ use Rattle.sb_rule.specs.declared.change.Change.{Change}
 use Rattle.sb_relation.specs.Changes.{changed, changed_rows}
 use Rattle.sb_relation.specs.Db
 use Rattle.sb_relation.specs.Db.{Name}
-use Rattle.sb_ctx.specs.declared.instance.Instance.{Instance}
-use Rattle.sb_ctx.specs.View.{View, FoundIn}
-use Rattle.sb_ctx.specs.Attachment.{MayMeet}
-use Rattle.sb_ctx.specs.AttachAnswers.{Holds, BeforeChange, content_after}
-use Rattle.sb_registry.specs.Boxes.{Meanings}
-use Rattle.sb_drive.specs.Slots.{Slots, owned}
+use Rattle.sb_rows.specs.Instance.{Instance}
+use Rattle.sb_rows.specs.View.{View, FoundIn}
+use Rattle.sb_rows.specs.Attachment.{MayMeet}
+use Rattle.sb_rows.specs.AttachAnswers.{Holds, BeforeChange, content_after}
+use Rattle.sb_rows.specs.Boxes.{Meanings}
+use Rattle.sb_rows.specs.Slots.{Slots, owned}
 use Rattle.sb_rows.specs.Live.{HasRows}
 use Rattle.sb_catalog.specs.declared.descriptor.Attached.{Attached}
 use Rattle.sb_standing.specs.Instances.{rule_instance}

@@ -4,8 +4,8 @@ use Rattle.std.specs.List.{find as first}
 use Rattle.std.specs.FinMap.Entries.{find}
 use Rattle.sb_node.specs.Entries.{Entry, key_cmp}
 use Rattle.sb_relation.specs.Db.{Name, relation_at}
-use Rattle.sb_registry.specs.Boxes.{Meanings}
-use Rattle.sb_drive.specs.Slots.{Slots}
+use Rattle.sb_rows.specs.Boxes.{Meanings}
+use Rattle.sb_rows.specs.Slots.{Slots}
 use Rattle.sb_catalog.specs.declared.descriptor.Descriptor.{Descriptor}
 use Rattle.sb_catalog.specs.Descriptors.{descriptor_spelling, IsStorableDescriptor}
 use Rattle.sb_standing.specs.Tables.{Kept, entry_of, db_of, kept_at, is_behind, first_above, above, IsFirst, Describes, Tables}

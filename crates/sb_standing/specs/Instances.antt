@@ -2,7 +2,7 @@
 use Rattle.std.specs.Prelude.{ℕ, Bool, List, [], ◌∷◌, map}
 use Rattle.sb_rule.specs.Spelling.{rule_spelling}
 use Rattle.sb_relation.specs.Db.{Name}
-use Rattle.sb_ctx.specs.declared.instance.Instance.{Instance}
+use Rattle.sb_rows.specs.Instance.{Instance}
 use Rattle.sb_catalog.specs.declared.descriptor.Attached.{Attached}
 use Rattle.sb_catalog.specs.declared.descriptor.Descriptor.{Descriptor}
 

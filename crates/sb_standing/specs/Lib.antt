@@ -1,3 +1,8 @@
+pub use Rattle.sb_rows.specs.Live
+pub use Rattle.sb_rows.specs.Paths
+pub use Rattle.sb_rows.specs.Placings
+pub use Rattle.sb_rows.specs.Removes
+pub use Rattle.sb_rows.specs.declared.changes.Placing
 pub mod Instances
 pub mod Tables
 pub mod Standing

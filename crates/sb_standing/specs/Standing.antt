@@ -7,12 +7,12 @@ use Rattle.sb_relation.specs.Build.{with_instance}
 use Rattle.sb_relation.specs.Db
 use Rattle.sb_relation.specs.Db.{Name}
 use Rattle.sb_relation.specs.Fits.{other_relations}
-use Rattle.sb_ctx.specs.declared.instance.Instance.{Instance}
-use Rattle.sb_ctx.specs.Attachment.{Attachment, IsOwned, StandsOn, keeps_pages}
-use Rattle.sb_ctx.specs.AttachAnswers.{Holds, content_over}
-use Rattle.sb_ctx.specs.Laws.{IsAttachment}
-use Rattle.sb_registry.specs.Boxes.{Meanings, attachment_of}
-use Rattle.sb_drive.specs.Slots.{Slots, owned}
+use Rattle.sb_rows.specs.Instance.{Instance}
+use Rattle.sb_rows.specs.Attachment.{Attachment, IsOwned, StandsOn, keeps_pages}
+use Rattle.sb_rows.specs.AttachAnswers.{Holds, content_over}
+use Rattle.sb_rows.specs.Laws.{IsAttachment}
+use Rattle.sb_rows.specs.Boxes.{Meanings, attachment_of}
+use Rattle.sb_rows.specs.Slots.{Slots, owned}
 use Rattle.sb_catalog.specs.declared.descriptor.Attached.{Attached}
 use Rattle.sb_catalog.specs.declared.descriptor.Descriptor.{Descriptor}
 use Rattle.sb_standing.specs.Instances.{rule_instance, owners_of}

@@ -7,10 +7,10 @@ use Rattle.sb_value.specs.Order.{bytes_cmp}
 use Rattle.sb_value.specs.declared.schema.Column.{Column}
 use Rattle.sb_node.specs.Entries.{Entry, key_cmp, is_below}
 use Rattle.sb_relation.specs.Db.{Name, Relation, Db}
-use Rattle.sb_forms.specs.Maps.{map_in}
-use Rattle.sb_ctx.specs.declared.instance.Instance.{Instance}
-use Rattle.sb_registry.specs.Boxes.{Meanings}
-use Rattle.sb_drive.specs.Slots.{Slots, owned}
+use Rattle.sb_rows.specs.Maps.{map_in}
+use Rattle.sb_rows.specs.Instance.{Instance}
+use Rattle.sb_rows.specs.Boxes.{Meanings}
+use Rattle.sb_rows.specs.Slots.{Slots, owned}
 use Rattle.sb_rows.specs.Live.{HasRows}
 use Rattle.sb_catalog.specs.declared.descriptor.Descriptor.{Descriptor}
 use Rattle.sb_catalog.specs.Descriptors.{descriptor_spelling, IsDescriptorOf, IsStorableDescriptor}

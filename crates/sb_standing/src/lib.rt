@@ -2,3 +2,7 @@
 #![tactic(auto)]
 
 pub mod laws;
+
+pub use sb_rows::{
+    Placing, RowTest, delete_row, get_row, insert_row, keys_where, prepare_rows, update_row,
+};

@@ -11,11 +11,11 @@ use Rattle.sb_cascade.specs.Fitting.{IsFitting, IsFittingWish, WishFits}
 use Rattle.sb_registry.specs.Boxes.{Meanings}
 use Rattle.sb_drive.specs.Slots.{Slots}
 use Rattle.sb_drive.specs.Spaces.{Wanted}
-use Rattle.sb_standing.specs.Tables.{db_of}
-use Rattle.sb_opened.specs.declared.relation.OpenRelation.{OpenRelation}
-use Rattle.sb_wishes.specs.Wished.{MayBeWished}
-use Rattle.sb_engine.specs.declared.running.Work.{Work}
-use Rattle.sb_engine.specs.Working.{AreOpened, Stands}
+use Rattle.sb_building.specs.Tables.{db_of}
+use Rattle.sb_building.specs.OpenRelation.{OpenRelation}
+use Rattle.sb_building.specs.Wished.{MayBeWished}
+use Rattle.sb_building.specs.Work.{Work}
+use Rattle.sb_building.specs.Working.{AreOpened, Stands}
 
 -- a row that fits its relation may be wished
 as_wished : (schema : List Column) (wish : Wish) → WishFits schema wish → MayBeWished schema wish

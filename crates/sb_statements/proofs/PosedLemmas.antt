@@ -34,10 +34,10 @@ use Rattle.sb_ctx.specs.Method.{Method}
 use Rattle.sb_ctx.specs.Attachment.{Attachment}
 use Rattle.sb_registry.specs.Boxes.{Meanings, attachment_of, method_of}
 use Rattle.sb_vectors.proofs.BoxLemmas.{method_in_two, rule_in_two}
-use Rattle.sb_engine.specs.Working.{ArePaired, HasMainOf, extensions_of}
+use Rattle.sb_building.specs.Working.{ArePaired, HasMainOf, extensions_of}
 use Rattle.sb_statements.specs.Posed.{HasCodes, IsOfNoMirror, IsPosedRelation, IsPosedRule, IsWhere, TestedMayWork}
-use Rattle.sb_tables.specs.Creation.{MayCreate}
-use Rattle.sb_tables.specs.Removal.{MayDrop}
+use Rattle.sb_building.specs.Creation.{MayCreate}
+use Rattle.sb_building.specs.Removal.{MayDrop}
 use Rattle.sb_building.specs.Attaching.{MayAttach}
 use Rattle.sb_building.specs.Detaching.{MayDetach}
 use Rattle.sb_statements.proofs.PassedLemmas.{IsPassed, found_first, has_box, no_first, none_mapped, not_some, passed, some_of}

@@ -16,11 +16,11 @@ use Rattle.sb_plain.specs.State.{State, has_waiting, view}
 use Rattle.sb_ctx.specs.Method.{Method}
 use Rattle.sb_registry.specs.Boxes.{Meanings, method_of}
 use Rattle.sb_catalog.specs.Descriptors.{IsCountedRule, IsStorableColumn}
-use Rattle.sb_standing.specs.Standing.{is_join}
-use Rattle.sb_standing.specs.Tables.{IsWide}
+use Rattle.sb_building.specs.Standing.{is_join}
+use Rattle.sb_building.specs.Tables.{IsWide}
 use Rattle.sb_vectors.specs.Vectors.{live_codes, spare_codes}
-use Rattle.sb_engine.specs.Working.{ArePaired, extensions_of}
-use Rattle.sb_tables.specs.Creation.{new_relation}
+use Rattle.sb_building.specs.Working.{ArePaired, extensions_of}
+use Rattle.sb_building.specs.Creation.{new_relation}
 use Rattle.sb_statements.specs.Statements.{MayWork}
 
 -- a relation that is to be made can be stored, and outlives the run

@@ -12,12 +12,12 @@ use Rattle.sb_registry.specs.Boxes.{Meanings}
 use Rattle.sb_drive.specs.declared.space.SpaceFault.{SpaceFault}
 use Rattle.sb_drive.specs.Slots.{Slots}
 use Rattle.sb_drive.specs.Spaces.{Wanted}
-use Rattle.sb_engine.specs.declared.running.Running.{Running}
-use Rattle.sb_engine.specs.Working.{IsStoppedBy, StandsFor, extensions_in}
+use Rattle.sb_building.specs.Running.{Running}
+use Rattle.sb_building.specs.Working.{IsStoppedBy, StandsFor, extensions_in}
 use Rattle.sb_statements.specs.declared.answers.Answer as code
 use Rattle.sb_statements.specs.declared.answers.Answer.TheVariants as code_answer
-use Rattle.sb_tables.specs.Creation.{MayCreate}
-use Rattle.sb_tables.specs.Removal.{MayDrop}
+use Rattle.sb_building.specs.Creation.{MayCreate}
+use Rattle.sb_building.specs.Removal.{MayDrop}
 use Rattle.sb_building.specs.Attaching.{MayAttach}
 use Rattle.sb_building.specs.Detaching.{MayDetach}
 

@@ -2,15 +2,15 @@
 
 ghost use Rattle.std.specs.Prelude.{IfOk, IfErr};
 ghost use Rattle.sb_plain.specs.declared.command.Command.TheVariants as command;
-ghost use Rattle.sb_engine.specs.Working.{Goes, IsServing};
+ghost use Rattle.sb_building.specs.Working.{Goes, IsServing};
 ghost use Rattle.sb_statements.specs.Statements.{IsDone, IsStopped, answer_of};
 
 use crate::answers::Answer;
 use crate::opening::open_action;
 use crate::rows::LEVELS;
+use sb_building::Running;
 use sb_cascade::act;
 use sb_drive::PageSpace;
-use sb_engine::Running;
 use sb_fold::Refusal;
 use sb_registry::Boxes;
 use sb_rule::Action;

@@ -4,14 +4,13 @@ ghost use Rattle.std.specs.Prelude.{◌≡◌, ℕ, List, is_some, true};
 ghost use Rattle.sb_relation.specs.Keys.{keying_of};
 ghost use Rattle.sb_drive.specs.Slots.{Slots};
 ghost use Rattle.sb_registry.specs.Boxes.{Meanings};
-ghost use Rattle.sb_standing.specs.Tables.{Kept, Tables, db_of};
-ghost use Rattle.sb_opened.specs.Opened.{IsDurable};
-ghost use Rattle.sb_engine.specs.Working.{AreOpened, open_at};
+ghost use Rattle.sb_building.specs.Tables.{Kept, Tables, db_of};
+ghost use Rattle.sb_building.specs.Opened.{IsDurable};
+ghost use Rattle.sb_building.specs.Working.{AreOpened, open_at};
 ghost use Rattle.sb_plain.specs.Step.{keyed_by, row_answer};
 ghost use Rattle.sb_statements.specs.Statements.{answer_of};
 
-use sb_engine::open_at;
-use sb_opened::OpenRelation;
+use sb_building::{OpenRelation, open_at};
 use sb_value::{RecKey, Str};
 
 /// The codes of the storage methods that pick no keys.

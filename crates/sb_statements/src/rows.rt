@@ -8,14 +8,14 @@ ghost use Rattle.sb_plain.specs.Step.{plainly, with_key};
 ghost use Rattle.sb_cascade.specs.Fitting.{IsFittingWish};
 ghost use Rattle.sb_cascade.specs.Runs.{MadeFrom, StopsFrom};
 ghost use Rattle.sb_cascade.specs.Wishes.{wish_of};
-ghost use Rattle.sb_engine.specs.Working.{Goes, GoesOpen, IsServing, IsStoppedBy, StandsFor, extensions_in, open_at};
+ghost use Rattle.sb_building.specs.Working.{Goes, GoesOpen, IsServing, IsStoppedBy, StandsFor, extensions_in, open_at};
 ghost use Rattle.sb_statements.specs.Statements.{IsDone, IsStopped, answer_of};
 
 use crate::answers::{Answer, row_answer};
 use crate::opening::open_wish;
+use sb_building::Running;
 use sb_cascade::{Wish, change};
 use sb_drive::PageSpace;
-use sb_engine::Running;
 use sb_fold::Refusal;
 use sb_registry::Boxes;
 use sb_value::{RecKey, Str, Tuple};

@@ -1,14 +1,14 @@
 //! A command's work.
 
 ghost use Rattle.std.specs.Prelude.{IfOk, IfErr};
-ghost use Rattle.sb_engine.specs.Working.{Goes, IsServing};
+ghost use Rattle.sb_building.specs.Working.{Goes, IsServing};
 ghost use Rattle.sb_statements.specs.Statements.{IsDone, IsStopped, answer_of};
 
 use crate::actions::act_on;
 use crate::answers::Answer;
 use crate::rows::{delete, insert, update};
 use crate::tables::{attach_rule, create_relation, detach_rule, drop_named};
-use sb_engine::Running;
+use sb_building::Running;
 use sb_fold::Refusal;
 use sb_owners::Owners;
 use sb_plain::Command;

@@ -2,17 +2,15 @@
 
 ghost use Rattle.std.specs.Prelude.{IfOk, IfErr};
 ghost use Rattle.sb_plain.specs.declared.command.Command.TheVariants as command;
-ghost use Rattle.sb_engine.specs.Working.{Goes, IsServing};
+ghost use Rattle.sb_building.specs.Working.{Goes, IsServing};
 ghost use Rattle.sb_statements.specs.Statements.{IsDone, IsStopped, answer_of};
 
 use crate::answers::Answer;
-use sb_building::{attach, detach};
-use sb_engine::Running;
+use sb_building::{Running, attach, create, detach, drop_relation};
 use sb_fold::Refusal;
 use sb_owners::Owners;
 use sb_registry::Boxes;
 use sb_rule::Rule;
-use sb_tables::{create, drop_relation};
 use sb_value::{Names, Schema, Str};
 use std::alloc::Global;
 

@@ -26,11 +26,11 @@ use Rattle.sb_drive.specs.Spaces.{Leaves, Wanted}
 use Rattle.sb_registry.specs.Boxes.{Meanings, method_of}
 use Rattle.sb_registry.specs.Live.{IsLive}
 use Rattle.sb_owners.specs.Instances.{HasCome}
-use Rattle.sb_rows.specs.Live.{IsNewIn, LeavesRows}
+use Rattle.sb_standing.specs.Live.{IsNewIn, LeavesRows}
 use Rattle.sb_catalog.specs.declared.descriptor.Descriptor.{Descriptor}
 use Rattle.sb_catalog.specs.Descriptors.{IsConsistent, IsLimit, IsShortDescriptor, IsStorableColumn, IsStorableDescriptor, descriptor_spelling}
 use Rattle.sb_catalog.proofs.Described.{is_as_long}
-use Rattle.sb_map.specs.Changes.{IsSmall}
+use Rattle.sb_engine.specs.Changes.{IsSmall}
 use Rattle.sb_standing.specs.Instances.{table_instance}
 use Rattle.sb_standing.specs.Tables.{Kept, entry_of, put_kept}
 use Rattle.sb_standing.proofs.FrameLemmas.{All-unmap}
@@ -40,7 +40,7 @@ use Rattle.sb_standing.proofs.PutLemmas.{All-put, db_of-put}
 use Rattle.sb_standing.proofs.RelationLemmas.{Keeps-created}
 use Rattle.sb_deferred.specs.Complete.{AreMirrored}
 use Rattle.sb_deferred.proofs.RelationLemmas.{all_found, attachments_of, relation_other, relation_same}
-use Rattle.sb_opened.specs.Opened.{IsDurable}
+use Rattle.sb_engine.specs.Opened.{IsDurable}
 use Rattle.sb_engine.specs.Refusals.{HasRefusalCause, refusal_of}
 use Rattle.sb_engine.specs.Working.{ArePaired, HasMainOf, IsLasting}
 use Rattle.sb_tables.specs.Creation.{AreShort, MayCreate, new_descriptor, new_kept, new_relation}

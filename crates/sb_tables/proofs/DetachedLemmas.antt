@@ -13,9 +13,9 @@ use Rattle.sb_fold.specs.Fold.{attachments_at}
 use Rattle.sb_drive.specs.Slots.{Slots, owned}
 use Rattle.sb_drive.specs.declared.space.SpaceFault.{SpaceFault}
 use Rattle.sb_drive.specs.Spaces.{IsRefused, Leaves, Wanted}
-use Rattle.sb_map.specs.declared.place.Place.{Place}
-use Rattle.sb_map.specs.Maps.{Becomes}
-use Rattle.sb_btree.specs.Removes.{entries_without}
+use Rattle.sb_engine.specs.Place.{Place}
+use Rattle.sb_engine.specs.Maps.{Becomes}
+use Rattle.sb_standing.specs.Removes.{entries_without}
 use Rattle.sb_registry.specs.Boxes.{Meanings}
 use Rattle.sb_registry.specs.Runs.{IsSound}
 use Rattle.sb_catalog.specs.declared.descriptor.Attached as code
@@ -30,7 +30,7 @@ use Rattle.sb_standing.proofs.KeptLemmas.{kept_at-name, kept_at-all, relation_at
 use Rattle.sb_standing.proofs.PutLemmas.{All-own, All-put, All-without, db_of-put, db_of-without}
 use Rattle.sb_standing.proofs.RelationLemmas.{Keeps-dropped}
 use Rattle.sb_deferred.proofs.RelationLemmas.{attachments_of}
-use Rattle.sb_opened.specs.Opened.{IsDurable}
+use Rattle.sb_engine.specs.Opened.{IsDurable}
 use Rattle.sb_engine.specs.Refusals.{HasRefusalCause, refusal_of}
 use Rattle.sb_engine.specs.Working.{IsLasting}
 use Rattle.sb_engine.proofs.RefusedLemmas.{refused_cause}

@@ -13,7 +13,7 @@ use Rattle.sb_standing.specs.Standing.{IsOwner, Keeps, owners_in}
 use Rattle.sb_standing.specs.Tables.{Kept}
 use Rattle.sb_standing.proofs.FrameLemmas.{All-right}
 use Rattle.sb_standing.proofs.RelationLemmas.{Keeps-freed}
-use Rattle.sb_opened.specs.Opened.{IsDurable}
+use Rattle.sb_engine.specs.Opened.{IsDurable}
 use Rattle.sb_engine.specs.Refusals.{HasRefusalCause, IsRefusedBy, refusal_of}
 use Rattle.sb_tables.specs.Freeing.{LeavesGone}
 

@@ -7,7 +7,7 @@ use Rattle.std.proofs.lemmas.List.Sums.{count_by-le-length, length-filter}
 use Rattle.sb_node.specs.Page.{Node}
 use Rattle.sb_forms.specs.Tree as tree
 use Rattle.sb_forms.specs.Tree.{AreChildren, Child, IsChild, IsLeaf, IsTree, Nodes, children_of, entries_of, items, level_of, nodes, over}
-use Rattle.sb_btree.proofs.Reading.{read_root}
+use Rattle.sb_standing.proofs.Reading.{read_root}
 use Rattle.sb_forms.proofs.Maps.{map_tree}
 use Rattle.sb_relation.specs.Db.{Name}
 use Rattle.sb_drive.specs.declared.space.SpaceFault.{SpaceFault}
@@ -19,13 +19,13 @@ use Rattle.sb_catalog.specs.declared.descriptor.Attached.{Attached}
 use Rattle.sb_catalog.specs.declared.descriptor.Descriptor.{Descriptor}
 use Rattle.sb_catalog.specs.Descriptors.{IsStorableAttached, IsStorableDescriptor, attached_spelling, attachments_spelling, columns_spelling, descriptor_spelling, instance_spelling, method_instance}
 use Rattle.sb_rule.specs.Spelling.{names_spelling}
-use Rattle.sb_map.specs.Changes.{IsSmall}
-use Rattle.sb_map.specs.Refusals.{IsUndamaged}
+use Rattle.sb_engine.specs.Changes.{IsSmall}
+use Rattle.sb_engine.specs.MapRefusals.{IsUndamaged}
 use Rattle.sb_standing.specs.Tables.{Kept, Tables, entry_of, kept_at}
 use Rattle.sb_standing.specs.Standing.{without_described}
 use Rattle.sb_standing.proofs.FrameLemmas.{All-unmap}
 use Rattle.sb_standing.proofs.KeptLemmas.{kept_at-all, kept_at-name}
-use Rattle.sb_opened.specs.Opened.{IsDurable, IsOwnFault}
+use Rattle.sb_engine.specs.Opened.{IsDurable, IsOwnFault}
 use Rattle.sb_engine.specs.Refusals.{HasRefusalCause, refusal_of}
 use Rattle.sb_tables.specs.Keeping.{HasMore}
 

@@ -1,3 +1,8 @@
+pub use Rattle.sb_engine.proofs.GoneLemmas
+pub use Rattle.sb_engine.proofs.OpenedLemmas
+pub use Rattle.sb_engine.proofs.OpeningLemmas
+pub use Rattle.sb_engine.proofs.RefusedLemmas
+pub use Rattle.sb_engine.proofs.StandingLemmas
 pub mod WithoutLemmas
 pub mod PairsLemmas
 pub mod RemovalLemmas

@@ -34,7 +34,7 @@ use Rattle.sb_catalog.specs.Descriptors.{described, standing}
 use Rattle.sb_standing.specs.Standing.{EachRule, IsKept, Keeps, KeepsRules}
 use Rattle.sb_standing.specs.Tables.{Kept, KeepsTable, db_of, kept_at}
 use Rattle.sb_standing.proofs.KeptLemmas.{kept_at-all, relation_at-none, relation_at-there}
-use Rattle.sb_opened.specs.Opened.{IsDurable}
+use Rattle.sb_engine.specs.Opened.{IsDurable}
 use Rattle.sb_engine.specs.declared.running.Work.{Work}
 use Rattle.sb_engine.specs.Working.{AreOpened, ArePaired, IsNoneGone, IsOpened, Stands, extensions_of, left_of}
 use Rattle.sb_engine.proofs.GoneLemmas.{with_gone-some}

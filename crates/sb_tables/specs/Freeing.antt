@@ -5,7 +5,7 @@ use Rattle.sb_drive.specs.Spaces.{LeadsOn, Wanted}
 use Rattle.sb_registry.specs.Boxes.{Meanings}
 use Rattle.sb_standing.specs.Standing.{Keeps}
 use Rattle.sb_standing.specs.Tables.{Kept}
-use Rattle.sb_opened.specs.Opened.{IsDurable}
+use Rattle.sb_engine.specs.Opened.{IsDurable}
 use Rattle.sb_engine.specs.declared.running.Running.{Running}
 
 -- the space has pages that keep these relations, beside those of owners that are to go

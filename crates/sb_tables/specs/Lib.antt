@@ -1,3 +1,17 @@
+pub use Rattle.sb_engine.specs.Calls
+pub use Rattle.sb_engine.specs.Changes
+pub use Rattle.sb_engine.specs.Goings
+pub use Rattle.sb_engine.specs.OpenRelation
+pub use Rattle.sb_engine.specs.Opened
+pub use Rattle.sb_engine.specs.Opening
+pub use Rattle.sb_engine.specs.Place
+pub use Rattle.sb_engine.specs.Refusals
+pub use Rattle.sb_engine.specs.Wished
+pub use Rattle.sb_engine.specs.Working
+pub use Rattle.sb_engine.specs.declared.running.Running
+pub use Rattle.sb_engine.specs.declared.running.Work
+pub use Rattle.sb_standing.specs.Standing
+pub use Rattle.sb_standing.specs.Tables
 pub mod Keeping
 pub mod Creation
 pub mod Removal

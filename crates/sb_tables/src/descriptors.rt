@@ -9,17 +9,17 @@ ghost use Rattle.sb_rule.specs.Spelling.{IsShortName};
 ghost use Rattle.sb_drive.specs.Slots.{Slots, owned};
 ghost use Rattle.sb_drive.specs.Spaces.{LeadsOn, Leaves, Wanted};
 ghost use Rattle.sb_catalog.specs.Descriptors.{descriptor_spelling, IsConsistent, IsShortDescriptor, IsStorableDescriptor};
-ghost use Rattle.sb_map.specs.Changes.{IsSmall};
+ghost use Rattle.sb_engine.specs.Changes.{IsSmall};
 ghost use Rattle.sb_registry.specs.Runs.{IsSound};
 ghost use Rattle.sb_standing.specs.Instances.{owners_of};
 ghost use Rattle.sb_standing.specs.Standing.{owners_named, without_described};
-ghost use Rattle.sb_opened.specs.Opened.{IsOwnFault};
+ghost use Rattle.sb_engine.specs.Opened.{IsOwnFault};
 ghost use Rattle.sb_engine.specs.Refusals.{HasRefusalCause, refusal_of};
 ghost use Rattle.sb_tables.specs.Creation.{AreShort};
 
 use sb_catalog::{Attached, AttachedList, Descriptor, write_descriptor};
 use sb_drive::{PageSpace, SpaceFault};
-use sb_map::{Place, put};
+use sb_engine::{Place, put};
 use sb_value::{Bytes, Column, Names, Schema, Str};
 use std::alloc::{AllocError, Global};
 

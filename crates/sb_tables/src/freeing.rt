@@ -8,7 +8,7 @@ ghost use Rattle.sb_registry.specs.Boxes.{Meanings};
 ghost use Rattle.sb_registry.specs.Runs.{IsSound};
 ghost use Rattle.sb_standing.specs.Standing.{Keeps};
 ghost use Rattle.sb_standing.specs.Tables.{Kept};
-ghost use Rattle.sb_opened.specs.Opened.{IsDurable};
+ghost use Rattle.sb_engine.specs.Opened.{IsDurable};
 ghost use Rattle.sb_engine.specs.Refusals.{HasRefusalCause, IsRefusedBy, refusal_of};
 ghost use Rattle.sb_engine.specs.Working.{IsServing, StandsFor};
 ghost use Rattle.sb_tables.specs.Freeing.{Frees, LeavesGone};

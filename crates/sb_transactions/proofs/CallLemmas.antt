@@ -9,7 +9,7 @@ use Rattle.sb_drive.specs.declared.space.SpaceFault.TheVariants.{Fault, DataFull
 use Rattle.sb_txn.specs.State.{State}
 use Rattle.sb_space.specs.Transactions.{KeepsSpace}
 use Rattle.sb_space.specs.Works.{Fails, MeansDown}
-use Rattle.sb_engine.specs.Refusals.{HasRefusalCause, refusal_of}
+use Rattle.sb_tables.specs.Refusals.{HasRefusalCause, refusal_of}
 use Rattle.sb_transactions.specs.Calls.{IsOnlyFault, Remains}
 use Rattle.sb_transactions.specs.Commits.{FailsOn, Mounted}
 use Rattle.sb_value.proofs.Truths.{ok_err}

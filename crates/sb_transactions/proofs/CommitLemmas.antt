@@ -14,14 +14,14 @@ use Rattle.sb_registry.specs.Boxes.{Meanings}
 use Rattle.sb_drive.specs.Slots.{Slots}
 use Rattle.sb_drive.specs.Spaces.{Wanted}
 use Rattle.sb_map.specs.declared.place.Place.{Place}
-use Rattle.sb_standing.specs.Tables.{db_of}
-use Rattle.sb_standing.specs.Standing.{Keeps}
-use Rattle.sb_opened.specs.Opened.{IsDurable}
+use Rattle.sb_tables.specs.Tables.{db_of}
+use Rattle.sb_tables.specs.Standing.{Keeps}
+use Rattle.sb_tables.specs.Opened.{IsDurable}
 use Rattle.sb_txn.specs.Parts.{Parts}
 use Rattle.sb_space.specs.Table.{slots_in}
 use Rattle.sb_space.specs.Works.{HasPages}
-use Rattle.sb_engine.specs.declared.running.Work.{Work}
-use Rattle.sb_engine.specs.Working.{extensions_of}
+use Rattle.sb_tables.specs.Work.{Work}
+use Rattle.sb_tables.specs.Working.{extensions_of}
 use Rattle.sb_transactions.specs.Commits.{IsDone, LeavesEither}
 use Rattle.sb_transactions.specs.Transactions.{IsAt, IsCommitted, IsFinished, IsSettled}
 

@@ -10,17 +10,17 @@ use Rattle.sb_registry.specs.Boxes.{Meanings}
 use Rattle.sb_drive.specs.Slots.{Slots}
 use Rattle.sb_drive.specs.Spaces.{Wanted}
 use Rattle.sb_map.specs.declared.place.Place.{Place}
-use Rattle.sb_standing.specs.Standing.{Keeps}
-use Rattle.sb_opened.specs.Opened.{IsDurable}
+use Rattle.sb_tables.specs.Standing.{Keeps}
+use Rattle.sb_tables.specs.Opened.{IsDurable}
 use Rattle.sb_space.specs.declared.durable.Durable.{Durable}
 use Rattle.sb_space.specs.Durable.{parts_in}
 use Rattle.sb_space.specs.View.{lent}
 use Rattle.sb_space.specs.Works.{HasPages}
 use Rattle.sb_space.specs.Works as space
 use Rattle.sb_space.proofs.GoingBack.{KeepsChanges-driven, Stands-driven, WasAt-driven}
-use Rattle.sb_engine.specs.declared.running.Work.{Work}
-use Rattle.sb_engine.specs.Working.{ArePaired, extensions_of}
-use Rattle.sb_engine.specs.Working as engine
+use Rattle.sb_tables.specs.Work.{Work}
+use Rattle.sb_tables.specs.Working.{ArePaired, extensions_of}
+use Rattle.sb_tables.specs.Working as engine
 use Rattle.sb_transactions.specs.Driven.{DrivenKeepsBegun, DrivenKeepsEachPoint, DrivenKeepsPoints, DrivenLeavesWanted, DrivenStands, GoesAreWorks, HasLent, IsServed, RunningStands}
 use Rattle.sb_transactions.specs.Transactions.{IsAt, IsSettled}
 use Rattle.sb_transactions.proofs.PageLemmas.{one-has}

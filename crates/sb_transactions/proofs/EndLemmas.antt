@@ -28,10 +28,10 @@ use Rattle.sb_txn.specs.Clauses.{HoldsPages, LeavesWanted}
 use Rattle.sb_txn.specs.Parts.{Parts, parts}
 use Rattle.sb_txn.specs.State.{State}
 use Rattle.sb_space.specs.Works.{Works}
-use Rattle.sb_engine.specs.declared.running.Work.{Work}
-use Rattle.sb_engine.specs.Refusals.{HasRefusalCause}
-use Rattle.sb_engine.specs.Working.{extensions_of}
-use Rattle.sb_standing.specs.Tables.{db_of}
+use Rattle.sb_tables.specs.Work.{Work}
+use Rattle.sb_tables.specs.Refusals.{HasRefusalCause}
+use Rattle.sb_tables.specs.Working.{extensions_of}
+use Rattle.sb_tables.specs.Tables.{db_of}
 use Rattle.sb_transactions.specs.Calls.{IsOnlyFault, Remains}
 use Rattle.sb_transactions.specs.declared.refusals.Uncommitted.{Uncommitted}
 use Rattle.sb_transactions.specs.Commits.{by_refusal, ComesTo, FailsOn, Finishes, IsFaulted, IsDone, IsLed, IsOrFaulted, IsEnded, LeavesEither, LeavesOldOrFinished, Mounted, StopsAt, ended}

@@ -12,7 +12,7 @@ use Rattle.sb_drive.specs.declared.space.SpaceFault.{SpaceFault}
 use Rattle.sb_drive.specs.declared.space.SpaceFault.TheVariants as fault
 use Rattle.sb_cascade.specs.Runs.{is_free, EndsBy, GoesOn, MadeFrom, StopsFrom}
 use Rattle.sb_cascade.proofs.Forward.{goes_here}
-use Rattle.sb_engine.specs.Refusals.{HasRefusalCause, IsRefusedBy, refusal_of}
+use Rattle.sb_tables.specs.Refusals.{HasRefusalCause, IsRefusedBy, refusal_of}
 
 -- ---- nothing waits
 drain-none : (ext : Extensions) (most : ℕ) (g : Going) → g.queue.actions ≡ [] → drain ext most g ≡ made tt g

@@ -16,10 +16,10 @@ use Rattle.sb_space.specs.declared.durable.Durable.{Durable}
 use Rattle.sb_space.specs.Durable.{parts_in}
 use Rattle.sb_space.specs.View.{lent}
 use Rattle.sb_space.specs.Works.{Fails}
-use Rattle.sb_engine.specs.declared.running.Work.{Work}
-use Rattle.sb_engine.specs.Refusals.{HasRefusalCause}
-use Rattle.sb_engine.specs.Working.{extensions_of}
-use Rattle.sb_engine.specs.Working as engine
+use Rattle.sb_tables.specs.Work.{Work}
+use Rattle.sb_tables.specs.Refusals.{HasRefusalCause}
+use Rattle.sb_tables.specs.Working.{extensions_of}
+use Rattle.sb_tables.specs.Working as engine
 use Rattle.sb_transactions.specs.Commits.{ComesTo, FailsOn, Finishes, Mounted}
 use Rattle.sb_transactions.specs.declared.transactions.Point.{Point}
 use Rattle.sb_transactions.specs.Driven.{HasLent, IsServed, LeadsLent, WorksOn}

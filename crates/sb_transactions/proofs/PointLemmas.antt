@@ -9,8 +9,8 @@ use Rattle.sb_registry.specs.Boxes.{Meanings}
 use Rattle.sb_drive.specs.Slots.{Slots}
 use Rattle.sb_drive.specs.Spaces.{Wanted}
 use Rattle.sb_map.specs.declared.place.Place.{Place}
-use Rattle.sb_standing.specs.Standing.{Keeps}
-use Rattle.sb_opened.specs.Opened.{IsDurable}
+use Rattle.sb_tables.specs.Standing.{Keeps}
+use Rattle.sb_tables.specs.Opened.{IsDurable}
 use Rattle.sb_txn.specs.Book.{standing_of}
 use Rattle.sb_txn.specs.Parts.{Parts}
 use Rattle.sb_space.specs.Table.{slots_in}
@@ -18,8 +18,8 @@ use Rattle.sb_space.specs.Transactions.{WasAt}
 use Rattle.sb_space.specs.Works.{HasPages}
 use Rattle.sb_space.specs.Works as space
 use Rattle.sb_space.proofs.GoingBack.{WasAt-mark}
-use Rattle.sb_engine.specs.declared.running.Work.{Work}
-use Rattle.sb_engine.specs.Working.{left_of}
+use Rattle.sb_tables.specs.Work.{Work}
+use Rattle.sb_tables.specs.Working.{left_of}
 use Rattle.sb_transactions.specs.declared.transactions.Point.{Point}
 use Rattle.sb_transactions.specs.Transactions.{IsAt, IsCleared, IsCommitted, IsCutTo, IsFirst, IsNotBehind, IsPointOf, IsSettled, Rests, WasBegun, WasSo, unused}
 use Rattle.sb_transactions.proofs.WorkLemmas.{IsUsable-cleared, IsUsable-none, cut_gone, cut_left, cut_long, cut_queue, cut_waited, cut_within, left_same, mark_waited, none_opened}

@@ -10,10 +10,10 @@ use Rattle.sb_drive.specs.Slots.{Slots}
 use Rattle.sb_drive.specs.Spaces.{LeadsOn, Wanted}
 use Rattle.sb_drive.specs.declared.space.SpaceFault.{SpaceFault}
 use Rattle.sb_map.specs.declared.place.Place.{Place}
-use Rattle.sb_engine.specs.declared.running.Running.{Running}
-use Rattle.sb_engine.specs.declared.running.Work.{Work}
-use Rattle.sb_engine.specs.Refusals.{HasRefusalCause, IsRefusedBy}
-use Rattle.sb_engine.specs.Working.{IsStoppedBy, Stands, StandsFor, extensions_in, extensions_of}
+use Rattle.sb_tables.specs.Running.{Running}
+use Rattle.sb_tables.specs.Work.{Work}
+use Rattle.sb_tables.specs.Refusals.{HasRefusalCause, IsRefusedBy}
+use Rattle.sb_tables.specs.Working.{IsStoppedBy, Stands, StandsFor, extensions_in, extensions_of}
 use Rattle.sb_transactions.specs.Driven.{WorksOn}
 use Rattle.sb_transactions.proofs.FinishLemmas.{StopsFrom-behind, StopsFrom-map, refusal-free}
 

@@ -8,13 +8,13 @@ use Rattle.sb_fold.specs.Outcome.{Entry, Queue}
 use Rattle.sb_deferred.specs.Waiting.{IsFront, IsWithin, mark_of, nothing}
 use Rattle.sb_registry.specs.Boxes.{Meanings}
 use Rattle.sb_map.specs.declared.place.Place.{Place}
-use Rattle.sb_standing.specs.Tables.{Kept}
-use Rattle.sb_opened.specs.declared.relation.OpenRelation.{OpenRelation}
-use Rattle.sb_opened.specs.Opened.{IsOpen}
+use Rattle.sb_tables.specs.Tables.{Kept}
+use Rattle.sb_tables.specs.OpenRelation.{OpenRelation}
+use Rattle.sb_tables.specs.Opened.{IsOpen}
 use Rattle.sb_txn.specs.Parts.{Parts}
 use Rattle.sb_space.specs.Works as space
-use Rattle.sb_engine.specs.declared.running.Work.{Work}
-use Rattle.sb_engine.specs.Working.{AreOpened, IsOpened, left_of}
+use Rattle.sb_tables.specs.Work.{Work}
+use Rattle.sb_tables.specs.Working.{AreOpened, IsOpened, left_of}
 use Rattle.sb_transactions.specs.declared.transactions.Point.{Point}
 use Rattle.sb_transactions.specs.Transactions.{IsCleared, IsCutTo, IsNotBehind, IsUsable, waited_at}
 

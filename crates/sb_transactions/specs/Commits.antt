@@ -18,9 +18,9 @@ use Rattle.sb_txn.specs.Clauses.{LeavesWanted}
 use Rattle.sb_txn.specs.Parts.{Parts}
 use Rattle.sb_txn.specs.State.{State}
 use Rattle.sb_space.specs.Works.{Fails, Works}
-use Rattle.sb_engine.specs.Refusals.{HasRefusalCause}
-use Rattle.sb_engine.specs.Working.{extensions_of}
-use Rattle.sb_engine.specs.declared.running.Work.{Work}
+use Rattle.sb_tables.specs.Refusals.{HasRefusalCause}
+use Rattle.sb_tables.specs.Working.{extensions_of}
+use Rattle.sb_tables.specs.Work.{Work}
 use Rattle.sb_transactions.specs.declared.refusals.Uncommitted.{Uncommitted}
 use Rattle.sb_transactions.specs.declared.transactions.Point.{Point}
 use Rattle.sb_transactions.specs.Calls.{IsOnlyFault}

@@ -15,10 +15,10 @@ use Rattle.sb_space.specs.Durable.{Leads, parts_in}
 use Rattle.sb_space.specs.View.{lent}
 use Rattle.sb_space.specs.Works.{HasPages}
 use Rattle.sb_space.specs.Works as space
-use Rattle.sb_engine.specs.declared.running.Running.{Running}
-use Rattle.sb_engine.specs.declared.running.Work.{Work}
-use Rattle.sb_engine.specs.Working.{Goes, IsServing, StandsFor}
-use Rattle.sb_engine.specs.Working as engine
+use Rattle.sb_tables.specs.Running.{Running}
+use Rattle.sb_tables.specs.Work.{Work}
+use Rattle.sb_tables.specs.Working.{Goes, IsServing, StandsFor}
+use Rattle.sb_tables.specs.Working as engine
 use Rattle.sb_transactions.specs.declared.transactions.Point.{Point}
 use Rattle.sb_transactions.specs.Transactions.{IsAt, IsPointOf, WasBegun, WasSo}
 

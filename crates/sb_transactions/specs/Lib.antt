@@ -1,3 +1,13 @@
+pub use Rattle.sb_map.specs.declared.place.Place
+pub use Rattle.sb_space.specs.Table
+pub use Rattle.sb_space.specs.declared.transactions.Space
+pub use Rattle.sb_space.specs.declared.transactions.Tx
+pub use Rattle.sb_tables.specs.Opened
+pub use Rattle.sb_tables.specs.Refusals
+pub use Rattle.sb_tables.specs.Standing
+pub use Rattle.sb_tables.specs.Tables
+pub use Rattle.sb_tables.specs.Work
+pub use Rattle.sb_tables.specs.Working
 pub mod Transactions
 pub mod Calls
 pub mod Commits

@@ -11,18 +11,18 @@ use Rattle.sb_registry.specs.Boxes.{Meanings}
 use Rattle.sb_drive.specs.Slots.{Slots}
 use Rattle.sb_drive.specs.Spaces.{Wanted}
 use Rattle.sb_map.specs.declared.place.Place.{Place}
-use Rattle.sb_standing.specs.Tables.{Kept, db_of}
-use Rattle.sb_standing.specs.Standing.{Keeps}
-use Rattle.sb_opened.specs.Opened.{IsDurable}
+use Rattle.sb_tables.specs.Tables.{Kept, db_of}
+use Rattle.sb_tables.specs.Standing.{Keeps}
+use Rattle.sb_tables.specs.Opened.{IsDurable}
 use Rattle.sb_txn.specs.Book.{standing_of}
 use Rattle.sb_txn.specs.Parts.{Parts}
 use Rattle.sb_space.specs.Table.{slots_in}
 use Rattle.sb_space.specs.Transactions.{AreFormed, WasAt}
 use Rattle.sb_space.specs.Works.{HasPages}
 use Rattle.sb_space.specs.Works as space
-use Rattle.sb_engine.specs.declared.running.Work.{Work}
-use Rattle.sb_engine.specs.Working.{AreLasting, AreOpened, ArePaired, IsNoneGone, extensions_of, left_of}
-use Rattle.sb_engine.specs.Working as engine
+use Rattle.sb_tables.specs.Work.{Work}
+use Rattle.sb_tables.specs.Working.{AreLasting, AreOpened, ArePaired, IsNoneGone, extensions_of, left_of}
+use Rattle.sb_tables.specs.Working as engine
 use Rattle.sb_transactions.specs.declared.transactions.Point.{Point}
 
 -- ---- databases

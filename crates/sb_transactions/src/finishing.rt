@@ -8,9 +8,9 @@ ghost use Rattle.sb_cascade.specs.Runs.{MadeFrom, StopsFrom};
 ghost use Rattle.sb_registry.specs.Boxes.{Meanings};
 ghost use Rattle.sb_drive.specs.Spaces.{LeadsOn, Wanted};
 ghost use Rattle.sb_txn.specs.Parts.{parts};
-ghost use Rattle.sb_engine.specs.Refusals.{HasRefusalCause};
-ghost use Rattle.sb_engine.specs.Working.{extensions_of};
-ghost use Rattle.sb_engine.specs.Working as engine;
+ghost use Rattle.sb_tables.specs.Refusals.{HasRefusalCause};
+ghost use Rattle.sb_tables.specs.Working.{extensions_of};
+ghost use Rattle.sb_tables.specs.Working as engine;
 ghost use Rattle.sb_map.specs.declared.place.Place.{Place};
 ghost use Rattle.sb_transactions.specs.declared.transactions.Point.{Point};
 ghost use Rattle.sb_transactions.specs.Commits.{ComesTo, FailsOn, Finishes, IsLed};
@@ -20,13 +20,11 @@ ghost use Rattle.sb_transactions.specs.Transactions.{HasNothingLeft, IsAt, IsPoi
 use crate::transactions::Transaction;
 use sb_cascade::finish;
 use sb_disk::Disk;
-use sb_engine::{Running, Work};
 use sb_fold::Refusal;
 use sb_map::Place;
-use sb_owners::Owners;
 use sb_registry::Boxes;
-use sb_space::{Durable, Space};
-use sb_tables::free_gone;
+use sb_space::{Durable, Owners, Space};
+use sb_tables::{Running, Work, free_gone};
 use std::alloc::Global;
 
 /// Whether nothing waits and no owner is to go.

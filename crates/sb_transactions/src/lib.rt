@@ -11,4 +11,7 @@ mod transactions;
 pub use commits::{commit, commit_pages};
 pub use points::{back_to, mark};
 pub use refusals::Uncommitted;
+pub use sb_map::Place;
+pub use sb_space::Space;
+pub use sb_tables::{next_descriptor, refusal_of};
 pub use transactions::{Point, Transaction, abort, begin, settle};

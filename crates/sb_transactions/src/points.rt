@@ -11,7 +11,7 @@ ghost use Rattle.sb_map.specs.declared.place.Place.{Place};
 ghost use Rattle.sb_txn.specs.Clauses.{Grows, LeavesWanted};
 ghost use Rattle.sb_txn.specs.Parts.{parts};
 ghost use Rattle.sb_space.specs.Works.{Serves};
-ghost use Rattle.sb_engine.specs.Refusals.{HasRefusalCause};
+ghost use Rattle.sb_tables.specs.Refusals.{HasRefusalCause};
 ghost use Rattle.sb_transactions.specs.declared.transactions.Point.{Point};
 ghost use Rattle.sb_transactions.specs.Calls.{IsOnlyFault, Remains};
 ghost use Rattle.sb_transactions.specs.Commits.{FailsOn};
@@ -19,9 +19,9 @@ ghost use Rattle.sb_transactions.specs.Transactions.{IsAt, IsCutTo, IsNotBehind,
 
 use crate::transactions::{Point, Transaction};
 use sb_disk::Disk;
-use sb_engine::{Work, refusal_of};
 use sb_fold::Refusal;
 use sb_space::Space;
+use sb_tables::{Work, refusal_of};
 
 /// Where work in the transaction stands now.
 pub fn mark(space: &Space, transaction: &Transaction) -> Point

@@ -10,16 +10,16 @@ ghost use Rattle.sb_map.specs.declared.place.Place.{Place};
 ghost use Rattle.sb_txn.specs.Clauses.{AsksNothing, Grows, IsReady, LeavesWanted};
 ghost use Rattle.sb_txn.specs.Parts.{parts, Parts};
 ghost use Rattle.sb_space.specs.Works.{Serves};
-ghost use Rattle.sb_engine.specs.Refusals.{HasRefusalCause};
+ghost use Rattle.sb_tables.specs.Refusals.{HasRefusalCause};
 ghost use Rattle.sb_transactions.specs.Calls.{IsOnlyFault, Remains};
 ghost use Rattle.sb_transactions.specs.Commits.{FailsOn};
 ghost use Rattle.sb_transactions.specs.Transactions.{IsAt, IsCleared, IsFirst, IsUsable, Rests, WasBegun, unused};
 
 use sb_deferred::{Queue, QueueMark};
 use sb_disk::Disk;
-use sb_engine::{Work, refusal_of};
 use sb_fold::Refusal;
 use sb_space::{Mark, Space, Tx};
+use sb_tables::{Work, refusal_of};
 use std::alloc::Global;
 
 /// A transaction of the engine: that of the store, and what the engine keeps beside its pages. It is spent by `commit` or `abort`.

@@ -1,3 +1,5 @@
+pub use Rattle.sb_btree.proofs.Frames
+pub use Rattle.sb_btree.proofs.Reading
 pub mod Entries
 pub mod RowsOf
 pub mod Few

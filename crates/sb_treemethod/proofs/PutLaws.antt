@@ -5,7 +5,7 @@ use Rattle.std.specs.FinMap.Entries.{find, put}
 use Rattle.std.proofs.lemmas.Bool.{ltb-true, ltb-false, or_from, le-leb}
 use Rattle.sb_relation.specs.Db.{Key, Row, Rows, row_at, with_row}
 use Rattle.sb_relation.specs.Keys.{NewKeys, Just, Taken, Coded, is_free, new_keys, is_record_key}
-use Rattle.sb_fold.specs.Costs.{tree_cost}
+use Rattle.sb_ctx.specs.Costs.{tree_cost}
 use Rattle.sb_node.specs.Entries.{Entry, key_cmp}
 use Rattle.sb_node.specs.Page.{node_of}
 use Rattle.sb_forms.specs.Pages.{Pages, ArePages, new_pages, zeros}

@@ -9,7 +9,7 @@ use Rattle.std.specs.Str.{bytes_eq}
 use Rattle.std.proofs.lemmas.Cmp.{nat_list_cmp_total}
 use Rattle.std.proofs.lemmas.Map.Text.{is_eq-slice_cmp}
 use Rattle.sb_value.proofs.Truths.{or_true}
-use Rattle.sb_fold.specs.Costs.{digits, tree_cost}
+use Rattle.sb_ctx.specs.Costs.{digits, tree_cost}
 use Rattle.sb_relation.specs.Db.{Key, Row, Rows, row_at, with_row, without_row}
 use Rattle.sb_relation.specs.Keys.{is_free}
 use Rattle.sb_node.specs.Entries.{Entry, key_cmp}

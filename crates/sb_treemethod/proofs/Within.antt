@@ -2,7 +2,7 @@
 use Rattle.std.proofs.Common.{◌≡◌, ℕ, ◌+◌, ◌*◌, ◌<◌, ◌≤◌, Bool, true, List, length, Some, ap, sym, ◌∙◌, subst, arith}
 use Rattle.std.proofs.Math.Nat.{le-max_left}
 use Rattle.std.proofs.lemmas.List.{length-map}
-use Rattle.sb_fold.specs.Bounds.{plain_bound}
+use Rattle.sb_ctx.specs.Bounds.{plain_bound}
 use Rattle.sb_relation.specs.Db.{Key, Row, Rows}
 use Rattle.sb_node.specs.Entries.{Entry}
 use Rattle.sb_forms.specs.Pages.{Pages, page_count}

@@ -1,3 +1,17 @@
+pub use Rattle.sb_btree.specs.Removes
+pub use Rattle.sb_ctx.specs.AttachAnswers
+pub use Rattle.sb_ctx.specs.Attachment
+pub use Rattle.sb_ctx.specs.Laws
+pub use Rattle.sb_ctx.specs.Method
+pub use Rattle.sb_ctx.specs.MethodAnswers
+pub use Rattle.sb_ctx.specs.View
+pub use Rattle.sb_ctx.specs.declared.calls.MethodCall
+pub use Rattle.sb_ctx.specs.declared.instance.Instance
+pub use Rattle.sb_ctx.specs.declared.moves.Move
+pub use Rattle.sb_forms.specs.Maps
+pub use Rattle.sb_forms.specs.Pages
+pub use Rattle.sb_forms.specs.Stored
+pub use Rattle.sb_forms.specs.TreePages
 pub mod TreeMethod
 pub mod Answered
 pub mod Examples

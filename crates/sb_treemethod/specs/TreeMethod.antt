@@ -4,8 +4,8 @@ use Rattle.std.specs.List.{list_all}
 use Rattle.sb_codec.specs.Tuples.{tuple_spelling}
 use Rattle.sb_relation.specs.Db.{Key, Row}
 use Rattle.sb_relation.specs.Foreign.{MethodRules}
-use Rattle.sb_fold.specs.Bounds.{plain_bound}
-use Rattle.sb_fold.specs.Costs.{tree_cost}
+use Rattle.sb_ctx.specs.Bounds.{plain_bound}
+use Rattle.sb_ctx.specs.Costs.{tree_cost}
 use Rattle.sb_forms.specs.Pages.{Pages}
 use Rattle.sb_forms.specs.Read.{has}
 use Rattle.sb_forms.specs.Tree.{entries_of}

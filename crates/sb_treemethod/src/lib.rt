@@ -6,3 +6,4 @@ mod rows;
 mod walks;
 
 pub use method::TreeMethod;
+pub use sb_ctx::{Instance, Keys, MethodCall, Move};

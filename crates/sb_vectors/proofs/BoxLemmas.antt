@@ -3,8 +3,8 @@ use Rattle.std.proofs.Common.{◌≡◌, ℕ, ◌==◌, ◌||◌, Bool, true, fa
 use Rattle.std.specs.List.{find, list_any}
 use Rattle.std.specs.Option.{option_or}
 use Rattle.sb_relation.specs.Foreign.{method_rules, attach_rules}
-use Rattle.sb_ctx.specs.Method.{Method}
-use Rattle.sb_ctx.specs.Attachment.{Attachment}
+use Rattle.sb_registry.specs.Method.{Method}
+use Rattle.sb_registry.specs.Attachment.{Attachment}
 use Rattle.sb_registry.specs.Boxes.{Meanings, method_of, attachment_of}
 use Rattle.sb_vectors.specs.Vectors.{has_box, codes_in}
 

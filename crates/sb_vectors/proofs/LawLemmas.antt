@@ -3,8 +3,8 @@ use Rattle.std.proofs.Common.{◌≡◌, ℕ, ◌+◌, ◌≤◌, ◌==◌, Bool
 use Rattle.std.specs.List.{AllByRecursion, find}
 use Rattle.std.specs.Option.{option_or}
 use Rattle.std.proofs.lemmas.List.{map-append}
-use Rattle.sb_ctx.specs.Method.{Method}
-use Rattle.sb_ctx.specs.Attachment.{Attachment}
+use Rattle.sb_registry.specs.Method.{Method}
+use Rattle.sb_registry.specs.Attachment.{Attachment}
 use Rattle.sb_registry.specs.Boxes.{Meanings, repeated_in}
 use Rattle.sb_registry.specs.Codes.{first_repeat}
 use Rattle.sb_vectors.specs.Vectors.{Registers, Retires, codes_in}

@@ -2,8 +2,8 @@
 use Rattle.std.proofs.Common.{◌≡◌, ℕ, ◌==◌, Bool, true, false, List, [], ◌∷◌, map, None, ap, ◌∙◌}
 use Rattle.std.specs.List.{AllByRecursion}
 use Rattle.std.proofs.lemmas.List.{map-append}
-use Rattle.sb_ctx.specs.Method.{Method}
-use Rattle.sb_ctx.specs.Attachment.{Attachment}
+use Rattle.sb_registry.specs.Method.{Method}
+use Rattle.sb_registry.specs.Attachment.{Attachment}
 use Rattle.sb_registry.specs.declared.extensions.Extensions.{Extensions}
 use Rattle.sb_registry.specs.Boxes.{Meanings, Registered, Retired, meanings, repeated_in}
 use Rattle.sb_registry.specs.Codes.{GoesIf}

@@ -1,6 +1,6 @@
 -- What is asked of all boxes, and what becomes of them.
 use Rattle.std.specs.Prelude.{◌≡◌, ℕ, ◌==◌, Bool, true, false, List, [], ◌++◌, map, is_some}
-use Rattle.sb_fold.specs.Extensions.{is_durable_method}
+use Rattle.sb_plain.specs.Extensions.{is_durable_method}
 use Rattle.sb_plain.specs.State.{Codes}
 use Rattle.sb_registry.specs.Boxes.{Meanings, attachment_of, boxes_of, method_of}
 use Rattle.sb_registry.specs.Codes.{GoesIf}

@@ -12,7 +12,7 @@ use Rattle.sb_ctx.specs.declared.instance.Instance.{Instance}
 use Rattle.sb_drive.specs.Slots.{Slots}
 use Rattle.sb_drive.specs.Spaces.{Wanted}
 use Rattle.sb_registry.specs.Boxes.{Meanings}
-use Rattle.sb_rows.specs.Live.{HasRows}
+use Rattle.sb_standing.specs.Live.{HasRows}
 use Rattle.sb_catalog.specs.declared.descriptor.Attached.{Attached}
 use Rattle.sb_wishes.specs.declared.settling.Edit as code
 use Rattle.sb_wishes.specs.declared.settling.Outcome.{Outcome}

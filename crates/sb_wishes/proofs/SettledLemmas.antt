@@ -30,10 +30,10 @@ use Rattle.sb_drive.specs.Spaces.{LeadsWithin, Wanted}
 use Rattle.sb_drive.proofs.SpacesLemmas.{GoesOn, LeadsWithin-on}
 use Rattle.sb_registry.specs.Boxes.{Meanings}
 use Rattle.sb_registry.specs.Live.{MayTake}
-use Rattle.sb_rows.specs.declared.changes.Placing.{Placing}
-use Rattle.sb_rows.specs.declared.changes.Placing.TheVariants as placing
-use Rattle.sb_rows.specs.Live.{HasRows, LeavesRows}
-use Rattle.sb_rows.specs.Placings.{IsGone, IsPlaced, IsReplaced, OfKey}
+use Rattle.sb_standing.specs.Placing.{Placing}
+use Rattle.sb_standing.specs.Placing.TheVariants as placing
+use Rattle.sb_standing.specs.Live.{HasRows, LeavesRows}
+use Rattle.sb_standing.specs.Placings.{IsGone, IsPlaced, IsReplaced, OfKey}
 use Rattle.sb_catalog.specs.declared.descriptor.Attached.{Attached}
 use Rattle.sb_wishes.specs.declared.settling.Outcome.{Outcome}
 use Rattle.sb_wishes.specs.declared.settling.Outcome.TheVariants.{Made, Refused}

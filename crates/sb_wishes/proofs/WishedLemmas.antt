@@ -11,7 +11,7 @@ use Rattle.sb_fold.specs.Wishes.{Wish}
 use Rattle.sb_ctx.specs.declared.instance.Instance.{Instance}
 use Rattle.sb_drive.specs.Slots.{Slots, owned}
 use Rattle.sb_registry.specs.Boxes.{Meanings}
-use Rattle.sb_rows.specs.Live.{HasRows}
+use Rattle.sb_standing.specs.Live.{HasRows}
 use Rattle.sb_wishes.specs.Wished.{NamesKey, key_in, row_wished}
 use Rattle.sb_wishes.proofs.CountsLemmas.{long_free}
 

@@ -7,7 +7,7 @@ use Rattle.sb_drive.specs.Slots.{Slots}
 use Rattle.sb_drive.specs.Spaces.{IsReadFault, IsRefused, Leaves, UnlessDown, Wanted}
 use Rattle.sb_drive.proofs.SpacesLemmas.{GoesOn, UnlessDown-passed}
 use Rattle.sb_registry.specs.Runs.{IsFullOf, Looks, WasFull, Works}
-use Rattle.sb_rows.proofs.CallsLemmas.{FailsOn, Works-passed}
+use Rattle.sb_standing.proofs.CallsLemmas.{FailsOn, Works-passed}
 
 -- the same pages leave those of all other owners
 abbrev pub KeepsAll : {S : Type 0} → (Wanted → Slots → S → Type 0) → S → S → Type 0

@@ -11,8 +11,8 @@ use Rattle.sb_fold.specs.declared.refusal.Refusal.{Refusal}
 use Rattle.sb_fold.specs.declared.refusal.Refusal.TheVariants.{NoRecord, TooLong, Duplicate, Range}
 use Rattle.sb_fold.specs.Outcome.{Work, made, refuse, refuse_if, ◌>>=◌}
 use Rattle.sb_fold.specs.Wishes.{Edit, Adds, Takes, Turns, is_long_edit, change_of, raised}
-use Rattle.sb_rows.specs.declared.changes.Placing.{Placing}
-use Rattle.sb_rows.specs.declared.changes.Placing.TheVariants as placing
+use Rattle.sb_standing.specs.Placing.{Placing}
+use Rattle.sb_standing.specs.Placing.TheVariants as placing
 use Rattle.sb_wishes.specs.declared.settling.Edit as code
 use Rattle.sb_wishes.specs.declared.settling.Edit.TheVariants as code_edit
 use Rattle.sb_wishes.specs.declared.settling.Outcome.{Outcome}

@@ -17,7 +17,7 @@ use Rattle.sb_ctx.specs.Attachment.{AreKeys}
 use Rattle.sb_drive.specs.Slots.{Slots}
 use Rattle.sb_drive.specs.Spaces.{LeadsWithin, Wanted}
 use Rattle.sb_registry.specs.Boxes.{Meanings}
-use Rattle.sb_rows.specs.Live.{HasRows, LeavesRows}
+use Rattle.sb_standing.specs.Live.{HasRows, LeavesRows}
 use Rattle.sb_catalog.specs.declared.descriptor.Attached.{Attached}
 use Rattle.sb_standing.specs.Asked.{Suits}
 use Rattle.sb_wishes.specs.declared.settling.Outcome.{Outcome}

@@ -7,7 +7,7 @@ ghost use Rattle.sb_drive.specs.Spaces.{Wanted};
 ghost use Rattle.sb_fold.specs.Wishes.{Adds, Takes, Turns};
 ghost use Rattle.sb_registry.specs.Live.{IsLive};
 ghost use Rattle.sb_registry.specs.Runs.{IsSound, Works};
-ghost use Rattle.sb_rows.specs.Live.{HasRows};
+ghost use Rattle.sb_standing.specs.Live.{HasRows};
 ghost use Rattle.sb_standing.specs.Tables.{IsWide};
 ghost use Rattle.sb_wishes.specs.Edits.{IsEditOf, MayBeEdit, added, edit_in, settled, taken, turned};
 ghost use Rattle.sb_wishes.specs.Outcomes.{Comes, Meets};
@@ -19,8 +19,8 @@ use sb_ctx::Instance;
 use sb_drive::{PageSpace, SpaceFault};
 use sb_fold::Refusal;
 use sb_registry::Boxes;
-use sb_rows::{Placing, delete_row, insert_row, update_row};
 use sb_rule::Change;
+use sb_standing::{Placing, delete_row, insert_row, update_row};
 use sb_value::{RecKey, Str, Tuple};
 use std::alloc::Global;
 

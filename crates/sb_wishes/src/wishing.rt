@@ -13,7 +13,7 @@ ghost use Rattle.sb_fold.specs.Wishes.{edit_of, wished};
 ghost use Rattle.sb_value.specs.declared.schema.Kind.TheVariants as kind;
 ghost use Rattle.sb_registry.specs.Live.{IsLive};
 ghost use Rattle.sb_registry.specs.Runs.{IsSound, Looks, Works};
-ghost use Rattle.sb_rows.specs.Live.{HasRows};
+ghost use Rattle.sb_standing.specs.Live.{HasRows};
 ghost use Rattle.sb_standing.specs.Tables.{IsWide};
 ghost use Rattle.sb_value.specs.Fits.{Fits};
 ghost use Rattle.sb_wishes.specs.Edits.{GivesEdit, IsEditOf, MayBeEdit, edit_in, edit_raised};
@@ -28,7 +28,7 @@ use sb_ctx::Instance;
 use sb_drive::{PageSpace, SpaceFault};
 use sb_fold::Refusal;
 use sb_registry::Boxes;
-use sb_rows::get_row;
+use sb_standing::get_row;
 use sb_value::{RecKey, Str, Tuple};
 use std::alloc::{AllocError, Global};
 

@@ -6,8 +6,8 @@ use Rattle.sb_drive.specs.AttachCalls.{HandsUpIn}
 use Rattle.sb_drive.specs.Slots.{owned}
 use Rattle.sb_drive.specs.Turns.{OnFind}
 use Rattle.sb_drive.proofs.SpacesLemmas.{IfErr-passed, Leaves-so}
-use Rattle.sb_rows.proofs.CallsLemmas.{Looks-later, Looks-no_memory, Looks-passed, Works-passed}
-use Rattle.sb_standing.specs.Tables.{db_of}
+use Rattle.sb_opened.proofs.CallsLemmas.{Looks-later, Looks-no_memory, Looks-passed, Works-passed}
+use Rattle.sb_opened.specs.Tables.{db_of}
 use Rattle.sb_asking.specs.declared.calls.Answer.{Answer}
 use Rattle.sb_asking.specs.Calls.{IsAsked, knowing}
 use Rattle.sb_asking.proofs.CallsLemmas.{AreKeys, All-pushed, HoldsOf-known, IsAsked-known, IsClean-known, IsLast-end, IsOver, Works-later, Works-looked, Works-no_memory, few-known, fewer-left}

@@ -1,7 +1,7 @@
 use Rattle.std.proofs.Common.{◌-◌, List, All, length}
 use Rattle.sb_drive.specs.Slots.{Slots}
 use Rattle.sb_drive.specs.Spaces.{Wanted}
-use Rattle.sb_standing.specs.Tables.{Kept, Tables, db_of}
+use Rattle.sb_opened.specs.Tables.{Kept, Tables, db_of}
 use Rattle.sb_opened.specs.Opened.{IsDurable}
 use Rattle.sb_asking.proofs.CallsLemmas.{AreKeys, IsOver}
 use Rattle.sb_asking.proofs.calls.ask.Given as goal

@@ -6,9 +6,9 @@ use Rattle.sb_ctx.specs.View.{keys_with}
 use Rattle.sb_drive.specs.Slots.{Slots}
 use Rattle.sb_drive.specs.Spaces.{Wanted}
 use Rattle.sb_registry.specs.Runs.{IsSound}
-use Rattle.sb_rows.proofs.CallsLemmas.{Looks-later}
-use Rattle.sb_standing.specs.Standing.{StandRules}
-use Rattle.sb_standing.specs.Tables.{Kept, Tables, db_of}
+use Rattle.sb_opened.proofs.CallsLemmas.{Looks-later}
+use Rattle.sb_opened.specs.Standing.{StandRules}
+use Rattle.sb_opened.specs.Tables.{Kept, Tables, db_of}
 use Rattle.sb_opened.specs.declared.relation.OpenRelation.{OpenRelation}
 use Rattle.sb_opened.specs.Opened.{IsDurable, IsOpen}
 use Rattle.sb_asking.proofs.FindsLemmas.{IsAt-opened, keys_with-columnless, keys_with-opened, keys_with-unopened}

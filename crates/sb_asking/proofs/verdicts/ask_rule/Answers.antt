@@ -6,10 +6,10 @@ use Rattle.sb_drive.specs.declared.space.SpaceFault.TheVariants.{NoMemory}
 use Rattle.sb_drive.specs.Slots.{owned}
 use Rattle.sb_drive.specs.Spaces.{Leaves}
 use Rattle.sb_drive.proofs.SpacesLemmas.{IfErr-passed}
-use Rattle.sb_rows.proofs.CallsLemmas.{Works-made, Works-passed}
-use Rattle.sb_standing.specs.Asked.{changed_kept}
-use Rattle.sb_standing.specs.Tables.{db_of}
-use Rattle.sb_standing.proofs.StandLemmas.{StandRules-asks}
+use Rattle.sb_opened.proofs.CallsLemmas.{Works-made, Works-passed}
+use Rattle.sb_opened.specs.Asked.{changed_kept}
+use Rattle.sb_opened.specs.Tables.{db_of}
+use Rattle.sb_opened.proofs.StandLemmas.{StandRules-asks}
 use Rattle.sb_opened.specs.Opened.{IsDurable}
 use Rattle.sb_asking.specs.Calls.{IsAsked}
 use Rattle.sb_asking.proofs.CallsLemmas.{Works-no_memory}

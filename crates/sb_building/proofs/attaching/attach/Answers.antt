@@ -2,10 +2,10 @@ use Rattle.std.proofs.Common.{◌≡◌, [], append-nil, refl, sym, subst}
 use Rattle.sb_fold.specs.declared.refusal.Refusal.TheVariants.{TooLong as LongRow, Veto}
 use Rattle.sb_fold.specs.Building.{build}
 use Rattle.sb_cascade.proofs.Stopping.{stops_free}
-use Rattle.sb_engine.specs.declared.running.Work.{Work}
-use Rattle.sb_engine.specs.Goings.{front_none}
-use Rattle.sb_engine.specs.Working.{extensions_of}
-use Rattle.sb_engine.proofs.RefusedLemmas.{free_refusal}
+use Rattle.sb_tables.specs.Work.{Work}
+use Rattle.sb_tables.specs.Goings.{front_none}
+use Rattle.sb_tables.specs.Working.{extensions_of}
+use Rattle.sb_tables.proofs.RefusedLemmas.{free_refusal}
 use Rattle.sb_building.specs.declared.attaching.Attaching.{Attaching}
 use Rattle.sb_building.specs.Attaching.{HasEnded}
 use Rattle.sb_building.proofs.AttachLemmas.{attach_large, attach_long, attach_made, attach_vetoed, may_add, site_of, stores_of}

@@ -1,9 +1,9 @@
 use Rattle.std.proofs.Common.{◌≡◌, ◌∙◌, true≢false, Option, option_map, IfSome, sym, ap, subst}
 use Rattle.std.proofs.lemmas.Result.{IfOk-weaker, IfErr-weaker}
-use Rattle.sb_opened.specs.declared.relation.OpenRelation.{OpenRelation}
-use Rattle.sb_opened.specs.Opened.{IsOpen}
-use Rattle.sb_engine.specs.Refusals.{HasRefusalCause, refusal_of}
-use Rattle.sb_engine.proofs.RefusedLemmas.{refused_cause}
+use Rattle.sb_tables.specs.OpenRelation.{OpenRelation}
+use Rattle.sb_tables.specs.Opened.{IsOpen}
+use Rattle.sb_tables.specs.Refusals.{HasRefusalCause, refusal_of}
+use Rattle.sb_tables.proofs.RefusedLemmas.{refused_cause}
 use Rattle.sb_building.proofs.CallLemmas.{leads_later}
 use Rattle.sb_building.proofs.EndedLemmas.{store_of}
 use Rattle.sb_building.proofs.OpenLemmas.{caused_named, ended_named, opened_descriptor, opened_none}

@@ -1,7 +1,7 @@
 use Rattle.std.proofs.Common.{◌∙◌}
 use Rattle.std.proofs.lemmas.Result.{IfOk-weaker, IfErr-weaker}
-use Rattle.sb_engine.specs.Refusals.{HasRefusalCause, refusal_of}
-use Rattle.sb_engine.proofs.RefusedLemmas.{refused_cause}
+use Rattle.sb_tables.specs.Refusals.{HasRefusalCause, refusal_of}
+use Rattle.sb_tables.proofs.RefusedLemmas.{refused_cause}
 use Rattle.sb_building.proofs.CallLemmas.{leads_later, leads_then}
 use Rattle.sb_building.proofs.EndedLemmas.{store_of}
 use Rattle.sb_building.proofs.OpenLemmas.{caused_entry, ended_entry, ended_long, long_found, long_sound}

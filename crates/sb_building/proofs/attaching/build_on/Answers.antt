@@ -1,7 +1,7 @@
 use Rattle.std.proofs.Common.{◌∙◌, refl, sym, ap, subst}
 use Rattle.sb_rule.specs.Spelling.{SpellsRule}
 use Rattle.sb_ctx.specs.declared.instance.Instance.{Instance}
-use Rattle.sb_engine.specs.Refusals.{HasRefusalCause, refusal_of}
+use Rattle.sb_tables.specs.Refusals.{HasRefusalCause, refusal_of}
 use Rattle.sb_building.proofs.CallLemmas.{leads_then}
 use Rattle.sb_building.proofs.OpenLemmas.{ended_placed, ended_vetoed, none_long, placed_refused, table_here}
 use Rattle.sb_building.proofs.attaching.build_on.Goals as goal

@@ -6,8 +6,8 @@ use Rattle.sb_drive.specs.Slots.{owned}
 use Rattle.sb_drive.specs.Spaces.{Leaves}
 use Rattle.sb_drive.proofs.SpacesLemmas.{Leaves-so}
 use Rattle.sb_standing.specs.Tables.{db_of}
-use Rattle.sb_asking.specs.Calls.{IsAsked, IsFinal}
-use Rattle.sb_engine.proofs.RefusedLemmas.{refused_cause}
+use Rattle.sb_tables.specs.Calls.{IsAsked, IsFinal}
+use Rattle.sb_tables.proofs.RefusedLemmas.{refused_cause}
 use Rattle.sb_building.specs.Building.{IsBuilt, content_built, is_done}
 use Rattle.sb_building.proofs.SiteLemmas.{IsBuilt-asked}
 use Rattle.sb_building.proofs.building.build_row.Goals as goal

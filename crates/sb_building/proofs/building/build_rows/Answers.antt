@@ -9,7 +9,7 @@ use Rattle.sb_drive.specs.Spaces.{Leaves}
 use Rattle.sb_drive.proofs.SpacesLemmas.{IfErr-passed}
 use Rattle.sb_rows.specs.Live.{HasRows}
 use Rattle.sb_standing.specs.Tables.{db_of}
-use Rattle.sb_engine.proofs.RefusedLemmas.{refused_cause}
+use Rattle.sb_tables.proofs.RefusedLemmas.{refused_cause}
 use Rattle.sb_building.specs.Building.{IsBuilt}
 use Rattle.sb_building.proofs.BuildLemmas.{building-all, building-few, building-later, building-next, building-none, building-vetoed, next_of, not_long, rows_of_it}
 use Rattle.sb_building.proofs.CallLemmas.{leads_later, leads_then}

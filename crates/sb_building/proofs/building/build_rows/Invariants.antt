@@ -2,7 +2,7 @@ use Rattle.std.proofs.Common.{◌≡◌, []}
 use Rattle.sb_drive.specs.Spaces.{LeadsOn}
 use Rattle.sb_registry.specs.Live.{IsLiveRule}
 use Rattle.sb_standing.specs.Tables.{table_of}
-use Rattle.sb_opened.specs.Opened.{IsDurable}
+use Rattle.sb_tables.specs.Opened.{IsDurable}
 use Rattle.sb_building.specs.Building.{HoldsBuilt}
 use Rattle.sb_building.specs.Instances.{IsSite, Site}
 use Rattle.sb_building.proofs.BuildLemmas.{IsBuildingUp}

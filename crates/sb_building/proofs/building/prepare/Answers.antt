@@ -2,8 +2,8 @@ use Rattle.sb_ctx.specs.declared.calls.AttachCall.TheVariants.{Prepare}
 use Rattle.sb_drive.specs.Slots.{owned}
 use Rattle.sb_drive.proofs.SpacesLemmas.{Leaves-so}
 use Rattle.sb_standing.specs.Tables.{db_of}
-use Rattle.sb_asking.specs.Calls.{IsAsked}
-use Rattle.sb_engine.proofs.RefusedLemmas.{refused_cause}
+use Rattle.sb_tables.specs.Calls.{IsAsked}
+use Rattle.sb_tables.proofs.RefusedLemmas.{refused_cause}
 use Rattle.sb_building.specs.Instances.{HoldsFirst}
 use Rattle.sb_building.proofs.SiteLemmas.{Prepared-asked}
 use Rattle.sb_building.proofs.building.prepare.Goals as goal

@@ -2,9 +2,9 @@ use Rattle.std.proofs.Common.{Option, [], ◌+◌, append-nil, refl, sym, subst}
 use Rattle.sb_relation.specs.Db.{Name}
 use Rattle.sb_fold.specs.Building.{detach}
 use Rattle.sb_cascade.proofs.Stopping.{stops_free}
-use Rattle.sb_engine.specs.Goings.{front_none}
-use Rattle.sb_engine.specs.Working.{IsStoppedBy, extensions_of}
-use Rattle.sb_engine.proofs.RefusedLemmas.{free_refusal}
+use Rattle.sb_tables.specs.Goings.{front_none}
+use Rattle.sb_tables.specs.Working.{IsStoppedBy, extensions_of}
+use Rattle.sb_tables.proofs.RefusedLemmas.{free_refusal}
 use Rattle.sb_tables.specs.Keeping.{KeepsIn}
 use Rattle.sb_tables.proofs.DetachedLemmas.{keeps-later}
 use Rattle.sb_tables.proofs.KeepingLemmas.{if_err_both, on_ok}

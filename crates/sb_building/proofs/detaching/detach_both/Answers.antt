@@ -1,7 +1,7 @@
 use Rattle.std.proofs.Common.{Option, sym, subst}
 use Rattle.sb_relation.specs.Db.{Name}
 use Rattle.sb_fold.specs.Building.{without_attached}
-use Rattle.sb_engine.specs.Goings.{goes_then}
+use Rattle.sb_tables.specs.Goings.{goes_then}
 use Rattle.sb_tables.specs.Keeping.{KeepsIn}
 use Rattle.sb_tables.proofs.KeepingLemmas.{if_err, on_ok}
 use Rattle.sb_building.specs.Detaching.{without_both}

@@ -1,5 +1,5 @@
 use Rattle.sb_drive.proofs.SpacesLemmas.{IfErr-passed}
-use Rattle.sb_engine.proofs.RefusedLemmas.{refused_cause}
+use Rattle.sb_tables.proofs.RefusedLemmas.{refused_cause}
 use Rattle.sb_building.proofs.CallLemmas.{IfOk-failed, leads_then}
 use Rattle.sb_building.proofs.InstanceLemmas.{law_of-code, prepared_begun, prepared_refused, test_sound}
 use Rattle.sb_building.proofs.instances.begin.Goals as goal

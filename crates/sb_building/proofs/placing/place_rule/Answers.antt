@@ -4,7 +4,7 @@ use Rattle.std.proofs.lemmas.Result.{IfErr-weaker}
 use Rattle.sb_node.specs.Entries.{key_cmp}
 use Rattle.sb_forms.specs.Maps.{map_in}
 use Rattle.sb_drive.specs.Spaces.{Leaves}
-use Rattle.sb_map.specs.Changes.{IsSmall}
+use Rattle.sb_tables.specs.Changes.{IsSmall}
 use Rattle.sb_catalog.specs.declared.descriptor.Descriptor.{Descriptor}
 use Rattle.sb_catalog.specs.Descriptors.{descriptor_spelling, IsShortDescriptor}
 use Rattle.sb_catalog.proofs.Storable.{IsShortDescriptor_from_storable}

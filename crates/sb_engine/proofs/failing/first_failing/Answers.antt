@@ -1,5 +1,5 @@
 use Rattle.std.proofs.Common.{sym}
-use Rattle.sb_rows.proofs.CallsLemmas.{Looks-later}
+use Rattle.sb_standing.proofs.CallsLemmas.{Looks-later}
 use Rattle.sb_deferred.proofs.CommitLemmas.{nothing-fails-at-all}
 use Rattle.sb_standing.specs.Tables.{db_of}
 use Rattle.sb_engine.specs.Working.{extensions_of}

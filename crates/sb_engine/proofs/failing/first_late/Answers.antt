@@ -1,5 +1,5 @@
 use Rattle.std.proofs.Common.{◌<◌, Ok, Err, length, below_more, sym, ◌∙◌, arith}
-use Rattle.sb_rows.proofs.CallsLemmas.{Looks-later, Looks-made, Looks-passed}
+use Rattle.sb_standing.proofs.CallsLemmas.{Looks-later, Looks-made, Looks-passed}
 use Rattle.sb_standing.specs.Tables.{db_of}
 use Rattle.sb_engine.specs.Working.{extensions_of}
 use Rattle.sb_engine.proofs.FailingLemmas.{as_many, kept_name, late_found, late_none, late_passes}

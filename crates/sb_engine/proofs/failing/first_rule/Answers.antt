@@ -1,6 +1,6 @@
 use Rattle.std.proofs.Common.{◌≡◌, Option, Some, Ok, Err, sym, ap, ◌∙◌, subst, arith}
 use Rattle.sb_relation.specs.Db.{Name}
-use Rattle.sb_rows.proofs.CallsLemmas.{Looks-later, Looks-made, Looks-passed}
+use Rattle.sb_standing.proofs.CallsLemmas.{Looks-later, Looks-made, Looks-passed}
 use Rattle.sb_engine.specs.Working.{extensions_of}
 use Rattle.sb_engine.proofs.WalkLemmas.{kept_few, next_of, walked-end, walked-found, walked-next, walked-none, walked-over}
 use Rattle.sb_engine.proofs.failing.first_rule.Goals as goal

@@ -1,11 +1,11 @@
 use Rattle.std.proofs.Common.{Option, Ok, Err, IfSome, option_map, sym, ap, ◌∙◌, subst}
 use Rattle.std.specs.Option.{option_copied}
 use Rattle.sb_drive.proofs.SpacesLemmas.{IfErr-passed}
-use Rattle.sb_rows.proofs.CallsLemmas.{Looks-later, Looks-made, Looks-passed}
+use Rattle.sb_standing.proofs.CallsLemmas.{Looks-later, Looks-made, Looks-passed}
 use Rattle.sb_standing.specs.Tables.{Kept, db_of, first_above}
 use Rattle.sb_standing.proofs.StandLemmas.{StandRules-keeps}
-use Rattle.sb_opened.specs.declared.relation.OpenRelation.{OpenRelation}
-use Rattle.sb_opened.specs.Opened.{IsDurable, IsOpen, header_of, kept_header}
+use Rattle.sb_asking.specs.OpenRelation.{OpenRelation}
+use Rattle.sb_asking.specs.Opened.{IsDurable, IsOpen, header_of, kept_header}
 use Rattle.sb_engine.specs.Failing.{first_late}
 use Rattle.sb_engine.specs.Working.{extensions_of}
 use Rattle.sb_engine.proofs.WalkLemmas.{next_open, none_next, opened_next}

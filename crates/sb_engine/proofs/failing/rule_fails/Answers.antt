@@ -1,5 +1,5 @@
 use Rattle.std.proofs.Common.{◌<◌, Bool, true, Ok, Err, length, below_more, subst, arith}
-use Rattle.sb_rows.proofs.CallsLemmas.{Looks-later, Looks-made, Looks-passed}
+use Rattle.sb_standing.proofs.CallsLemmas.{Looks-later, Looks-made, Looks-passed}
 use Rattle.sb_standing.specs.Tables.{db_of}
 use Rattle.sb_engine.specs.Failing.{TellsOwn}
 use Rattle.sb_engine.specs.Working.{extensions_of}

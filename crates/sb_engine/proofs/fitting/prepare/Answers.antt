@@ -4,7 +4,7 @@ use Rattle.sb_drive.proofs.SpacesLemmas.{IfErr-passed}
 use Rattle.sb_relation.specs.Db.{Name, Relation, relation_at}
 use Rattle.sb_relation.specs.Fits.{relation_of}
 use Rattle.sb_standing.specs.Tables.{db_of, kept_at}
-use Rattle.sb_opened.specs.declared.relation.OpenRelation.{OpenRelation}
+use Rattle.sb_asking.specs.OpenRelation.{OpenRelation}
 use Rattle.sb_engine.specs.Working.{open_at}
 use Rattle.sb_engine.proofs.OpenedLemmas.{has_open, schema_there}
 use Rattle.sb_engine.proofs.OpeningLemmas.{copied_some, fits_test, fitting_kept, may_do}

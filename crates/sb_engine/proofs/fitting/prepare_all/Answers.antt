@@ -1,7 +1,7 @@
 use Rattle.std.proofs.Common.{◌≡◌, ℕ, ◌+◌, ◌<◌, List, All, Err, get_or, sym, subst, arith}
 use borrow.Author.Count.{below_more}
 use Rattle.sb_rule.specs.declared.action.Action.{Action}
-use Rattle.sb_rows.proofs.CallsLemmas.{Looks-later, Looks-passed}
+use Rattle.sb_standing.proofs.CallsLemmas.{Looks-later, Looks-passed}
 use Rattle.sb_drive.proofs.SpacesLemmas.{IfErr-passed}
 use Rattle.sb_cascade.specs.Fitting.{IsFitting}
 use Rattle.sb_standing.specs.Tables.{db_of}

@@ -3,7 +3,7 @@ use Rattle.sb_rule.specs.declared.action.Action.{Action}
 use Rattle.sb_drive.specs.Slots.{Slots}
 use Rattle.sb_drive.specs.Spaces.{Wanted}
 use Rattle.sb_standing.specs.Tables.{Kept}
-use Rattle.sb_opened.specs.Opened.{IsOpen}
+use Rattle.sb_asking.specs.Opened.{IsOpen}
 use Rattle.sb_engine.specs.Opening.{IsKeeping}
 use Rattle.sb_engine.specs.Working.{AreOpened, Grows, MayDo}
 use Rattle.sb_engine.proofs.fitting.prepare_all.Given as goal

@@ -5,10 +5,10 @@ use Rattle.sb_ctx.specs.declared.instance.Instance.{Instance}
 use Rattle.sb_drive.specs.declared.space.SpaceFault.TheVariants.{NoMemory}
 use Rattle.sb_drive.proofs.SpacesLemmas.{IfErr-passed}
 use Rattle.sb_registry.specs.Live.{IsLiveRule}
-use Rattle.sb_rows.proofs.CallsLemmas.{Looks-made, Looks-no_memory, Looks-passed}
+use Rattle.sb_standing.proofs.CallsLemmas.{Looks-made, Looks-no_memory, Looks-passed}
 use Rattle.sb_standing.specs.Tables.{db_of}
 use Rattle.sb_standing.proofs.StandLemmas.{StandRules-keeps}
-use Rattle.sb_opened.specs.Opened.{IsDurable}
+use Rattle.sb_asking.specs.Opened.{IsDurable}
 use Rattle.sb_engine.specs.Failing.{Tells, is_veto}
 use Rattle.sb_engine.proofs.FailingLemmas.{as_many, kept_content, kept_rule, kept_tells}
 use Rattle.sb_engine.proofs.PlacedLemmas.{absent, placed_all}

@@ -6,8 +6,8 @@ use Rattle.sb_relation.specs.Db.{Name, Key}
 use Rattle.sb_relation.specs.Fits.{relation_of}
 use Rattle.sb_fold.specs.Wishes.{is_match}
 use Rattle.sb_standing.specs.Tables.{db_of}
-use Rattle.sb_opened.specs.declared.relation.OpenRelation.{OpenRelation}
-use Rattle.sb_opened.specs.Opened.{IsOpen}
+use Rattle.sb_asking.specs.OpenRelation.{OpenRelation}
+use Rattle.sb_asking.specs.Opened.{IsOpen}
 use Rattle.sb_engine.specs.Working.{open_at}
 use Rattle.sb_engine.proofs.OpenedLemmas.{has_open, matching-there, open_at-all}
 use Rattle.sb_engine.proofs.matching.keys_matching.Goals as goal

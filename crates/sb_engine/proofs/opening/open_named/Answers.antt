@@ -4,8 +4,8 @@ use Rattle.std.proofs.lemmas.List.Elements.{All-append, All-cons, All-nil}
 use Rattle.sb_drive.proofs.SpacesLemmas.{IfErr-passed}
 use Rattle.sb_catalog.specs.declared.descriptor.Descriptor.{Descriptor}
 use Rattle.sb_standing.specs.Tables.{Kept, kept_at}
-use Rattle.sb_opened.specs.declared.relation.OpenRelation.{OpenRelation}
-use Rattle.sb_opened.specs.Opened.{IsOpen}
+use Rattle.sb_asking.specs.OpenRelation.{OpenRelation}
+use Rattle.sb_asking.specs.Opened.{IsOpen}
 use Rattle.sb_engine.specs.Working.{AreOpened, IsOpened, open_at}
 use Rattle.sb_engine.proofs.OpeningLemmas.{copied_some, open_kept, open_pushed, opened_of, same_there}
 use Rattle.sb_engine.proofs.opening.open_named.Goals as goal

@@ -1,6 +1,6 @@
 use Rattle.std.proofs.Common.{true, true≢false, Ok, Err, below_more, arith}
 use Rattle.sb_drive.proofs.SpacesLemmas.{IfErr-passed}
-use Rattle.sb_rows.proofs.CallsLemmas.{Looks-later, Looks-made, Looks-passed}
+use Rattle.sb_standing.proofs.CallsLemmas.{Looks-later, Looks-made, Looks-passed}
 use Rattle.sb_standing.specs.Tables.{db_of}
 use Rattle.sb_engine.specs.Failing.{FailsNowhere}
 use Rattle.sb_engine.proofs.PlacedLemmas.{all_placed}

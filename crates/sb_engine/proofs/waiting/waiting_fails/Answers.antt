@@ -5,11 +5,11 @@ use Rattle.std.proofs.lemmas.Result.{IfOk-weaker, IfErr-weaker}
 use Rattle.sb_fold.specs.Outcome.{Entry}
 use Rattle.sb_deferred.specs.Waiting.{check_of}
 use Rattle.sb_drive.proofs.SpacesLemmas.{IfErr-passed}
-use Rattle.sb_rows.proofs.CallsLemmas.{Looks-later}
+use Rattle.sb_standing.proofs.CallsLemmas.{Looks-later}
 use Rattle.sb_standing.specs.Tables.{db_of}
 use Rattle.sb_standing.proofs.StandLemmas.{StandRules-keeps}
-use Rattle.sb_opened.specs.declared.relation.OpenRelation.{OpenRelation}
-use Rattle.sb_opened.specs.Opened.{IsDurable, IsOpen}
+use Rattle.sb_asking.specs.OpenRelation.{OpenRelation}
+use Rattle.sb_asking.specs.Opened.{IsDurable, IsOpen}
 use Rattle.sb_engine.specs.Failing.{FailsNowhere}
 use Rattle.sb_engine.proofs.FailingLemmas.{nowhere_none, nowhere_there}
 use Rattle.sb_engine.proofs.OpeningLemmas.{opened_of}

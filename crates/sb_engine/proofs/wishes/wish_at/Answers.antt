@@ -12,8 +12,8 @@ use Rattle.sb_fold.specs.Fold.{wish_for}
 use Rattle.sb_fold.specs.Wishes.{Wish}
 use Rattle.sb_cascade.specs.Wishes.{wish_of}
 use Rattle.sb_standing.specs.Tables.{db_of}
-use Rattle.sb_opened.specs.declared.relation.OpenRelation.{OpenRelation}
-use Rattle.sb_opened.specs.Opened.{IsOpen}
+use Rattle.sb_asking.specs.OpenRelation.{OpenRelation}
+use Rattle.sb_asking.specs.Opened.{IsOpen}
 use Rattle.sb_engine.specs.Working.{open_at}
 use Rattle.sb_engine.proofs.OpenedLemmas.{has_open, open_at-all, wish_there-there}
 use Rattle.sb_engine.proofs.OpeningLemmas.{may_wish, wishes_fit}

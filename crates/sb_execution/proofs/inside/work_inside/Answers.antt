@@ -1,7 +1,7 @@
 use Rattle.std.proofs.Common.{refl, sym, ◌∙◌, subst}
 use Rattle.sb_txn.specs.Parts.{parts}
 use Rattle.sb_space.specs.declared.transactions.Tx.{Tx}
-use Rattle.sb_transactions.specs.Transactions.{IsPointOf}
+use Rattle.sb_session.specs.Transactions.{IsPointOf}
 use Rattle.sb_session.specs.declared.session.Open.{Open}
 use Rattle.sb_execution.proofs.InsideWork.{EndsInside-back, EndsInside-down, EndsInside-failed, EndsInside-served}
 use Rattle.sb_execution.proofs.inside.work_inside.Goals as goal

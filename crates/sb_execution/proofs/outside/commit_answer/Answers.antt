@@ -3,8 +3,8 @@ use Rattle.sb_plain.specs.declared.reply.Reply.{Reply}
 use Rattle.sb_txn.specs.Parts.{parts}
 use Rattle.sb_space.specs.declared.transactions.Tx.{Tx}
 use Rattle.sb_space.specs.Works.{Serves}
-use Rattle.sb_transactions.specs.declared.transactions.Transaction.{Transaction}
-use Rattle.sb_transactions.specs.Commits.{StaysOpen}
+use Rattle.sb_session.specs.Transaction.{Transaction}
+use Rattle.sb_session.specs.Commits.{StaysOpen}
 use Rattle.sb_statements.specs.Statements.{answer_of}
 use Rattle.sb_execution.specs.Endings.{EndsAlone}
 use Rattle.sb_execution.proofs.AloneLemmas.{EndsAlone-committed}

@@ -1,6 +1,6 @@
 use Rattle.std.proofs.Common.{ap, sym, refl, ◌∙◌}
 use Rattle.sb_txn.specs.declared.store.Tx.{Tx}
-use Rattle.sb_transactions.proofs.LentLemmas.{IsStoreLent}
+use Rattle.sb_session.proofs.LentLemmas.{IsStoreLent}
 use Rattle.sb_execution.proofs.LentLemmas.{begun-lent, leaves-lent, led-lent, points-lent, served-lent, serves-lent, stand-lent, unserved-lent, usable-lent}
 use Rattle.sb_execution.proofs.serving.serve_in.Goals as goal
 

@@ -1,8 +1,8 @@
 use Rattle.std.proofs.Common.{ap, sym, ◌∙◌}
 use Rattle.sb_txn.specs.declared.store.Tx.{Tx}
-use Rattle.sb_transactions.proofs.LentLemmas.{IsStoreLent}
+use Rattle.sb_session.proofs.LentLemmas.{IsStoreLent}
 use Rattle.sb_engine.specs.Working.{Serves}
-use Rattle.sb_transactions.specs.Driven.{IsServed, LeadsLent}
+use Rattle.sb_session.specs.Driven.{IsServed, LeadsLent}
 use Rattle.sb_execution.proofs.LentLemmas.{begun-lent, leaves-lent, led-lent, points-lent, serves-lent, stand-lent, stays-lent, tested-lent, untested-lent, usable-lent}
 use Rattle.sb_execution.proofs.WorkLemmas.{looks_works}
 use Rattle.sb_execution.proofs.serving.test_in.Goals as goal

@@ -1,5 +1,5 @@
 use Rattle.std.proofs.Common.{sym, ◌∙◌}
-use Rattle.sb_transactions.proofs.RunLemmas.{IsLent, parts-from, parts-to, works_between}
+use Rattle.sb_session.proofs.RunLemmas.{IsLent, parts-from, parts-to, works_between}
 use Rattle.sb_engine.specs.Working.{Serves}
 use Rattle.sb_execution.proofs.WorkLemmas.{works-made, works-stopped}
 use Rattle.sb_execution.proofs.serving.work_over.Goals as goal

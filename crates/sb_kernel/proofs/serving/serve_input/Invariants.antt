@@ -1,6 +1,6 @@
 use Rattle.std.proofs.Common.{◌≡◌, [], ◌≤◌, ◌-◌, ℕ, List, Option, false}
 use Rattle.sb_registry.specs.Boxes.{Meanings}
-use Rattle.sb_session.specs.Sessions.{CanRun}
+use Rattle.sb_opening.specs.Sessions.{CanRun}
 use Rattle.sb_kernel.specs.World.{At, at, world}
 use Rattle.sb_kernel.specs.Serving.{counted, Serves, NeverFall}
 use Rattle.sb_kernel.proofs.Served.{ServesSome}

@@ -1,6 +1,6 @@
 use Rattle.std.proofs.Common.{◌≡◌, Ok, Err, Some, option_copied, sym, ap, ◌∙◌}
 use Rattle.sb_drive.proofs.SpacesLemmas.{IfErr-passed}
-use Rattle.sb_rows.proofs.CallsLemmas.{Looks-later, Looks-made, Looks-passed}
+use Rattle.sb_standing.proofs.CallsLemmas.{Looks-later, Looks-made, Looks-passed}
 use Rattle.sb_opened.specs.Opened.{header_of}
 use Rattle.sb_opened.proofs.Entries.{MayOpen-first}
 use Rattle.sb_opened.proofs.opening.next_relation.Goals as goal

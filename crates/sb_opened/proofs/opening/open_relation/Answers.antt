@@ -2,7 +2,7 @@ use Rattle.std.proofs.Common.{◌≡◌, Ok, Err, Some, sym, ap, subst, ◌∙�
 use Rattle.sb_relation.specs.Db.{Name}
 use Rattle.sb_catalog.specs.declared.descriptor.Descriptor.{Descriptor}
 use Rattle.sb_drive.proofs.SpacesLemmas.{IfErr-passed}
-use Rattle.sb_rows.proofs.CallsLemmas.{Looks-later, Looks-made, Looks-passed}
+use Rattle.sb_standing.proofs.CallsLemmas.{Looks-later, Looks-made, Looks-passed}
 use Rattle.sb_standing.specs.Tables.{db_of}
 use Rattle.sb_opened.specs.Opened.{MayOpen}
 use Rattle.sb_opened.proofs.Entries.{MayOpen-at}

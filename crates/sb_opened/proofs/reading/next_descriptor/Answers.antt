@@ -1,6 +1,6 @@
 use Rattle.std.proofs.Common.{◌≡◌, List, ℕ, Option, Some, map, option_copied, option_map, sym, ap, ◌∙◌}
 use Rattle.std.specs.List.{find as first}
-use Rattle.sb_btree.specs.Ways.{is_behind}
+use Rattle.sb_map.specs.Ways.{is_behind}
 use Rattle.sb_drive.proofs.SpacesLemmas.{IfErr-passed}
 use Rattle.sb_standing.specs.Tables.{entry_of}
 use Rattle.sb_opened.proofs.Entries.{first-found, first-none, first-sound}

@@ -6,7 +6,7 @@ use Rattle.sb_catalog.specs.declared.descriptor.Attached.{Attached}
 use Rattle.sb_catalog.specs.Descriptors.{IsStorableAttached}
 use Rattle.sb_drive.proofs.SpacesLemmas.{IfErr-passed}
 use Rattle.sb_registry.specs.Live.{IsLiveRule}
-use Rattle.sb_rows.proofs.CallsLemmas.{Looks-later, Looks-passed}
+use Rattle.sb_standing.proofs.CallsLemmas.{Looks-later, Looks-passed}
 use Rattle.sb_standing.specs.Standing.{StandsRule}
 use Rattle.sb_standing.specs.Tables.{db_of}
 use Rattle.sb_opened.specs.Opened.{rule_of}

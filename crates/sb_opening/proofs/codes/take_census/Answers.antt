@@ -1,10 +1,10 @@
 use Rattle.std.proofs.Common.{◌∙◌, Option, Ok, Err, option_map, sym, ap}
 use Rattle.sb_drive.proofs.SpacesLemmas.{IfErr-passed}
-use Rattle.sb_rows.proofs.CallsLemmas.{Looks-later, Looks-made, Looks-no_memory, Looks-passed}
+use Rattle.sb_standing.proofs.CallsLemmas.{Looks-later, Looks-made, Looks-no_memory, Looks-passed}
 use Rattle.sb_relation.specs.Db.{Name}
 use Rattle.sb_standing.specs.Instances.{owners_of}
 use Rattle.sb_standing.specs.Tables.{first_above}
-use Rattle.sb_opened.specs.Opened.{kept_header}
+use Rattle.sb_session.specs.Opened.{kept_header}
 use Rattle.sb_opening.specs.Naming.{named_by}
 use Rattle.sb_opening.proofs.NamedLemmas.{IsRead-all, IsRead-next, IsRead-none}
 use Rattle.sb_opening.proofs.codes.take_census.Goals as goal

@@ -4,7 +4,7 @@ use Rattle.sb_drive.specs.Slots.{Slots}
 use Rattle.sb_drive.specs.Spaces.{Wanted}
 use Rattle.sb_standing.specs.Instances.{owners_of}
 use Rattle.sb_standing.specs.Tables.{Kept, Tables}
-use Rattle.sb_opened.specs.Opened.{IsDurable}
+use Rattle.sb_session.specs.Opened.{IsDurable}
 use Rattle.sb_opening.specs.Naming.{named_by}
 use Rattle.sb_opening.proofs.NamedLemmas.{IsRead}
 use Rattle.sb_opening.proofs.codes.take_census.Given as goal

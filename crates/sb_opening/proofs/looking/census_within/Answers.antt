@@ -2,7 +2,7 @@ use Rattle.std.proofs.Common.{ap, sym, ◌≡◌, ◌∙◌}
 use Rattle.sb_registry.specs.Runs.{IsSound}
 use Rattle.sb_standing.specs.Standing.{owners_in}
 use Rattle.sb_txn.specs.declared.store.Tx.{Tx}
-use Rattle.sb_transactions.proofs.LentLemmas.{IsStoreLent}
+use Rattle.sb_session.proofs.LentLemmas.{IsStoreLent}
 use Rattle.sb_opening.specs.Naming.{named_in}
 use Rattle.sb_opening.proofs.LookLemmas.{looked-fails, looked-over, looked-same, looked-serves, looked-works, refused-over, serves-lent}
 use Rattle.sb_opening.proofs.looking.census_within.Goals as goal

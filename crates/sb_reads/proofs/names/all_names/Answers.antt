@@ -5,8 +5,8 @@ use Rattle.sb_rows.proofs.CallsLemmas.{Looks-damaged, Looks-later, Looks-made, L
 use Rattle.sb_relation.specs.Db.{Name}
 use Rattle.sb_standing.specs.Tables.{first_above}
 use Rattle.sb_standing.proofs.StandLemmas.{StandRules-keeps}
-use Rattle.sb_opened.specs.declared.relation.OpenRelation.{OpenRelation}
-use Rattle.sb_opened.specs.Opened.{IsDurable, header_of, kept_header}
+use Rattle.sb_asking.specs.OpenRelation.{OpenRelation}
+use Rattle.sb_asking.specs.Opened.{IsDurable, header_of, kept_header}
 use Rattle.sb_reads.proofs.NamesLemmas.{AreNamed-all, AreNamed-next}
 use Rattle.sb_reads.proofs.names.all_names.Goals as goal
 

@@ -3,7 +3,7 @@ use Rattle.sb_drive.specs.Slots.{Slots}
 use Rattle.sb_drive.specs.Spaces.{Wanted}
 use Rattle.sb_standing.specs.Standing.{Keeps}
 use Rattle.sb_standing.specs.Tables.{Kept}
-use Rattle.sb_opened.specs.Opened.{IsDurable}
+use Rattle.sb_asking.specs.Opened.{IsDurable}
 use Rattle.sb_reads.proofs.NamesLemmas.{AreNamed}
 use Rattle.sb_reads.proofs.names.all_names.Given as goal
 

@@ -4,8 +4,8 @@ use Rattle.sb_rows.proofs.CallsLemmas.{Looks-damaged, Looks-later, Looks-made, L
 use Rattle.sb_relation.specs.Db.{Name}
 use Rattle.sb_standing.specs.Tables.{db_of}
 use Rattle.sb_standing.proofs.StandLemmas.{StandRules-keeps}
-use Rattle.sb_opened.specs.declared.relation.OpenRelation.{OpenRelation}
-use Rattle.sb_opened.specs.Opened.{IsDurable, IsOpen}
+use Rattle.sb_asking.specs.OpenRelation.{OpenRelation}
+use Rattle.sb_asking.specs.Opened.{IsDurable, IsOpen}
 use Rattle.sb_reads.proofs.ReadsLemmas.{there-read}
 use Rattle.sb_reads.proofs.StoresLemmas.{KeepsOpen-opened, not-there}
 use Rattle.sb_reads.proofs.reading.read.Goals as goal

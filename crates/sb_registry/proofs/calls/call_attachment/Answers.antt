@@ -1,5 +1,5 @@
-use Rattle.sb_ctx.specs.AttachAnswers.{Spends}
-use Rattle.sb_ctx.specs.declared.moves.Move.TheVariants.{Fresh}
+use Rattle.sb_drive.specs.AttachAnswers.{Spends}
+use Rattle.sb_drive.specs.Move.TheVariants.{Fresh}
 use Rattle.sb_drive.specs.AttachCalls.{IsAsking}
 use Rattle.sb_drive.specs.Slots.{owned}
 use Rattle.sb_registry.proofs.RunsLemmas.{sound-Holds, sound-new, WasFull-each}

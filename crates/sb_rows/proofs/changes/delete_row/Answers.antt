@@ -1,5 +1,5 @@
 use Rattle.sb_rows.proofs.PlacingsLemmas.{IsDoneOrNone-ended, IsGone-left}
-use Rattle.sb_drive.proofs.SpacesLemmas.{IfErr-passed}
+use Rattle.sb_registry.proofs.SpacesLemmas.{IfErr-passed}
 use Rattle.sb_rows.proofs.CallsLemmas.{Works-made, Works-passed}
 use Rattle.sb_rows.proofs.changes.delete_row.Goals as goal
 

@@ -1,6 +1,6 @@
 use Rattle.std.proofs.Common.{[], refl}
-use Rattle.sb_drive.specs.Slots.{owned}
-use Rattle.sb_drive.proofs.SpacesLemmas.{IfErr-passed}
+use Rattle.sb_registry.specs.Slots.{owned}
+use Rattle.sb_registry.proofs.SpacesLemmas.{IfErr-passed}
 use Rattle.sb_rows.proofs.CallsLemmas.{Works-made, Works-passed}
 use Rattle.sb_rows.proofs.PlacingsLemmas.{LeavesRows-own, prepared}
 use Rattle.sb_rows.proofs.changes.prepare_rows.Goals as goal

@@ -3,7 +3,7 @@ use Rattle.sb_relation.specs.Keys.{is_record_key}
 use Rattle.sb_rows.specs.declared.changes.Placing.{Placing}
 use Rattle.sb_rows.specs.Placings.{OfKey}
 use Rattle.sb_rows.proofs.PlacingsLemmas.{IsReplaced-left, IsReplacing-ended, OfKey-replaced}
-use Rattle.sb_drive.proofs.SpacesLemmas.{IfErr-passed}
+use Rattle.sb_registry.proofs.SpacesLemmas.{IfErr-passed}
 use Rattle.sb_rows.proofs.CallsLemmas.{Works-made, Works-passed}
 use Rattle.sb_rows.proofs.changes.update_row.Goals as goal
 

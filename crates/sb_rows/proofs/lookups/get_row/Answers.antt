@@ -1,9 +1,9 @@
 use Rattle.std.proofs.Common.{◌∙◌, Option, IfSome, sym, ap, subst}
 use Rattle.sb_relation.specs.Db.{Row, row_at}
 use Rattle.sb_relation.specs.Lawful.{IsRow}
-use Rattle.sb_drive.specs.Slots.{owned}
-use Rattle.sb_drive.proofs.SpacesLemmas.{IfErr-passed}
-use Rattle.sb_drive.specs.declared.space.SpaceFault.TheVariants.{NoMemory}
+use Rattle.sb_registry.specs.Slots.{owned}
+use Rattle.sb_registry.proofs.SpacesLemmas.{IfErr-passed}
+use Rattle.sb_registry.specs.SpaceFault.TheVariants.{NoMemory}
 use Rattle.sb_rows.proofs.CallsLemmas.{Looks-made, Looks-no_memory, Looks-passed}
 use Rattle.sb_rows.proofs.PlacingsLemmas.{IsRow-ended, IsRowOrNone-ended, tuple_in-answered}
 use Rattle.sb_rows.proofs.lookups.get_row.Goals as goal

@@ -1,7 +1,7 @@
 use Rattle.std.proofs.Common.{◌∙◌, Option, IfSome, IsTrue, refl, sym, subst, true≢false}
 use Rattle.sb_relation.specs.Db.{Key, Row}
-use Rattle.sb_ctx.specs.MethodAnswers.{IsRowOf, is_above}
-use Rattle.sb_drive.specs.Slots.{owned}
+use Rattle.sb_treemethod.specs.MethodAnswers.{IsRowOf, is_above}
+use Rattle.sb_registry.specs.Slots.{owned}
 use Rattle.sb_rows.proofs.CallsLemmas.{Looks-damaged, Looks-made, Looks-passed}
 use Rattle.sb_rows.proofs.PlacingsLemmas.{IsRowOf-ended, IsRowOrEnd-ended, is_above-ended, is_move_above-found, row_in-answered}
 use Rattle.sb_rows.proofs.lookups.next_row.Goals as goal

@@ -1,8 +1,8 @@
 use Rattle.std.proofs.Common.{◌≡◌, ◌∙◌, true, false, filter, take, Option, IfSome, sym, subst}
 use Rattle.std.proofs.lemmas.Result.{IfOk-weaker}
 use Rattle.sb_relation.specs.Db.{Key, Rows}
-use Rattle.sb_drive.specs.Slots.{Slots}
-use Rattle.sb_drive.specs.Spaces.{Wanted}
+use Rattle.sb_registry.specs.Slots.{Slots}
+use Rattle.sb_registry.specs.Spaces.{Wanted}
 use Rattle.sb_rows.specs.Live.{HasRows}
 use Rattle.sb_rows.specs.Paths.{FixesKey}
 use Rattle.sb_rows.specs.Scans.{rows_above}

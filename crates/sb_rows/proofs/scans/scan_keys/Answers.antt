@@ -2,12 +2,12 @@ use Rattle.std.proofs.Common.{◌≡◌, ◌∙◌, ◌^◌, true, List, None, O
 use Rattle.std.proofs.lemmas.List.Elements.{All-nil}
 use Rattle.sb_relation.specs.Db.{Key, Row}
 use Rattle.sb_relation.specs.Keys.{is_record_key}
-use Rattle.sb_ctx.specs.MethodAnswers.{IsRowOf}
+use Rattle.sb_treemethod.specs.MethodAnswers.{IsRowOf}
 use Rattle.sb_rows.proofs.CallsLemmas.{Looks-damaged, Looks-later, Looks-made, Looks-no_memory, Looks-passed}
 use Rattle.sb_rows.proofs.ScansLemmas.{All-more, IsMade-all, IsMade-few, IsMade-next, IsMade-none, passing, rows_above-all}
-use Rattle.sb_drive.specs.declared.space.SpaceFault.TheVariants.{NoMemory}
-use Rattle.sb_drive.specs.Slots.{owned}
-use Rattle.sb_drive.proofs.SpacesLemmas.{IfErr-passed}
+use Rattle.sb_registry.specs.SpaceFault.TheVariants.{NoMemory}
+use Rattle.sb_registry.specs.Slots.{owned}
+use Rattle.sb_registry.proofs.SpacesLemmas.{IfErr-passed}
 use Rattle.sb_rows.proofs.scans.scan_keys.Goals as goal
 
 pub rows-init : goal.rows-init

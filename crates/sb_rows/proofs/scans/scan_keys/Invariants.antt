@@ -1,8 +1,8 @@
 use Rattle.std.proofs.Common.{◌≡◌, true, All, None}
 use Rattle.sb_relation.specs.Db.{Rows}
 use Rattle.sb_relation.specs.Keys.{is_record_key}
-use Rattle.sb_drive.specs.Slots.{Slots}
-use Rattle.sb_drive.specs.Spaces.{Wanted}
+use Rattle.sb_registry.specs.Slots.{Slots}
+use Rattle.sb_registry.specs.Spaces.{Wanted}
 use Rattle.sb_rows.specs.Live.{HasRows}
 use Rattle.sb_rows.proofs.ScansLemmas.{IsMade}
 use Rattle.sb_rows.proofs.scans.scan_keys.Given as goal

@@ -1,10 +1,10 @@
 use Rattle.std.proofs.Common.{◌∙◌, ◌^◌, ◌≤◌, List, length, Option, IfSome, Ok, Err, All, arith, refl, sym, subst}
 use Rattle.std.proofs.lemmas.List.Elements.{All-nil}
 use Rattle.sb_relation.specs.Db.{Key, Row}
-use Rattle.sb_ctx.specs.MethodAnswers.{IsRowOf}
+use Rattle.sb_treemethod.specs.MethodAnswers.{IsRowOf}
 use Rattle.sb_rows.proofs.CallsLemmas.{Looks-damaged, Looks-later, Looks-made, Looks-no_memory, Looks-passed}
 use Rattle.sb_rows.proofs.ScansLemmas.{All-more, IsMade-end, IsMade-few, IsMade-limit, IsMade-next, IsMade-none, length-more}
-use Rattle.sb_drive.specs.Slots.{owned}
+use Rattle.sb_registry.specs.Slots.{owned}
 use Rattle.sb_rows.proofs.scans.scan_rows.Goals as goal
 
 pub rows-init : goal.rows-init

@@ -1,5 +1,5 @@
 use Rattle.std.proofs.Common.{refl}
-use Rattle.sb_kernel.specs.World.{world}
+use Rattle.sb_sound_plays.specs.World.{world}
 use Rattle.sb_run.specs.Run.{NotBegun}
 use Rattle.sb_run.proofs.RunLemmas.{runs_mounted}
 use Rattle.sb_run.proofs.running.run_mounted.Goals as goal

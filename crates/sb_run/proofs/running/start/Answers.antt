@@ -1,4 +1,4 @@
-use Rattle.sb_kernel.specs.World.{world}
+use Rattle.sb_sound_plays.specs.World.{world}
 use Rattle.sb_run.specs.Run.{tells}
 use Rattle.sb_run.proofs.StartLemmas.{makes, not_made, opens}
 use Rattle.sb_run.proofs.running.start.Goals as goal

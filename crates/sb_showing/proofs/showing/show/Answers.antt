@@ -4,7 +4,7 @@ use Rattle.sb_catalog.specs.declared.descriptor.Descriptor.{Descriptor}
 use Rattle.sb_catalog.specs.Descriptors.{IsStorableDescriptor}
 use Rattle.sb_drive.specs.declared.space.SpaceFault.TheVariants.{NoMemory}
 use Rattle.sb_drive.proofs.SpacesLemmas.{IfErr-passed}
-use Rattle.sb_rows.proofs.CallsLemmas.{Looks-made, Looks-no_memory}
+use Rattle.sb_opened.proofs.CallsLemmas.{Looks-made, Looks-no_memory}
 use Rattle.sb_showing.specs.Lines.{descriptor_lines}
 use Rattle.sb_showing.proofs.LinesLemmas.{shown-kept, shown-none}
 use Rattle.sb_showing.proofs.showing.show.Goals as goal

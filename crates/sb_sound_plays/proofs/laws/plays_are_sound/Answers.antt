@@ -1,4 +1,4 @@
-use Rattle.sb_kernel.specs.World.{world}
+use Rattle.sb_lawful_plays.specs.World.{world}
 use Rattle.sb_sound_plays.proofs.Playing.{plays-sound, played-sound, played-out-sound}
 use Rattle.sb_sound_plays.proofs.laws.plays_are_sound.Goals as goal
 

@@ -3,8 +3,8 @@ use Rattle.sb_fold.specs.Extensions.{Extensions}
 use Rattle.sb_fold.specs.Fold.{act, change_within}
 use Rattle.sb_cascade.proofs.Forward.{forward_act, forward_within}
 use Rattle.sb_cascade.proofs.Stopping.{stops_looking}
-use Rattle.sb_engine.specs.Goings.{goes_on, same_extensions}
-use Rattle.sb_engine.specs.Working.{IsStoppedBy, StandsFor, extensions_in}
+use Rattle.sb_building.specs.Goings.{goes_on, same_extensions}
+use Rattle.sb_building.specs.Working.{IsStoppedBy, StandsFor, extensions_in}
 use Rattle.sb_plain.specs.Step.{Counts}
 use Rattle.sb_statements.proofs.AnswerLemmas.{answered_made, answered_stopped, made_over, stopped_over}
 use Rattle.sb_statements.proofs.actions.act_on.Goals as goal

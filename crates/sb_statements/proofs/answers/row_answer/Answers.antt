@@ -1,10 +1,10 @@
 use Rattle.std.proofs.Common.{◌≡◌, Option, Some, Bor, sym, ap, ◌∙◌}
 use Rattle.std.specs.Option.{option_copied}
 use Rattle.sb_relation.specs.Db.{Key}
-use Rattle.sb_standing.specs.Tables.{db_of}
-use Rattle.sb_opened.specs.declared.relation.OpenRelation.{OpenRelation}
-use Rattle.sb_engine.specs.Working.{open_at}
-use Rattle.sb_engine.proofs.OpenedLemmas.{has_open}
+use Rattle.sb_building.specs.Tables.{db_of}
+use Rattle.sb_building.specs.OpenRelation.{OpenRelation}
+use Rattle.sb_building.specs.Working.{open_at}
+use Rattle.sb_building.proofs.OpenedLemmas.{has_open}
 use Rattle.sb_plain.specs.Step.{row_answer}
 use Rattle.sb_statements.proofs.AnswerLemmas.{answer_there}
 use Rattle.sb_statements.proofs.answers.row_answer.Goals as goal

@@ -2,11 +2,11 @@ use Rattle.std.proofs.Common.{◌≡◌, Bool, true, false, true≢false, List, 
 use Rattle.std.specs.Option.{option_copied}
 use Rattle.sb_cascade.specs.Wishes.{wish_of}
 use Rattle.sb_drive.proofs.SpacesLemmas.{IfErr-passed}
-use Rattle.sb_standing.specs.Tables.{db_of, kept_at}
-use Rattle.sb_opened.specs.declared.relation.OpenRelation.{OpenRelation}
-use Rattle.sb_engine.specs.Working.{open_at}
-use Rattle.sb_engine.proofs.OpenedLemmas.{has_open, schema_there}
-use Rattle.sb_engine.proofs.OpeningLemmas.{fitting_kept}
+use Rattle.sb_building.specs.Tables.{db_of, kept_at}
+use Rattle.sb_building.specs.OpenRelation.{OpenRelation}
+use Rattle.sb_building.specs.Working.{open_at}
+use Rattle.sb_building.proofs.OpenedLemmas.{has_open, schema_there}
+use Rattle.sb_building.proofs.OpeningLemmas.{fitting_kept}
 use Rattle.sb_statements.proofs.OpenLemmas.{wished_there}
 use Rattle.sb_statements.proofs.opening.open_fitting.Goals as goal
 

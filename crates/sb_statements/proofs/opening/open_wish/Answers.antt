@@ -1,8 +1,8 @@
 use Rattle.std.proofs.Common.{◌≡◌, [], append-nil, refl, sym}
 use Rattle.sb_cascade.specs.Wishes.{wish_of}
-use Rattle.sb_engine.specs.Goings.{front_none}
-use Rattle.sb_engine.proofs.RefusedLemmas.{free_refusal, refused_cause}
-use Rattle.sb_engine.proofs.StandingLemmas.{keeping_of, rules_of}
+use Rattle.sb_building.specs.Goings.{front_none}
+use Rattle.sb_building.proofs.RefusedLemmas.{free_refusal, refused_cause}
+use Rattle.sb_building.proofs.StandingLemmas.{keeping_of, rules_of}
 use Rattle.sb_statements.proofs.OpenLemmas.{wish_kept, stands_opened}
 use Rattle.sb_statements.proofs.opening.open_wish.Goals as goal
 

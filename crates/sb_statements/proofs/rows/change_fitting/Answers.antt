@@ -5,9 +5,9 @@ use Rattle.sb_fold.specs.Fold.{change_within}
 use Rattle.sb_cascade.specs.Wishes.{wish_of}
 use Rattle.sb_cascade.proofs.Forward.{forward_within}
 use Rattle.sb_cascade.proofs.Stopping.{stops_looking}
-use Rattle.sb_opened.specs.declared.relation.OpenRelation.{OpenRelation}
-use Rattle.sb_engine.specs.Goings.{goes_on, open_at-grows, same_extensions}
-use Rattle.sb_engine.specs.Working.{IsStoppedBy, StandsFor, extensions_in}
+use Rattle.sb_building.specs.OpenRelation.{OpenRelation}
+use Rattle.sb_building.specs.Goings.{goes_on, open_at-grows, same_extensions}
+use Rattle.sb_building.specs.Working.{IsStoppedBy, StandsFor, extensions_in}
 use Rattle.sb_statements.proofs.AnswerLemmas.{made_over, ok_always, stopped_over}
 use Rattle.sb_statements.proofs.rows.change_fitting.Goals as goal
 

@@ -2,8 +2,8 @@ use Rattle.std.proofs.Common.{◌≡◌, List, Option, is_some, ap, sym, ◌∙�
 use Rattle.sb_relation.specs.Db.{Db}
 use Rattle.sb_fold.specs.Fold.{first_change}
 use Rattle.sb_cascade.specs.Wishes.{wish_of}
-use Rattle.sb_opened.specs.declared.relation.OpenRelation.{OpenRelation}
-use Rattle.sb_engine.specs.Working.{AreOpened, IsStoppedBy, StandsFor, extensions_in, open_at}
+use Rattle.sb_building.specs.OpenRelation.{OpenRelation}
+use Rattle.sb_building.specs.Working.{AreOpened, IsStoppedBy, StandsFor, extensions_in, open_at}
 use Rattle.sb_plain.specs.Step.{row_answer}
 use Rattle.sb_statements.specs.Statements.{answer_of}
 use Rattle.sb_statements.proofs.AnswerLemmas.{keyed_made, keyed_stopped}

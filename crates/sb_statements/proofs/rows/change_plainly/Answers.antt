@@ -1,7 +1,7 @@
 use Rattle.std.proofs.Common.{◌≡◌}
 use Rattle.sb_fold.specs.Fold.{first_change}
 use Rattle.sb_cascade.specs.Wishes.{wish_of}
-use Rattle.sb_engine.specs.Working.{IsStoppedBy, StandsFor, extensions_in}
+use Rattle.sb_building.specs.Working.{IsStoppedBy, StandsFor, extensions_in}
 use Rattle.sb_plain.specs.Step.{Plain}
 use Rattle.sb_statements.proofs.AnswerLemmas.{answered_made, answered_stopped}
 use Rattle.sb_statements.proofs.rows.change_plainly.Goals as goal

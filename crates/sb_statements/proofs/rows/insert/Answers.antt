@@ -3,8 +3,8 @@ use Rattle.sb_relation.specs.Db.{Key, Row}
 use Rattle.sb_fold.specs.Fold.{first_change}
 use Rattle.sb_fold.specs.Wishes.{Put}
 use Rattle.sb_cascade.proofs.Forward.{forward_within}
-use Rattle.sb_engine.specs.Goings.{goes_none}
-use Rattle.sb_engine.specs.Working.{IsStoppedBy, extensions_in}
+use Rattle.sb_building.specs.Goings.{goes_none}
+use Rattle.sb_building.specs.Working.{IsStoppedBy, extensions_in}
 use Rattle.sb_plain.specs.declared.command.Command.TheVariants as command
 use Rattle.sb_statements.specs.Statements.{IsDone, IsStopped, answer_of}
 use Rattle.sb_statements.proofs.AnswerLemmas.{wanting_keyed}

@@ -1,4 +1,4 @@
-use Rattle.sb_engine.specs.Goings.{goes_none}
+use Rattle.sb_building.specs.Goings.{goes_none}
 use Rattle.sb_statements.proofs.statements.stay.Goals as goal
 
 pub returns-clause-goes : goal.returns-clause-goes

@@ -1,6 +1,6 @@
 use Rattle.std.proofs.Common.{◌≡◌}
 use Rattle.sb_fold.specs.Building.{detach}
-use Rattle.sb_engine.specs.Working.{IsStoppedBy, StandsFor, extensions_in}
+use Rattle.sb_building.specs.Working.{IsStoppedBy, StandsFor, extensions_in}
 use Rattle.sb_plain.specs.Step.{Plain}
 use Rattle.sb_statements.proofs.AnswerLemmas.{answered_made, answered_stopped}
 use Rattle.sb_statements.proofs.tables.detach_rule.Goals as goal

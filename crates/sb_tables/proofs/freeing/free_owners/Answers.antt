@@ -1,6 +1,6 @@
 use Rattle.std.proofs.Common.{ℕ, ◌+◌, List, drop, subst}
 use Rattle.sb_standing.specs.Standing.{Keeps}
-use Rattle.sb_opened.specs.Opened.{IsDurable}
+use Rattle.sb_engine.specs.Opened.{IsDurable}
 use Rattle.sb_tables.specs.Freeing.{LeavesGone}
 use Rattle.sb_tables.proofs.KeepingLemmas.{drop_all, drop_number}
 use Rattle.sb_tables.proofs.freeing.free_owners.Goals as goal

@@ -4,7 +4,7 @@ use Rattle.sb_drive.specs.Spaces.{LeadsOn, Wanted}
 use Rattle.sb_registry.specs.Boxes.{Meanings}
 use Rattle.sb_standing.specs.Standing.{Keeps}
 use Rattle.sb_standing.specs.Tables.{Kept}
-use Rattle.sb_opened.specs.Opened.{IsDurable}
+use Rattle.sb_engine.specs.Opened.{IsDurable}
 use Rattle.sb_tables.specs.Freeing.{LeavesGone}
 use Rattle.sb_tables.proofs.freeing.free_owners.Given as goal
 

@@ -8,11 +8,11 @@ use Rattle.sb_drive.proofs.SpacesLemmas.{IfErr-passed, Leaves-so}
 use Rattle.sb_catalog.specs.declared.descriptor.Descriptor.{Descriptor}
 use Rattle.sb_catalog.specs.Descriptors.{IsShortDescriptor, descriptor_spelling}
 use Rattle.sb_catalog.proofs.Storable.{IsShortDescriptor_from_storable}
-use Rattle.sb_map.specs.Changes.{IsSmall}
+use Rattle.sb_engine.specs.Changes.{IsSmall}
 use Rattle.sb_standing.specs.Tables.{entry_of}
 use Rattle.sb_standing.specs.Standing.{owners_named}
-use Rattle.sb_opened.specs.declared.relation.OpenRelation.{OpenRelation}
-use Rattle.sb_opened.specs.Opened.{IsOpen}
+use Rattle.sb_engine.specs.OpenRelation.{OpenRelation}
+use Rattle.sb_engine.specs.Opened.{IsOpen}
 use Rattle.sb_tables.specs.Keeping.{KeepsDb}
 use Rattle.sb_tables.proofs.DetachedLemmas.{detached, has_kept, keeps-later, none_detached, not_kept, open_refused}
 use Rattle.sb_tables.proofs.KeepingLemmas.{if_err, on_ok, small-kept, small-without, storable-without}

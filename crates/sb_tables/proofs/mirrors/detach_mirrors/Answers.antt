@@ -2,7 +2,7 @@ use Rattle.std.proofs.Common.{◌+◌, List, Option, option_map, sym, ap, subst,
 use Rattle.sb_relation.specs.Db.{Db}
 use Rattle.sb_drive.proofs.SpacesLemmas.{IfErr-passed}
 use Rattle.sb_catalog.specs.declared.descriptor.Attached.{Attached}
-use Rattle.sb_opened.specs.declared.relation.OpenRelation.{OpenRelation}
+use Rattle.sb_engine.specs.OpenRelation.{OpenRelation}
 use Rattle.sb_tables.specs.Keeping.{KeepsDb}
 use Rattle.sb_tables.specs.Removal.{without_mirrors_of}
 use Rattle.sb_tables.proofs.DetachedLemmas.{has_kept, keeps-later, mirrors-kept, none_mirrored, not_kept, open_refused}

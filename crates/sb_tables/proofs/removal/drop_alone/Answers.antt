@@ -1,12 +1,12 @@
 use Rattle.std.proofs.Common.{◌≡◌, ℕ, ◌+◌, List, ◌++◌, map, Option, option_map, refl, sym, ap, subst, ◌∙◌}
 use Rattle.sb_relation.specs.Db.{Db}
-use Rattle.sb_btree.specs.Removes.{entries_without}
+use Rattle.sb_standing.specs.Removes.{entries_without}
 use Rattle.sb_drive.proofs.SpacesLemmas.{IfErr-passed}
-use Rattle.sb_map.specs.Maps.{Becomes}
+use Rattle.sb_engine.specs.Maps.{Becomes}
 use Rattle.sb_standing.specs.Instances.{owners_of}
 use Rattle.sb_standing.specs.Tables.{entry_of}
-use Rattle.sb_opened.specs.declared.relation.OpenRelation.{OpenRelation}
-use Rattle.sb_opened.proofs.Faults.{catalogue-at}
+use Rattle.sb_engine.specs.OpenRelation.{OpenRelation}
+use Rattle.sb_engine.proofs.Faults.{catalogue-at}
 use Rattle.sb_engine.proofs.RefusedLemmas.{refused_cause}
 use Rattle.sb_tables.specs.Keeping.{KeepsDb}
 use Rattle.sb_tables.specs.Removal.{without_name}

@@ -1,7 +1,7 @@
 use Rattle.std.proofs.Common.{sym, subst, ◌∙◌, ◌+◌}
 use Rattle.sb_deferred.specs.Waiting.{IsFront}
 use Rattle.sb_fold.specs.Outcome.{Queue}
-use Rattle.sb_engine.specs.Refusals.{HasRefusalCause, IsRefusedBy}
+use Rattle.sb_tables.specs.Refusals.{HasRefusalCause, IsRefusedBy}
 use Rattle.sb_transactions.proofs.RunLemmas.{IsLent, finish-freed, finish-refused, finish-stopped, led_between, passed, works_between}
 use Rattle.sb_transactions.proofs.finishing.finish_over.Goals as goal
 

@@ -7,7 +7,7 @@ use Rattle.sb_drive.specs.declared.space.SpaceFault.{SpaceFault}
 use Rattle.sb_drive.specs.Slots.{Slots}
 use Rattle.sb_drive.specs.Spaces.{Wanted}
 use Rattle.sb_registry.specs.Runs.{IsSound}
-use Rattle.sb_rows.specs.Live.{HasRows}
+use Rattle.sb_standing.specs.Live.{HasRows}
 use Rattle.sb_fold.specs.declared.refusal.Refusal.{Refusal}
 use Rattle.sb_wishes.specs.declared.settling.Edit as code
 use Rattle.sb_wishes.specs.declared.settling.Outcome.{Outcome}

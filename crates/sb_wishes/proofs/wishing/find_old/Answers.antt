@@ -5,7 +5,7 @@ use Rattle.sb_relation.specs.Db.{Row, Rows, row_at}
 use Rattle.sb_drive.specs.declared.space.SpaceFault.{SpaceFault}
 use Rattle.sb_drive.specs.Slots.{Slots}
 use Rattle.sb_drive.specs.Spaces.{Wanted}
-use Rattle.sb_rows.specs.Live.{HasRows}
+use Rattle.sb_standing.specs.Live.{HasRows}
 use Rattle.sb_wishes.specs.Wished.{row_wished}
 use Rattle.sb_wishes.proofs.WishedLemmas.{row_wished-at, row_wished-long}
 use Rattle.sb_wishes.proofs.wishing.find_old.Goals as goal

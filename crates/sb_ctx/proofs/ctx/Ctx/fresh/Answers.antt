@@ -1,6 +1,6 @@
 use Rattle.std.proofs.Common.{◌≡◌, Some, None, position, sym, ap, ◌∙◌}
 use Rattle.std.proofs.lemmas.Bool.{and_parts}
-use Rattle.sb_relation.specs.Fits.{is_empty}
+use Rattle.sb_forms.specs.Fits.{is_empty}
 use Rattle.sb_forms.specs.Pages.{zeros}
 use Rattle.sb_ctx.proofs.HeldLemmas.{is_free, IsFirst-read, free_page-first, free_page-none, AreSound-set, set-with_page, number_at}
 use Rattle.sb_ctx.proofs.SizedLemmas.{IsSized-at, AreSized-set, taken-sized, length-zeros, zeros-bytes}

@@ -2,7 +2,7 @@ use Rattle.std.proofs.Common.{ℕ, not, slice_get, sym, ap, ◌∙◌, rules, te
 use Rattle.std.proofs.lemmas.Iterator.{YieldsList-from_slice, YieldsList-from_map}
 use Rattle.std.proofs.lemmas.Iterator.Adapters.{option_map_id}
 use Rattle.std.proofs.lemmas.Iterator.Consumers.{YieldsList-at, YieldsList-from_filter, nth_from_yields_List}
-use Rattle.sb_relation.specs.Fits.{is_empty}
+use Rattle.sb_forms.specs.Fits.{is_empty}
 use Rattle.sb_ctx.specs.View.{View, HeldPage, fresh_pages}
 use Rattle.sb_ctx.proofs.ctx.Ctx.fresh_given.Goals as goal
 

@@ -13,8 +13,8 @@ use Rattle.sb_cascade.specs.Fitting.{AllFit}
 use Rattle.sb_cascade.specs.Runs.{Admitted as IsAdmitted}
 use Rattle.sb_standing.specs.Tables.{db_of}
 use Rattle.sb_standing.specs.Asked.{changed_kept}
-use Rattle.sb_opened.specs.declared.relation.OpenRelation.{OpenRelation}
-use Rattle.sb_opened.specs.Opened.{IsOpen}
+use Rattle.sb_asking.specs.OpenRelation.{OpenRelation}
+use Rattle.sb_asking.specs.Opened.{IsOpen}
 use Rattle.sb_wishes.specs.Outcomes.{MayBeMade}
 use Rattle.sb_engine.specs.Goings.{front_none, grows_none, stays}
 use Rattle.sb_engine.specs.Working.{MayDo, extensions_of, open_at}

@@ -9,8 +9,8 @@ use Rattle.sb_cascade.specs.Runs.{row_change}
 use Rattle.sb_cascade.specs.Wishes.{wish_of}
 use Rattle.sb_cascade.proofs.Stopping.{stops_free}
 use Rattle.sb_standing.specs.Tables.{IsWide}
-use Rattle.sb_opened.specs.declared.relation.OpenRelation.{OpenRelation}
-use Rattle.sb_opened.specs.Opened.{IsOpen}
+use Rattle.sb_asking.specs.OpenRelation.{OpenRelation}
+use Rattle.sb_asking.specs.Opened.{IsOpen}
 use Rattle.sb_wishes.specs.Outcomes.{Comes, MayBeMade, Meets}
 use Rattle.sb_wishes.specs.declared.settling.Outcome.{Outcome}
 use Rattle.sb_fold.specs.Wishes.{wished}

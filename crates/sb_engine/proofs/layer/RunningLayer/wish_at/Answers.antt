@@ -1,7 +1,7 @@
 use Rattle.std.proofs.Common.{◌≡◌, List, [], All, append-nil, refl, sym, ap, ◌∙◌, subst}
 use Rattle.sb_relation.specs.Db.{Db}
-use Rattle.sb_opened.specs.declared.relation.OpenRelation.{OpenRelation}
-use Rattle.sb_opened.specs.Opened.{IsOpen}
+use Rattle.sb_asking.specs.OpenRelation.{OpenRelation}
+use Rattle.sb_asking.specs.Opened.{IsOpen}
 use Rattle.sb_cascade.specs.Steps.{wish_there}
 use Rattle.std.proofs.Common.{IfSome}
 use Rattle.sb_relation.specs.Fits.{relation_of}

@@ -1,4 +1,4 @@
-use Rattle.sb_session.specs.Ends.{reply_of}
+use Rattle.sb_opening.specs.Ends.{reply_of}
 use Rattle.sb_kernel.specs.World.{world}
 use Rattle.sb_kernel.proofs.HeldLemmas.{Closes-wanted}
 use Rattle.sb_kernel.proofs.dialogue.Dialogue.close.Goals as goal

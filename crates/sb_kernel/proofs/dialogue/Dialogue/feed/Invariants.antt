@@ -1,6 +1,6 @@
 use Rattle.std.proofs.Common.{◌≡◌, ◌≤◌, ◌++◌, ℕ, List, take, false}
 use Rattle.sb_registry.specs.Boxes.{Meanings}
-use Rattle.sb_session.specs.Sessions.{CanRun}
+use Rattle.sb_opening.specs.Sessions.{CanRun}
 use Rattle.sb_kernel.specs.World.{At, at, world}
 use Rattle.sb_kernel.specs.Runs.{Stands}
 use Rattle.sb_kernel.proofs.dialogue.Dialogue.feed.Given as goal

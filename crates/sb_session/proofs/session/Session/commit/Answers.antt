@@ -9,7 +9,7 @@ use Rattle.sb_fold.specs.declared.refusal.Refusal.TheVariants as refusal
 use Rattle.sb_plain.specs.declared.reply.Reply.TheVariants.{Done, Refused}
 use Rattle.sb_plain.specs.State.{State}
 use Rattle.sb_drive.specs.Spaces.{Wanted}
-use Rattle.sb_engine.specs.Working.{extensions_of}
+use Rattle.sb_transactions.specs.Working.{extensions_of}
 use Rattle.sb_transactions.specs.declared.transactions.Transaction.{Transaction}
 use Rattle.sb_transactions.specs.Commits.{StaysOpen}
 use Rattle.sb_session.specs.Ends.{Ends, IsStep}

@@ -4,7 +4,7 @@ use Rattle.sb_ctx.specs.MethodAnswers.{Changes}
 use Rattle.sb_btree.specs.Inserts.{OverTrees}
 use Rattle.sb_btree.specs.Removes.{Removes}
 use Rattle.sb_treemethod.specs.TreeMethod.{tree_method}
-use Rattle.sb_fold.specs.Costs.{tree_cost}
+use Rattle.sb_ctx.specs.Costs.{tree_cost}
 use Rattle.sb_btree.specs.Removes.{is_on_removal_way}
 use Rattle.sb_btree.specs.Walks.{Needs, OnTree}
 use Rattle.sb_treemethod.proofs.RemoveLaws.{Changes-removed}

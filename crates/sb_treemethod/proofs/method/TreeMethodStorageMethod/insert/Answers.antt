@@ -4,7 +4,7 @@ use Rattle.sb_ctx.specs.MethodAnswers.{Changes}
 use Rattle.sb_btree.specs.Inserts.{Inserts, OverTrees}
 use Rattle.sb_treemethod.specs.TreeMethod.{tree_method}
 use Rattle.sb_treemethod.proofs.MethodLaws.{Changes-memory}
-use Rattle.sb_fold.specs.Costs.{tree_cost}
+use Rattle.sb_ctx.specs.Costs.{tree_cost}
 use Rattle.sb_ctx.specs.Method.{code_of}
 use Rattle.sb_btree.specs.Walks.{Needs, OnTree}
 use Rattle.sb_btree.specs.Ways.{is_on_way}

@@ -2,7 +2,7 @@ use Rattle.std.proofs.Common.{◌≡◌, ℕ, Bool, true, false, List, Some, IsS
 use Rattle.std.specs.FinMap.Entries.{find}
 use Rattle.std.specs.Str.{bytes_eq}
 use Rattle.sb_value.specs.Equal.{bytes_same}
-use Rattle.sb_fold.specs.Costs.{tree_cost}
+use Rattle.sb_ctx.specs.Costs.{tree_cost}
 use Rattle.sb_node.specs.Entries.{key_cmp}
 use Rattle.sb_ctx.specs.declared.calls.MethodCall.TheVariants.{Update}
 use Rattle.sb_ctx.specs.MethodAnswers.{Changes}
