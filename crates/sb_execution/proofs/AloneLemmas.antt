@@ -35,23 +35,24 @@ use Rattle.sb_session.specs.Calls.{IsOnlyFault, Remains}
 use Rattle.sb_session.specs.Commits.{FailsOn, Finishes, IsDone, LeavesEither, LeavesOldOrFinished, Mounted, StaysOpen, StopsAt}
 use Rattle.sb_session.specs.Transactions.{IsAt, IsCommitted, Rests, WasBegun}
 use Rattle.sb_session.proofs.EndLemmas.{Remains-behind}
-use Rattle.sb_execution.specs.Serving.{IsPosedIn}
-use Rattle.sb_session.specs.Ends.{IsFree, IsStep, is_end}
+use Rattle.sb_execution.specs.Serving.{IsPosedIn, is_room}
+use Rattle.sb_session.specs.Ends.{IsFree, IsStep, is_end, may_lack_room}
 use Rattle.sb_session.specs.Sessions.{HasFailed, IsNext, IsOpenFor, Lacks, LeavesNext, LeavesOldOrNext}
 use Rattle.sb_session.proofs.Carried.{end_of_given}
 use Rattle.sb_session.proofs.CommitSteps.{committed-push, with_committed}
 use Rattle.sb_session.proofs.OpenLemmas.{Outside, outside_at}
 use Rattle.sb_execution.specs.Endings.{AnswersCommand, ComesAlone, EndsAlone, HasAnswered, IsLeftSo, IsOf, going_alone}
 use Rattle.sb_execution.proofs.CallLemmas.{Remains-then, err_fault, has_failed, leaves_behind, not_both, ok_err, still_up}
-use Rattle.sb_execution.proofs.EndLemmas.{Ends-by, Ends-stepped, ends_given}
+use Rattle.sb_execution.proofs.EndLemmas.{Ends-by, Ends-stepped, ends_given, may_lack_room-works}
 use Rattle.sb_execution.proofs.ReplyLemmas.{answered_given, is_free_reply}
 use Rattle.sb_execution.proofs.StepsOf.{Steps-stopped_alone, Steps-worked_alone, with_open}
 
--- why a command is refused: as the definitions say, or for a cause, which a fault leaves the store down for
+-- why a command is refused: as the definitions say, or for a cause, which a fault leaves the store down for; and for want of room only where it may be wanting
 pub record Refuses {D : Type 0} (faults : D → ℕ) (m : Meanings) (c : Command) (x : State) (r : Refusal) (u : StoreState) : Type 0 where
   pub given : is_free r ≡ false → Steps (extensions_of m) x c (Refused r) (with_open x None)
   pub there : Mounted D
   pub cause : is_free r ≡ true → HasRefusalCause (FailsOn faults) r there
+  pub lacks : is_room r ≡ true → may_lack_room x c ≡ true
   pub failed : r ≡ refusal.Fault → u.book.down ≡ true
 
 module _ {D : Type 0} (told : D → Option Story) (len faults : D → ℕ) (m : Meanings) (place : Place) (c : Command)
@@ -154,7 +155,10 @@ module _ {D : Type 0} (told : D → Option Story) (len faults : D → ℕ) (m : 
           (λ given. given_step want x of posed given)
           (λ room is. record {
             up = of.up;
-            cause = record { at = why.there; cause = subst (λ (r : Refusal). HasRefusalCause (FailsOn faults) r why.there) is (why.cause (ap is_free is)) };
+            cause = (
+              record { at = why.there; cause = subst (λ (r : Refusal). HasRefusalCause (FailsOn faults) r why.there) is (why.cause (ap is_free is)) },
+              why.lacks (ap is_room is),
+            );
             stands = as_it_was want x of posed (ap is_end is);
           })
           (λ is. record { up = of.up; cause = may x; stands = as_it_was want x of posed (ap is_end is) })
@@ -346,6 +350,7 @@ module _ {D : Type 0} (told : D → Option Story) (len faults : D → ℕ) (m : 
               let broken : EndsBy (Stopped faults) true (finish (extensions_of m)) why.run.after r stop.there =
               subst (λ (b : Bool). EndsBy (Stopped faults) b (finish (extensions_of m)) why.run.after r stop.there) free stop.stops in
               broken.stopped;
+          lacks = λ room. may_lack_room-works (extensions_of m) x c why.work why.is;
           failed = λ is. failed is want why.run.after why.run.stands;
         }
 

@@ -32,16 +32,17 @@ use Rattle.sb_session.specs.Commits.{FailsOn, IsLed}
 use Rattle.sb_session.specs.Transactions.{IsAt, IsFirst, IsUsable, Rests, WasBegun}
 use Rattle.sb_session.proofs.CallLemmas.{Fault-down, Remains-answered, up-earlier, up-later}
 use Rattle.sb_statements.specs.declared.answers.Answer as code
-use Rattle.sb_execution.specs.Serving.{IsPosedIn, IsSeenIn, IsServed, IsUnserved, is_managing}
+use Rattle.sb_execution.specs.Serving.{IsPosedIn, IsSeenIn, IsServed, IsUnserved, is_managing, is_room}
 use Rattle.sb_statements.specs.Statements.{answer_of}
 use Rattle.sb_session.specs.declared.session.Savepoint.{Savepoint}
+use Rattle.sb_session.specs.Ends.{may_lack_room}
 use Rattle.sb_session.proofs.OpenLemmas.{Outside, outside_at}
 use Rattle.sb_execution.specs.declared.serving.Served.{Served}
 use Rattle.sb_execution.specs.declared.serving.Served.TheVariants as served
 use Rattle.sb_execution.specs.Endings.{ComesAlone, EndsAlone, HasAnswered, IsOf, Passes, going_alone}
 use Rattle.sb_execution.proofs.AloneLemmas.{EndsAlone-done, EndsAlone-fault, EndsAlone-refused, leaves_alone, leaves_so_far, read_so, remains_alone}
 use Rattle.sb_execution.proofs.CallLemmas.{Remains-err, Remains-led, Remains-then, not_both, ok_err}
-use Rattle.sb_execution.proofs.EndLemmas.{at_some, may_want_memory-works, seen_alone, unserved_alone, unserved_cause, work_there}
+use Rattle.sb_execution.proofs.EndLemmas.{at_some, free_room, may_want_memory-works, seen_alone, unserved_alone, unserved_cause, unserved_room, work_there}
 use Rattle.sb_execution.proofs.ReplyLemmas.{read_given, refused_given}
 use Rattle.sb_execution.proofs.StepsOf.{Steps-read_alone, Steps-refused_alone, with_open}
 
@@ -135,7 +136,8 @@ module _ {D : Type 0} (told : D → Option Story) (len faults : D → ℕ) (m : 
         -- behind a refusal, for a reason of the definitions or of the store
         EndsAlone-behind : ((x : State) → may_want_memory x c ≡ true) → (r : Refusal)
             → ((want : Wanted) (x : State) → IsOf m place want x from None → IsPosedIn m x c
-            → (is_free r ≡ false → Steps (extensions_of m) x c (Refused r) (with_open x None)) × (is_free r ≡ true → HasRefusalCause (FailsOn faults) r (record { disk = e; store = t })))
+            → (is_free r ≡ false → Steps (extensions_of m) x c (Refused r) (with_open x None)) × (is_free r ≡ true → HasRefusalCause (FailsOn faults) r (record { disk = e; store = t }))
+            × (is_room r ≡ true → may_lack_room x c ≡ true))
             → EndsAlone told len faults m place c d f s u (Err r)
         EndsAlone-behind may r why =
             EndsAlone-refused told len faults m place c d f s u up may r
@@ -147,6 +149,7 @@ module _ {D : Type 0} (told : D → Option Story) (len faults : D → ℕ) (m : 
               given = both.0;
               there = record { disk = e; store = t };
               cause = both.1;
+              lacks = both.2;
               failed = λ is. not_both t.book.down still (Fault-down faults (record { disk = e; store = t }) (fault_cause r is both.1));
             })
           where
@@ -163,6 +166,7 @@ module _ {D : Type 0} (told : D → Option Story) (len faults : D → ℕ) (m : 
             let why = unserved want x (going_alone x) (at_command want x of) (seen want x of) posed in (
               λ given. unserved_alone (FailsOn faults) m x c works r (record { disk = e; store = t }) of.up given (out want x of).none why,
               unserved_cause (FailsOn faults) m x c works r (record { disk = e; store = t }) (going_alone x) why,
+              unserved_room (FailsOn faults) m x c works r (record { disk = e; store = t }) (going_alone x) why,
             ))
 
         -- a test refuses it
@@ -175,17 +179,19 @@ module _ {D : Type 0} (told : D → Option Story) (len faults : D → ℕ) (m : 
             let is : refused (extensions_of m) x c ≡ Some r = sym (refuses want x (going_alone x) (at_command want x of) (seen want x of)) in (
               λ given. Steps-refused_alone (extensions_of m) x c of.up (out want x of).none r is,
               λ free. absurd (false≢true (sym (refused_given (extensions_of m) x c r is) ∙ free)),
+              λ room. absurd (false≢true (sym (refused_given (extensions_of m) x c r is) ∙ free_room r room)),
             ))
 
         -- a look of the tests was refused
-        pub EndsAlone-looked : ((x : State) → may_want_memory x c ≡ true) → (r : Refusal) → is_free r ≡ true
+        pub EndsAlone-looked : ((x : State) → may_want_memory x c ≡ true) → (r : Refusal) → is_free r ≡ true → is_room r ≡ false
             → ((want : Wanted) (x : State) (g : Going) → IsAt m place want n g (parts told len b bs) a.work → IsSeenIn m false ones x g → HasRefusalCause (FailsOn faults) r (record { disk = e; store = t }))
             → EndsAlone told len faults m place c d f s u (Err r)
-        EndsAlone-looked may r free cause =
+        EndsAlone-looked may r free none_lacks cause =
             EndsAlone-behind may r
             (λ want x of posed. (
               λ given. absurd (false≢true (sym given ∙ free)),
               λ also. cause want x (going_alone x) (at_command want x of) (seen want x of),
+              λ room. absurd (false≢true (sym none_lacks ∙ room)),
             ))
 
         -- no test refuses it

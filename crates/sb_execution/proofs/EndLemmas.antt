@@ -30,12 +30,12 @@ use Rattle.sb_txn.specs.Parts.{Parts}
 use Rattle.sb_engine.specs.declared.running.Work.{Work as EngineWork}
 use Rattle.sb_session.specs.declared.session.Open.{Open}
 use Rattle.sb_session.specs.declared.session.Savepoint.{Savepoint}
-use Rattle.sb_session.specs.Ends.{Ends, IsFree, IsStep, ends_with}
+use Rattle.sb_session.specs.Ends.{Ends, IsFree, IsStep, ends_with, may_lack_room}
 use Rattle.sb_session.specs.Sessions.{AreSavepoints, IsInside}
 use Rattle.sb_session.proofs.Carried.{Ends-given, end_of_given}
 use Rattle.sb_session.proofs.CommitSteps.{going_on}
 use Rattle.sb_execution.specs.Endings.{IsOf, going_alone}
-use Rattle.sb_execution.specs.Serving.{IsSeenIn, IsUnserved, Looked, Tested, Worked, is_managing}
+use Rattle.sb_execution.specs.Serving.{IsSeenIn, IsUnserved, Looked, Tested, Worked, is_managing, is_room}
 use Rattle.sb_execution.proofs.ReplyLemmas.{is_free_reply, refused_given}
 use Rattle.sb_execution.proofs.StepsOf.{Steps-refused_alone, Steps-refused_inside, Steps-stopped_alone, Steps-stopped_inside, with_open, with_spent_in}
 
@@ -50,7 +50,7 @@ module _ (S : State → Type 0) (Lacks : Room → Type 0) (HasFailed : Type 0) (
   Ends-stepped r given step = step
 
   -- by the kind of the refusal
-  pub Ends-by : (r : Refusal) → (is_free r ≡ false → IsStep S ext s c (reply.Refused r)) → ((room : Room) → r ≡ refusal.Room room → IsFree S (Lacks room) s s)
+  pub Ends-by : (r : Refusal) → (is_free r ≡ false → IsStep S ext s c (reply.Refused r)) → ((room : Room) → r ≡ refusal.Room room → IsFree S (Lacks room × (may_lack_room s c ≡ true)) s s)
       → (r ≡ refusal.NoMemory → IsFree S (may_want_memory s c ≡ true) s s) → (r ≡ refusal.Fault → IsFree S HasFailed s (downed s)) → ((page : ℕ) → r ≡ refusal.Damaged page → ⊥)
       → Ends S Lacks HasFailed ext s c (reply.Refused r)
   Ends-by (refusal.Room room) step lacks wants failed damaged = lacks room refl
@@ -68,7 +68,7 @@ module _ (S T : State → Type 0) (Lacks : Room → Type 0) (HasFailed : Type 0)
   free_wider Cause now free = record { up = free.up; cause = free.cause; stands = wider now free.stands }
 
   pub Ends-as : (r : Reply) → Ends S Lacks HasFailed ext s c r → Ends T Lacks HasFailed ext s c r
-  Ends-as (reply.Refused (refusal.Room room)) ends = free_wider (Lacks room) s ends
+  Ends-as (reply.Refused (refusal.Room room)) ends = free_wider (Lacks room × (may_lack_room s c ≡ true)) s ends
   Ends-as (reply.Refused refusal.NoMemory) ends = free_wider (may_want_memory s c ≡ true) s ends
   Ends-as (reply.Refused refusal.Fault) ends = free_wider HasFailed (downed s) ends
   Ends-as (reply.Refused (refusal.Damaged page)) ends = ends
@@ -105,6 +105,23 @@ may_want_memory-works s command.Abort works = absurd (false≢true (sym works))
 may_want_memory-works s (command.Rollback name) works = absurd (false≢true (sym works))
 may_want_memory-works s c works = refl
 
+-- and room, where it has work
+pub may_lack_room-works : (ext : Extensions) (s : State) (c : Command) (work : Work Answer) → work_of ext c ≡ Some work → may_lack_room s c ≡ true
+may_lack_room-works ext s (command.Create relation method schema key) work is = refl
+may_lack_room-works ext s (command.Drop relation) work is = refl
+may_lack_room-works ext s (command.Attach relation name rule) work is = refl
+may_lack_room-works ext s (command.Detach relation name) work is = refl
+may_lack_room-works ext s (command.Insert relation values) work is = refl
+may_lack_room-works ext s (command.Delete relation at) work is = refl
+may_lack_room-works ext s (command.Update relation at values) work is = refl
+may_lack_room-works ext s (command.Act action) work is = refl
+may_lack_room-works ext s c work is = absurd (cc)
+
+-- no definition gives want of room
+pub free_room : (r : Refusal) → is_room r ≡ true → is_free r ≡ true
+free_room (refusal.Room room) is = refl
+free_room r is = absurd (false≢true is)
+
 -- ---- commands that are refused
 module _ {N : Type 0} (Fails : SpaceFault → N → N → Type 0) (m : Meanings) (s : State) (c : Command) (works : is_managing c ≡ false) (r : Refusal) (new : N) where
   abbrev ext : Extensions
@@ -121,7 +138,13 @@ module _ {N : Type 0} (Fails : SpaceFault → N → N → Type 0) (m : Meanings)
       let stop : StopsFrom Stopped there.0 g r new = at_some (work_of ext c) there.0 (λ work. StopsFrom Stopped work g r new) there.1 stops in
       let broken : EndsBy Stopped true there.0 g r new = subst (λ (b : Bool). EndsBy Stopped b there.0 g r new) free stop in
       broken.stopped
-  unserved_cause g (Looked free cause) also = cause
+  unserved_cause g (Looked free none cause) also = cause
+
+  -- for want of room only where it may be wanting
+  pub unserved_room : (g : Going) → IsUnserved Fails m s c g r new → is_room r ≡ true → may_lack_room s c ≡ true
+  unserved_room g (Tested is) room = absurd (false≢true (sym (refused_given ext s c r is) ∙ free_room r room))
+  unserved_room g (Worked passed none stops) room = let there = work_there ext (view s) c works none in may_lack_room-works ext s c there.0 there.1
+  unserved_room g (Looked free none cause) room = absurd (false≢true (sym none ∙ room))
 
   -- as the definitions say: it is a step
   module _ (up : s.down ≡ false) (given : is_free r ≡ false) where
@@ -133,7 +156,7 @@ module _ {N : Type 0} (Fails : SpaceFault → N → N → Type 0) (m : Meanings)
         let stop : StopsFrom Stopped there.0 (going_on t) r new = at_some (work_of ext c) there.0 (λ work. StopsFrom Stopped work (going_on t) r new) there.1 stops in
         let run : EndsBy Stopped false there.0 (going_on t) r new = subst (λ (b : Bool). EndsBy Stopped b there.0 (going_on t) r new) given stop in
         (run.after.trail.spent, Steps-stopped_inside ext s c up t inside there.0 there.1 run.picks run.after r passed run.leads)
-    unserved_inside t inside (Looked free cause) = absurd (false≢true (sym given ∙ free))
+    unserved_inside t inside (Looked free none cause) = absurd (false≢true (sym given ∙ free))
 
     pub unserved_alone : s.transaction ≡ None → IsUnserved Fails m s c (going_alone s) r new → Steps ext s c (reply.Refused r) (with_open s None)
     unserved_alone outside (Tested is) = Steps-refused_alone ext s c up outside r is
@@ -142,7 +165,7 @@ module _ {N : Type 0} (Fails : SpaceFault → N → N → Type 0) (m : Meanings)
         let stop : StopsFrom Stopped there.0 (going_alone s) r new = at_some (work_of ext c) there.0 (λ work. StopsFrom Stopped work (going_alone s) r new) there.1 stops in
         let run : EndsBy Stopped false there.0 (going_alone s) r new = subst (λ (b : Bool). EndsBy Stopped b there.0 (going_alone s) r new) given stop in
         Steps-stopped_alone ext s c up outside there.0 there.1 run.picks run.after r passed (leads_refused (λ (answer : Answer). finish ext >>= λ _. made answer) run.leads)
-    unserved_alone outside (Looked free cause) = absurd (false≢true (sym given ∙ free))
+    unserved_alone outside (Looked free none cause) = absurd (false≢true (sym given ∙ free))
 
 -- ---- what is seen of a transaction
 module _ (m : Meanings) (place : Place) (want : Wanted) where

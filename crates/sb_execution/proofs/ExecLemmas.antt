@@ -1,13 +1,15 @@
 -- What becomes of a session in any command.
-use Rattle.std.proofs.Common.{◌≡◌, ◌||◌, ℕ, Bool, true, false, Option, refl, sym, ap, ◌∙◌, subst, arith}
+use Rattle.std.proofs.Common.{◌≡◌, ◌||◌, ℕ, Bool, true, false, Option, Result, Ok, Err, OnOk, refl, sym, ap, ◌∙◌, subst, arith}
 use Rattle.std.proofs.lemmas.Bool.{false≢true}
 use Rattle.sb_disk.specs.Disk.{Story}
 use Rattle.sb_engine.specs.Working.{extensions_of}
+use Rattle.sb_fold.specs.declared.refusal.Refusal.{Refusal}
 use Rattle.sb_fold.specs.declared.refusal.Refusal.TheVariants as refusal
 use Rattle.sb_plain.specs.declared.command.Command.{Command}
 use Rattle.sb_plain.specs.declared.reply.Reply.{Reply}
 use Rattle.sb_plain.specs.declared.reply.Reply.TheVariants.{Refused}
 use Rattle.sb_plain.specs.State.{State}
+use Rattle.sb_plain.specs.Step.{ok}
 use Rattle.sb_registry.specs.Boxes.{Meanings}
 use Rattle.sb_drive.specs.Spaces.{Wanted}
 use Rattle.sb_txn.specs.Clauses.{LeavesWanted}
@@ -17,7 +19,7 @@ use Rattle.sb_space.specs.declared.transactions.Space.{Space}
 use Rattle.sb_vectors.specs.Vectors.{AreSameBoxes}
 use Rattle.sb_execution.specs.Serving.{IsPosedIn}
 use Rattle.sb_session.specs.declared.session.Session.{Session}
-use Rattle.sb_session.specs.Ends.{Ends, ends_with}
+use Rattle.sb_session.specs.Ends.{Ends, ends_with, reply_of}
 use Rattle.sb_session.specs.Sessions.{CanRun, HasFailed, IsFor, KeepsSession, Lacks, StandsBehind, parts_of}
 use Rattle.sb_session.proofs.Behind.{Ends-behind_for}
 use Rattle.sb_session.proofs.Commands.{Carried-down}
@@ -36,6 +38,11 @@ module _ {B D : Type 0} (meanings : B → Meanings) (told : D → Option Story) 
       keeps = keeps;
       runs = runs;
     }
+
+-- what a call makes so that goes through is so where it is answered ok
+pub emptied : {P : Type 0} (result : Result (Unit {0}) Refusal) (r : Reply) → r ≡ reply_of result → OnOk result P → r ≡ ok → P
+emptied (Ok done) r is makes went = makes
+emptied (Err e) r is makes went = absurd (let both : Refused e ≡ ok = sym is ∙ went in cc)
 
 -- neither the disk nor the store was touched
 pub leaves_still : {B D : Type 0} (told : D → Option Story) (len : D → ℕ) (d e : D) (x y : Session B) → e ≡ d → y.space ≡ x.space → LeavesWanted (parts_of told len d x) (parts_of told len e y)

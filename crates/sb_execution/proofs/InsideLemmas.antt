@@ -26,7 +26,7 @@ use Rattle.sb_session.specs.Calls.{IsOnlyFault, Remains}
 use Rattle.sb_session.specs.Commits.{FailsOn, Mounted}
 use Rattle.sb_session.specs.Transactions.{IsAt, unused}
 use Rattle.sb_session.proofs.CallLemmas.{Fault-down}
-use Rattle.sb_execution.specs.Serving.{IsPosedIn, IsServed, IsUnserved, is_managing}
+use Rattle.sb_execution.specs.Serving.{IsPosedIn, IsServed, IsUnserved, is_managing, is_room}
 use Rattle.sb_statements.specs.Statements.{answer_of}
 use Rattle.sb_session.specs.declared.session.Open.{Open}
 use Rattle.sb_session.specs.Ends.{Ends, IsStep, is_end}
@@ -38,7 +38,7 @@ use Rattle.sb_execution.specs.declared.serving.Served.{Served}
 use Rattle.sb_execution.specs.declared.serving.Served.TheVariants as served
 use Rattle.sb_execution.specs.Endings.{EndsInside, IsLeft, IsOf, IsReplied}
 use Rattle.sb_execution.proofs.CallLemmas.{has_failed, not_both}
-use Rattle.sb_execution.proofs.EndLemmas.{Ends-by, Ends-stepped, at_some, ends_given, may_want_memory-works, unserved_cause, unserved_inside, work_there}
+use Rattle.sb_execution.proofs.EndLemmas.{Ends-by, Ends-stepped, at_some, ends_given, may_want_memory-works, unserved_cause, unserved_inside, unserved_room, work_there}
 use Rattle.sb_execution.proofs.ReplyLemmas.{answered_given, is_free_reply, read_given}
 use Rattle.sb_execution.proofs.StandingLemmas.{CanGoOn-stays, IsAt-taken, IsInside-stays, IsUsable-taken, Stays, Stays-beside, Stays-then}
 use Rattle.sb_execution.proofs.StepsOf.{Steps-read_inside, Steps-worked_inside, with_open, with_spent_in, worked}
@@ -183,7 +183,10 @@ module _ {D : Type 0} (told : D → Option Story) (len faults : D → ℕ) (m : 
             (λ given. given_step want x of posed given)
             (λ room is. record {
               up = of.up;
-              cause = record { at = there; cause = subst (λ (r : Refusal). HasRefusalCause (FailsOn faults) r there) is (cause want x of posed (ap is_free is)) };
+              cause = (
+                record { at = there; cause = subst (λ (r : Refusal). HasRefusalCause (FailsOn faults) r there) is (cause want x of posed (ap is_free is)) },
+                unserved_room (FailsOn faults) m x c works r there (going_on (within want x of).of) (stops want x of posed) (ap is_room is),
+              );
               stands = as_it_was want x of (ap is_end is);
             })
             (λ is. record { up = of.up; cause = may_want_memory-works x c works; stands = as_it_was want x of (ap is_end is) })

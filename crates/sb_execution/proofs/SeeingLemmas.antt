@@ -17,8 +17,8 @@ use Rattle.sb_engine.specs.Working.{Stands, extensions_of}
 use Rattle.sb_execution.specs.declared.seen.Seen.{Seen}
 use Rattle.sb_execution.specs.Seen.{HasFailed, LooksOn, Sees}
 use Rattle.sb_execution.specs.SeenLaws.{look_cause, look_free}
-use Rattle.sb_execution.specs.Serving.{IsSeenIn}
-use Rattle.sb_execution.proofs.SeenLemmas.{stands-seen}
+use Rattle.sb_execution.specs.Serving.{IsSeenIn, is_room}
+use Rattle.sb_execution.proofs.SeenLemmas.{look_refusal, stands-seen}
 
 module _ {B S : Type 0} (Has : Wanted → Slots → S → Type 0) (Leads : ℕ → S → S → Type 0) (Fails : SpaceFault → S → S → Type 0) (meanings : B → Meanings)
     (a b : Seen B S) (looks : LooksOn Leads a b) (x y : S) (first : a.space.now ≡ x) (last : b.space.now ≡ y) (c : Command) where
@@ -55,6 +55,10 @@ module _ {B S : Type 0} (Has : Wanted → Slots → S → Type 0) (Leads : ℕ �
   pub seen_free : (r : Result (Option Refusal) Refusal) → IfErr r (λ e. HasFailed Leads Fails e a b) → IfErr r (λ e. is_free e ≡ true)
   seen_free (Ok o) failed = tt
   seen_free (Err r) failed = look_free Leads Fails r a b failed
+
+  pub seen_room : (r : Result (Option Refusal) Refusal) → IfErr r (λ e. HasFailed Leads Fails e a b) → IfErr r (λ e. is_room e ≡ false)
+  seen_room (Ok o) failed = tt
+  seen_room (Err r) failed = subst (λ (x : Refusal). is_room x ≡ false) failed.is (look_refusal failed.fault failed.reads)
 
   pub seen_cause : (r : Result (Option Refusal) Refusal) → IfErr r (λ e. HasFailed Leads Fails e a b) → IfErr r (λ e. (s : State) → Sees Has meanings s a → is_damage e ≡ false)
       → IfErr r (λ e. (s : State) (g : Going) → StandsAt g x → IsOf s g → HasRefusalCause Fails e y)

@@ -23,13 +23,13 @@ use Rattle.sb_fold.specs.Extensions.{box_of}
 use Rattle.sb_fold.specs.Outcome.{Going, Queue}
 use Rattle.sb_deferred.specs.Complete.{AreMirrored, IsComplete}
 use Rattle.sb_cascade.specs.Fitting.{AllFit, AllMayStand}
-use Rattle.sb_drive.specs.Spaces.{Wanted}
+use Rattle.sb_drive.specs.Spaces.{IsReadFault, Wanted}
 use Rattle.sb_session.specs.declared.session.Savepoint.{Savepoint}
 use Rattle.sb_engine.specs.declared.running.Work.{Work}
 use Rattle.sb_engine.specs.Refusals.{refusal_of}
 use Rattle.sb_engine.specs.Working.{ArePaired, IsNoneGone, Stands, extensions_of, left_of}
 use Rattle.sb_engine.proofs.LateLemmas.{drop_first, drop_none}
-use Rattle.sb_execution.specs.Serving.{IsSeenIn, waiting_in}
+use Rattle.sb_execution.specs.Serving.{IsSeenIn, is_room, waiting_in}
 
 -- ---- descriptors
 pub describes : (m : Meanings) (root : ℕ) (s : Slots) (kept : List Kept) (name : Name) (db : Db) (d : Option Descriptor) → db ≡ db_of kept → Tables m IsDurable root s kept
@@ -190,6 +190,17 @@ free_refusal (fault.GatesFull used total) = refl
 free_refusal (fault.Damaged page) = refl
 free_refusal fault.Down = refl
 free_refusal fault.NoMemory = refl
+
+-- to a look no room is wanting
+pub look_refusal : (e : SpaceFault) → IsReadFault e → is_room (refusal_of e) ≡ false
+look_refusal fault.Fault reads = refl
+look_refusal (fault.DataFull used total) reads = absurd reads
+look_refusal (fault.TempFull used total) reads = absurd reads
+look_refusal (fault.LogFull used need total) reads = absurd reads
+look_refusal (fault.GatesFull used total) reads = absurd reads
+look_refusal (fault.Damaged page) reads = refl
+look_refusal fault.Down reads = refl
+look_refusal fault.NoMemory reads = refl
 
 -- that no page is called damaged is so of the refusal too
 pub undamaged_refusal : (e : SpaceFault) → IsSound e → is_damage (refusal_of e) ≡ false

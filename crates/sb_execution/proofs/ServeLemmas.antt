@@ -13,7 +13,7 @@ use Rattle.sb_registry.specs.Boxes.{Meanings, boxes_of}
 use Rattle.sb_registry.specs.Runs.{IsSound}
 use Rattle.sb_drive.specs.declared.space.SpaceFault.{SpaceFault}
 use Rattle.sb_drive.specs.Slots.{Slots}
-use Rattle.sb_drive.specs.Spaces.{IsRefused, Wanted}
+use Rattle.sb_drive.specs.Spaces.{IsReadFault, IsRefused, Wanted}
 use Rattle.sb_standing.specs.Standing.{Keeps}
 use Rattle.sb_standing.specs.Tables.{Kept, db_of}
 use Rattle.sb_engine.specs.Opened.{IsDurable}
@@ -28,7 +28,7 @@ use Rattle.sb_statements.specs.Statements.{MayWork}
 use Rattle.sb_statements.proofs.PosedLemmas.{tested-may-work}
 use Rattle.sb_execution.specs.declared.serving.Served.{Served}
 use Rattle.sb_execution.proofs.ReadLemmas.{may-read}
-use Rattle.sb_execution.proofs.SeenLemmas.{none_waits}
+use Rattle.sb_execution.proofs.SeenLemmas.{look_refusal, none_waits}
 
 -- ---- behind the tests
 module _ {S : Type 0} (Has : Wanted → Slots → S → Type 0) (Fails : SpaceFault → S → S → Type 0) (m : Meanings) (root : ℕ) (inside : Bool) (points : List Savepoint) (c : Command)
@@ -77,9 +77,9 @@ module _ {S : Type 0} (Has : Wanted → Slots → S → Type 0) (m : Meanings) (
       ap (λ (db : Db). read (extensions_of m) db c) same_db ∙ sym (is stands.want stands.slots w.gone.items stands.kept (extensions_of m) stands.has stands.keeps refl reads)
 
   -- a refused look
-  pub look_refused : (Fails : SpaceFault → S → S → Type 0) (Same : Type 0) (y : S) (e : SpaceFault) (r : Refusal) → r ≡ refusal_of e → IsRefused Same (Fails e x y) e
+  pub look_refused : (Fails : SpaceFault → S → S → Type 0) (Same : Type 0) (y : S) (e : SpaceFault) (r : Refusal) → r ≡ refusal_of e → IsReadFault e → IsRefused Same (Fails e x y) e
       → ((want : Wanted) (s : Slots) (gone : List ℕ) (kept : List Kept) → Has want s x → Keeps m IsDurable root s gone kept → MayRead (db_of kept) c → IsSound e)
       → IsUnserved Fails m s c g r y
-  look_refused Fails Same y e r is refused sound =
+  look_refused Fails Same y e r is looked refused sound =
       subst (λ (q : Refusal). IsUnserved Fails m s c g q y) (sym is)
-      (Looked (free_refusal e) (refused_cause Fails Same x y e refused (sound stands.want stands.slots w.gone.items stands.kept stands.has stands.keeps reads)))
+      (Looked (free_refusal e) (look_refusal e looked) (refused_cause Fails Same x y e refused (sound stands.want stands.slots w.gone.items stands.kept stands.has stands.keeps reads)))

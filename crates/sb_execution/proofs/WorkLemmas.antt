@@ -101,4 +101,4 @@ pub IsUnserved-map : {S T : Type 0} (P : SpaceFault → S → S → Type 0) (Q :
     → (HasRefusalCause P r a → HasRefusalCause Q r b) → IsUnserved P m s c g r a → IsUnserved Q m s c g r b
 IsUnserved-map P Q m s c g r a b gives (Tested is) = Tested is
 IsUnserved-map P Q m s c g r a b gives (Worked none unread refused) = Worked none unread (IsRefusedIn-map P Q m c g r a b gives refused)
-IsUnserved-map P Q m s c g r a b gives (Looked free cause) = Looked free (gives cause)
+IsUnserved-map P Q m s c g r a b gives (Looked free none cause) = Looked free none (gives cause)

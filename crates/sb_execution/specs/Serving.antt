@@ -1,6 +1,7 @@
 -- What comes of a command on an engine, for a state of the plain database.
 use Rattle.std.specs.Prelude.{◌≡◌, Bool, true, false, List, map, Some, None, IfSome}
 use Rattle.sb_fold.specs.declared.refusal.Refusal.{Refusal}
+use Rattle.sb_fold.specs.declared.refusal.Refusal.TheVariants as refusal
 use Rattle.sb_fold.specs.Outcome.{Going, Queue}
 use Rattle.sb_plain.specs.declared.command.Command.{Command}
 use Rattle.sb_plain.specs.declared.command.Command.TheVariants as command
@@ -71,10 +72,15 @@ IsServed IsSo m s c g (served.Read reply) new =
 IsServed IsSo m s c g (served.Worked answer) new =
     (refused (extensions_of m) s c ≡ None) × (read (extensions_of m) (view s) c ≡ None) × Makes IsSo m c g (answer_of answer) new
 
--- A command is refused: by a test; or by its work; or the space has refused a look at its pages.
+-- it says that room is wanting
+abbrev pub is_room : Refusal → Bool
+is_room (refusal.Room room) = true
+is_room r = false
+
+-- A command is refused: by a test; or by its work; or the space has refused a look at its pages, to which no room is wanting.
 pub data IsUnserved {S : Type 0} (Fails : SpaceFault → S → S → Type 0) (m : Meanings) (s : State) (c : Command)
     (g : Going) (r : Refusal) (new : S) : Type 0 where
   Tested : refused (extensions_of m) s c ≡ Some r → IsUnserved Fails m s c g r new
   Worked : refused (extensions_of m) s c ≡ None → read (extensions_of m) (view s) c ≡ None → IsRefusedIn Fails m c g r new
       → IsUnserved Fails m s c g r new
-  Looked : is_free r ≡ true → HasRefusalCause Fails r new → IsUnserved Fails m s c g r new
+  Looked : is_free r ≡ true → is_room r ≡ false → HasRefusalCause Fails r new → IsUnserved Fails m s c g r new

@@ -1,9 +1,11 @@
 //! The execution of a command.
 
 ghost use Rattle.std.specs.Prelude.{◌≡◌, false};
+ghost use Rattle.sb_journal.specs.State.{used_of};
 ghost use Rattle.sb_drive.specs.Spaces.{Wanted};
 ghost use Rattle.sb_engine.specs.Working.{extensions_of};
 ghost use Rattle.sb_plain.specs.State.{State};
+ghost use Rattle.sb_plain.specs.Step.{ok};
 ghost use Rattle.sb_plain.specs.declared.command.Command.TheVariants as plain;
 ghost use Rattle.sb_execution.specs.Serving.{IsPosedIn};
 ghost use Rattle.sb_execution.specs.Endings.{Executed};
@@ -36,6 +38,7 @@ pub fn exec<B: Vectors, D: Disk>(
     ensures ends { (want : Wanted) (s : State) → IsFor B.meanings D.told D.len want s disk.old session.old → IsPosedIn (B.meanings session.old.boxes) s command.now
         → Ends (StandsBehind B.meanings D.told D.len want (extensions_of (B.meanings session.old.boxes)) s command.now disk.old disk.new session.old session.new)
         (Lacks D.faults) (HasFailed D.faults disk.old disk.new) (extensions_of (B.meanings session.old.boxes)) s command.now result }
+    ensures empties { command.now ≡ plain.Checkpoint → result ≡ ok → used_of session.new.space.store.journal ≡ 0 }
     ensures same { AreSameBoxes (B.meanings session.old.boxes) (B.meanings session.new.boxes) }
     ensures keeps { KeepsSession D.len D.faults disk.old disk.new session.old session.new result }
     ensures runs { CanRun B.meanings D.told D.len disk.new session.new }
@@ -51,7 +54,8 @@ fn run<B: Vectors, D: Disk>(
     command: &Command,
 ) -> Reply
     requires runs { CanRun B.meanings D.told D.len disk.old session.old }
-    ensures { Executed B.meanings D.told D.len D.faults command.now disk.old disk.new session.old session.new result }
+    ensures ended { Executed B.meanings D.told D.len D.faults command.now disk.old disk.new session.old session.new result }
+    ensures empties { command.now ≡ plain.Checkpoint → result ≡ ok → used_of session.new.space.store.journal ≡ 0 }
 {
     if session.down {
         return Reply::Refused(Refusal::Down);

@@ -1,6 +1,6 @@
 //! What is tested of a command before anything changes.
 
-ghost use Rattle.std.specs.Prelude.{◌≡◌, true, IfErr, IfOk};
+ghost use Rattle.std.specs.Prelude.{◌≡◌, false, true, IfErr, IfOk};
 ghost use Rattle.sb_fold.specs.Outcome.{Going};
 ghost use Rattle.sb_engine.specs.Refusals.{HasRefusalCause};
 ghost use Rattle.sb_engine.specs.Working.{extensions_of};
@@ -8,7 +8,7 @@ ghost use Rattle.sb_engine.specs.Working as engine;
 ghost use Rattle.sb_cascade.specs.Runs.{is_free};
 ghost use Rattle.sb_plain.specs.Refusing.{refused};
 ghost use Rattle.sb_plain.specs.State.{State};
-ghost use Rattle.sb_execution.specs.Serving.{IsSeenIn};
+ghost use Rattle.sb_execution.specs.Serving.{IsSeenIn, is_room};
 
 use crate::seen::Seen;
 use sb_engine::Work;
@@ -42,6 +42,7 @@ pub(crate) fn refusal_over<B: Vectors, S: Owners>(
         → IsSeenIn (B.meanings boxes.now) inside points.now s g
         → engine.Stands S.has (B.meanings boxes.now) place.root g space.new work.now) }
     ensures free { IfErr result (λ r. is_free r ≡ true) }
+    ensures room { IfErr result (λ r. is_room r ≡ false) }
     ensures cause { IfErr result (λ r. (s : State) (g : Going) → engine.Stands S.has (B.meanings boxes.now) place.root g space.old work.now
         → IsSeenIn (B.meanings boxes.now) inside points.now s g → HasRefusalCause S.fails r space.new) }
     ensures leads { S.leads 0 space.old space.new }

@@ -12,7 +12,7 @@ ghost use Rattle.sb_engine.specs.Working.{extensions_of};
 ghost use Rattle.sb_engine.specs.Working as engine;
 ghost use Rattle.sb_plain.specs.Refusing.{refused};
 ghost use Rattle.sb_plain.specs.State.{State};
-ghost use Rattle.sb_execution.specs.Serving.{IsPosedIn, IsRefusedIn, IsSeenIn, IsServed, IsUnserved, Makes, MayServe};
+ghost use Rattle.sb_execution.specs.Serving.{IsPosedIn, IsRefusedIn, IsSeenIn, IsServed, IsUnserved, Makes, MayServe, is_room};
 ghost use Rattle.sb_statements.specs.Statements.{MayWork, answer_of};
 ghost use Rattle.sb_session.specs.Driven.{WorksOn};
 ghost use Rattle.sb_txn.specs.Clauses.{LeavesWanted};
@@ -200,6 +200,7 @@ pub(crate) fn test_in<B: Vectors, D: Disk>(
         → IsSeenIn (B.meanings boxes.now) inside points.now s g
         → IsAt (B.meanings boxes.now) place want transaction.now.tx.store.number g (parts D.told D.len disk.new space.new.store) transaction.now.work) }
     ensures free { IfErr result (λ r. is_free r ≡ true) }
+    ensures room { IfErr result (λ r. is_room r ≡ false) }
     ensures cause { IfErr result (λ r. (want : Wanted) (s : State) (g : Going)
         → IsAt (B.meanings boxes.now) place want transaction.now.tx.store.number g (parts D.told D.len disk.old space.old.store) transaction.now.work
         → IsSeenIn (B.meanings boxes.now) inside points.now s g

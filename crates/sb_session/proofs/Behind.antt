@@ -19,7 +19,7 @@ use Rattle.sb_txn.specs.Parts.{Parts}
 use Rattle.sb_transactions.specs.Working.{extensions_of}
 use Rattle.sb_session.specs.declared.session.Open.{Open}
 use Rattle.sb_session.specs.declared.session.Session.{Session}
-use Rattle.sb_session.specs.Ends.{Ends, IsFree, IsStep}
+use Rattle.sb_session.specs.Ends.{Ends, IsFree, IsStep, may_lack_room}
 use Rattle.sb_session.specs.Sessions.{HasFailed, IsFor, IsOpenFor, Lacks, StandsBehind, StandsFor, parts_of}
 
 -- ---- ends of other states
@@ -31,7 +31,7 @@ module _ (S T : State → Type 0) (Lacks : Room → Type 0) (HasFailed : Type 0)
   free-wider Cause now free = record { up = free.up; cause = free.cause; stands = wider now free.stands }
 
   pub Ends-wider : (r : Reply) → Ends S Lacks HasFailed ext s c r → Ends T Lacks HasFailed ext s c r
-  Ends-wider (reply.Refused (refusal.Room room)) ends = free-wider (Lacks room) s ends
+  Ends-wider (reply.Refused (refusal.Room room)) ends = free-wider (Lacks room × (may_lack_room s c ≡ true)) s ends
   Ends-wider (reply.Refused refusal.NoMemory) ends = free-wider (may_want_memory s c ≡ true) s ends
   Ends-wider (reply.Refused refusal.Fault) ends = free-wider HasFailed (downed s) ends
   Ends-wider (reply.Refused (refusal.Damaged page)) ends = ends

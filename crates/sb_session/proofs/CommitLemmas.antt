@@ -113,8 +113,8 @@ over_by S Lacks HasFailed ext s _ Failed not step failed damaged = failed refl
 over_by S Lacks HasFailed ext s _ (Broken page) not step failed damaged = absurd (damaged page refl)
 over_by S Lacks HasFailed ext s r (Wanting wanting) not step failed damaged = absurd (false≢true (sym not ∙ wanting))
 
-fault_memory : {A : Type 0} (r : Refusal) → r ≡ refusal.Fault → r ≡ refusal.NoMemory → A
-fault_memory r fault memory = absurd (cc)
+fault_wanting : {A : Type 0} (r : Refusal) → r ≡ refusal.Fault → is_wanting r ≡ true → A
+fault_wanting r fault wanting = absurd (false≢true (sym (ap is_wanting fault) ∙ wanting))
 
 -- want of room or memory doesn't end a session
 end_of_wanting : (r : Refusal) → is_wanting r ≡ true → is_end r ≡ false
@@ -391,12 +391,12 @@ module _ {B D : Type 0} (meanings : B → Meanings) (told : D → Option Story) 
               (λ on. subst (λ (a : Option PlainTransaction). IsOpenFor m x.place want (committed s) q (Some new) a) (sym (within want s for).is) (still_inside want s for));
         })
 
-        -- memory may be wanting where the definition says so, since something is left
-        may_want : r ≡ refusal.NoMemory → (want : Wanted) (s : State) → IsFor meanings told len want s d x → may_want_memory s command.Commit ≡ true
-        may_want is want s for =
+        -- room or memory may be wanting where the definition says so, since something is left
+        may_want : (want : Wanted) (s : State) → IsFor meanings told len want s d x → may_want_memory s command.Commit ≡ true
+        may_want want s for =
             let inside = within want s for in
             may_want_memory-commit s inside.of inside.is (λ none gone.
-            fault_memory r (quiet (record { queue = inside.inside.at.waits ∙ none; gone = inside.inside.at.gone gone })).is is)
+            fault_wanting r (quiet (record { queue = inside.inside.at.waits ∙ none; gone = inside.inside.at.gone gone })).is wanting)
 
         wanting_ends : (want : Wanted) (s : State) (for : IsFor meanings told len want s d x)
             → ((room : Room) × (r ≡ refusal.Room room)) ⊎ (r ≡ refusal.NoMemory)
@@ -405,10 +405,14 @@ module _ {B D : Type 0} (meanings : B → Meanings) (told : D → Option Story) 
             (λ (a : (room : Room) × (r ≡ refusal.Room room)).
             let stops = stopped want (going_on (within want s for).of) (at_commit want s for) in
             subst (λ (r : Refusal). Ends (Behind want s) (Lacks faults) (HasFailed faults d e) ext s command.Commit (reply.Refused r)) (sym a.1)
-            (record { up = up_for want s for; cause = record { at = stops.there; cause = room_stops faults (finish ext) (going_on (within want s for).of) a.0 r a.1 stops.there stops.stops }; stands = still_for want s for }))
+            (record {
+              up = up_for want s for;
+              cause = (record { at = stops.there; cause = room_stops faults (finish ext) (going_on (within want s for).of) a.0 r a.1 stops.there stops.stops }, may_want want s for);
+              stands = still_for want s for;
+            }))
             (λ (a : r ≡ refusal.NoMemory).
             subst (λ (r : Refusal). Ends (Behind want s) (Lacks faults) (HasFailed faults d e) ext s command.Commit (reply.Refused r)) (sym a)
-            (record { up = up_for want s for; cause = may_want a want s for; stands = still_for want s for }))
+            (record { up = up_for want s for; cause = may_want want s for; stands = still_for want s for }))
 
         pub Committed-wanting : Committed meanings told len faults d e x y (reply.Refused r)
         Committed-wanting = record {

@@ -1,14 +1,15 @@
 -- How a command ends.
-use Rattle.std.specs.Prelude.{◌≡◌, Bool, true, false, List, None, Result, Ok, Err}
+use Rattle.std.specs.Prelude.{◌≡◌, Bool, true, false, not, ◌&&◌, List, None, Result, Ok, Err}
 use Rattle.sb_relation.specs.Db.{Key}
 use Rattle.sb_fold.specs.declared.refusal.Room.{Room}
 use Rattle.sb_fold.specs.declared.refusal.Refusal.{Refusal}
 use Rattle.sb_fold.specs.declared.refusal.Refusal.TheVariants as refusal
 use Rattle.sb_fold.specs.Extensions.{Extensions}
 use Rattle.sb_plain.specs.declared.command.Command.{Command}
+use Rattle.sb_plain.specs.declared.command.Command.TheVariants as command
 use Rattle.sb_plain.specs.declared.reply.Reply.{Reply}
 use Rattle.sb_plain.specs.declared.reply.Reply.TheVariants.{Done, Refused}
-use Rattle.sb_plain.specs.Licences.{may_want_memory}
+use Rattle.sb_plain.specs.Licences.{has_no_actions, has_no_entries, has_none_gone, may_want_memory, may_want_room}
 use Rattle.sb_plain.specs.State.{downed}
 use Rattle.sb_plain.specs.Step.{Steps}
 use Rattle.sb_plain.specs.State.{State}
@@ -36,10 +37,15 @@ pub record IsFree (StandsFor : State → Type 0) (Cause : Type 0) (s now : State
   pub cause : Cause
   pub stands : StandsFor now
 
--- A command's reply, and what stands then: those of a step; or room was wanting, or memory, of a command that may want it, and the state stays; or
+-- A command of which room may be wanting: one that changes a database, or a commit that has something left to do.
+abbrev pub may_lack_room : State → Command → Bool
+may_lack_room s command.Commit = not (has_no_actions s && has_no_entries s && has_none_gone s)
+may_lack_room s c = may_want_room s c
+
+-- A command's reply, and what stands then: those of a step; or room was wanting, or memory, to a command to which it may be, and the state stays; or
 -- the disk failed a call, and the session is down. No page is damaged that stands for a state.
 abbrev pub Ends : (StandsFor : State → Type 0) (Lacks : Room → Type 0) (HasFailed : Type 0) → Extensions → State → Command → Reply → Type 0
-Ends StandsFor Lacks HasFailed ext s c (Refused (refusal.Room room)) = IsFree StandsFor (Lacks room) s s
+Ends StandsFor Lacks HasFailed ext s c (Refused (refusal.Room room)) = IsFree StandsFor (Lacks room × (may_lack_room s c ≡ true)) s s
 Ends StandsFor Lacks HasFailed ext s c (Refused refusal.NoMemory) = IsFree StandsFor (may_want_memory s c ≡ true) s s
 Ends StandsFor Lacks HasFailed ext s c (Refused refusal.Fault) = IsFree StandsFor HasFailed s (downed s)
 Ends StandsFor Lacks HasFailed ext s c (Refused (refusal.Damaged page)) = ⊥

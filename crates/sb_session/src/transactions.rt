@@ -1,6 +1,6 @@
 //! The begin and the end of transactions, and checkpoints.
 
-ghost use Rattle.std.specs.Prelude.{◌≡◌, OnOk};
+ghost use Rattle.std.specs.Prelude.{◌≡◌, IsErrOf, OnOk};
 ghost use Rattle.sb_journal.specs.State.{used_of};
 ghost use Rattle.sb_drive.specs.Spaces.{Wanted};
 ghost use Rattle.sb_transactions.specs.Working.{extensions_of};
@@ -25,6 +25,7 @@ impl<B: Vectors> Session<B> {
         ensures ends { (want : Wanted) (s : State) → IsFor B.meanings D.told D.len want s disk.old self.old
             → Ends (λ t. IsFor B.meanings D.told D.len want t disk.new self.new) (Lacks D.faults) (HasFailed D.faults disk.old disk.new)
             (extensions_of (B.meanings self.old.boxes)) s command.Begin (reply_of result) }
+        ensures memory { IsErrOf result Refusal.NoMemory → ⊥ }
         ensures any_moment { LeavesWanted (parts_of D.told D.len disk.old self.old) (parts_of D.told D.len disk.new self.new) }
         ensures boxes { self.new.boxes ≡ self.old.boxes }
         ensures keeps { KeepsSession D.len D.faults disk.old disk.new self.old self.new (reply_of result) }
@@ -79,6 +80,7 @@ impl<B: Vectors> Session<B> {
         ensures ends { (want : Wanted) (s : State) → IsFor B.meanings D.told D.len want s disk.old self.old
             → Ends (λ t. IsFor B.meanings D.told D.len want t disk.new self.new) (Lacks D.faults) (HasFailed D.faults disk.old disk.new)
             (extensions_of (B.meanings self.old.boxes)) s command.Checkpoint (reply_of result) }
+        ensures memory { IsErrOf result Refusal.NoMemory → ⊥ }
         ensures any_moment { LeavesWanted (parts_of D.told D.len disk.old self.old) (parts_of D.told D.len disk.new self.new) }
         ensures empties { OnOk result (used_of self.new.space.store.journal ≡ 0) }
         ensures boxes { self.new.boxes ≡ self.old.boxes }

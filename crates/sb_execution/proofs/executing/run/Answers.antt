@@ -5,15 +5,15 @@ use Rattle.sb_plain.specs.declared.reply.Reply.{Reply}
 use Rattle.sb_session.specs.Ends.{picked_reply, reply_of}
 use Rattle.sb_session.proofs.SameBoxes.{same-stays}
 use Rattle.sb_execution.specs.Endings.{Executed}
-use Rattle.sb_execution.proofs.ExecLemmas.{Executed-down, Executed-kept, Executed-moved, leaves_still}
+use Rattle.sb_execution.proofs.ExecLemmas.{Executed-down, Executed-kept, Executed-moved, emptied, leaves_still}
 use Rattle.sb_execution.proofs.executing.run.Goals as goal
 
-pub returns-then-session : goal.returns-then-session
-returns-then-session g c =
+pub returns-then-session-clause-ended : goal.returns-then-session-clause-ended
+returns-then-session-clause-ended g c =
     Executed-down g.B.Boxes.meanings g.D.Disk.told g.D.Disk.len g.D.Disk.faults c.args.command.now c.args.disk.now c.args.session.now c.requires.runs c.if-session.true
 
-pub returns-in-Begin : goal.returns-in-Begin
-returns-in-Begin g c =
+pub returns-in-Begin-clause-ended : goal.returns-in-Begin-clause-ended
+returns-in-Begin-clause-ended g c =
     let meanings = g.B.Boxes.meanings in
     let told = g.D.Disk.told in
     let len = g.D.Disk.len in
@@ -27,8 +27,8 @@ returns-in-Begin g c =
     (subst (λ (r : Reply). Executed meanings told len faults command.Begin d e x y r) (sym c.reply_of.ensures)
     (Executed-kept meanings told len faults command.Begin d e x y (reply_of c.begin.result) (same-stays (meanings x.boxes) (meanings y.boxes) (ap meanings did.boxes)) did.keeps did.runs (λ want s for posed. did.ends want s for) did.any_moment))
 
-pub returns-in-Abort : goal.returns-in-Abort
-returns-in-Abort g c =
+pub returns-in-Abort-clause-ended : goal.returns-in-Abort-clause-ended
+returns-in-Abort-clause-ended g c =
     let meanings = g.B.Boxes.meanings in
     let told = g.D.Disk.told in
     let len = g.D.Disk.len in
@@ -42,8 +42,8 @@ returns-in-Abort g c =
     (subst (λ (r : Reply). Executed meanings told len faults command.Abort d e x y r) (sym c.reply_of-in-Abort.ensures)
     (Executed-kept meanings told len faults command.Abort d e x y (reply_of c.abort.result) (same-stays (meanings x.boxes) (meanings y.boxes) (ap meanings did.boxes)) did.keeps did.runs (λ want s for posed. did.ends want s for) did.any_moment))
 
-pub returns-in-Checkpoint : goal.returns-in-Checkpoint
-returns-in-Checkpoint g c =
+pub returns-in-Checkpoint-clause-ended : goal.returns-in-Checkpoint-clause-ended
+returns-in-Checkpoint-clause-ended g c =
     let meanings = g.B.Boxes.meanings in
     let told = g.D.Disk.told in
     let len = g.D.Disk.len in
@@ -57,8 +57,11 @@ returns-in-Checkpoint g c =
     (subst (λ (r : Reply). Executed meanings told len faults command.Checkpoint d e x y r) (sym c.reply_of-in-Checkpoint.ensures)
     (Executed-kept meanings told len faults command.Checkpoint d e x y (reply_of c.checkpoint.result) (same-stays (meanings x.boxes) (meanings y.boxes) (ap meanings did.boxes)) did.keeps did.runs (λ want s for posed. did.ends want s for) did.any_moment))
 
-pub returns-in-Rollback : goal.returns-in-Rollback
-returns-in-Rollback g c =
+pub returns-in-Checkpoint-clause-empties : goal.returns-in-Checkpoint-clause-empties
+returns-in-Checkpoint-clause-empties g c = λ is went. emptied c.checkpoint.result c.reply_of-in-Checkpoint.result c.reply_of-in-Checkpoint.ensures c.checkpoint.ensures.empties went
+
+pub returns-in-Rollback-clause-ended : goal.returns-in-Rollback-clause-ended
+returns-in-Rollback-clause-ended g c =
     let meanings = g.B.Boxes.meanings in
     let told = g.D.Disk.told in
     let len = g.D.Disk.len in
@@ -72,8 +75,8 @@ returns-in-Rollback g c =
     (subst (λ (r : Reply). Executed meanings told len faults (command.Rollback c.in-Rollback.name) d e x y r) (sym c.reply_of-in-Rollback.ensures)
     (Executed-kept meanings told len faults (command.Rollback c.in-Rollback.name) d e x y (reply_of c.rollback.result) (same-stays (meanings x.boxes) (meanings y.boxes) (ap meanings did.boxes)) did.keeps did.runs (λ want s for posed. did.ends want s for) did.any_moment))
 
-pub returns-in-Savepoint : goal.returns-in-Savepoint
-returns-in-Savepoint g c =
+pub returns-in-Savepoint-clause-ended : goal.returns-in-Savepoint-clause-ended
+returns-in-Savepoint-clause-ended g c =
     let meanings = g.B.Boxes.meanings in
     let told = g.D.Disk.told in
     let len = g.D.Disk.len in
@@ -87,8 +90,8 @@ returns-in-Savepoint g c =
     (subst (λ (r : Reply). Executed meanings told len faults (command.Savepoint c.in-Savepoint.name) d e x y r) (sym c.reply_of-in-Savepoint.ensures)
     (Executed-kept meanings told len faults (command.Savepoint c.in-Savepoint.name) d e x y (reply_of c.savepoint.result) (same-stays (meanings x.boxes) (meanings y.boxes) (ap meanings did.boxes)) did.keeps did.runs (λ want s for posed. did.ends want s for) (leaves_still told len d e x y did.disk did.space)))
 
-pub returns-in-Register : goal.returns-in-Register
-returns-in-Register g c =
+pub returns-in-Register-clause-ended : goal.returns-in-Register-clause-ended
+returns-in-Register-clause-ended g c =
     let meanings = g.B.Boxes.meanings in
     let told = g.D.Disk.told in
     let len = g.D.Disk.len in
@@ -102,8 +105,8 @@ returns-in-Register g c =
     (subst (λ (r : Reply). Executed meanings told len faults (command.Register c.in-Register.method c.in-Register.code) d e x y r) (sym c.reply_of-in-Register.ensures)
     (Executed-kept meanings told len faults (command.Register c.in-Register.method c.in-Register.code) d e x y (reply_of c.register.result) did.same did.keeps did.runs (λ want s for posed. did.ends want s for) (leaves_still told len d e x y did.disk did.space)))
 
-pub returns-in-Commit : goal.returns-in-Commit
-returns-in-Commit g c =
+pub returns-in-Commit-clause-ended : goal.returns-in-Commit-clause-ended
+returns-in-Commit-clause-ended g c =
     let meanings = g.B.Boxes.meanings in
     let told = g.D.Disk.told in
     let len = g.D.Disk.len in
@@ -117,8 +120,8 @@ returns-in-Commit g c =
     (subst (λ (r : Reply). Executed meanings told len faults command.Commit d e x y r) (sym c.picked_reply.ensures)
     (Executed-moved meanings told len faults command.Commit d e x y (picked_reply c.commit.result) (same-stays (meanings x.boxes) (meanings y.boxes) (ap meanings did.boxes)) did.keeps did.runs (λ want s for posed. did.ends want s for)))
 
-pub returns-then-is_some : goal.returns-then-is_some
-returns-then-is_some g c =
+pub returns-then-is_some-clause-ended : goal.returns-then-is_some-clause-ended
+returns-then-is_some-clause-ended g c =
     let meanings = g.B.Boxes.meanings in
     let told = g.D.Disk.told in
     let len = g.D.Disk.len in
@@ -129,8 +132,8 @@ returns-then-is_some g c =
     let did = c.exec_inside.ensures in
     Executed-kept meanings told len faults c.args.command.now d c.exec_inside.new.disk x y c.exec_inside.result (same-stays (meanings x.boxes) (meanings y.boxes) (ap meanings did.boxes)) did.keeps did.runs (λ want s for posed. did.ends want s for posed) did.any_moment
 
-pub returns-else-is_some : goal.returns-else-is_some
-returns-else-is_some g c =
+pub returns-else-is_some-clause-ended : goal.returns-else-is_some-clause-ended
+returns-else-is_some-clause-ended g c =
     let meanings = g.B.Boxes.meanings in
     let told = g.D.Disk.told in
     let len = g.D.Disk.len in

@@ -78,7 +78,7 @@ returns-in-Err-tested-clause-refused g c =
     let ends = c.in-Ok-abort.ensures in
     EndsAlone-looked told len faults m place c.args.command.now d b e s bs t a a c.requires.up c.requires.owner begun.remains begun.any_moment begun.begun begun.at
     refl tests.usable tests.led tests.begun f u ends.any_moment ends.remains ends.none ends.rests
-    [] refl c.requires.may c.in-Err-tested.refusal c.in-Err-tested.ensures.free c.in-Err-tested.ensures.cause
+    [] refl c.requires.may c.in-Err-tested.refusal c.in-Err-tested.ensures.free c.in-Err-tested.ensures.room c.in-Err-tested.ensures.cause
 
 pub returns-in-Err-abort-clause-refused : goal.returns-in-Err-abort-clause-refused
 returns-in-Err-abort-clause-refused g c =

@@ -1,5 +1,5 @@
 use Rattle.std.proofs.Common.{refl, sym, subst}
-use Rattle.sb_execution.proofs.SeeingLemmas.{seen_cause, seen_free, seen_refused, seen_stands}
+use Rattle.sb_execution.proofs.SeeingLemmas.{seen_cause, seen_free, seen_refused, seen_room, seen_stands}
 use Rattle.sb_execution.proofs.seeing.refusal_over.Goals as goal
 
 pub returns : goal.returns
@@ -16,6 +16,7 @@ returns g c =
       refused = seen_refused Has Leads Fails g.B.Boxes.meanings _ _ looks x _ refl end command result c.refuse.ensures.refused;
       stands = seen_stands Has Leads Fails g.B.Boxes.meanings _ _ looks x _ refl end command result c.refuse.ensures.refused;
       free = seen_free Has Leads Fails g.B.Boxes.meanings _ _ looks x _ refl end command result c.refuse.ensures.fails;
+      room = seen_room Has Leads Fails g.B.Boxes.meanings _ _ looks x _ refl end command result c.refuse.ensures.fails;
       cause = seen_cause Has Leads Fails g.B.Boxes.meanings _ _ looks x _ refl end command result c.refuse.ensures.fails c.refuse.ensures.undamaged;
       leads = subst (λ z. Leads 0 x z) end looks.leads;
       ready = subst (λ z. g.S.PageSpace.is_ready z) end c.refuse.ensures.ready.ready;

@@ -20,7 +20,7 @@ pub returns-in-Ok-Some-clause-refused : goal.returns-in-Ok-Some-clause-refused
 returns-in-Ok-Some-clause-refused g c = λ s h stands seen posed. Tested (sym (c.in-Ok-Some.ensures.refused s h stands seen) ∙ c.in-Ok-Some.field-0-is)
 
 pub returns-in-Err-clause-refused : goal.returns-in-Err-clause-refused
-returns-in-Err-clause-refused g c = λ s h stands seen posed. Looked c.in-Err.ensures.free (c.in-Err.ensures.cause s h stands seen)
+returns-in-Err-clause-refused g c = λ s h stands seen posed. Looked c.in-Err.ensures.free c.in-Err.ensures.room (c.in-Err.ensures.cause s h stands seen)
 
 -- ---- calls
 pub returns-in-Ok-None-clause-works : goal.returns-in-Ok-None-clause-works

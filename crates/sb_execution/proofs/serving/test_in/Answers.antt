@@ -31,6 +31,7 @@ returns g c =
       refused = tested-lent told len faults m place disk store tx a b v v is works ready _ same c.args.inside c.args.points.now c.args.command.now c.refusal_over.result did.refused;
       at = stays-lent told len faults m place disk store tx a b v v is works ready _ same c.args.inside c.args.points.now c.args.command.now c.refusal_over.result did.stands;
       free = did.free;
+      room = did.room;
       cause = untested-lent told len faults m place disk store tx a b v v is works ready _ same c.args.inside c.args.points.now c.args.command.now c.refusal_over.result did.cause;
       points = points-lent told len faults m place disk store tx a b v v is works ready _ same;
       stand = stand-lent told len faults m place disk store tx a b v v is works ready _ same;
