@@ -1,5 +1,7 @@
 -- What a run has done, after one line more.
 use Rattle.std.proofs.Common.{◌≡◌, ℕ, ◌+◌, ◌≤◌, Bool, true, false, Option, Result, Ok, Err, List, [], ◌∷◌, ◌++◌, length, refl, sym, ◌∙◌, ap, subst, inl, inr, arith, length-append}
+use Rattle.std.proofs.lemmas.List.{append-nil}
+use Rattle.std.proofs.lemmas.List.Elements.{All-push}
 use Rattle.sb_disk.specs.Disk.{Fits}
 use Rattle.sb_disk.specs.Streams.{Given}
 use Rattle.sb_disk.proofs.StreamLemmas.{Given-more}
@@ -13,7 +15,8 @@ use Rattle.sb_opening.specs.Session.{Session}
 use Rattle.sb_kernel.specs.declared.ending.Stop.{Stop}
 use Rattle.sb_kernel.specs.declared.ending.Stop.TheVariants.{SinkFailed, NoMemory, DiskFailed, Damaged}
 use Rattle.sb_kernel.specs.World.{World, At, at}
-use Rattle.sb_kernel.specs.Ending.{SaysWhy, EndsOrNot, WritesAtStop}
+use Rattle.sb_kernel.specs.Ending.{AnswersBad, AreAnswered, GoOn, GoOnButLast, SaysWhy, EndsOrNot, WritesAtStop}
+use Rattle.sb_opening.specs.Ends.{ends_with}
 use Rattle.sb_kernel.specs.Writing.{GivenFront}
 use Rattle.sb_kernel.specs.Answering.{HasReplied}
 use Rattle.sb_kernel.specs.Runs.{PlaysOn, HasAnswered, HasStopped, LinesLead}
@@ -31,6 +34,8 @@ passes_over w m lines line first now passed answered = record {
   begun = answered.begun;
   each = answered.each;
   are_items = AreItems-passed lines answered.items line answered.are_items passed;
+  are_answered = answered.are_answered;
+  on = answered.on;
   writes = answered.writes;
   later = answered.later;
   plays = answered.plays;
@@ -64,12 +69,29 @@ Given-alone old new bytes out cleared text same printed empty given = subst (λ 
 pub GivenFront-alone : (old new : Option (List ℕ)) (bytes out cleared text : List ℕ) → bytes ≡ out → out ≡ cleared ++ text → cleared ≡ [] → GivenFront old new bytes → GivenFront old new text
 GivenFront-alone old new bytes out cleared text same printed empty given = subst (λ (l : List ℕ). GivenFront old new l) (alone bytes out cleared text same printed empty) given
 
+-- ---- replies, one more
+AreAnswered-push : (items : List Item) (replies : List Reply) (item : Item) (reply : Reply) → AreAnswered items replies → AnswersBad item reply → AreAnswered (items ++ item ∷ []) (replies ++ reply ∷ [])
+AreAnswered-push [] [] item reply are bad = (bad, tt)
+AreAnswered-push [] (r ∷ replies) item reply are bad = absurd are
+AreAnswered-push (i ∷ items) [] item reply are bad = absurd are
+AreAnswered-push (i ∷ items) (r ∷ replies) item reply are bad = (are.0, AreAnswered-push items replies item reply are.1 bad)
+
+abbrev GoesOn : Reply → Type 0
+GoesOn reply = ends_with reply ≡ false
+
+GoOn-push : (replies : List Reply) (reply : Reply) → GoOn replies → ends_with reply ≡ false → GoOn (replies ++ reply ∷ [])
+GoOn-push replies reply on last = All-push GoesOn replies reply on last
+
+but_last : (replies : List Reply) (reply : Reply) → GoOn replies → GoOnButLast (replies ++ reply ∷ [])
+but_last replies reply on = record { first = replies; others = reply ∷ []; are = refl; few = omega arith; on = on }
+
 -- the run's part that has no regard to what was written
 record HasBegun {B D : Type 0} (w : World B D) (m : Meanings) (lines : List (List ℕ)) (replies : List Reply) (first now : At B D) : Type 0 where
   items : List Item
   begun : length items ≡ length now.starts
   each : length replies ≡ length items
   are_items : AreItems (asking lines) items
+  are_answered : AreAnswered items replies
   later : w.faults first.disk ≤ w.faults now.disk
   plays : PlaysOn w m items replies first now
 
@@ -89,6 +111,7 @@ begins w fits m lines line reply first old now one answered = record {
   begun = length-begun answered.items one.replied.item old.starts now.starts (w.clock old.disk) answered.begun one.starts;
   each = length-replied answered.replies reply answered.items one.replied.item answered.each;
   are_items = AreItems-said lines answered.items line one.replied.item answered.are_items one.said one.replied.is_item;
+  are_answered = AreAnswered-push answered.items answered.replies one.replied.item reply answered.are_answered one.replied.bad;
   later = still_later (w.faults first.disk) (w.faults old.disk) (w.faults now.disk) answered.later one.later;
   plays = subst (λ (starts : List ℕ). PlaysOn w m (answered.items ++ one.replied.item ∷ []) (answered.replies ++ reply ∷ []) first (at now.disk now.session now.held starts)) (sym one.starts)
       (PlaysOn-more w fits m answered.items answered.replies first old.disk now.disk old.session now.session old.held now.held old.starts (without_return line) reply answered.later one.later answered.plays one.replied);
@@ -96,8 +119,8 @@ begins w fits m lines line reply first old now one answered = record {
 
 -- a line that was answered
 pub answers : {B D : Type 0} (w : World B D) (fits : (d : D) → Fits (w.len d) (w.clock d) (w.told d)) (m : Meanings) (lines : List (List ℕ)) (line : List ℕ) (reply : Reply) (first old now : At B D) →
-    IsAnswered w line reply old now → Given old.held now.held (reply_text reply) → HasAnswered w m lines first old → HasAnswered w m (lines ++ line ∷ []) first now
-answers w fits m lines line reply first old now one given answered =
+    ends_with reply ≡ false → IsAnswered w line reply old now → Given old.held now.held (reply_text reply) → HasAnswered w m lines first old → HasAnswered w m (lines ++ line ∷ []) first now
+answers w fits m lines line reply first old now on one given answered =
     let h = begins w fits m lines line reply first old now one answered in
     record {
       items = h.items;
@@ -107,6 +130,8 @@ answers w fits m lines line reply first old now one given answered =
       begun = h.begun;
       each = h.each;
       are_items = h.are_items;
+      are_answered = h.are_answered;
+      on = GoOn-push answered.replies reply answered.on on;
       writes = ap (λ (text : List ℕ). text ++ reply_text reply) answered.writes ∙ sym (text_of-push answered.replies reply);
       later = h.later;
       plays = h.plays;
@@ -125,6 +150,8 @@ stops_at_sink w fits m lines line reply first old now one given answered =
       begun = h.begun;
       each = h.each;
       are_items = AreFirstItems-all (asking (lines ++ line ∷ [])) h.items h.are_items;
+      are_answered = h.are_answered;
+      on = but_last answered.replies reply answered.on;
       replied = more_written lines (answered.replies ++ reply ∷ []) answered.written given.written (more_replies lines answered.replies (reply ∷ []) answered.written (all_replied w m lines first old answered));
       writes = record { written = answered.replies; last = reply; part = given.written; are = refl; breaks_off = given.front; is_text = ap (λ (text : List ℕ). text ++ given.written) answered.writes };
       later = h.later;
@@ -144,6 +171,8 @@ stops_unprinted w fits m lines line reply first old now one same answered =
       begun = h.begun;
       each = h.each;
       are_items = AreFirstItems-all (asking (lines ++ line ∷ [])) h.items h.are_items;
+      are_answered = h.are_answered;
+      on = but_last answered.replies reply answered.on;
       replied = more_replies lines answered.replies (reply ∷ []) answered.written (all_replied w m lines first old answered);
       writes = inr (record { written = answered.replies; last = reply; are = refl; is_text = answered.writes });
       later = h.later;
@@ -170,6 +199,8 @@ stops_behind w fits m lines line reply stop first old now why one given answered
       begun = h.begun;
       each = h.each;
       are_items = AreFirstItems-all (asking (lines ++ line ∷ [])) h.items h.are_items;
+      are_answered = h.are_answered;
+      on = but_last answered.replies reply answered.on;
       replied = more_written lines (answered.replies ++ reply ∷ []) answered.written (reply_text reply) (more_replies lines answered.replies (reply ∷ []) answered.written (all_replied w m lines first old answered));
       writes = says_last stop answered.replies reply (answered.written ++ reply_text reply) why all;
       later = h.later;
@@ -179,7 +210,7 @@ stops_behind w fits m lines line reply stop first old now why one given answered
 -- a line whose reply was written in full
 pub leads_on : {B D : Type 0} (w : World B D) (fits : (d : D) → Fits (w.len d) (w.clock d) (w.told d)) (m : Meanings) (lines : List (List ℕ)) (line : List ℕ) (reply : Reply) (result : Result (Unit {0}) Stop) (first old now : At B D) →
     EndsOrNot reply result → IsAnswered w line reply old now → Given old.held now.held (reply_text reply) → HasAnswered w m lines first old → LinesLead w m result lines (lines ++ line ∷ []) first now
-leads_on w fits m lines line reply (Ok x) first old now ends one given answered = answers w fits m lines line reply first old now one given answered
+leads_on w fits m lines line reply (Ok x) first old now ends one given answered = answers w fits m lines line reply first old now ends one given answered
 leads_on w fits m lines line reply (Err stop) first old now ends one given answered = stops_behind w fits m lines line reply stop first old now ends one given answered
 
 -- a run that couldn't go on behind some lines
@@ -192,8 +223,10 @@ stops_between w m lines others first now answered = record {
   begun = answered.begun;
   each = answered.each;
   are_items = AreFirstItems-asking lines others answered.items (AreFirstItems-all (asking lines) answered.items answered.are_items);
+  are_answered = answered.are_answered;
+  on = record { first = answered.replies; others = []; are = sym (append-nil answered.replies); few = omega arith; on = answered.on };
   replied = all_replied w m lines first now answered;
-  writes = inl answered.writes;
+  writes = inl (answered.on, answered.writes);
   later = answered.later;
   plays = answered.plays;
 }
@@ -218,6 +251,8 @@ HasAnswered-as w m lines same first now say answered = record {
   begun = answered.begun;
   each = answered.each;
   are_items = say answered.items answered.are_items;
+  are_answered = answered.are_answered;
+  on = answered.on;
   writes = answered.writes;
   later = answered.later;
   plays = answered.plays;
@@ -233,6 +268,8 @@ HasStopped-as w m stop early lines same first now say stopped = record {
   begun = stopped.begun;
   each = stopped.each;
   are_items = say stopped.items stopped.are_items;
+  are_answered = stopped.are_answered;
+  on = stopped.on;
   replied = stopped.replied;
   writes = stopped.writes;
   later = stopped.later;

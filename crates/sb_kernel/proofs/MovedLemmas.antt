@@ -60,6 +60,7 @@ pub HasReplied-bad : {B D : Type 0} (w : World B D) (line : List ℕ) (column : 
 HasReplied-bad w line column d x up is = record {
   item = Bad column;
   is_item = is;
+  bad = refl;
   moves = λ m s now single. record {
     state = s;
     moves = record {
@@ -132,4 +133,4 @@ module _ {B D : Type 0} (w : World B D) (c : Command) (old new : D) (x y : Sessi
       }
 
   pub HasReplied-command : (line : List ℕ) → IsItem line (Says c) → HasReplied w line old new x y reply
-  HasReplied-command line item = record { item = Says c; is_item = item; moves = moved line item }
+  HasReplied-command line item = record { item = Says c; is_item = item; bad = tt; moves = moved line item }

@@ -1,12 +1,15 @@
 -- Serving the input, a piece at a time.
-use Rattle.std.proofs.Common.{◌≡◌, ℕ, ◌+◌, ◌<◌, ◌≤◌, Option, Some, None, List, [], ◌++◌, length, take, drop, refl, sym, ◌∙◌, ap, subst, arith, length-append}
+use Rattle.std.proofs.Common.{◌≡◌, ℕ, ◌+◌, ◌<◌, ◌≤◌, false, Option, Some, None, List, [], ◌++◌, length, take, drop, refl, sym, ◌∙◌, ap, subst, arith, length-append, inl, inr}
 use Rattle.std.proofs.lemmas.List.{append-nil, length-take-le, drop_all}
+use Rattle.std.proofs.lemmas.List.Elements.{All-nil}
 use Rattle.sb_disk.specs.Streams.{Taken, Took}
 use Rattle.sb_disk.proofs.StreamLemmas.{Given-none, Taken-none, Taken-more, Taken-took}
+use Rattle.sb_plain.specs.declared.reply.Reply.{Reply}
 use Rattle.sb_lines.specs.Lines.{whole_lines, lines_of}
 use Rattle.sb_lines.proofs.InputLemmas.{AreFirstItems-whole}
 use Rattle.sb_registry.specs.Boxes.{Meanings}
 use Rattle.sb_opening.specs.Session.{Session}
+use Rattle.sb_opening.specs.Ends.{ends_with}
 use Rattle.sb_kernel.specs.declared.ending.Stop.{Stop}
 use Rattle.sb_kernel.specs.declared.ending.Stop.TheVariants.{SinkFailed, NoMemory, DiskFailed, Damaged}
 use Rattle.sb_kernel.specs.declared.ending.Ending.{Ending}
@@ -14,7 +17,7 @@ use Rattle.sb_kernel.specs.declared.ending.Ending.TheVariants.{InputEnded, Sourc
 use Rattle.sb_kernel.specs.World.{World, At, at}
 use Rattle.sb_kernel.specs.Answering.{Closes}
 use Rattle.sb_kernel.specs.Runs.{PlaysOut, HasAnswered, HasStopped, Stands}
-use Rattle.sb_kernel.specs.Serving.{Counts, counted, NeverFall, HasEndingCause, LeavesInput, Serves, ServesMore, HasEnded, HasServed}
+use Rattle.sb_kernel.specs.Serving.{Counts, counted, NeverFall, HasEndingCause, HasNoneLeft, Serves, ServesMore, HasEnded, HasServed}
 use Rattle.sb_kernel.proofs.PlayedLemmas.{HasPlayed-none, PlaysOut-closed}
 
 more_room : (n room : ℕ) → n ≤ n + room
@@ -34,6 +37,8 @@ stands_first w m line disk x held empty = record {
     begun = refl;
     each = refl;
     are_items = tt;
+    are_answered = tt;
+    on = All-nil (λ (reply : Reply). ends_with reply ≡ false);
     writes = refl;
     later = omega arith;
     plays = λ s now single. HasPlayed-none w m disk x s held now;
@@ -50,7 +55,7 @@ serves_first {B} w m left line disk x y held starts same empty none = record {
 }
 
 -- ---- the end of the source
-at_end : (left new : Option (List ℕ)) (count : ℕ) (buffer : List ℕ) → Took left new count buffer → count ≡ 0 → 0 < length buffer → LeavesInput InputEnded new
+at_end : (left new : Option (List ℕ)) (count : ℕ) (buffer : List ℕ) → Took left new count buffer → count ≡ 0 → 0 < length buffer → HasNoneLeft new
 at_end None new count buffer took none room rest is = absurd (let e = took in cc)
 at_end (Some left) new count buffer took none room rest is =
     let empty : left ≡ [] = (took.at_end room).0 none in
@@ -73,6 +78,9 @@ ends_with_input w m bytes left old new line first now last room count buffer ask
   is_written = a.is_written;
   begun = a.begun;
   answers = a.are_items;
+  whole = tt;
+  are_answered = a.are_answered;
+  once = a.on;
   leaves = at_end old new count buffer took none some;
   within = below_room (length bytes) room asked;
   writes = a.writes;
@@ -81,8 +89,8 @@ ends_with_input w m bytes left old new line first now last room count buffer ask
 }
 
 pub stops_at_last_line : {B D : Type 0} (w : World B D) (m : Meanings) (stop : Stop) (bytes : List ℕ) (left old new : Option (List ℕ)) (line : List ℕ) (first now last : At B D) (room count : ℕ) (buffer : List ℕ) →
-    Serves w m bytes left old line first now → Took old new count buffer → count ≡ 0 → HasStopped w m stop (whole_lines bytes) (lines_of bytes) first last → HasEnded w m (length bytes + room) left new (Stopped stop) first last
-stops_at_last_line w m stop bytes left old new line first now last room count buffer serves took none h = record {
+    Serves w m bytes left old line first now → Took old new count buffer → count ≡ 0 → 0 < length buffer → HasStopped w m stop (whole_lines bytes) (lines_of bytes) first last → HasEnded w m (length bytes + room) left new (Stopped stop) first last
+stops_at_last_line w m stop bytes left old new line first now last room count buffer serves took none some h = record {
   taken = bytes;
   written = h.written;
   items = h.items;
@@ -91,6 +99,9 @@ stops_at_last_line w m stop bytes left old new line first now last room count bu
   is_written = h.is_written;
   begun = h.begun;
   answers = h.are_items;
+  whole = inr (at_end old new count buffer took none some);
+  are_answered = h.are_answered;
+  once = h.on;
   leaves = tt;
   within = more_room (length bytes) room;
   writes = h.writes;
@@ -112,6 +123,9 @@ ends_with_fault w m bytes left old new line first now room asked same serves =
       is_written = a.is_written;
       begun = a.begun;
       answers = a.are_items;
+      whole = tt;
+      are_answered = a.are_answered;
+      once = a.on;
       leaves = tt;
       within = below_room (length bytes) room asked;
       writes = a.writes;
@@ -149,6 +163,9 @@ stops_in_piece w m stop bytes left old new line first now last room count buffer
   is_written = h.is_written;
   begun = h.begun;
   answers = AreFirstItems-whole (bytes ++ take count buffer) h.items h.are_items;
+  whole = inl h.are_items;
+  are_answered = h.are_answered;
+  once = h.on;
   leaves = tt;
   within = piece_fits bytes buffer count room few fits;
   writes = h.writes;
@@ -187,6 +204,9 @@ ends_with_most w m taken most left left_now line first now is some =
       is_written = a.is_written;
       begun = a.begun;
       answers = a.are_items;
+      whole = tt;
+      are_answered = a.are_answered;
+      once = a.on;
       leaves = tt;
       within = some.count_is ∙ is;
       writes = a.writes;
@@ -207,6 +227,9 @@ HasServed-closed w m most left left_now ending first disk new x y held starts no
   is_written = ended.is_written;
   begun = ended.begun ∙ ap length (sym same);
   answers = ended.answers;
+  whole = ended.whole;
+  are_answered = ended.are_answered;
+  once = ended.once;
   leaves = ended.leaves;
   within = ended.within;
   writes = ended.writes;

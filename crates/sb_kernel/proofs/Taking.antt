@@ -79,6 +79,8 @@ HasStopped-grow w m stop early some bytes more first now stopped = record {
   begun = stopped.begun;
   each = stopped.each;
   are_items = AreFirstItems-grow bytes more stopped.items stopped.are_items;
+  are_answered = stopped.are_answered;
+  on = stopped.on;
   replied = first_replied (whole_lines early) (whole_lines-grow early some).others stopped.replies stopped.written
       (subst (λ (lines : List (List ℕ)). AreReplied lines stopped.replies stopped.written) (whole_lines-grow early some).is stopped.replied);
   writes = stopped.writes;

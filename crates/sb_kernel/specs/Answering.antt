@@ -12,6 +12,7 @@ use Rattle.sb_opening.specs.Session.{Session}
 use Rattle.sb_opening.specs.Sessions.{Lacks}
 use Rattle.sb_kernel.specs.World.{World, IsNow}
 use Rattle.sb_kernel.specs.Plays.{MovesBy}
+use Rattle.sb_kernel.specs.Ending.{AnswersBad}
 use Rattle.sb_kernel.specs.Crashes.{HoldsDatabase, IsLeft}
 
 -- The item has this reply in this state, and leads to one that the session stands for. Meanwhile a crash leaves the last commit, or the next one.
@@ -21,10 +22,12 @@ pub record HasMoved {B D : Type 0} (w : World B D) (m : Meanings) (s : State) (i
   pub now : IsNow w m new y state
   pub leaves : LeavesOnly (w.told old) (w.told new) (IsLeft m s item state)
 
--- So it is of what the line says, in every state that the session stands for, with boxes that live together.
+-- So it is of what the line says, in every state that the session stands for, with boxes that live together. A bad line has its reply whatever the
+-- session stands for.
 pub record HasReplied {B D : Type 0} (w : World B D) (line : List ℕ) (old new : D) (x y : Session B) (reply : Reply) : Type 0 where
   pub item : Item
   pub is_item : IsItem line item
+  pub bad : AnswersBad item reply
   pub moves : (m : Meanings) (s : State) → IsNow w m old x s → AreSingle (all_live m) → HasMoved w m s item reply old new y
 
 -- What a close leaves: while a session isn't down a crash goes on leaving its last commit, and one that is down is left alone.

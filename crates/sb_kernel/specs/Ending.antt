@@ -1,9 +1,10 @@
 -- How a run ends, and what has been written by then.
-use Rattle.std.specs.Prelude.{◌≡◌, ◌≤◌, ◌⊎◌, ℕ, false, List, [], ◌∷◌, ◌++◌, length, Result, Err, Ok}
+use Rattle.std.specs.Prelude.{◌≡◌, ◌≤◌, ◌⊎◌, ℕ, false, List, [], ◌∷◌, ◌++◌, All, length, Result, Err, Ok}
 use Rattle.sb_fold.specs.declared.refusal.Refusal.TheVariants as refusal
 use Rattle.sb_plain.specs.declared.reply.Reply.{Reply}
 use Rattle.sb_plain.specs.declared.reply.Reply.TheVariants.{Refused}
 use Rattle.sb_plain.specs.Text.{reply_text, text_of}
+use Rattle.sb_grammar.specs.Columns.{Item, Says, Bad}
 use Rattle.sb_disk.specs.Causes.{Rose}
 use Rattle.sb_lines.specs.Lines.{asking}
 use Rattle.sb_opening.specs.Ends.{ends_with}
@@ -33,6 +34,31 @@ abbrev pub EndsOrNot : Reply → Result (Unit {0}) Stop → Type 0
 EndsOrNot reply (Ok x) = ends_with reply ≡ false
 EndsOrNot reply (Err stop) = SaysWhy stop reply
 
+-- ---- what is so of replies whatever the pages hold
+-- a bad line is answered by the column of its fault
+abbrev pub AnswersBad : Item → Reply → Type 0
+AnswersBad (Bad column) reply = reply ≡ Refused (refusal.Syntax column)
+AnswersBad (Says c) reply = Unit {0}
+
+-- each item has one reply
+abbrev pub AreAnswered : List Item → List Reply → Type 0
+AreAnswered [] [] = Unit {0}
+AreAnswered (item ∷ items) (reply ∷ replies) = AnswersBad item reply × AreAnswered items replies
+AreAnswered _ _ = ⊥
+
+-- none of the replies ends the session
+abbrev pub GoOn : List Reply → Type 0
+GoOn replies = All (λ reply. ends_with reply ≡ false) replies
+
+-- none but the last of them does
+pub record GoOnButLast (replies : List Reply) : Type 0 where
+  pub first : List Reply
+  pub others : List Reply
+  pub are : replies ≡ first ++ others
+  pub few : length others ≤ 1
+  pub on : GoOn first
+
+-- ---- what was written
 -- the sink's count of faults never falls, and the stop SinkFailed comes only where it rose
 pub record SinkCause {A : Type 0} (before now : ℕ) (result : Result A Stop) : Type 0 where
   pub later : before ≤ now
@@ -82,10 +108,10 @@ pub record AreReplied (lines : List (List ℕ)) (replies : List Reply) (bytes : 
   pub front : IsFront (text_of first) bytes
 
 -- What was written where a run stops between two lines. A sink may fail at any call, and all items but the last have their replies then: so no item
--- begins while a reply is still to be written.
+-- begins while a reply is still to be written. Where memory was wanting with all replies written, none of them ended the session.
 abbrev pub WritesAtStop : Stop → List Reply → List ℕ → Type 0
 WritesAtStop SinkFailed replies bytes = LacksEnd replies bytes
-WritesAtStop NoMemory replies bytes = (bytes ≡ text_of replies) ⊎ LacksLast replies bytes
+WritesAtStop NoMemory replies bytes = (GoOn replies × (bytes ≡ text_of replies)) ⊎ LacksLast replies bytes
 WritesAtStop DiskFailed replies bytes = SaysLast DiskFailed replies bytes
 WritesAtStop Damaged replies bytes = SaysLast Damaged replies bytes
 
@@ -93,3 +119,8 @@ WritesAtStop Damaged replies bytes = SaysLast Damaged replies bytes
 abbrev pub WritesAtEnd : Ending → List Reply → List ℕ → Type 0
 WritesAtEnd (Stopped stop) replies bytes = WritesAtStop stop replies bytes
 WritesAtEnd _ replies bytes = bytes ≡ text_of replies
+
+-- a reply that ends the session is the last one, and the run stops behind it
+abbrev pub EndsOnce : Ending → List Reply → Type 0
+EndsOnce (Stopped stop) replies = GoOnButLast replies
+EndsOnce _ replies = GoOn replies

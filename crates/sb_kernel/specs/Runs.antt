@@ -17,7 +17,7 @@ use Rattle.sb_kernel.specs.declared.ending.Stop.{Stop}
 use Rattle.sb_kernel.specs.World.{World, At, IsNow}
 use Rattle.sb_kernel.specs.Plays.{Plays, last_state}
 use Rattle.sb_kernel.specs.Crashes.{HoldsDatabase, LeavesAlong, next_start}
-use Rattle.sb_kernel.specs.Ending.{AreReplied, WritesAtStop}
+use Rattle.sb_kernel.specs.Ending.{AreAnswered, AreReplied, GoOn, GoOnButLast, WritesAtStop}
 
 -- what is told goes on: earlier moments are as they were
 pub record GoesOn (old new : Option Story) : Type 0 where
@@ -81,6 +81,8 @@ pub record HasAnswered {B D : Type 0} (w : World B D) (m : Meanings) (lines : Li
   pub begun : length items ≡ length now.starts
   pub each : length replies ≡ length items
   pub are_items : AreItems (asking lines) items
+  pub are_answered : AreAnswered items replies
+  pub on : GoOn replies
   pub writes : written ≡ text_of replies
   pub later : w.faults first.disk ≤ w.faults now.disk
   pub plays : PlaysOn w m items replies first now
@@ -94,6 +96,8 @@ pub record HasStopped {B D : Type 0} (w : World B D) (m : Meanings) (stop : Stop
   pub begun : length items ≡ length now.starts
   pub each : length replies ≡ length items
   pub are_items : AreFirstItems (asking lines) items
+  pub are_answered : AreAnswered items replies
+  pub on : GoOnButLast replies
   pub replied : AreReplied early replies written
   pub writes : WritesAtStop stop replies written
   pub later : w.faults first.disk ≤ w.faults now.disk

@@ -1,5 +1,5 @@
 -- Input that is taken a piece at a time, and how a run over it ends.
-use Rattle.std.specs.Prelude.{◌≡◌, ℕ, ◌+◌, ◌<◌, ◌≤◌, Bool, false, List, [], ◌++◌, length, Option, Some}
+use Rattle.std.specs.Prelude.{◌≡◌, ◌⊎◌, ℕ, ◌+◌, ◌<◌, ◌≤◌, Bool, false, List, [], ◌++◌, length, Option, Some}
 use Rattle.std.specs.declared.ops.ControlFlow.{ControlFlow}
 use Rattle.std.specs.declared.ops.ControlFlow.TheVariants.{Break, Continue}
 use Rattle.sb_disk.specs.Causes.{Rose}
@@ -12,7 +12,7 @@ use Rattle.sb_kernel.specs.declared.ending.Stop.TheVariants.{SinkFailed}
 use Rattle.sb_kernel.specs.declared.ending.Ending.{Ending}
 use Rattle.sb_kernel.specs.declared.ending.Ending.TheVariants.{InputEnded, SourceFailed, MostTaken, Stopped}
 use Rattle.sb_kernel.specs.World.{World, At}
-use Rattle.sb_kernel.specs.Ending.{AreReplied, WritesAtEnd}
+use Rattle.sb_kernel.specs.Ending.{AreAnswered, AreReplied, EndsOnce, WritesAtEnd}
 use Rattle.sb_kernel.specs.Runs.{PlaysOn, PlaysOut, Stands}
 
 -- ---- how a run ends
@@ -23,10 +23,19 @@ AnswersItems SourceFailed taken items = AreItems (asking (whole_lines taken)) it
 AnswersItems MostTaken taken items = AreItems (asking (whole_lines taken)) items
 AnswersItems (Stopped stop) taken items = AreFirstItems (asking (lines_of taken)) items
 
+-- no byte is left of the input
+abbrev pub HasNoneLeft : Option (List ℕ) → Type 0
+HasNoneLeft left = (rest : List ℕ) → left ≡ Some rest → rest ≡ []
+
 -- Where the input has ended nothing is left.
 abbrev pub LeavesInput : Ending → Option (List ℕ) → Type 0
-LeavesInput InputEnded left = (rest : List ℕ) → left ≡ Some rest → rest ≡ []
+LeavesInput InputEnded left = HasNoneLeft left
 LeavesInput _ left = Unit {0}
+
+-- Bytes without a line end are a line only where the input has ended: while more of it is left, the items are those of whole lines.
+abbrev pub CutsNoLine : Ending → List ℕ → List Item → Option (List ℕ) → Type 0
+CutsNoLine (Stopped stop) taken items left = AreFirstItems (asking (whole_lines taken)) items ⊎ HasNoneLeft left
+CutsNoLine _ taken items left = Unit {0}
 
 -- how many bytes a run takes: the source is asked for more only below the most
 abbrev pub TakesUpTo : ℕ → Ending → ℕ → Type 0
@@ -59,6 +68,9 @@ pub record HasEndedSo (most : ℕ) (left left_now held held_now : Option (List �
   pub is_written : Given held held_now written
   pub begun : length items ≡ length starts
   pub answers : AnswersItems ending taken items
+  pub whole : CutsNoLine ending taken items left_now
+  pub are_answered : AreAnswered items replies
+  pub once : EndsOnce ending replies
   pub leaves : LeavesInput ending left_now
   pub within : TakesUpTo most ending (length taken)
   pub writes : WritesAtEnd ending replies written

@@ -38,7 +38,7 @@ use Rattle.sb_session.specs.Sessions.{CanRun, IsFor}
 use Rattle.sb_opening.specs.declared.codes.Named.{Named}
 use Rattle.sb_opening.specs.Looking.{IsLook, IsLookErr, OverCatalogue, RestsStill}
 use Rattle.sb_opening.specs.Naming.{HasLive, IsAbsent, all_live, first_absent, named_in}
-use Rattle.sb_opening.specs.Opening.{IsCatalogued, IsStored, MayRefuse, NamesEntry, NamesTable, OpeningErr, WasLookedAt, opened}
+use Rattle.sb_opening.specs.Opening.{IsCatalogued, IsStored, MayRefuse, NamesEntry, NamesMissing, NamesTable, OpeningErr, WasLookedAt, opened}
 use Rattle.sb_opening.specs.Owners.{HasNoStray, TellsStray}
 use Rattle.sb_opening.proofs.CommittedLemmas.{committed-live}
 use Rattle.sb_opening.proofs.OwnerLemmas.{none-stray}
@@ -314,6 +314,41 @@ absent_same n named AlreadyStore err = tt
 
 pub MayRefuse-absent : (n : Meanings) (found named : List Named) (x : OpenFault) → found ≡ named → IsAbsent (first_absent n found) x → MayRefuse n named x
 MayRefuse-absent n found named x same err = subst (λ (ns : List Named). MayRefuse n ns x) same (absent_same n found x err)
+
+-- ---- codes that are called missing
+pub NamesMissing-space : (n : Meanings) (old new : Option Story) (e : OpenFault) → SpaceErr e old new → NamesMissing n e old
+NamesMissing-space n old new (MissingExtension code) err = absurd err
+NamesMissing-space n old new NoMemory err = tt
+NamesMissing-space n old new Fault err = tt
+NamesMissing-space n old new (TooSmall have need) err = tt
+NamesMissing-space n old new NotStore err = tt
+NamesMissing-space n old new (BadLog chunk offset) err = tt
+NamesMissing-space n old new (BadExtensions code) err = tt
+NamesMissing-space n old new AlreadyStore err = tt
+NamesMissing-space n old new (Damaged page) err = tt
+
+pub NamesMissing-looked : (n : Meanings) (told : Option Story) (a b : ℕ) (x : OpenFault) → IsLookErr a b x → NamesMissing n x told
+NamesMissing-looked n told a b (MissingExtension code) err = absurd err
+NamesMissing-looked n told a b NoMemory err = tt
+NamesMissing-looked n told a b Fault err = tt
+NamesMissing-looked n told a b (TooSmall have need) err = tt
+NamesMissing-looked n told a b NotStore err = tt
+NamesMissing-looked n told a b (BadLog chunk offset) err = tt
+NamesMissing-looked n told a b (BadExtensions code) err = tt
+NamesMissing-looked n told a b AlreadyStore err = tt
+NamesMissing-looked n told a b (Damaged page) err = tt
+
+pub NamesMissing-absent : (n : Meanings) (named : List Named) (told : Option Story) (x : OpenFault) → IsAbsent (first_absent n named) x
+    → ((g : Geometry) (want : Wanted) (kept : List Kept) → IsCatalogued told g want kept → named ≡ named_in kept) → NamesMissing n x told
+NamesMissing-absent n named told (MissingExtension code) err is = λ g want kept of. ap (λ (ns : List Named). first_absent n ns) (sym (is g want kept of)) ∙ err
+NamesMissing-absent n named told NoMemory err is = tt
+NamesMissing-absent n named told Fault err is = absurd err
+NamesMissing-absent n named told (TooSmall have need) err is = absurd err
+NamesMissing-absent n named told NotStore err is = absurd err
+NamesMissing-absent n named told (BadLog chunk offset) err is = absurd err
+NamesMissing-absent n named told (BadExtensions code) err is = absurd err
+NamesMissing-absent n named told AlreadyStore err is = absurd err
+NamesMissing-absent n named told (Damaged page) err is = absurd err
 
 -- ---- faults
 handed : {T : Type 0} (r : Result T OpenFault) (x y : OpenFault) → IsErrAnd r (λ f. f ≡ x) → IsErrOf r y → x ≡ y

@@ -21,7 +21,7 @@ use Rattle.sb_session.specs.Opened.{IsDurable}
 use Rattle.sb_session.specs.Transactions.{IsCommitted}
 use Rattle.sb_vectors.specs.Vectors.{live_codes, spare_codes}
 use Rattle.sb_opening.specs.declared.codes.Named.{Named}
-use Rattle.sb_opening.specs.Naming.{all_live, first_absent}
+use Rattle.sb_opening.specs.Naming.{all_live, first_absent, named_in}
 use Rattle.sb_opening.specs.Owners.{TellsStray}
 
 -- The disk tells its contents: they restore these pages, which keep the database, whichever of the boxes are live.
@@ -37,6 +37,10 @@ pub record IsCatalogued (told : Option Story) (g : Geometry) (want : Wanted) (ke
   pub whole : AreWhole g.pages want
   pub boxes : Meanings
   pub tables : Tables boxes IsDurable (table_len g.pages) (slots_in g.pages want) kept
+
+-- where they have a catalogue, there is a box for each code that it names
+abbrev pub HasBoxes : Meanings → Option Story → Type 0
+HasBoxes m told = (g : Geometry) (want : Wanted) (kept : List Kept) → IsCatalogued told g want kept → first_absent m (named_in kept) ≡ None
 
 -- the state at the opening: the database is the only one that was committed, and no transaction is open
 abbrev pub opened : Meanings → Db → State
@@ -59,6 +63,12 @@ NamesTable e told = Unit {0}
 abbrev pub NamesEntry : OpenFault → Option Story → Type 0
 NamesEntry e told = (g : Geometry) (want : Wanted) (kept : List Kept) → IsCatalogued told g want kept → IsTable g.pages want
     → TellsStray (slots_in g.pages want) (owners_in kept) e
+
+-- Where the contents have a catalogue, a code that is called missing is the first that it names of which no box is there.
+abbrev pub NamesMissing : Meanings → OpenFault → Option Story → Type 0
+NamesMissing m (MissingExtension code) told = (g : Geometry) (want : Wanted) (kept : List Kept) → IsCatalogued told g want kept
+    → first_absent m (named_in kept) ≡ Some code
+NamesMissing m e told = Unit {0}
 
 -- The disk was restarted, as a store of some sizes, and then looked at: all along a crash leaves the pages that were restored.
 pub record WasLookedAt (old new : Option Story) : Type 0 where

@@ -1,6 +1,6 @@
 //! Opening a session.
 
-ghost use Rattle.std.specs.Prelude.{◌≡◌, ◌≤◌, None, false, ℕ, List, IfErr, IfOk, IsErrOf};
+ghost use Rattle.std.specs.Prelude.{◌≡◌, ◌≤◌, None, false, ℕ, List, IfErr, IfOk, IsErrOf, OnOk};
 ghost use Rattle.sb_disk.specs.Causes.{Rose};
 ghost use Rattle.sb_disk.specs.Moments.{LeavesOnly};
 ghost use Rattle.sb_images.specs.Images.{Restores};
@@ -14,7 +14,7 @@ ghost use Rattle.sb_space.specs.Table.{slots_in, table_len};
 ghost use Rattle.sb_standing.specs.Standing.{AreKnown, owners_in};
 ghost use Rattle.sb_standing.specs.Tables.{Kept};
 ghost use Rattle.sb_opening.specs.Naming.{HasLive, named_in};
-ghost use Rattle.sb_opening.specs.Opening.{IsCatalogued, IsStored, MayRefuse, NamesEntry, NamesTable, OpeningErr, opened};
+ghost use Rattle.sb_opening.specs.Opening.{HasBoxes, IsCatalogued, IsStored, MayRefuse, NamesEntry, NamesMissing, NamesTable, OpeningErr, opened};
 ghost use Rattle.sb_opening.specs.Owners.{HasNoStray};
 
 use crate::looking::named_codes;
@@ -51,6 +51,9 @@ pub fn open<B: Vectors + Drop, D: Disk>(
     ensures place { IfOk result (λ session. session.place ≡ record { owner = 2; root = table_len session.space.store.pool.geometry.pages }) }
     ensures up { IfOk result (λ session. session.down ≡ false) }
 
+    // A store of which a box is missing isn't opened.
+    ensures present { OnOk result (HasBoxes (B.meanings boxes) (D.told disk.old)) }
+
     // Where the contents have a catalogue, the owner of each page is none of an instance, or one that a relation names.
     ensures owners { IfOk result (λ session. (g : Geometry) (want : Wanted) (kept : List Kept) → IsCatalogued (D.told disk.old) g want kept
         → HasNoStray (slots_in g.pages want) (owners_in kept)) }
@@ -65,6 +68,7 @@ pub fn open<B: Vectors + Drop, D: Disk>(
         → MayRefuse (B.meanings boxes) (named_in stored.committed.kept) e) }
     ensures table { IfErr result (λ e. NamesTable e (D.told disk.old)) }
     ensures entry { IfErr result (λ e. NamesEntry e (D.told disk.old)) }
+    ensures absent { IfErr result (λ e. NamesMissing (B.meanings boxes) e (D.told disk.old)) }
     ensures refused { IfErr result (λ e. OpeningErr e (D.told disk.old) (D.told disk.new)) }
     ensures fault { IsErrOf result OpenFault.Fault → Rose (D.faults disk.old) (D.faults disk.new) }
     ensures len { D.len disk.new ≡ D.len disk.old }

@@ -1,15 +1,12 @@
 -- A run over a session that was opened.
-use Rattle.std.proofs.Common.{◌≡◌, ◌⊎◌, inr, ℕ, Bool, true, false, Option, None, List, [], subst}
+use Rattle.std.proofs.Common.{◌≡◌, ◌≤◌, inr, ℕ, arith, Bool, true, false, Option, None, List, [], subst}
 use Rattle.sb_disk.specs.Disk.{Mounted}
 use Rattle.sb_disk.specs.Moments.{LeavesOnly}
-use Rattle.sb_recover.specs.SuperPage.{IsNoStore}
 use Rattle.sb_relation.specs.Db.{Db}
 use Rattle.sb_plain.specs.declared.reply.Reply.{Reply}
 use Rattle.sb_grammar.specs.Columns.{Item}
 use Rattle.sb_registry.specs.Boxes.{Meanings, repeated_in}
 use Rattle.sb_sound_plays.specs.Session.{Session}
-use Rattle.sb_sound_plays.specs.Named.{Named}
-use Rattle.sb_sound_plays.specs.Naming.{HasLive}
 use Rattle.sb_sound_plays.specs.Opening.{opened}
 use Rattle.sb_sound_plays.specs.DeclaredEnding.{Ending}
 use Rattle.sb_sound_plays.specs.Crashes.{HoldsDatabase}
@@ -23,20 +20,17 @@ use Rattle.sb_sound_plays.proofs.Databases.{nothing-over as nothing-sound}
 use Rattle.sb_sound_plays.proofs.Playing.{runs-sound}
 use Rattle.sb_words.specs.declared.words.Words.{Words}
 use Rattle.sb_run.specs.declared.report.Report.{Report}
-use Rattle.sb_run.specs.Run.{HasPlayedFrom, OnMounted, PlaysFrom, Run, RunsMounted, RunsOn, Seen, Tells, seen, tells}
+use Rattle.sb_run.specs.Run.{HasPlayedFrom, HoldsNew, OnMounted, PlaysFrom, Run, RunsMounted, RunsOn, Seen, Tells, seen, tells}
 use Rattle.sb_run.specs.Starting.{HasStarted}
 use Rattle.sb_run.proofs.EarlyLemmas.{early-along, holds-opened}
 
 -- ---- what was played
-played-from : {D : Type 0} (d : Tells D) (m boxes : Meanings) (named : List Named) (IsEarly : List ℕ → Type 0) (db : Db) (mounted first now : D)
+played-from : {D : Type 0} (d : Tells D) (m boxes : Meanings) (IsEarly : List ℕ → Type 0) (db : Db) (mounted first now : D)
     (ending : Ending) (taken : List ℕ) (items : List Item) (replies : List Reply) (starts : List ℕ) → AnswersItems ending taken items
-    → HasLive m named boxes → LeavesOnly (d.told mounted) (d.told first) IsEarly
+    → LeavesOnly (d.told mounted) (d.told first) IsEarly
     → ((image : List ℕ) → HoldsDatabase m image db → IsEarly image) → HasPlayedOut d.told d.faults m first (opened boxes db) items replies starts now
-    → HasPlayedFrom d m named IsEarly db mounted now items replies starts
-played-from d m boxes named IsEarly db mounted first now ending taken items replies starts answers live early holds played = record {
-  boxes = boxes;
-  live = live;
-  first = first;
+    → HasPlayedFrom d m boxes IsEarly db mounted first now items replies starts
+played-from d m boxes IsEarly db mounted first now ending taken items replies starts answers early holds played = record {
   early = early-along (d.told mounted) (d.told first) (d.told now) starts played.until IsEarly early played.on played.begins
       (λ none t image from left. holds image
       (holds-opened m boxes db (d.told now) played.until _ items played.states starts played.leaves played.last none t image from left));
@@ -49,19 +43,29 @@ plays-from : {B D : Type 0} (w : World B D) (m : Meanings) (words : Words) (crea
     (first now : At B D) → AnswersItems ending taken items → HasStarted w m words create mounted first.disk first.session → PlaysOut w m items replies first now
     → PlaysFrom (tells w.told w.len w.faults) m words create mounted now.disk now.starts items replies
 unfolding played-from
-plays-from w m words false mounted ending taken items replies first now answers started plays = λ g want db stored single.
-    let start = started g want db stored in
-    played-from (tells w.told w.len w.faults) m (w.meanings first.session.boxes) _ (λ image. HoldsDatabase m image db) db mounted first.disk now.disk
-    ending taken items replies now.starts answers start.live start.early (λ image holds. holds) (plays (opened (w.meanings first.session.boxes) db) start.now single)
-plays-from w m words true mounted ending taken items replies first now answers started plays = λ told settled single.
-    let start = started told settled in
-    let from = played-from (tells w.told w.len w.faults) m (w.meanings first.session.boxes) [] (λ image. IsNoStore image ⊎ HoldsDatabase m image []) []
-    mounted first.disk now.disk ending taken items replies now.starts answers start.0.live start.0.early (λ image holds. inr holds)
-    (plays (opened (w.meanings first.session.boxes) []) start.0.now single) in (
-      from,
+plays-from w m words false mounted ending taken items replies first now answers started plays = (
+  started.0,
+  λ g want db stored.
+    let start = started.1 g want db stored in (
+      record { boxes = w.meanings first.session.boxes; live = start.live; first = first.disk; later = start.later; early = start.early },
+      λ single.
+        played-from (tells w.told w.len w.faults) m (w.meanings first.session.boxes) (λ image. HoldsDatabase m image db) db mounted first.disk now.disk
+        ending taken items replies now.starts answers start.early (λ image holds. holds) (plays (opened (w.meanings first.session.boxes) db) start.now single),
+    ),
+)
+plays-from w m words true mounted ending taken items replies first now answers started plays = (
+  started.0,
+  λ told settled.
+    let start = started.1 told settled in (
+      record { boxes = w.meanings first.session.boxes; live = start.0.live; first = first.disk; later = start.0.later; early = start.0.early },
       start.1,
-      record { lawful = from.lawful (nothing-lawful m); sound = from.sound (nothing-sound m) },
-    )
+      λ single.
+        let from = played-from (tells w.told w.len w.faults) m (w.meanings first.session.boxes) (HoldsNew m) [] mounted first.disk now.disk
+        ending taken items replies now.starts answers start.0.early (λ image holds. inr holds)
+        (plays (opened (w.meanings first.session.boxes) []) start.0.now single) in
+        (from, record { lawful = from.lawful (nothing-lawful m); sound = from.sound (nothing-sound m) }),
+    ),
+)
 
 -- what is known of the items and their replies, by what was known
 known-by : (most : ℕ) (left left_now held held_now : Option (List ℕ)) (ending : Ending) (starts : List ℕ)
@@ -77,6 +81,9 @@ known-by most left left_now held held_now ending starts IsKnown Follows leads en
   is_written = ended.is_written;
   begun = ended.begun;
   answers = ended.answers;
+  whole = ended.whole;
+  are_answered = ended.are_answered;
+  once = ended.once;
   leaves = ended.leaves;
   within = ended.within;
   writes = ended.writes;
@@ -87,11 +94,13 @@ known-by most left left_now held held_now ending starts IsKnown Follows leads en
 -- ---- what was run
 pub runs_mounted : {B D : Type 0} (w : World B D) (m : Meanings) (words : Words) (most : ℕ) (left left_now held held_now : Option (List ℕ))
     (mounted first now : D) (x : Session B) (ending : Ending) (report : Report) → HasStarted w m words words.create mounted first x
+    → w.faults mounted ≤ w.faults first → w.faults first ≤ w.faults now
     → HasServed w m most left left_now ending (at first x held []) (at now x held_now report.starts) → report.status ≡ status_of ending
     → RunsMounted (tells w.told w.len w.faults) m words most (seen left held) (seen left_now held_now) mounted now report
-runs_mounted w m words most left left_now held held_now mounted first now x ending report started served status = Run (record {
+runs_mounted w m words most left left_now held held_now mounted first now x ending report started before later served status = Run (record {
   ending = ending;
   status = status;
+  later = omega (arith, before, later);
   ended = known-by most left left_now held held_now ending report.starts _
       (PlaysFrom (tells w.told w.len w.faults) m words words.create mounted now report.starts)
       (λ taken items replies answers plays.
@@ -101,8 +110,8 @@ runs_mounted w m words most left left_now held held_now mounted first now x endi
 
 -- the boxes of the registry are those that were given
 pub on_mounted : {D : Type 0} (d : Tells D) (m given : Meanings) (words : Words) (most : ℕ) (old new : Seen) (disk mounted now : D) (report : Report)
-    → Mounted (d.told disk) (d.told mounted) → m ≡ given → repeated_in m ≡ None → RunsMounted d m words most old new mounted now report
+    → Mounted (d.told disk) (d.told mounted) → d.faults disk ≤ d.faults mounted → m ≡ given → repeated_in m ≡ None → RunsMounted d m words most old new mounted now report
     → RunsOn d given words most old new disk now report
-on_mounted d m given words most old new disk mounted now report told same unique run = OnMounted mounted told
+on_mounted d m given words most old new disk mounted now report told later same unique run = OnMounted mounted told later
     (subst (λ (n : Meanings). repeated_in n ≡ None) same unique)
     (subst (λ (n : Meanings). RunsMounted d n words most old new mounted now report) same run)

@@ -1,5 +1,5 @@
 -- A session that is opened over a mounted disk, or over a store that is made, and why none is made.
-use Rattle.std.proofs.Common.{◌≡◌, ◌⊎◌, ⊎_elim, inl, inr, ◌↔◌, ℕ, ◌<◌, Bool, true, false, Option, Some, None, is_some, Result, Ok, Err, IfErr, IfOk, OnOk, IsErrOf, List, [], sym, ap, subst}
+use Rattle.std.proofs.Common.{◌≡◌, ◌⊎◌, ⊎_elim, inl, inr, ◌↔◌, ℕ, ◌<◌, ◌≤◌, Bool, true, false, Option, Some, None, is_some, Result, Ok, Err, IfErr, IfOk, OnOk, IsErrOf, List, [], sym, ap, subst}
 use Rattle.sb_disk.specs.Causes.{Rose}
 use Rattle.std.proofs.lemmas.Bool.{false≢true}
 use Rattle.sb_disk.specs.Disk.{Story}
@@ -24,7 +24,7 @@ use Rattle.sb_sound_plays.specs.Session.{Session}
 use Rattle.sb_sound_plays.specs.Sessions.{IsFor}
 use Rattle.sb_sound_plays.specs.Creating.{CreateErr}
 use Rattle.sb_sound_plays.specs.Naming.{HasLive, all_live, named_in}
-use Rattle.sb_sound_plays.specs.Opening.{IsStored, opened}
+use Rattle.sb_sound_plays.specs.Opening.{HasBoxes, IsStored, opened}
 use Rattle.sb_sound_plays.proofs.NewLemmas.{committed-new}
 use Rattle.sb_sound_plays.specs.Crashes.{HoldsDatabase}
 use Rattle.sb_sound_plays.specs.World.{World}
@@ -49,8 +49,8 @@ if_told (Some s) A tells is = is
 abbrev pub IsPlaced : {B : Type 0} → Session B → Type 0
 IsPlaced x = x.place ≡ record { owner = 2; root = table_len x.space.store.pool.geometry.pages }
 
-module _ {B D E : Type 0} (w : World B D) (m : Meanings) (words : Words) (create : Bool) (mounted here : D) where
-  pub opens : (r : Result (Session B) E) → create ≡ false
+module _ {B D E : Type 0} (w : World B D) (m : Meanings) (words : Words) (create : Bool) (mounted here : D) (later : w.faults mounted ≤ w.faults here) where
+  pub opens : (r : Result (Session B) E) → create ≡ false → OnOk r (HasBoxes m (w.told mounted))
       → IfOk r (λ x. (g : Geometry) (want : Wanted) (db : Db) → IsStored m (w.told mounted) g want db
       → IsFor w.meanings w.told w.len want (opened (w.meanings x.boxes) db) here x)
       → IfOk r (λ x. (g : Geometry) (want : Wanted) (db : Db) (stored : IsStored m (w.told mounted) g want db)
@@ -58,11 +58,12 @@ module _ {B D E : Type 0} (w : World B D) (m : Meanings) (words : Words) (create
       → IfOk r IsPlaced
       → ((want : ℕ → List ℕ) (g : Geometry) → IsMounted want (w.told mounted) g → LeavesOnly (w.told mounted) (w.told here) (Restores g want))
       → IfOk r (λ x. HasStarted w m words create mounted here x)
-  opens (Err e) asked stands live place leaves = tt
-  opens (Ok x) asked stands live place leaves =
+  opens (Err e) asked present stands live place leaves = tt
+  opens (Ok x) asked present stands live place leaves =
       subst (λ (create : Bool). HasStarted w m words create mounted here x) (sym asked)
-      (λ g want db stored. record {
+      (present, λ g want db stored. record {
         live = live g want db stored;
+        later = later;
         now = record {
           same = (live g want db stored).same;
           root = ap (λ (place : Place). place.root) place;
@@ -83,10 +84,11 @@ module _ {B D E : Type 0} (w : World B D) (m : Meanings) (words : Words) (create
   makes (Err e) asked stands live place none leaves = tt
   makes (Ok x) asked stands live place none leaves =
       subst (λ (create : Bool). HasStarted w m words create mounted here x) (sym asked)
-      (λ tells settled.
+      (none, λ tells settled.
       let is_live : HasLive m [] (w.meanings x.boxes) = if_told (w.told mounted) _ tells live in (
         record {
           live = is_live;
+          later = later;
           now = record {
             same = is_live.same;
             root = ap (λ (place : Place). place.root) place;
@@ -95,7 +97,7 @@ module _ {B D E : Type 0} (w : World B D) (m : Meanings) (words : Words) (create
           early = weaker (w.told mounted) (w.told here) (IsFormatting (geometry_of words.pages words.log)) (λ image. IsNoStore image ⊎ HoldsDatabase m image [])
               (holds-new m (geometry_of words.pages words.log)) (leaves settled none);
         },
-        record { none = none; making = leaves settled none },
+        leaves settled none,
       ))
 
 -- ---- no store

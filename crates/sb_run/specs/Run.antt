@@ -21,7 +21,7 @@ use Rattle.sb_drive.specs.Spaces.{Wanted}
 use Rattle.sb_sound_plays.specs.Named.{Named}
 use Rattle.sb_sound_plays.specs.Creating.{CreateErr}
 use Rattle.sb_sound_plays.specs.Naming.{HasLive, all_live, named_in}
-use Rattle.sb_sound_plays.specs.Opening.{IsStored, MayRefuse, NamesTable, OpeningErr, opened}
+use Rattle.sb_sound_plays.specs.Opening.{HasBoxes, IsStored, MayRefuse, NamesEntry, NamesMissing, NamesTable, OpeningErr, opened}
 use Rattle.sb_sound_plays.specs.DeclaredEnding.{Ending}
 use Rattle.sb_sound_plays.specs.Crashes.{HoldsDatabase, next_start}
 use Rattle.sb_sound_plays.specs.Ending.{status_of}
@@ -53,14 +53,19 @@ abbrev pub tells : {D : Type 0} → (D → Option Story) → (D → ℕ) → (D 
 tells told len faults = record { told = told; len = len; faults = faults }
 
 -- ---- runs that begin
--- The items had these replies in a play from the database, with those of the boxes live that were, and the named ones. From the mount until the
--- first item began, a crash left what is said of early images. Over a lawful database all states of the play are lawful, and so is each database that a
--- crash leaves of it; over one whose rules hold they hold.
-pub record HasPlayedFrom {D : Type 0} (d : Tells D) (m : Meanings) (named : List Named) (IsEarly : List ℕ → Type 0) (db : Db) (mounted now : D)
-    (items : List Item) (replies : List Reply) (starts : List ℕ) : Type 0 where
+-- A session was opened over the mounted disk, with those of the boxes live that were, and the named ones. Meanwhile a crash left what is said of early
+-- images.
+pub record HasBegun {D : Type 0} (d : Tells D) (m : Meanings) (named : List Named) (IsEarly : List ℕ → Type 0) (mounted : D) : Type 0 where
   pub boxes : Meanings
   pub live : HasLive m named boxes
   pub first : D
+  pub later : d.faults mounted ≤ d.faults first
+  pub early : LeavesOnly (d.told mounted) (d.told first) IsEarly
+
+-- The items had these replies in a play from the database, with these boxes. From the mount until the first item began, a crash left what is said of early
+-- images. Over a lawful database all states of the play are lawful, and so is each database that a crash leaves of it; over one whose rules hold they hold.
+pub record HasPlayedFrom {D : Type 0} (d : Tells D) (m boxes : Meanings) (IsEarly : List ℕ → Type 0) (db : Db) (mounted first now : D)
+    (items : List Item) (replies : List Reply) (starts : List ℕ) : Type 0 where
   pub early : (t : ℕ) (image : List ℕ) → moment (d.told mounted) ≤ t → t < next_start starts (suc (moment (d.told now)))
       → MayLeave (d.told now) t image → IsEarly image
   pub played : HasPlayedOut d.told d.faults m first (opened boxes db) items replies starts now
@@ -68,27 +73,37 @@ pub record HasPlayedFrom {D : Type 0} (d : Tells D) (m : Meanings) (named : List
   pub sound : IsSoundOver m db → IsSoundPlay m (d.told now) starts played.until played.states
 
 -- So it is without a premise over a new store, whose database is empty.
-pub record KeepsRules {D : Type 0} (d : Tells D) (m : Meanings) (named : List Named) (IsEarly : List ℕ → Type 0) (mounted now : D) (items : List Item)
-    (replies : List Reply) (starts : List ℕ) (from : HasPlayedFrom d m named IsEarly [] mounted now items replies starts) : Type 0 where
+pub record KeepsRules {D : Type 0} (d : Tells D) (m boxes : Meanings) (IsEarly : List ℕ → Type 0) (mounted first now : D) (items : List Item)
+    (replies : List Reply) (starts : List ℕ) (from : HasPlayedFrom d m boxes IsEarly [] mounted first now items replies starts) : Type 0 where
   pub lawful : IsLawfulPlay m (d.told now) starts from.played.until from.played.states
   pub sound : IsSoundPlay m (d.told now) starts from.played.until from.played.states
 
--- Over contents that stand for a database the play is from it, and early images hold it. A disk without a store comes to hold a new one of the sizes
--- that the words ask for, whose database is empty.
+-- an image holds no store, or the empty database
+abbrev pub HoldsNew : Meanings → List ℕ → Type 0
+HoldsNew m image = IsNoStore image ⊎ HoldsDatabase m image []
+
+-- No store is opened of which a box is missing. Over contents that stand for a database the session is opened over it, and early images hold it; with
+-- boxes that live together the play is from it. A new store is made only on a disk without one: it comes to hold one of the sizes that the words ask for,
+-- whose database is empty.
 abbrev pub PlaysFrom : {D : Type 0} → Tells D → Meanings → Words → (create : Bool) → (mounted now : D) → List ℕ → List Item → List Reply → Type 0
 PlaysFrom d m words false mounted now starts items replies =
-    (g : Geometry) (want : Wanted) (db : Db) (stored : IsStored m (d.told mounted) g want db) → AreSingle (all_live m)
-    → HasPlayedFrom d m (named_in stored.committed.kept) (λ image. HoldsDatabase m image db) db mounted now items replies starts
+    HasBoxes m (d.told mounted)
+    × ((g : Geometry) (want : Wanted) (db : Db) (stored : IsStored m (d.told mounted) g want db)
+    → (begun : HasBegun d m (named_in stored.committed.kept) (λ image. HoldsDatabase m image db) mounted)
+    × (AreSingle (all_live m) → HasPlayedFrom d m begun.boxes (λ image. HoldsDatabase m image db) db mounted begun.first now items replies starts))
 PlaysFrom d m words true mounted now starts items replies =
-    is_some (d.told mounted) ≡ true → IsSettled (d.told mounted) → AreSingle (all_live m)
-    → (from : HasPlayedFrom d m [] (λ image. IsNoStore image ⊎ HoldsDatabase m image []) [] mounted now items replies starts)
-    × MakesStore words (d.told mounted) (d.told from.first)
-    × KeepsRules d m [] (λ image. IsNoStore image ⊎ HoldsDatabase m image []) mounted now items replies starts from
+    HoldsNone (d.told mounted)
+    × (is_some (d.told mounted) ≡ true → IsSettled (d.told mounted)
+    → (begun : HasBegun d m [] (HoldsNew m) mounted)
+    × MakesStore words (d.told mounted) (d.told begun.first)
+    × (AreSingle (all_live m) → (from : HasPlayedFrom d m begun.boxes (HoldsNew m) [] mounted begun.first now items replies starts)
+    × KeepsRules d m begun.boxes (HoldsNew m) mounted begun.first now items replies starts from))
 
 -- a store was opened, or made and opened, and items were answered until the run ended
 pub record HasRun {D : Type 0} (d : Tells D) (m : Meanings) (words : Words) (most : ℕ) (old new : Seen) (mounted now : D) (report : Report) : Type 0 where
   pub ending : Ending
   pub status : report.status ≡ status_of ending
+  pub later : d.faults mounted ≤ d.faults now
   pub ended : HasEndedSo most old.left new.left old.held new.held ending report.starts (PlaysFrom d m words words.create mounted now report.starts)
 
 -- ---- runs that don't begin
@@ -101,6 +116,8 @@ pub record IsNotOpened {D : Type 0} (d : Tells D) (m : Meanings) (e : OpenFault)
   pub missing : (n : Meanings) (g : Geometry) (want : Wanted) (db : Db) (stored : IsStored n (d.told mounted) g want db)
       → MayRefuse m (named_in stored.committed.kept) e
   pub table : NamesTable e (d.told mounted)
+  pub entry : NamesEntry e (d.told mounted)
+  pub absent : NamesMissing m e (d.told mounted)
   pub refused : OpeningErr e (d.told mounted) (d.told now)
   pub leaves : (want : ℕ → List ℕ) (g : Geometry) → IsMounted want (d.told mounted) g → LeavesOnly (d.told mounted) (d.told now) (Restores g want)
   pub fault : HasFailedIf d e mounted now
@@ -124,8 +141,9 @@ pub data RunsMounted {D : Type 0} (d : Tells D) (m : Meanings) (words : Words) (
       → RunsMounted d m words most old new mounted now report
   Run : HasRun d m words most old new mounted now report → RunsMounted d m words most old new mounted now report
 
--- the disk couldn't be mounted
+-- The disk couldn't be mounted: it tells what a mount leaves.
 pub record HasNotMounted {D : Type 0} (d : Tells D) (old new : Seen) (disk now : D) (report : Report) : Type 0 where
+  pub told : Mounted (d.told disk) (d.told now)
   pub reads : new.left ≡ old.left
   pub writes : WritesNothing 3 old.held new.held report
   pub fault : Rose (d.faults disk) (d.faults now)
@@ -135,7 +153,7 @@ pub data RunsOn {D : Type 0} (d : Tells D) (m : Meanings) (words : Words) (most 
   NotMounted : HasNotMounted d old new disk now report → RunsOn d m words most old new disk now report
   BadBoxes : (code : ℕ) → Mounted (d.told disk) (d.told now) → repeated_in m ≡ Some code → new.left ≡ old.left
       → IsRefusedBy (BadExtensions code) old.held new.held report → RunsOn d m words most old new disk now report
-  OnMounted : (mounted : D) → Mounted (d.told disk) (d.told mounted) → repeated_in m ≡ None → RunsMounted d m words most old new mounted now report
+  OnMounted : (mounted : D) → Mounted (d.told disk) (d.told mounted) → d.faults disk ≤ d.faults mounted → repeated_in m ≡ None → RunsMounted d m words most old new mounted now report
       → RunsOn d m words most old new disk now report
 
 -- What comes of a run with these words: clap refuses them, or memory is wanting to read them, or they are read.

@@ -13,7 +13,7 @@ use Rattle.sb_drive.specs.Spaces.{Wanted}
 use Rattle.sb_sound_plays.specs.Session.{Session}
 use Rattle.sb_sound_plays.specs.Named.{Named}
 use Rattle.sb_sound_plays.specs.Naming.{HasLive, named_in}
-use Rattle.sb_sound_plays.specs.Opening.{IsStored, opened}
+use Rattle.sb_sound_plays.specs.Opening.{HasBoxes, IsStored, opened}
 use Rattle.sb_sound_plays.specs.World.{World, IsNow}
 use Rattle.sb_sound_plays.specs.Crashes.{HoldsDatabase}
 use Rattle.sb_words.specs.declared.words.Words.{Words}
@@ -28,19 +28,22 @@ pub record AreSizes (words : Words) : Type 0 where
 pub record StartsAt {B D : Type 0} (w : World B D) (m : Meanings) (named : List Named) (IsEarly : List ℕ → Type 0) (db : Db) (mounted here : D)
     (x : Session B) : Type 0 where
   pub live : HasLive m named (w.meanings x.boxes)
+  pub later : w.faults mounted ≤ w.faults here
   pub now : IsNow w m here x (opened (w.meanings x.boxes) db)
   pub early : LeavesOnly (w.told mounted) (w.told here) IsEarly
 
--- A disk that held no store comes to hold a new one of the sizes that the words ask for; meanwhile a crash left none, or that one.
-pub record MakesStore (words : Words) (mounted here : Option Story) : Type 0 where
-  pub none : HoldsNone mounted
-  pub making : LeavesOnly mounted here (IsFormatting (geometry_of words.pages words.log))
+-- The disk comes to hold a new store of the sizes that the words ask for; meanwhile a crash left none, or that one.
+abbrev pub MakesStore : Words → (mounted here : Option Story) → Type 0
+MakesStore words mounted here = LeavesOnly mounted here (IsFormatting (geometry_of words.pages words.log))
 
--- Over contents that stand for a database the session stands for it; a new store's database is empty.
+-- Over contents that stand for a database the session stands for it; a new store's database is empty. No store is opened of which a box is missing, and
+-- none is made where one is.
 abbrev pub HasStarted : {B D : Type 0} → World B D → Meanings → Words → (create : Bool) → (mounted now : D) → Session B → Type 0
 HasStarted w m words false mounted now x =
-    (g : Geometry) (want : Wanted) (db : Db) (stored : IsStored m (w.told mounted) g want db)
-    → StartsAt w m (named_in stored.committed.kept) (λ image. HoldsDatabase m image db) db mounted now x
+    HasBoxes m (w.told mounted)
+    × ((g : Geometry) (want : Wanted) (db : Db) (stored : IsStored m (w.told mounted) g want db)
+    → StartsAt w m (named_in stored.committed.kept) (λ image. HoldsDatabase m image db) db mounted now x)
 HasStarted w m words true mounted now x =
-    is_some (w.told mounted) ≡ true → IsSettled (w.told mounted)
-    → StartsAt w m [] (λ image. IsNoStore image ⊎ HoldsDatabase m image []) [] mounted now x × MakesStore words (w.told mounted) (w.told now)
+    HoldsNone (w.told mounted)
+    × (is_some (w.told mounted) ≡ true → IsSettled (w.told mounted)
+    → StartsAt w m [] (λ image. IsNoStore image ⊎ HoldsDatabase m image []) [] mounted now x × MakesStore words (w.told mounted) (w.told now))

@@ -1,6 +1,6 @@
 //! The top call: lines from a source are answered to a sink, over a store on a disk.
 
-ghost use Rattle.std.specs.Prelude.{◌≡◌, [], None, Some, IfErr, IfOk, false, true};
+ghost use Rattle.std.specs.Prelude.{◌≡◌, ◌≤◌, [], None, Some, IfErr, IfOk, false, true};
 ghost use Rattle.sb_disk.specs.Causes.{Rose};
 ghost use Rattle.sb_images.specs.Layout.{need};
 ghost use Rattle.sb_registry.specs.Boxes.{Meanings, repeated_in};
@@ -36,6 +36,7 @@ fn start<B: Vectors + Drop, D: Disk>(
         disk.old disk.new) }
     ensures runs { IfOk result (λ session. CanRun B.meanings D.told D.len disk.new session) }
     ensures up { IfOk result (λ session. session.down ≡ false) }
+    ensures later { D.faults disk.old ≤ D.faults disk.new }
 {
     if words.create {
         create(boxes, alloc, disk, words.pages, words.log, words.frames)

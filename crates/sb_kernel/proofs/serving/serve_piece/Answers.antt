@@ -27,7 +27,8 @@ returns-in-Err-clause-leads g c = λ m bytes left first room within serves.
     let last = at c.finish.new.disk c.finish.new.self.session (g.K.Sink.held c.finish.new.sink) c.finish.new.self.starts in
     let count = c.in-Ok.count in
     let buffer = c.read.new.buffer in
-    stops_at_last_line w m c.in-Err.stop bytes left old new line first now last room count buffer serves c.in-Ok.ensures.took c.if-count-eq0.true (c.in-Err.ensures.leads m bytes first serves.stands)
+    let some : 0 < length buffer = omega arith in
+    stops_at_last_line w m c.in-Err.stop bytes left old new line first now last room count buffer serves c.in-Ok.ensures.took c.if-count-eq0.true some (c.in-Err.ensures.leads m bytes first serves.stands)
 
 pub returns-in-Ok-feed-clause-leads : goal.returns-in-Ok-feed-clause-leads
 returns-in-Ok-feed-clause-leads g c = λ m bytes left first room within serves.

@@ -1,11 +1,11 @@
-use Rattle.std.proofs.Common.{◌≡◌, ◌∙◌, ℕ, Err, List, ap, subst}
+use Rattle.std.proofs.Common.{◌≡◌, ◌∙◌, ℕ, Err, List, sym, ap, subst}
 use Rattle.sb_txn.proofs.ResultLemmas.{IfErr-from}
 use Rattle.sb_opening.specs.declared.codes.Named.{Named}
 use Rattle.sb_standing.specs.Standing.{owners_in}
 use Rattle.sb_space.specs.Table.{slots_in}
-use Rattle.sb_opening.specs.Naming.{HasLive, named_in}
+use Rattle.sb_opening.specs.Naming.{HasLive, first_absent, named_in}
 use Rattle.sb_opening.specs.Owners.{HasNoStray, TellsStray}
-use Rattle.sb_opening.proofs.OpenLemmas.{CanRun-opened, IsFor-opened, MayRefuse-absent, MayRefuse-looked, MayRefuse-space, NamesEntry-space, NamesTable-opened, NamesTable-space, OpeningErr-absent, OpeningErr-looked, OpeningErr-space, TellsStray-absent, fault-absent, fault-looked, fault-space, leaves-looked, over-catalogued, over-stored, up-opened}
+use Rattle.sb_opening.proofs.OpenLemmas.{CanRun-opened, IsFor-opened, MayRefuse-absent, MayRefuse-looked, MayRefuse-space, NamesEntry-space, NamesMissing-absent, NamesMissing-looked, NamesMissing-space, NamesTable-opened, NamesTable-space, OpeningErr-absent, OpeningErr-looked, OpeningErr-space, TellsStray-absent, fault-absent, fault-looked, fault-space, leaves-looked, over-catalogued, over-stored, up-opened}
 use Rattle.sb_opening.proofs.OwnerLemmas.{AreKnown-all}
 use Rattle.sb_opening.proofs.opening.open.Goals as goal
 
@@ -29,6 +29,11 @@ pub returns-in_err-store-clause-refused : goal.returns-in_err-store-clause-refus
 returns-in_err-store-clause-refused g c =
     IfErr-from c.from_residual.result c.in_err-store.field-0.0 _ c.from_residual.ensures.1
     (OpeningErr-space (g.D.Disk.told c.args.disk.now) (g.D.Disk.told c.open_store.new.disk) c.in_err-store.field-0.0 c.in_err-store.ensures.any_moment c.in_err-store.ensures.refused)
+
+pub returns-in_err-store-clause-absent : goal.returns-in_err-store-clause-absent
+returns-in_err-store-clause-absent g c =
+    IfErr-from c.from_residual.result c.in_err-store.field-0.0 _ c.from_residual.ensures.1
+    (NamesMissing-space (g.B.Boxes.meanings c.args.boxes) (g.D.Disk.told c.args.disk.now) (g.D.Disk.told c.open_store.new.disk) c.in_err-store.field-0.0 c.in_err-store.ensures.refused)
 
 pub returns-in_err-store-clause-fault : goal.returns-in_err-store-clause-fault
 returns-in_err-store-clause-fault g c =
@@ -85,6 +90,12 @@ returns-in_err-named-clause-refused g c =
     (OpeningErr-looked g.D.Disk.told g.D.Disk.len g.D.Disk.faults c.args.disk.now c.open_store.new.disk c.in_ok-store.store c.in_ok-store.ensures.opened c.in_ok-store.ensures.space
     c.named_codes.new.disk c.named_codes.new.space.store c.in_err-named.ensures.look (g.D.Disk.faults c.open_store.new.disk) (g.D.Disk.faults c.named_codes.new.disk) c.in_err-named.field-0.0 c.in_err-named.ensures.err)
 
+pub returns-in_err-named-clause-absent : goal.returns-in_err-named-clause-absent
+returns-in_err-named-clause-absent g c =
+    IfErr-from c.from_residual-in_err-named.result c.in_err-named.field-0.0 _ c.from_residual-in_err-named.ensures.1
+    (NamesMissing-looked (g.B.Boxes.meanings c.args.boxes) (g.D.Disk.told c.args.disk.now) (g.D.Disk.faults c.open_store.new.disk) (g.D.Disk.faults c.named_codes.new.disk) c.in_err-named.field-0.0
+    c.in_err-named.ensures.err)
+
 pub returns-in_err-named-clause-fault : goal.returns-in_err-named-clause-fault
 returns-in_err-named-clause-fault g c =
     fault-looked c.from_residual-in_err-named.result (g.D.Disk.faults c.args.disk.now) (g.D.Disk.faults c.open_store.new.disk) (g.D.Disk.faults c.named_codes.new.disk) c.in_err-named.field-0.0
@@ -130,6 +141,14 @@ returns-in_err-make_live-clause-refused g c =
     (OpeningErr-absent g.D.Disk.told g.D.Disk.len g.D.Disk.faults c.args.disk.now c.open_store.new.disk c.in_ok-store.store c.in_ok-store.ensures.opened c.in_ok-store.ensures.space
     c.named_codes.new.disk c.named_codes.new.space.store c.in_ok-named.ensures.look _ c.in_err-make_live.field-0.0 c.in_err-make_live.ensures.refused)
 
+pub returns-in_err-make_live-clause-absent : goal.returns-in_err-make_live-clause-absent
+returns-in_err-make_live-clause-absent g c =
+    IfErr-from c.from_residual-in_err-make_live.result c.in_err-make_live.field-0.0 _ c.from_residual-in_err-make_live.ensures.1
+    (NamesMissing-absent (g.B.Boxes.meanings c.args.boxes) c.as_slice.result.now (g.D.Disk.told c.args.disk.now) c.in_err-make_live.field-0.0 c.in_err-make_live.ensures.refused
+    (λ h want kept of. c.as_slice.ensures.value
+    ∙ over-catalogued g.D.Disk.told g.D.Disk.len g.D.Disk.faults c.args.disk.now c.open_store.new.disk c.in_ok-store.store c.in_ok-store.ensures.opened c.in_ok-store.ensures.space h want kept of
+    c.catalogue-owner.result.1 (λ s ks. c.in_ok-named.named.items ≡ named_in ks) (ap (λ (r : ℕ × ℕ). r.1) c.catalogue-owner.ensures) c.in_ok-named.ensures.named))
+
 pub returns-in_err-make_live-clause-fault : goal.returns-in_err-make_live-clause-fault
 returns-in_err-make_live-clause-fault g c =
     fault-absent c.from_residual-in_err-make_live.result _ c.in_err-make_live.field-0.0 c.from_residual-in_err-make_live.ensures.1 c.in_err-make_live.ensures.refused
@@ -157,6 +176,13 @@ returns-clause-runs g c =
     CanRun-opened g.D.Disk.told g.D.Disk.len g.D.Disk.faults c.args.disk.now c.open_store.new.disk c.in_ok-store.store c.in_ok-store.ensures.opened c.in_ok-store.ensures.space
     g.B.Boxes.meanings c.make_live.new.boxes c.named_codes.new.disk c.named_codes.new.space.store _ c.in_ok-named.ensures.look.geometry c.in_ok-named.ensures.rests
     (ap (λ (r : ℕ × ℕ). r.0) c.catalogue-owner.ensures) (g.B.Boxes.meanings c.args.boxes) c.as_slice.result.now c.in_ok-make_live.ensures.live
+
+pub returns-clause-present : goal.returns-clause-present
+returns-clause-present g c = λ h want kept of.
+    let named = c.as_slice.ensures.value
+    ∙ over-catalogued g.D.Disk.told g.D.Disk.len g.D.Disk.faults c.args.disk.now c.open_store.new.disk c.in_ok-store.store c.in_ok-store.ensures.opened c.in_ok-store.ensures.space h want kept of
+    c.catalogue-owner.result.1 (λ s ks. c.in_ok-named.named.items ≡ named_in ks) (ap (λ (r : ℕ × ℕ). r.1) c.catalogue-owner.ensures) c.in_ok-named.ensures.named in
+    ap (λ (ns : List Named). first_absent (g.B.Boxes.meanings c.args.boxes) ns) (sym named) ∙ c.in_ok-make_live.ensures.present
 
 pub returns-clause-owners : goal.returns-clause-owners
 returns-clause-owners g c = λ h want kept of.

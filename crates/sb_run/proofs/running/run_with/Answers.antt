@@ -8,7 +8,7 @@ pub returns-in-Ok-clause-run : goal.returns-in-Ok-clause-run
 returns-in-Ok-clause-run g c = λ m taken.
     let meanings = g.B.Boxes.meanings in
     on_mounted (tells g.D.Disk.told g.D.Disk.len g.D.Disk.faults) (meanings c.in-Ok.boxes) m c.args.words.now c.args.most _ _ c.args.disk.now c.mount.new.self
-    c.run_mounted.new.disk c.run_mounted.result c.mount.ensures.told
+    c.run_mounted.new.disk c.run_mounted.result c.mount.ensures.told c.mount.ensures.cause.later
     (subst (λ (o : Result g.row.B.Denot ℕ). AreTaken meanings o m) c.in-Ok.is taken)
     (subst (λ (o : Result g.row.B.Denot ℕ). IfOk o (λ b. repeated_in (meanings b) ≡ None)) c.in-Ok.is c.requires.unique) c.run_mounted.ensures.run
 
