@@ -36,6 +36,6 @@ well_paid = Compare Gt (New (codes "salary")) (Const (Int (pos 100)))
 abbrev pub adds_salary : Action
 adds_salary = Add (codes "d") (codes "total") (New (codes "salary")) ((codes "id", New (codes "dept")) ∷ [])
 
--- `on insert when new.salary > 100 then add ..`
+-- `after insert when new.salary > 100 do add ..`
 abbrev pub hires : Bool → Rule
 hires deferred = Trigger Insert well_paid adds_salary deferred
