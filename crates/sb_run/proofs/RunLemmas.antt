@@ -46,25 +46,25 @@ unfolding played-from
 plays-from w m words false mounted ending taken items replies first now answers started plays = (
   started.0,
   λ g want db stored.
-    let start = started.1 g want db stored in (
-      record { boxes = w.meanings first.session.boxes; live = start.live; first = first.disk; later = start.later; early = start.early },
-      λ single.
-        played-from (tells w.told w.len w.faults) m (w.meanings first.session.boxes) (λ image. HoldsDatabase m image db) db mounted first.disk now.disk
-        ending taken items replies now.starts answers start.early (λ image holds. holds) (plays (opened (w.meanings first.session.boxes) db) start.now single),
-    ),
+      let start = started.1 g want db stored in (
+        record { boxes = w.meanings first.session.boxes; live = start.live; first = first.disk; later = start.later; early = start.early },
+        λ single.
+            played-from (tells w.told w.len w.faults) m (w.meanings first.session.boxes) (λ image. HoldsDatabase m image db) db mounted first.disk now.disk
+            ending taken items replies now.starts answers start.early (λ image holds. holds) (plays (opened (w.meanings first.session.boxes) db) start.now single),
+      ),
 )
 plays-from w m words true mounted ending taken items replies first now answers started plays = (
   started.0,
   λ told settled.
-    let start = started.1 told settled in (
-      record { boxes = w.meanings first.session.boxes; live = start.0.live; first = first.disk; later = start.0.later; early = start.0.early },
-      start.1,
-      λ single.
-        let from = played-from (tells w.told w.len w.faults) m (w.meanings first.session.boxes) (HoldsNew m) [] mounted first.disk now.disk
-        ending taken items replies now.starts answers start.0.early (λ image holds. inr holds)
-        (plays (opened (w.meanings first.session.boxes) []) start.0.now single) in
-        (from, record { lawful = from.lawful (nothing-lawful m); sound = from.sound (nothing-sound m) }),
-    ),
+      let start = started.1 told settled in (
+        record { boxes = w.meanings first.session.boxes; live = start.0.live; first = first.disk; later = start.0.later; early = start.0.early },
+        start.1,
+        λ single.
+            let from = played-from (tells w.told w.len w.faults) m (w.meanings first.session.boxes) (HoldsNew m) [] mounted first.disk now.disk
+            ending taken items replies now.starts answers start.0.early (λ image holds. inr holds)
+            (plays (opened (w.meanings first.session.boxes) []) start.0.now single) in
+            (from, record { lawful = from.lawful (nothing-lawful m); sound = from.sound (nothing-sound m) }),
+      ),
 )
 
 -- what is known of the items and their replies, by what was known

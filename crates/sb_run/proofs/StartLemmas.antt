@@ -60,19 +60,21 @@ module _ {B D E : Type 0} (w : World B D) (m : Meanings) (words : Words) (create
       → IfOk r (λ x. HasStarted w m words create mounted here x)
   opens (Err e) asked present stands live place leaves = tt
   opens (Ok x) asked present stands live place leaves =
-      subst (λ (create : Bool). HasStarted w m words create mounted here x) (sym asked)
-      (present, λ g want db stored. record {
-        live = live g want db stored;
-        later = later;
-        now = record {
-          same = (live g want db stored).same;
-          root = ap (λ (place : Place). place.root) place;
-          stands = record { want = want; is = stands g want db stored };
-        };
-        early = weaker (w.told mounted) (w.told here) (Restores g want) (λ image. HoldsDatabase m image db)
-            (λ image restores. record { geometry = g; want = want; restores = restores; committed = stored.committed })
-            (leaves want g stored.mounted);
-      })
+      subst (λ (create : Bool). HasStarted w m words create mounted here x) (sym asked) (
+        present,
+        λ g want db stored. record {
+          live = live g want db stored;
+          later = later;
+          now = record {
+            same = (live g want db stored).same;
+            root = ap (λ (place : Place). place.root) place;
+            stands = record { want = want; is = stands g want db stored };
+          };
+          early = weaker (w.told mounted) (w.told here) (Restores g want) (λ image. HoldsDatabase m image db)
+              (λ image restores. record { geometry = g; want = want; restores = restores; committed = stored.committed })
+              (leaves want g stored.mounted);
+        },
+      )
 
   pub makes : (r : Result (Session B) E) → create ≡ true
       → IfOk r (λ x. IfTold (w.told mounted) (IsFor w.meanings w.told w.len (first_page words.pages) (opened (w.meanings x.boxes) []) here x))
@@ -83,22 +85,24 @@ module _ {B D E : Type 0} (w : World B D) (m : Meanings) (words : Words) (create
       → IfOk r (λ x. HasStarted w m words create mounted here x)
   makes (Err e) asked stands live place none leaves = tt
   makes (Ok x) asked stands live place none leaves =
-      subst (λ (create : Bool). HasStarted w m words create mounted here x) (sym asked)
-      (none, λ tells settled.
-      let is_live : HasLive m [] (w.meanings x.boxes) = if_told (w.told mounted) _ tells live in (
-        record {
-          live = is_live;
-          later = later;
-          now = record {
-            same = is_live.same;
-            root = ap (λ (place : Place). place.root) place;
-            stands = record { want = first_page words.pages; is = if_told (w.told mounted) _ tells stands };
-          };
-          early = weaker (w.told mounted) (w.told here) (IsFormatting (geometry_of words.pages words.log)) (λ image. IsNoStore image ⊎ HoldsDatabase m image [])
-              (holds-new m (geometry_of words.pages words.log)) (leaves settled none);
-        },
-        leaves settled none,
-      ))
+      subst (λ (create : Bool). HasStarted w m words create mounted here x) (sym asked) (
+        none,
+        λ tells settled.
+            let is_live : HasLive m [] (w.meanings x.boxes) = if_told (w.told mounted) _ tells live in (
+              record {
+                live = is_live;
+                later = later;
+                now = record {
+                  same = is_live.same;
+                  root = ap (λ (place : Place). place.root) place;
+                  stands = record { want = first_page words.pages; is = if_told (w.told mounted) _ tells stands };
+                };
+                early = weaker (w.told mounted) (w.told here) (IsFormatting (geometry_of words.pages words.log)) (λ image. IsNoStore image ⊎ HoldsDatabase m image [])
+                    (holds-new m (geometry_of words.pages words.log)) (leaves settled none);
+              },
+              leaves settled none,
+            ),
+      )
 
 -- ---- no store
 or_fault : {T : Type 0} → OpenFault → Result T OpenFault → OpenFault
