@@ -1,11 +1,11 @@
 -- What a disk's contents stand for, and why a session isn't opened over them.
 use Rattle.std.specs.Prelude.{◌≡◌, ◌⊎◌, ℕ, true, false, is_some, List, [], ◌∷◌, Option, Some, None}
-use Rattle.sb_disk.specs.Disk.{Story, WhereTold}
+use Rattle.sb_disk.specs.Disk.{Story}
 use Rattle.sb_disk.specs.Moments.{LeavesOnly}
 use Rattle.sb_images.specs.Images.{Restores}
 use Rattle.sb_images.specs.Store.{IfTold, IsMounted}
 use Rattle.sb_log.specs.declared.geometry.Geometry.{Geometry}
-use Rattle.sb_recover.specs.Restarted.{HasSameBytes}
+use Rattle.sb_recover.specs.Restarted.{WasSynced}
 use Rattle.sb_recover.specs.declared.fault.OpenFault.{OpenFault}
 use Rattle.sb_recover.specs.declared.fault.OpenFault.TheVariants.{Damaged, MissingExtension, NoMemory}
 use Rattle.sb_relation.specs.Db.{Db}
@@ -80,5 +80,5 @@ pub record WasLookedAt (old new : Option Story) : Type 0 where
 abbrev pub OpeningErr : OpenFault → Option Story → Option Story → Type 0
 OpeningErr (MissingExtension code) old new = WasLookedAt old new
 OpeningErr (Damaged page) old new = WasLookedAt old new
-OpeningErr NoMemory old new = WhereTold old new HasSameBytes ⊎ WasLookedAt old new
+OpeningErr NoMemory old new = WasSynced old new ⊎ WasLookedAt old new
 OpeningErr e old new = SpaceErr e old new

@@ -29,7 +29,7 @@ use Rattle.sb_recover.specs.Geometries.{IsStoreTold, HoldsNone, NoStoreErr}
 use Rattle.sb_recover.specs.Restoring.{AreRestored, RestoredOn}
 use Rattle.sb_recover.specs.Writing.{AgreesOff, LeavesPages, AllWritten}
 use Rattle.sb_recover.specs.BadLog.{IsLog, LogErr, IsPast, IsNoRow, IsBadLogOn}
-use Rattle.sb_recover.specs.Restarted.{IsRestarted, HasSameBytes, WasBad, RestartErr}
+use Rattle.sb_recover.specs.Restarted.{IsRestarted, WasBad, RestartErr}
 use Rattle.sb_recover.proofs.LogLemmas.{Spelled, Spelled-rows}
 
 -- ---- outside the pages
@@ -224,10 +224,6 @@ module _ (g : Geometry) (j : State) (chunks frames : List (List ℕ)) where
       (restarted k mid new last store log restores written done closed))
 
 -- ---- refusals
-pub HasSameBytes-synced : (told new : Option Story) → new ≡ synced told → WhereTold told new HasSameBytes
-HasSameBytes-synced None new is = is
-HasSameBytes-synced (Some s) new is = subst (λ (m : Option Story). WhereTold (Some s) m HasSameBytes) (sym is) refl
-
 HoldsNone-before : (told : Option Story) → HoldsNone (synced told) → HoldsNone told
 HoldsNone-before None none = tt
 HoldsNone-before (Some s) none = none
@@ -252,21 +248,21 @@ WasBad-before (Some s) g chunk offset store bad = (
 
 pub RestartErr-store : (told mid new : Option Story) (e : OpenFault) → mid ≡ synced told → new ≡ mid → NoStoreErr mid e → RestartErr e told new
 RestartErr-store told mid new faults.Fault is same err = tt
-RestartErr-store told mid new faults.NotStore is same err = (HoldsNone-before told (subst HoldsNone is err), HasSameBytes-synced told new (same ∙ is))
+RestartErr-store told mid new faults.NotStore is same err = (HoldsNone-before told (subst HoldsNone is err), same ∙ is)
 RestartErr-store told mid new other is same err = absurd err
 
 pub RestartErr-log : (told mid new : Option Story) (g : Geometry) (e : OpenFault) → mid ≡ synced told → new ≡ mid → IsStoreTold mid g → LogErr mid g e → RestartErr e told new
 RestartErr-log told mid new g faults.Fault is same store err = tt
-RestartErr-log told mid new g faults.NoMemory is same store err = HasSameBytes-synced told new (same ∙ is)
+RestartErr-log told mid new g faults.NoMemory is same store err = same ∙ is
 RestartErr-log told mid new g (faults.BadLog chunk offset) is same store err = (
   WasBad-before told g chunk offset (subst (λ (m : Option Story). IsStoreTold m g) is store) (subst (λ (m : Option Story). IsBadLogOn m g chunk offset) is err),
-  HasSameBytes-synced told new (same ∙ is),
+  same ∙ is,
 )
 RestartErr-log told mid new g other is same store err = absurd err
 
 pub RestartErr-free : (told mid new : Option Story) (e : OpenFault) → mid ≡ synced told → new ≡ mid → IsFree e → RestartErr e told new
 RestartErr-free told mid new faults.Fault is same err = tt
-RestartErr-free told mid new faults.NoMemory is same err = HasSameBytes-synced told new (same ∙ is)
+RestartErr-free told mid new faults.NoMemory is same err = same ∙ is
 RestartErr-free told mid new other is same err = absurd err
 
 -- ---- the steps of a restart

@@ -1,6 +1,7 @@
 -- What a restart leaves.
 use Rattle.std.specs.Prelude.{◌≡◌, ℕ, ◌*◌, ◌<◌, ◌≤◌, Option, Some, None, List, [], ◌∷◌}
-use Rattle.sb_disk.specs.Disk.{Range, Story, AgreesBut, WhereTold}
+use Rattle.sb_disk.specs.Disk.{Range, Story, AgreesBut, synced}
+use Rattle.sb_disk.specs.Moments.{LeavesNow, LeavesOnly}
 use Rattle.sb_journal.specs.Chunks.{IsOpen}
 use Rattle.sb_log.specs.declared.geometry.Geometry.{Geometry}
 use Rattle.sb_log.specs.Records.{Record}
@@ -27,19 +28,23 @@ pub record IsRestarted (g : Geometry) (s t : Story) : Type 0 where
   pub settled : t.now.written ≡ []
   pub shut : (i : ℕ) → gates_start ≤ i → i < log_start → ¬ IsOpen t.now.reads i
 
--- a read gives what it gave
-abbrev pub HasSameBytes : Story → Story → Type 0
-HasSameBytes s t = t.now.reads ≡ s.now.reads
+-- the disk was synced, and was asked for nothing else that makes a moment
+abbrev pub WasSynced : Option Story → Option Story → Type 0
+WasSynced old new = new ≡ synced old
+
+-- so all along a crash leaves what one could leave before
+abbrev pub SyncedLeavesNow : Type 0
+SyncedLeavesNow = (old new : Option Story) → WasSynced old new → LeavesOnly old new (LeavesNow old)
 
 -- the contents were a store whose log is bad at this chunk and offset
 abbrev pub WasBad : Option Story → ℕ → ℕ → Type 0
 WasBad None chunk offset = Unit {0}
 WasBad (Some s) chunk offset = (g : Geometry) × IsStoreOf g s.now.reads × IsBadLog s g chunk offset
 
--- Why a restart is refused: each refusal but Fault leaves the contents as they were.
+-- Why a restart is refused: behind each refusal but Fault nothing was written.
 abbrev pub RestartErr : OpenFault → Option Story → Option Story → Type 0
 RestartErr Fault old new = Unit {0}
-RestartErr NoMemory old new = WhereTold old new HasSameBytes
-RestartErr NotStore old new = HoldsNone old × WhereTold old new HasSameBytes
-RestartErr (BadLog chunk offset) old new = WasBad old chunk offset × WhereTold old new HasSameBytes
+RestartErr NoMemory old new = WasSynced old new
+RestartErr NotStore old new = HoldsNone old × WasSynced old new
+RestartErr (BadLog chunk offset) old new = WasBad old chunk offset × WasSynced old new
 RestartErr other old new = ⊥

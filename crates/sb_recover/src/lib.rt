@@ -18,5 +18,5 @@ mod writing;
 
 pub use fault::OpenFault;
 pub use formatting::format;
-pub use laws::owners_stand;
+pub use laws::{owners_stand, refused_restarts_leave_the_disk};
 pub use restarting::restart;

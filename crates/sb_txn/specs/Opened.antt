@@ -3,7 +3,7 @@ use Rattle.std.specs.Prelude.{◌≡◌, ◌⊎◌, ℕ, Option, None, List, []}
 use Rattle.sb_disk.specs.Disk.{Story, WhereTold}
 use Rattle.sb_log.specs.declared.geometry.Geometry.{Geometry}
 use Rattle.sb_images.specs.Store.{IfTold, IsMounted}
-use Rattle.sb_recover.specs.Restarted.{IsRestarted, HasSameBytes, RestartErr}
+use Rattle.sb_recover.specs.Restarted.{IsRestarted, RestartErr, WasSynced}
 use Rattle.sb_recover.specs.declared.fault.OpenFault.{OpenFault}
 use Rattle.sb_recover.specs.declared.fault.OpenFault.TheVariants.{Fault, BadLog, NoMemory}
 use Rattle.sb_txn.specs.Book.{empty_book}
@@ -26,7 +26,7 @@ WasRestarted old new = (g : Geometry) × WhereTold old new (IsRestarted g)
 
 -- Why a store isn't opened: what a restart refuses. Memory may be wanting behind the restart too.
 abbrev pub OpenErr : OpenFault → Option Story → Option Story → Type 0
-OpenErr NoMemory old new = WhereTold old new HasSameBytes ⊎ WasRestarted old new
+OpenErr NoMemory old new = WasSynced old new ⊎ WasRestarted old new
 OpenErr other old new = RestartErr other old new
 
 -- Why the journal of a store without an open gate isn't opened. A disk that tells its bytes gives back that no gate is open.
