@@ -24,6 +24,10 @@ none_is : (ext : Extensions) (most : ℕ) (g : Going) → g.queue.actions ≡ []
 none_is ext zero g none left = ap (λ (actions : List Action). unless_waiting actions (with_picks g left)) none
 none_is ext (suc most) g none left = ap (λ (actions : List Action). drain_next (first_change ext) (drain ext most) actions (with_picks g left)) none
 
+-- and none is taken out
+pub none_taken : {S : Type 0} (Stands : Going → S → Type 0) (g : Going) (a : Action) (new : S) → g.queue.actions ≡ [] → Unqueued Stands g (Some a) new → ⊥
+none_taken Stands g a new none more = let is : a ∷ more.0 ≡ [] = sym more.1 ∙ none in cc
+
 module _ {S : Type 0} (Stands : Going → S → Type 0) (Stopped : Refusal → Trail → S → Type 0) (ext : Extensions) (most : ℕ) (old : S) where
   pub draining_none : Draining Stands ext most old most old
   draining_none g stands = goes_here Stands (drain ext most) g old stands

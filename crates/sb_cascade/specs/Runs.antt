@@ -28,6 +28,11 @@ IsQuiet (Damaged page) = ⊥
 IsQuiet Fault = ⊥
 IsQuiet _ = Unit {0}
 
+-- it says that room is wanting
+abbrev pub is_room : Refusal → Bool
+is_room (Room room) = true
+is_room r = false
+
 -- ---- runs
 -- the second trail goes on where the first ends
 pub record GoesOn (from to : Trail) : Type 0 where

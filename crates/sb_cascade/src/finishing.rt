@@ -1,10 +1,10 @@
 //! What is done before a commit.
 
-ghost use Rattle.std.specs.Prelude.{IfErr, IfOk, OnOk};
+ghost use Rattle.std.specs.Prelude.{◌≡◌, [], false, IfErr, IfOk, OnOk};
 ghost use Rattle.sb_fold.specs.Finish.{drain, finish};
 ghost use Rattle.sb_fold.specs.Fold.{act, first_change};
 ghost use Rattle.sb_fold.specs.Outcome.{Going};
-ghost use Rattle.sb_cascade.specs.Runs.{MadeFrom, StopsFrom};
+ghost use Rattle.sb_cascade.specs.Runs.{MadeFrom, StopsFrom, is_room};
 
 use crate::changes::act;
 use crate::layer::Layer;
@@ -26,6 +26,9 @@ pub fn finish<L: Layer>(layer: &mut L, alloc: Global) -> Result<(), Refusal>
         → StopsFrom L.stopped (finish (L.extensions layer.old)) g r layer.new) }
     ensures leads { L.leads layer.old layer.new }
     ensures ready { L.is_ready layer.new }
+
+    // Where no action waits it only reads.
+    ensures room { IfErr result (λ r. (g : Going) → L.stands g layer.old → g.queue.actions ≡ [] → is_room r ≡ false) }
 {
     drain(layer, alloc, MOST_WAITING)?;
     match layer.first_failing(alloc)? {
@@ -42,6 +45,9 @@ fn drain<L: Layer>(layer: &mut L, alloc: Global, most: u32) -> Result<(), Refusa
         → StopsFrom L.stopped (drain (L.extensions layer.old) most) g r layer.new) }
     ensures leads { L.leads layer.old layer.new }
     ensures ready { L.is_ready layer.new }
+
+    // Where no action waits it only reads.
+    ensures room { IfErr result (λ r. (g : Going) → L.stands g layer.old → g.queue.actions ≡ [] → is_room r ≡ false) }
 {
     let mut left = most;
     while let Some(action) = layer.next_waiting(alloc)? {

@@ -1,6 +1,6 @@
 //! What work on relations stands on.
 
-ghost use Rattle.std.specs.Prelude.{◌≡◌, ◌<◌, ℕ, List, [], IfOk, IfErr, IfSome, option_map};
+ghost use Rattle.std.specs.Prelude.{◌≡◌, ◌<◌, ℕ, false, List, [], IfOk, IfErr, IfSome, option_map};
 ghost use Rattle.std.specs.List.{All, flat_map};
 ghost use Rattle.sb_rule.specs.declared.action.Action.{Action};
 ghost use Rattle.sb_rule.specs.declared.action.Action.TheVariants as action;
@@ -14,7 +14,7 @@ ghost use Rattle.sb_fold.specs.Finish.{first_failing};
 ghost use Rattle.sb_fold.specs.Fold.{matching};
 ghost use Rattle.sb_fold.specs.Outcome.{Going, Trail};
 ghost use Rattle.sb_fold.specs.Wishes.{Wish, Put, const_of};
-ghost use Rattle.sb_cascade.specs.Runs.{Asked, IsQuiet, LooksFrom, MadeFrom, NotAsked, StopsFrom, Unqueued, row_change};
+ghost use Rattle.sb_cascade.specs.Runs.{Asked, IsQuiet, LooksFrom, MadeFrom, NotAsked, StopsFrom, Unqueued, is_room, row_change};
 ghost use Rattle.sb_cascade.specs.Steps.{wish_there};
 ghost use Rattle.sb_cascade.specs.Wishes.{wish_of};
 
@@ -117,6 +117,7 @@ pub trait Layer {
         ensures taken { IfOk result (λ x. (g : Going) → stands g self.old → Unqueued stands g x self.new) }
         ensures may { IfOk result (λ x. IfSome x (λ a. may_do a self.new)) }
         ensures refused { IfErr result (λ r. (g : Going) → stands g self.old → LooksFrom stopped g r self.new) }
+        ensures room { IfErr result (λ r. is_room r ≡ false) }
         ensures leads { leads self.old self.new }
         ensures ready { is_ready self.new };
 
@@ -126,6 +127,7 @@ pub trait Layer {
         ensures found { IfOk result (λ x. (g : Going) → stands g self.old → g.queue.actions ≡ []
             → (x ≡ first_failing (extensions self.old) g.db g.db) × stands g self.new) }
         ensures refused { IfErr result (λ r. (g : Going) → stands g self.old → LooksFrom stopped g r self.new) }
+        ensures room { IfErr result (λ r. is_room r ≡ false) }
         ensures leads { leads self.old self.new }
         ensures ready { is_ready self.new };
 

@@ -1,7 +1,8 @@
 //! What no clause says: that calls succeed while memory lasts. A layer that answers from a script logs the relations whose rows
 //! are changed, in order.
 
-ghost use Rattle.std.specs.Prelude.{◌<◌, [], refl, IfSome};
+ghost use Rattle.std.specs.Prelude.{◌≡◌, ◌<◌, [], false, refl, IfErr, IfSome};
+ghost use Rattle.sb_cascade.specs.Runs.{is_room};
 
 use sb_cascade::{Layer, Wish, act, change, finish};
 use sb_fold::Refusal;
@@ -133,7 +134,9 @@ impl Layer for Script {
     ghost puts = { λ relation terms a may. tt };
 }
 
-fn kept<T>(made: Result<T, AllocError>) -> Result<T, Refusal> {
+fn kept<T>(made: Result<T, AllocError>) -> Result<T, Refusal>
+    ensures { IfErr result (λ r. is_room r ≡ false) }
+{
     match made {
         Ok(value) => Ok(value),
         Err(_) => Err(Refusal::NoMemory),

@@ -2,13 +2,13 @@
 use Rattle.std.proofs.Common.{◌≡◌, ◌⊎◌, ℕ, Bool, true, false, true≢false, Result, Ok, Err, IfErr, refl, sym, subst, inl, inr}
 use Rattle.sb_drive.specs.declared.space.SpaceFault.{SpaceFault}
 use Rattle.sb_drive.specs.declared.space.SpaceFault.TheVariants as fault
-use Rattle.sb_drive.specs.Spaces.{IsRefused}
+use Rattle.sb_drive.specs.Spaces.{IsReadFault, IsRefused}
 use Rattle.sb_registry.specs.Runs.{IsSound}
 use Rattle.sb_relation.specs.Db.{Name}
 use Rattle.sb_rule.specs.declared.change.Change.{Change}
 use Rattle.sb_fold.specs.Extensions.{Extensions}
 use Rattle.sb_fold.specs.Outcome.{Going, Trail}
-use Rattle.sb_cascade.specs.Runs.{IsVetoed, IsVetoedIf, NotAsked, is_free}
+use Rattle.sb_cascade.specs.Runs.{IsVetoed, IsVetoedIf, NotAsked, is_free, is_room}
 use Rattle.sb_fold.specs.declared.refusal.Refusal.{Refusal}
 use Rattle.sb_fold.specs.declared.refusal.Refusal.TheVariants as refusal
 use Rattle.sb_engine.specs.Refusals.{HasRefusalCause, refusal_of}
@@ -23,6 +23,17 @@ free_refusal (fault.GatesFull used total) = refl
 free_refusal (fault.Damaged page) = refl
 free_refusal fault.Down = refl
 free_refusal fault.NoMemory = refl
+
+-- that of a reading call says nothing of room
+pub roomless_refusal : (e : SpaceFault) → IsReadFault e → is_room (refusal_of e) ≡ false
+roomless_refusal fault.Fault read = refl
+roomless_refusal (fault.DataFull used total) read = absurd read
+roomless_refusal (fault.TempFull used total) read = absurd read
+roomless_refusal (fault.LogFull used need total) read = absurd read
+roomless_refusal (fault.GatesFull used total) read = absurd read
+roomless_refusal (fault.Damaged page) read = refl
+roomless_refusal fault.Down read = refl
+roomless_refusal fault.NoMemory read = refl
 
 -- where no page is called damaged, it has its cause
 pub refused_cause : {S : Type 0} (Fails : SpaceFault → S → S → Type 0) (Same : Type 0) (old new : S) (e : SpaceFault) → IsRefused Same (Fails e old new) e → IsSound e → HasRefusalCause Fails (refusal_of e) new

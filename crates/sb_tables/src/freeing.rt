@@ -1,7 +1,8 @@
 //! Pages that go before a commit.
 
-ghost use Rattle.std.specs.Prelude.{◌≡◌, ◌∷◌, [], ℕ, List, IfErr, OnOk};
+ghost use Rattle.std.specs.Prelude.{◌≡◌, ◌∷◌, [], false, ℕ, List, IfErr, OnErr, OnOk};
 ghost use Rattle.sb_fold.specs.Outcome.{Going};
+ghost use Rattle.sb_cascade.specs.Runs.{is_room};
 ghost use Rattle.sb_drive.specs.Slots.{Slots};
 ghost use Rattle.sb_drive.specs.Spaces.{LeadsOn, Wanted};
 ghost use Rattle.sb_registry.specs.Boxes.{Meanings};
@@ -36,6 +37,7 @@ pub fn free_gone<B: Boxes, S: Owners>(
     ensures cause { IfErr result (λ r. HasRefusalCause S.fails r running.new.space.now) }
     ensures frees { Frees S.leads running.old running.new }
     ensures kept { IfErr result (λ r. running.new.work.now.gone ≡ running.old.work.now.gone) }
+    ensures idle { running.old.work.now.gone.items ≡ [] → IfErr result (λ r. is_room r ≡ false) }
     ensures ready { IsServing S.is_ready B.meanings running.new }
 {
     match free_all(running.space, alloc, &mut running.work.gone) {
@@ -54,6 +56,7 @@ fn free_all<S: Owners>(space: &mut S, alloc: Global, gone: &mut Vec<u16>) -> Res
     ensures refused { IfErr result (λ e. IsRefusedBy S.fails (refusal_of e) space.new) }
     ensures undamaged { IfErr result IsSound }
     ensures kept { IfErr result (λ e. gone.new ≡ gone.old) }
+    ensures idle { gone.old.items ≡ [] → OnErr result ⊥ }
     ensures leads { LeadsOn S.leads space.old space.new }
     ensures ready { S.is_ready space.new }
 {
@@ -70,6 +73,7 @@ fn free_owners<S: Owners>(space: &mut S, alloc: Global, owners: &[u16]) -> Resul
         → Keeps m IsDurable root s owners.now kept → LeavesGone S.has m root kept want [] space.new) }
     ensures refused { IfErr result (λ e. IsRefusedBy S.fails (refusal_of e) space.new) }
     ensures undamaged { IfErr result IsSound }
+    ensures idle { owners.now ≡ [] → OnErr result ⊥ }
     ensures leads { LeadsOn S.leads space.old space.new }
     ensures ready { S.is_ready space.new }
 {

@@ -1,13 +1,13 @@
 -- What finishing a transaction gives, and how it is refused.
 use Rattle.std.proofs.Common.{◌≡◌, ℕ, zero, suc, Bool, true, false, Option, Some, None, List, [], ◌++◌, refl, sym, ap, subst, ◌∙◌}
 use Rattle.sb_rule.specs.declared.action.Action.{Action}
-use Rattle.sb_relation.specs.Db.{Name}
+use Rattle.sb_relation.specs.Db.{Key, Name}
 use Rattle.sb_fold.specs.declared.refusal.Refusal.{Refusal}
 use Rattle.sb_fold.specs.declared.refusal.Refusal.TheVariants.{Room, Damaged, Fault}
 use Rattle.sb_fold.specs.Extensions.{Extensions}
 use Rattle.sb_fold.specs.Finish.{drain, drain_next, finish, first_failing, unless_failing, unless_waiting}
 use Rattle.sb_fold.specs.Fold.{first_change}
-use Rattle.sb_fold.specs.Outcome.{Trail, Going, Outcome, Gives, Stopped, NoStep, Work, made, continue, trail_of, with_picks}
+use Rattle.sb_fold.specs.Outcome.{Trail, Going, Outcome, Gives, Stopped, NoStep, Work, made, continue, trail_of, with_picks, Leads}
 use Rattle.sb_drive.specs.declared.space.SpaceFault.{SpaceFault}
 use Rattle.sb_drive.specs.declared.space.SpaceFault.TheVariants as fault
 use Rattle.sb_cascade.specs.Runs.{is_free, EndsBy, GoesOn, MadeFrom, StopsFrom}
@@ -41,6 +41,14 @@ last-test ext (NoStep trail) after is = absurd (cc)
 
 pub finish-holds : (ext : Extensions) (g after : Going) → finish ext g ≡ made tt after → first_failing ext after.db after.db ≡ None
 finish-holds ext g after is = last-test ext (drain ext 1000 g) after is
+
+-- where no action waits, it leaves what is gone
+pub finish-gone : (ext : Extensions) (g after : Going) (picks : List Key) → g.queue.actions ≡ [] → Leads (finish ext) g picks (made tt) after → g.gone ≡ after.gone
+finish-gone ext g after picks none leads =
+    let start = with_picks g (picks ++ []) in
+    let end = with_picks after [] in
+    let tests : unless_failing (first_failing ext g.db g.db) start ≡ Gives tt end = sym (ap (λ (o : Outcome (Unit {0})). continue (tested ext) o) (drain-none ext 1000 start none)) ∙ leads.leads [] in
+    ap (λ (h : Going). h.gone) (last-step (first_failing ext g.db g.db) start end tests).1
 
 pub finish-map : {S T : Type 0} (P : Going → S → Type 0) (Q : Going → T → Type 0) (ext : Extensions) (g : Going) (a : S) (b : T) → ((h : Going) → first_failing ext h.db h.db ≡ None → P h a → Q h b)
     → MadeFrom P (finish ext) g tt a → MadeFrom Q (finish ext) g tt b

@@ -1,11 +1,11 @@
 -- A transaction that is finished over its store, which is lent.
-use Rattle.std.proofs.Common.{◌≡◌, ℕ, false, Option, Result, Ok, Err, IfErr, OnOk, sym, subst}
+use Rattle.std.proofs.Common.{◌≡◌, ℕ, false, [], Option, Result, Ok, Err, IfErr, OnOk, sym, subst}
 use Rattle.sb_disk.specs.Disk.{Story}
 use Rattle.sb_relation.specs.Db.{Db}
 use Rattle.sb_fold.specs.Finish.{finish}
 use Rattle.sb_fold.specs.Outcome.{Going}
 use Rattle.sb_fold.specs.declared.refusal.Refusal.{Refusal}
-use Rattle.sb_cascade.specs.Runs.{MadeFrom, StopsFrom}
+use Rattle.sb_cascade.specs.Runs.{MadeFrom, StopsFrom, is_room}
 use Rattle.sb_registry.specs.Boxes.{Meanings}
 use Rattle.sb_drive.specs.Spaces.{LeadsOn, Wanted}
 use Rattle.sb_drive.specs.declared.space.SpaceFault.{SpaceFault}
@@ -18,7 +18,7 @@ use Rattle.sb_space.specs.View.{lent}
 use Rattle.sb_space.specs.Works.{Fails}
 use Rattle.sb_tables.specs.Work.{Work}
 use Rattle.sb_tables.specs.Refusals.{HasRefusalCause}
-use Rattle.sb_tables.specs.Working.{extensions_of}
+use Rattle.sb_tables.specs.Working.{IsNoneGone, extensions_of}
 use Rattle.sb_tables.specs.Working as engine
 use Rattle.sb_transactions.specs.Commits.{ComesTo, FailsOn, Finishes, Mounted}
 use Rattle.sb_transactions.specs.declared.transactions.Point.{Point}
@@ -79,6 +79,12 @@ module _ {D : Type 0} (told : D → Option Story) (len faults : D → ℕ) (m : 
       StopsFrom-map (λ refusal trail x. HasRefusalCause (FailsLent faults) refusal x) (λ refusal trail x. HasRefusalCause (FailsOn faults) refusal x) (finish (extensions_of m)) g r b (record { disk = e; store = b.store.now })
       (λ trail cause. subst (λ (d : D). HasRefusalCause (FailsOn faults) r (record { disk = d; store = b.store.now })) (sym same) (HasCause-map (FailsLent faults) (FailsOn faults) mount (λ fault x y fails. fails) r b cause))
       (stops g (stands_lent want g at))
+
+  pub roomless-lent : {T : Type 0} (r : Result T Refusal)
+      → IfErr r (λ q. (g : Going) → engine.Stands (HasLent told len) m place.root g a v → g.queue.actions ≡ [] → IsNoneGone g.gone → is_room q ≡ false)
+      → IfErr r (λ q. (want : Wanted) (g : Going) → IsAt m place want tx g (parts told len disk store) v → g.queue.actions ≡ [] → IsNoneGone g.gone → is_room q ≡ false)
+  roomless-lent (Ok x) room = tt
+  roomless-lent (Err q) room = λ want g at. room g (stands_lent want g at)
 
   pub begun-lent : b.store.now.book.down ≡ false → (m : Meanings) (root : ℕ) (want : Wanted) (db : Db) → WasBegun m root want db tx (parts told len disk store) → WasBegun m root want db tx end
   begun-lent up m root want db begun =

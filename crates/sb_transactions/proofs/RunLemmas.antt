@@ -1,9 +1,9 @@
 -- An engine at work that is lent a space and work, and finishes them.
-use Rattle.std.proofs.Common.{◌≡◌, ℕ, true, List, ◌++◌, Result, Ok, Err, IfErr, IsErrAnd, sym, subst}
+use Rattle.std.proofs.Common.{◌≡◌, ℕ, true, false, List, [], ◌++◌, Result, Ok, Err, IfErr, IsErrAnd, sym, subst}
 use Rattle.sb_fold.specs.Finish.{finish}
-use Rattle.sb_fold.specs.Outcome.{Going}
+use Rattle.sb_fold.specs.Outcome.{Going, Gone}
 use Rattle.sb_fold.specs.declared.refusal.Refusal.{Refusal}
-use Rattle.sb_cascade.specs.Runs.{is_free, MadeFrom, StopsFrom}
+use Rattle.sb_cascade.specs.Runs.{is_free, is_room, MadeFrom, StopsFrom}
 use Rattle.sb_deferred.specs.Waiting.{IsFront}
 use Rattle.sb_registry.specs.Boxes.{Meanings}
 use Rattle.sb_drive.specs.Slots.{Slots}
@@ -13,9 +13,9 @@ use Rattle.sb_map.specs.declared.place.Place.{Place}
 use Rattle.sb_tables.specs.Running.{Running}
 use Rattle.sb_tables.specs.Work.{Work}
 use Rattle.sb_tables.specs.Refusals.{HasRefusalCause, IsRefusedBy}
-use Rattle.sb_tables.specs.Working.{IsStoppedBy, Stands, StandsFor, extensions_in, extensions_of}
+use Rattle.sb_tables.specs.Working.{IsNoneGone, IsStoppedBy, Stands, StandsFor, extensions_in, extensions_of}
 use Rattle.sb_transactions.specs.Driven.{WorksOn}
-use Rattle.sb_transactions.proofs.FinishLemmas.{StopsFrom-behind, StopsFrom-map, refusal-free}
+use Rattle.sb_transactions.proofs.FinishLemmas.{StopsFrom-behind, StopsFrom-map, finish-gone, refusal-free}
 
 -- a refusal that is passed on
 pub passed : {U : Type 0} (r : Result U Refusal) (e : Refusal) (P : Refusal → Type 0) → IsErrAnd r (λ x. x ≡ e) → P e → IfErr r P
@@ -68,6 +68,11 @@ module _ {B S : Type 0} (Has : Wanted → Slots → S → Type 0) (Fails : Space
       (StopsFrom-map (IsStoppedBy Fails) (λ refusal trail z. HasRefusalCause Fails refusal z) (finish (extensions_in meanings a)) g r b y
       (λ trail is. subst (λ (z : S). HasRefusalCause Fails r z) same is) (stopped g (parts-to meanings boxes place x w a lent (IsSo g) stands)))
 
+  -- where no action waits it wants no room
+  pub finish-roomless : (r : Refusal) → ((g : Going) → StandsFor Has meanings g a → g.queue.actions ≡ [] → is_room r ≡ false)
+      → (g : Going) → Stands Has (meanings boxes) place.root g x w → g.queue.actions ≡ [] → IsNoneGone g.gone → is_room r ≡ false
+  finish-roomless r room g stands none idle = room g (parts-to meanings boxes place x w a lent (IsSo g) stands) none
+
   module _ (made : (g : Going) → StandsFor Has meanings g a → MadeFrom (StandsFor Has meanings) (finish (extensions_in meanings a)) g tt b) where
     pub finish-freed : (c : Running B S) → ((g : Going) → StandsFor Has meanings g b → StandsFor Has meanings g c) → IsLent boxes place y v c
         → (g : Going) → Stands Has (meanings boxes) place.root g x w → MadeFrom (λ h z. Stands Has (meanings boxes) place.root h z v) (finish (extensions_of (meanings boxes))) g tt y
@@ -83,3 +88,10 @@ module _ {B S : Type 0} (Has : Wanted → Slots → S → Type 0) (Fails : Space
         (StopsFrom-behind (StandsFor Has meanings) (λ refusal trail z. HasRefusalCause Fails refusal z) (finish (extensions_in meanings a)) g tt b r y
         (subst (λ (q : Refusal). is_free q ≡ true) refused.is (refusal-free refused.fault)) (λ trail. cause)
         (made g (parts-to meanings boxes place x w a lent (IsSo g) stands)))
+
+    -- and behind it no owner is to go where nothing was gone
+    pub freed-roomless : (r : Refusal) → (b.work.now.gone.items ≡ [] → is_room r ≡ false)
+        → (g : Going) → Stands Has (meanings boxes) place.root g x w → g.queue.actions ≡ [] → IsNoneGone g.gone → is_room r ≡ false
+    freed-roomless r room g stands none idle =
+        let from = made g (parts-to meanings boxes place x w a lent (IsSo g) stands) in
+        room (from.stands.gone (subst (λ (gone : Gone). IsNoneGone gone) (finish-gone (extensions_in meanings a) g from.after from.picks none from.leads) idle))

@@ -3,6 +3,7 @@
 ghost use Rattle.std.specs.Prelude.{◌≡◌, [], true, false, is_some, ℕ, Some, IfErr, IfOk, IfSome, OnOk};
 ghost use Rattle.sb_relation.specs.Db.{Db};
 ghost use Rattle.sb_fold.specs.Outcome.{Going};
+ghost use Rattle.sb_cascade.specs.Runs.{is_room};
 ghost use Rattle.sb_registry.specs.Boxes.{Meanings};
 ghost use Rattle.sb_drive.specs.Spaces.{Wanted};
 ghost use Rattle.sb_map.specs.declared.place.Place.{Place};
@@ -11,7 +12,7 @@ ghost use Rattle.sb_txn.specs.Clauses.{CommitAsksNothing, LeavesWanted};
 ghost use Rattle.sb_txn.specs.Parts.{parts};
 ghost use Rattle.sb_space.specs.Works.{Serves};
 ghost use Rattle.sb_tables.specs.Refusals.{HasRefusalCause};
-ghost use Rattle.sb_tables.specs.Working.{extensions_of};
+ghost use Rattle.sb_tables.specs.Working.{IsNoneGone, extensions_of};
 ghost use Rattle.sb_transactions.specs.Calls.{IsOnlyFault, Remains};
 ghost use Rattle.sb_transactions.specs.Commits.{by_refusal, FailsOn, Finishes, IsDone, IsEnded, LeavesEither, LeavesOldOrFinished, StaysOpen, StopsAt, is_wanting};
 ghost use Rattle.sb_transactions.specs.Transactions.{HasNothingLeft, IsAt, IsFinished, IsUsable, Rests, WasBegun};
@@ -69,6 +70,11 @@ pub fn commit<B: Boxes, D: Disk>(
         → LeavesOldOrFinished (B.meanings boxes.now) place.root want g (parts D.told D.len disk.old space.old.store) (parts D.told D.len disk.new space.new.store) }
     ensures kept { IfErr result (λ e. (e.refusal ≡ Refusal.Fault → ⊥)
         → LeavesWanted (parts D.told D.len disk.old space.old.store) (parts D.told D.len disk.new space.new.store)) }
+
+    // Where no action waits and nothing is gone no room is wanting.
+    ensures room { IfErr result (λ e. (want : Wanted) (g : Going)
+        → IsAt (B.meanings boxes.now) place want transaction.tx.store.number g (parts D.told D.len disk.old space.old.store) transaction.work
+        → g.queue.actions ≡ [] → IsNoneGone g.gone → is_room e.refusal ≡ false) }
 
     // Where nothing waits and no owner is to go it takes no memory, and makes no call on the disk where no page was changed.
     ensures quiet { HasNothingLeft transaction.work → IfErr result (λ e. IsOnlyFault e.refusal space.new.store) }

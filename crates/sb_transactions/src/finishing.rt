@@ -4,12 +4,12 @@ ghost use Rattle.std.specs.Prelude.{◌≡◌, ◌↔◌, [], false, ℕ, IfErr,
 ghost use Rattle.sb_relation.specs.Db.{Db};
 ghost use Rattle.sb_fold.specs.Finish.{finish};
 ghost use Rattle.sb_fold.specs.Outcome.{Going};
-ghost use Rattle.sb_cascade.specs.Runs.{MadeFrom, StopsFrom};
+ghost use Rattle.sb_cascade.specs.Runs.{MadeFrom, StopsFrom, is_room};
 ghost use Rattle.sb_registry.specs.Boxes.{Meanings};
 ghost use Rattle.sb_drive.specs.Spaces.{LeadsOn, Wanted};
 ghost use Rattle.sb_txn.specs.Parts.{parts};
 ghost use Rattle.sb_tables.specs.Refusals.{HasRefusalCause};
-ghost use Rattle.sb_tables.specs.Working.{extensions_of};
+ghost use Rattle.sb_tables.specs.Working.{IsNoneGone, extensions_of};
 ghost use Rattle.sb_tables.specs.Working as engine;
 ghost use Rattle.sb_map.specs.declared.place.Place.{Place};
 ghost use Rattle.sb_transactions.specs.declared.transactions.Point.{Point};
@@ -60,6 +60,9 @@ pub(crate) fn finish_work<B: Boxes, D: Disk>(
         → IsAt (B.meanings boxes.now) place want transaction.old.tx.store.number g (parts D.told D.len disk.old space.old.store) transaction.old.work
         → StopsFrom (λ refusal trail x. HasRefusalCause (FailsOn D.faults) refusal x) (finish (extensions_of (B.meanings boxes.now))) g r
         (record { disk = disk.new; store = space.new.store })) }
+    ensures room { IfErr result (λ r. (want : Wanted) (g : Going)
+        → IsAt (B.meanings boxes.now) place want transaction.old.tx.store.number g (parts D.told D.len disk.old space.old.store) transaction.old.work
+        → g.queue.actions ≡ [] → IsNoneGone g.gone → is_room r ≡ false) }
     ensures begun { space.new.store.book.down ≡ false → (m : Meanings) (root : ℕ) (want : Wanted) (db : Db)
         → WasBegun m root want db transaction.old.tx.store.number (parts D.told D.len disk.old space.old.store)
         → WasBegun m root want db transaction.old.tx.store.number (parts D.told D.len disk.new space.new.store) }
@@ -93,6 +96,8 @@ fn finish_over<B: Boxes, S: Owners>(
     ensures none { OnOk result (work.new.gone.items ≡ []) }
     ensures refused { IfErr result (λ r. (g : Going) → engine.Stands S.has (B.meanings boxes.now) place.root g space.old work.old
         → StopsFrom (λ refusal trail x. HasRefusalCause S.fails refusal x) (finish (extensions_of (B.meanings boxes.now))) g r space.new) }
+    ensures room { IfErr result (λ r. (g : Going) → engine.Stands S.has (B.meanings boxes.now) place.root g space.old work.old
+        → g.queue.actions ≡ [] → IsNoneGone g.gone → is_room r ≡ false) }
     ensures works { IfErr result (λ r. WorksOn S.leads space.old space.new work.old work.new) }
     ensures leads { LeadsOn S.leads space.old space.new }
     ensures ready { engine.Serves S.is_ready (B.meanings boxes.now) place space.new work.new }

@@ -4,14 +4,14 @@ use Rattle.sb_rule.specs.declared.action.Action.{Action}
 use Rattle.sb_fold.specs.declared.refusal.Refusal.TheVariants.{DeferLimit}
 use Rattle.sb_fold.specs.Outcome.{Going}
 use Rattle.sb_cascade.specs.Runs.{Unqueued}
-use Rattle.sb_cascade.proofs.Draining.{drained, draining_more, draining_none, draining_stopped, not_drained, over_limit}
+use Rattle.sb_cascade.proofs.Draining.{drained, draining_more, draining_none, draining_stopped, none_taken, not_drained, over_limit}
 use Rattle.sb_cascade.proofs.finishing.drain.Goals as goal
 
 pub loop-action-init : goal.loop-action-init
 loop-action-init g c =
     let layer = g.L.Layer in
     let old = c.args.layer.now in
-    record { leads = g.met.L.Layer.stays old; ready = c.requires.ready; draining = draining_none layer.stands layer.stopped (layer.extensions old) c.args.most old }
+    record { leads = g.met.L.Layer.stays old; ready = c.requires.ready; draining = draining_none layer.stands layer.stopped (layer.extensions old) c.args.most old; idle = λ h stands none. stands }
 
 pub returns-in_err-action-clause-refused : goal.returns-in_err-action-clause-refused
 returns-in_err-action-clause-refused g c =
@@ -54,6 +54,21 @@ returns-in_err-act_waiting-clause-refused g c =
     (draining_stopped layer.stands layer.stopped ext c.args.most old loop.left loop.layer draining (loop.left - 1) a mid (layer.extensions mid) (omega arith) (laws.same old mid leads) more
     c.in_err-act_waiting.field-0.0 c.act_waiting.new.layer c.in_err-act_waiting.ensures.refused)
 
+pub returns-in_err-action-clause-room : goal.returns-in_err-action-clause-room
+returns-in_err-action-clause-room g c =
+    let p = err_from_is_err_and c.from_residual.result c.from_residual.ensures.1 in
+    rw (p.1, p.2) (λ h stands none. c.in_err-action.ensures.room)
+
+pub returns-in_err-act_waiting-clause-room : goal.returns-in_err-act_waiting-clause-room
+returns-in_err-act_waiting-clause-room g c =
+    let layer = g.L.Layer in
+    let loop = c.loop-action in
+    let mid = c.next_waiting.new.self in
+    let a = c.in-Some.action in
+    let more = subst (λ (x : Option Action). (h : Going) → layer.stands h loop.layer → Unqueued layer.stands h x mid) c.in-Some.is c.in_ok-action.ensures.taken in
+    let p = err_from_is_err_and c.from_residual-in_err-act_waiting.result c.from_residual-in_err-act_waiting.ensures.1 in
+    rw (p.1, p.2) (λ h stands none. absurd (none_taken layer.stands h a mid none (more h (loop.invariant.idle h stands none))))
+
 pub loop-action-preserved : goal.loop-action-preserved
 loop-action-preserved g c =
     let layer = g.L.Layer in
@@ -71,6 +86,7 @@ loop-action-preserved g c =
       ready = c.in_ok-act_waiting.ensures.ready;
       draining = draining_more layer.stands layer.stopped ext c.args.most old loop.left loop.layer draining (loop.left - 1) a mid (layer.extensions mid) (omega arith) (laws.same old mid leads) more
           c.in_ok-act_waiting.field-0 c.act_waiting.new.layer c.in_ok-act_waiting.ensures.made;
+      idle = λ h stands none. absurd (none_taken layer.stands h a mid none (more h (loop.invariant.idle h stands none)));
     }
 
 pub returns-clause-made : goal.returns-clause-made

@@ -1,3 +1,5 @@
+use Rattle.std.proofs.Common.{◌≡◌, []}
+use Rattle.sb_fold.specs.Outcome.{Going}
 use Rattle.sb_cascade.proofs.Draining.{Draining}
 use Rattle.sb_cascade.proofs.finishing.drain.Given as goal
 
@@ -9,4 +11,5 @@ invariant-loop-action g l = record {
   leads : g.L.Layer.leads l.fn.layer l.layer;
   ready : g.L.Layer.is_ready l.layer;
   draining : Draining g.L.Layer.stands (g.L.Layer.extensions l.fn.layer) l.most l.fn.layer l.left l.layer;
+  idle : (h : Going) → g.L.Layer.stands h l.fn.layer → h.queue.actions ≡ [] → g.L.Layer.stands h l.layer;
 }

@@ -40,3 +40,13 @@ returns-in_err-first_failing-clause-refused g c =
     let p = err_from_is_err_and c.from_residual-in_err-first_failing.result c.from_residual-in_err-first_failing.ensures.1 in
     rw (p.1, p.2)
     (not_found layer.stands layer.stopped (layer.extensions old) 1000 old c.drain.new.layer c.in_ok-drain.ensures.made c.in_err-first_failing.field-0.0 c.first_failing.new.self c.in_err-first_failing.ensures.refused)
+
+pub returns-in_err-drain-clause-room : goal.returns-in_err-drain-clause-room
+returns-in_err-drain-clause-room g c =
+    let p = err_from_is_err_and c.from_residual.result c.from_residual.ensures.1 in
+    rw (p.1, p.2) c.in_err-drain.ensures.room
+
+pub returns-in_err-first_failing-clause-room : goal.returns-in_err-first_failing-clause-room
+returns-in_err-first_failing-clause-room g c =
+    let p = err_from_is_err_and c.from_residual-in_err-first_failing.result c.from_residual-in_err-first_failing.ensures.1 in
+    rw (p.1, p.2) (λ h stands none. c.in_err-first_failing.ensures.room)

@@ -21,6 +21,9 @@ returns-in-Err-clause-refused g c = rw c.refusal_of.ensures c.in-Err.ensures.ref
 pub returns-in-Err-clause-cause : goal.returns-in-Err-clause-cause
 returns-in-Err-clause-cause g c = rw c.refusal_of.ensures (refused_soundly g.S.PageSpace.fails c.in-Err.fault c.free_all.new.space c.in-Err.ensures.refused c.in-Err.ensures.undamaged)
 
+pub returns-in-Err-clause-idle : goal.returns-in-Err-clause-idle
+returns-in-Err-clause-idle g c = λ none. absurd (c.in-Err.ensures.idle none)
+
 pub returns-in-Err-clause-frees : goal.returns-in-Err-clause-frees
 returns-in-Err-clause-frees g c =
     record { same_space = refl; same_work = refl; boxes = refl; place = refl; leads = c.free_all.ensures.leads; opened = refl; queue = refl; done = refl; picks = refl }

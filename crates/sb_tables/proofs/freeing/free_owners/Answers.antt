@@ -1,4 +1,4 @@
-use Rattle.std.proofs.Common.{ℕ, ◌+◌, List, drop, subst}
+use Rattle.std.proofs.Common.{◌≡◌, ℕ, ◌+◌, List, length, drop, ap, subst, arith}
 use Rattle.sb_standing.specs.Standing.{Keeps}
 use Rattle.sb_engine.specs.Opened.{IsDurable}
 use Rattle.sb_tables.specs.Freeing.{LeavesGone}
@@ -17,6 +17,12 @@ returns-in_err-free_owner-clause-leads g c =
     let first = c.loop-owner.invariant.leads in
     let later = c.in_err-free_owner.ensures.leads in
     (first.0 + later.0, g.met.S.PageSpace.goes_on first.0 later.0 c.args.space.now c.loop-owner.space c.free_owner.new.space first.1 later.1)
+
+pub returns-in_err-free_owner-clause-idle : goal.returns-in_err-free_owner-clause-idle
+returns-in_err-free_owner-clause-idle g c = λ none.
+    let over = c.loop-owner-test.true in
+    let empty : length c.args.owners.now ≡ 0 = ap (λ (l : List ℕ). length l) none in
+    absurd (omega (arith, over, empty))
 
 pub loop-owner-preserved : goal.loop-owner-preserved
 loop-owner-preserved g c =

@@ -1,12 +1,13 @@
 use Rattle.std.proofs.Common.{ℕ, sym, ap, subst, ◌∙◌}
 use Rattle.std.proofs.lemmas.Bool.{false≢true}
+use Rattle.sb_cascade.specs.Runs.{is_room}
 use Rattle.sb_txn.specs.Parts.{parts}
 use Rattle.sb_space.specs.declared.transactions.Tx.{Tx}
 use Rattle.sb_transactions.specs.Calls.{Remains}
 use Rattle.sb_transactions.specs.Commits.{is_wanting}
 use Rattle.sb_transactions.specs.Transactions.{IsPointOf, WasBegun}
 use Rattle.sb_transactions.proofs.CallLemmas.{up-earlier}
-use Rattle.sb_transactions.proofs.EndLemmas.{LeavesOldOrFinished-abort, LeavesOldOrFinished-commit, LeavesWanted-stopped, Remains-behind, Remains-stopped, StopsAt-stopped, done-commit, done-left, down-stopped, leaves-left, none-ended, only-ended, remains-ended, stops-commit, stops-left}
+use Rattle.sb_transactions.proofs.EndLemmas.{LeavesOldOrFinished-abort, LeavesOldOrFinished-commit, LeavesWanted-stopped, Remains-behind, Remains-stopped, StopsAt-stopped, done-commit, done-left, down-stopped, leaves-left, none-ended, only-ended, remains-ended, roomless-stopped, stops-commit, stops-left}
 use Rattle.sb_transactions.proofs.OpenLemmas.{same-open, stays-open}
 use Rattle.sb_transactions.proofs.commits.commit.Goals as goal
 
@@ -157,6 +158,10 @@ returns-then-is_idle-clause-any_moment g c =
 pub returns-then-is_idle-clause-kept : goal.returns-then-is_idle-clause-kept
 returns-then-is_idle-clause-kept g c =
     rw c.ended.ensures (only-ended c.commit_pages.result c.commit_pages.new.space.store _ (λ q only not. absurd (not only.is)) c.commit_pages.ensures.err)
+
+pub returns-then-is_idle-clause-room : goal.returns-then-is_idle-clause-room
+returns-then-is_idle-clause-room g c =
+    rw c.ended.ensures (only-ended c.commit_pages.result c.commit_pages.new.space.store _ (λ q only want h at none idle. ap is_room only.is) c.commit_pages.ensures.err)
 
 pub returns-then-is_idle-clause-quiet : goal.returns-then-is_idle-clause-quiet
 returns-then-is_idle-clause-quiet g c =
@@ -383,6 +388,10 @@ pub returns-in-Ok-clause-kept : goal.returns-in-Ok-clause-kept
 returns-in-Ok-clause-kept g c =
     rw c.ended-in-Ok.ensures (only-ended c.commit_pages-in-Ok.result c.commit_pages-in-Ok.new.space.store _ (λ q only not. absurd (not only.is)) c.commit_pages-in-Ok.ensures.err)
 
+pub returns-in-Ok-clause-room : goal.returns-in-Ok-clause-room
+returns-in-Ok-clause-room g c =
+    rw c.ended-in-Ok.ensures (only-ended c.commit_pages-in-Ok.result c.commit_pages-in-Ok.new.space.store _ (λ q only want h at none idle. ap is_room only.is) c.commit_pages-in-Ok.ensures.err)
+
 pub returns-in-Ok-clause-remains : goal.returns-in-Ok-clause-remains
 returns-in-Ok-clause-remains g c =
     let told = g.D.Disk.told in
@@ -423,7 +432,7 @@ returns-in-Err-clause-refused g c =
     let f = c.stop.new.disk in
     let u = c.stop.new.space.store in
     let q = c.stop.result.refusal in
-    λ want h at. StopsAt-stopped told len faults m c.args.place tx d e f s t u w led h c.in-Err.refusal (c.in-Err.ensures.refused want h at) q c.stop.ensures.refused
+    λ want h at. StopsAt-stopped told len faults m c.args.place tx d e f s t u w led h c.in-Err.refusal (c.in-Err.ensures.refused want h at) c.finish_work.ensures.usable.ready.ready q c.stop.ensures.refused
 
 pub returns-in-Err-clause-faulted : goal.returns-in-Err-clause-faulted
 returns-in-Err-clause-faulted g c =
@@ -550,6 +559,11 @@ returns-in-Err-clause-kept g c =
     let f = c.stop.new.disk in
     let u = c.stop.new.space.store in
     λ not. LeavesWanted-stopped told len faults m c.args.place tx d e f s t u w led _ c.stop.ensures.remains c.stop.ensures.any_moment
+
+pub returns-in-Err-clause-room : goal.returns-in-Err-clause-room
+returns-in-Err-clause-room g c = λ want h at none idle.
+    roomless-stopped g.D.Disk.faults c.in-Err.refusal c.stop.result.refusal (record { disk = c.stop.new.disk; store = c.stop.new.space.store }) c.stop.ensures.refused
+    (c.in-Err.ensures.room want h at none idle)
 
 pub returns-in-Err-clause-remains : goal.returns-in-Err-clause-remains
 returns-in-Err-clause-remains g c =

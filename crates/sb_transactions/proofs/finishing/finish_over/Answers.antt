@@ -2,7 +2,7 @@ use Rattle.std.proofs.Common.{sym, subst, ◌∙◌, ◌+◌}
 use Rattle.sb_deferred.specs.Waiting.{IsFront}
 use Rattle.sb_fold.specs.Outcome.{Queue}
 use Rattle.sb_tables.specs.Refusals.{HasRefusalCause, IsRefusedBy}
-use Rattle.sb_transactions.proofs.RunLemmas.{IsLent, finish-freed, finish-refused, finish-stopped, led_between, passed, works_between}
+use Rattle.sb_transactions.proofs.RunLemmas.{IsLent, finish-freed, finish-refused, finish-roomless, finish-stopped, freed-roomless, led_between, passed, works_between}
 use Rattle.sb_transactions.proofs.finishing.finish_over.Goals as goal
 
 pub returns-in_err-finish-clause-refused : goal.returns-in_err-finish-clause-refused
@@ -85,3 +85,19 @@ returns-in_err-free_gone-clause-works g c =
     (first.0 + later.0, g.met.S.PageSpace.goes_on first.0 later.0 a.space.now b.space.now d.space.now first.1 later.1)
     (subst (λ (q : Queue). IsFront a.work.now.queue q) (sym frees.queue) goes.queue)
     (goes.gone.0, (λ i. (c.in_err-free_gone.ensures.kept i).items) ∙ goes.gone.1))
+
+pub returns-in_err-finish-clause-room : goal.returns-in_err-finish-clause-room
+returns-in_err-finish-clause-room g c =
+    let lent : IsLent c.args.boxes.now c.args.place c.args.space.now c.args.work.now c.new-running.result =
+    record { boxes_are = c.new-running.ensures.boxes; place_is = c.new-running.ensures.place; space_is = c.new-running.ensures.space; work_is = c.new-running.ensures.work } in
+    passed c.from_residual.result c.in_err-finish.field-0.0 _ c.from_residual.ensures.1
+    (finish-roomless g.S.PageSpace.has g.S.PageSpace.fails g.B.Boxes.meanings c.args.boxes.now c.args.place c.args.space.now c.args.space.now c.args.work.now c.args.work.now c.new-running.result c.finish.new.layer lent
+    c.in_err-finish.field-0.0 c.in_err-finish.ensures.room)
+
+pub returns-in_err-free_gone-clause-room : goal.returns-in_err-free_gone-clause-room
+returns-in_err-free_gone-clause-room g c =
+    let lent : IsLent c.args.boxes.now c.args.place c.args.space.now c.args.work.now c.new-running.result =
+    record { boxes_are = c.new-running.ensures.boxes; place_is = c.new-running.ensures.place; space_is = c.new-running.ensures.space; work_is = c.new-running.ensures.work } in
+    passed c.from_residual-in_err-free_gone.result c.in_err-free_gone.field-0.0 _ c.from_residual-in_err-free_gone.ensures.1
+    (freed-roomless g.S.PageSpace.has g.S.PageSpace.fails g.B.Boxes.meanings c.args.boxes.now c.args.place c.args.space.now c.args.space.now c.args.work.now c.args.work.now c.new-running.result c.finish.new.layer lent
+    c.in_ok-finish.ensures.made c.in_err-free_gone.field-0.0 c.in_err-free_gone.ensures.idle)

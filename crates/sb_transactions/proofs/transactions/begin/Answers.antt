@@ -17,3 +17,6 @@ returns-in-Ok-clause-at g c = λ m place want h owner first rests.
     IsAt-first m place want c.in-Ok.tx.store.number h q c.new_work.result c.in-Ok.ensures.begun.0 owner first
     (Rests-stays m place.root want h.db c.in-Ok.tx.store.number (parts told len c.args.disk.now c.args.space.now.store) q c.in-Ok.ensures.keeps.geometry c.in-Ok.ensures.pages rests)
     c.new_work.ensures.queue c.new_work.ensures.done c.new_work.ensures.gone c.new_work.ensures.opened c.new_work.ensures.picks
+
+pub returns-in-Ok-clause-pages : goal.returns-in-Ok-clause-pages
+returns-in-Ok-clause-pages g c = c.in-Ok.ensures.begins.pages

@@ -6,7 +6,7 @@ use Rattle.sb_deferred.specs.Complete.{AreMirrored, IsComplete}
 use Rattle.sb_standing.specs.Tables.{db_of}
 use Rattle.sb_engine.specs.Goings.{front_none, grows_none}
 use Rattle.sb_engine.specs.Working.{extensions_of, left_of}
-use Rattle.sb_engine.proofs.RefusedLemmas.{free_refusal, refused_cause}
+use Rattle.sb_engine.proofs.RefusedLemmas.{free_refusal, refused_cause, roomless_refusal}
 use Rattle.sb_engine.proofs.StandingLemmas.{stands_later}
 use Rattle.sb_engine.proofs.layer.RunningLayer.first_failing.Goals as goal
 
@@ -32,6 +32,9 @@ returns-in-Err-clause-refused g c = λ h stands.
       stopped = refused_cause g.S.PageSpace.fails _ a.space.now c.first_failing.new.space c.in-Err.fault c.in-Err.ensures.looks.refused
           (c.in-Err.ensures.undamaged stands.want stands.slots w.gone.items stands.kept stands.has stands.keeps complete);
     })
+
+pub returns-in-Err-clause-room : goal.returns-in-Err-clause-room
+returns-in-Err-clause-room g c = rw c.refusal_of.ensures (roomless_refusal c.in-Err.fault c.in-Err.ensures.looks.fault)
 
 pub returns-in-Ok-clause-leads : goal.returns-in-Ok-clause-leads
 returns-in-Ok-clause-leads g c = record {

@@ -3,7 +3,7 @@ use Rattle.std.specs.List.{slice_get}
 use Rattle.std.specs.Option.{option_copied}
 use Rattle.sb_rule.specs.declared.action.Action.{Action}
 use Rattle.sb_engine.specs.Goings.{front_none, stays}
-use Rattle.sb_engine.proofs.RefusedLemmas.{free_refusal, refused_cause}
+use Rattle.sb_engine.proofs.RefusedLemmas.{free_refusal, refused_cause, roomless_refusal}
 use Rattle.sb_engine.proofs.StandingLemmas.{first_fits, keeping_of, rules_of, stands_taken}
 use Rattle.sb_engine.proofs.layer.RunningLayer.next_waiting.Goals as goal
 
@@ -36,6 +36,9 @@ returns-in-Err-clause-refused g c = λ h stands.
       free = free_refusal c.in-Err.fault;
       stopped = refused_cause g.S.PageSpace.fails _ a.space.now new c.in-Err.fault c.in-Err.ensures.looks.refused (c.in-Err.ensures.undamaged stands.want stands.slots stands.kept keeping rules fits);
     })
+
+pub returns-in-Err-clause-room : goal.returns-in-Err-clause-room
+returns-in-Err-clause-room g c = rw c.refusal_of.ensures (roomless_refusal c.in-Err.fault c.in-Err.ensures.looks.fault)
 
 pub returns-in_default-clause-leads : goal.returns-in_default-clause-leads
 returns-in_default-clause-leads g c = stays g.S.PageSpace.leads g.met.S.PageSpace.stays c.args.self.now
