@@ -22,7 +22,7 @@ use Rattle.sb_session.specs.Calls.{IsOnlyFault, Remains}
 use Rattle.sb_session.specs.Commits.{LeavesOldOrFinished, StaysOpen, StopsAt, is_wanting}
 use Rattle.sb_session.specs.Transactions.{IsAt, Rests, WasBegun}
 use Rattle.sb_execution.specs.Endings.{EndsAlone, HasAnswered}
-use Rattle.sb_execution.proofs.AloneLemmas.{EndsAlone-fault, EndsAlone-refused, fallen_commit, leaves_alone, moments_abort, refuses_commit, remains_abort, remains_alone, rests_abort, was_up}
+use Rattle.sb_execution.proofs.AloneLemmas.{EndsAlone-fault, EndsAlone-refused, fallen_commit, leaves_alone, left_by, moments_abort, refuses_commit, remains_abort, remains_alone, rests_abort, was_up}
 use Rattle.sb_execution.proofs.CallLemmas.{Remains-err, err_fault, ok_err}
 use Rattle.sb_execution.proofs.EndLemmas.{may_want_memory-works}
 
@@ -51,7 +51,7 @@ module _ {D : Type 0} (told : D → Option Story) (len faults : D → ℕ) (m : 
     EndsAlone-over moments still none aborted faulted =
         EndsAlone-refused told len faults m place c d b s v up (λ x. may_want_memory-works x c has.works) r
         (remains_alone told len faults m place d e s t tx has.comes w {T = Reply} {U = Reply} b v (Err r) (Err r) (λ is. is) (Remains-err told len faults {T = K} {U = Reply} e b t v r kept))
-        (λ not want x of posed. leaves_alone told len faults m place d e s t tx has.comes {T = K} b v (Err r) kept (still not) want x of)
+        (λ not. leaves_alone told len faults m place d e s t tx has.comes {T = K} b v (Err r) kept (still not))
         (fallen_commit told len faults m place c d e s t tx w answer has b v moments)
         none
         (λ off want x of. aborted off m place.root want (committed x) (has.comes.begun has.up want x of))
@@ -59,15 +59,16 @@ module _ {D : Type 0} (told : D → Option Story) (len faults : D → ℕ) (m : 
 
     -- and the transaction goes on, and is aborted then
     module _ (now : EngineWork) (stays : StaysOpen tx here between w now) (f : D) (u : StoreState) (leaves : LeavesWanted between (parts told len f u)) where
+      still : LeavesWanted (parts told len d s) (parts told len f u)
+      still = moments_abort told len faults m place c d e s t tx w answer has {K = K} b f v u now r stays kept leaves
+
       pub EndsAlone-let_go : is_wanting r ≡ true → Remains {T = Unit {0}} told len faults b f v u (Ok tt) → u.book.actives ≡ [] → (last : ℕ) → last ≡ tx
           → ((m : Meanings) (root : ℕ) (want : Wanted) (db : Db) → WasBegun m root want db last between → Rests m root want db (parts told len f u))
           → EndsAlone told len faults m place c d f s u (Err r)
       EndsAlone-let_go wanting remains none last number rests =
           EndsAlone-refused told len faults m place c d f s u up (λ x. may_want_memory-works x c has.works) r
           (remains_abort told len faults m place c d e s t tx w answer has {K = K} b f v u now r stays kept {T = Unit {0}} (Ok tt) (Err r) (λ is. ok_err tt refusal.Fault is) remains)
-          (λ not want x of posed. moments_abort told len faults m place c d e s t tx w answer has {K = K} b f v u now r stays kept {T = Unit {0}} (Ok tt) remains leaves want x of posed)
-          (λ want x of posed.
-          inl (moments_abort told len faults m place c d e s t tx w answer has {K = K} b f v u now r stays kept {T = Unit {0}} (Ok tt) remains leaves want x of posed))
+          (λ not. still) (λ want x of posed. inl (left_by told len faults m place c d f s u up still want x of))
           (λ off. none)
           (λ off want x of.
           rests_abort told len faults m place c d e s t tx w answer has {K = K} b f v u now r stays kept
@@ -80,5 +81,4 @@ module _ {D : Type 0} (told : D → Option Story) (len faults : D → ℕ) (m : 
           EndsAlone-fault told len faults m place c d f s u up q
           (remains_abort told len faults m place c d e s t tx w answer has {K = K} b f v u now r stays kept {T = Unit {0}} (Err q) (Err q)
           (λ is. ap (λ (x : Refusal). Err x) (err_fault {T = Unit {0}} q is)) remains) only
-          (λ want x of posed.
-          moments_abort told len faults m place c d e s t tx w answer has {K = K} b f v u now r stays kept {T = Unit {0}} (Err q) remains leaves want x of posed)
+          still

@@ -13,14 +13,14 @@ use Rattle.sb_fold.specs.Extensions.{Extensions}
 use Rattle.sb_fold.specs.Finish.{finish}
 use Rattle.sb_fold.specs.Outcome.{Going, Trail, Work, made, refuse, Leads, ◌>>=◌}
 use Rattle.sb_fold.proofs.LeadsLemmas.{leads_next, leads_on, leads_refused}
-use Rattle.sb_cascade.specs.Runs.{EndsBy, is_free}
+use Rattle.sb_cascade.specs.Runs.{EndsBy, is_free, is_room}
 use Rattle.sb_engine.specs.Refusals.{HasRefusalCause}
 use Rattle.sb_engine.specs.Working.{extensions_of}
 use Rattle.sb_engine.specs.declared.running.Work.{Work as EngineWork}
 use Rattle.sb_plain.specs.declared.command.Command.{Command}
 use Rattle.sb_plain.specs.declared.reply.Reply.{Reply}
 use Rattle.sb_plain.specs.declared.reply.Reply.TheVariants.{Refused}
-use Rattle.sb_plain.specs.Licences.{may_want_memory}
+use Rattle.sb_plain.specs.Licences.{may_want_memory, may_want_room}
 use Rattle.sb_plain.specs.State.{downed}
 use Rattle.sb_plain.specs.Step.{Steps}
 use Rattle.sb_plain.specs.State.{State, Transaction as PlainTransaction, committed}
@@ -29,30 +29,33 @@ use Rattle.sb_registry.specs.Boxes.{Meanings}
 use Rattle.sb_drive.specs.Spaces.{Wanted}
 use Rattle.sb_map.specs.declared.place.Place.{Place}
 use Rattle.sb_txn.specs.Clauses.{LeavesWanted}
+use Rattle.sb_txn.proofs.KeepsLemmas.{LeavesWanted-then}
 use Rattle.sb_txn.specs.Parts.{Parts, parts}
 use Rattle.sb_txn.specs.State.{State as StoreState}
 use Rattle.sb_session.specs.Calls.{IsOnlyFault, Remains}
 use Rattle.sb_session.specs.Commits.{FailsOn, Finishes, IsDone, LeavesEither, LeavesOldOrFinished, Mounted, StaysOpen, StopsAt}
 use Rattle.sb_session.specs.Transactions.{IsAt, IsCommitted, Rests, WasBegun}
 use Rattle.sb_session.proofs.EndLemmas.{Remains-behind}
-use Rattle.sb_execution.specs.Serving.{IsPosedIn, is_room}
-use Rattle.sb_session.specs.Ends.{IsFree, IsStep, is_end, may_lack_room}
+use Rattle.sb_execution.specs.Serving.{IsPosedIn}
+use Rattle.sb_session.specs.Ends.{IsFree, IsStep, is_end, tells_change}
 use Rattle.sb_session.specs.Sessions.{HasFailed, IsNext, IsOpenFor, Lacks, LeavesNext, LeavesOldOrNext}
 use Rattle.sb_session.proofs.Carried.{end_of_given}
 use Rattle.sb_session.proofs.CommitSteps.{committed-push, with_committed}
 use Rattle.sb_session.proofs.OpenLemmas.{Outside, outside_at}
+use Rattle.sb_session.proofs.RoomLemmas.{Lacks-there}
 use Rattle.sb_execution.specs.Endings.{AnswersCommand, ComesAlone, EndsAlone, HasAnswered, IsLeftSo, IsOf, going_alone}
 use Rattle.sb_execution.proofs.CallLemmas.{Remains-then, err_fault, has_failed, leaves_behind, not_both, ok_err, still_up}
-use Rattle.sb_execution.proofs.EndLemmas.{Ends-by, Ends-stepped, ends_given, may_lack_room-works}
-use Rattle.sb_execution.proofs.ReplyLemmas.{answered_given, is_free_reply}
+use Rattle.sb_execution.proofs.EndLemmas.{Ends-by, Ends-stepped, ends_given, may_want_room-works}
+use Rattle.sb_execution.proofs.ReplyLemmas.{answered_given, is_free_reply, tells_answer}
 use Rattle.sb_execution.proofs.StepsOf.{Steps-stopped_alone, Steps-worked_alone, with_open}
 
--- why a command is refused: as the definitions say, or for a cause, which a fault leaves the store down for; and for want of room only where it may be wanting
-pub record Refuses {D : Type 0} (faults : D → ℕ) (m : Meanings) (c : Command) (x : State) (r : Refusal) (u : StoreState) : Type 0 where
+-- why a command is refused: as the definitions say, or for a cause, which a fault leaves the store down for; and for want of room only where it may be wanting, by the numbers of these sizes
+pub record Refuses {D : Type 0} (faults : D → ℕ) (m : Meanings) (c : Command) (x : State) (r : Refusal) (g : Geometry) (u : StoreState) : Type 0 where
   pub given : is_free r ≡ false → Steps (extensions_of m) x c (Refused r) (with_open x None)
   pub there : Mounted D
   pub cause : is_free r ≡ true → HasRefusalCause (FailsOn faults) r there
-  pub lacks : is_room r ≡ true → may_lack_room x c ≡ true
+  pub sizes : is_room r ≡ true → there.store.pool.geometry ≡ g
+  pub lacks : is_room r ≡ true → may_want_room x c ≡ true
   pub failed : r ≡ refusal.Fault → u.book.down ≡ true
 
 module _ {D : Type 0} (told : D → Option Story) (len faults : D → ℕ) (m : Meanings) (place : Place) (c : Command)
@@ -76,16 +79,16 @@ module _ {D : Type 0} (told : D → Option Story) (len faults : D → ℕ) (m : 
   abbrev Each : (Wanted → State → Type 0) → Type 0
   Each P = (want : Wanted) (x : State) → Of want x → IsPosedIn m x c → P want x
 
-  -- a crash left what was wanted
-  abbrev Still : Type 0
-  Still = Each (λ want x. LeavesOnly p.told q.told (Restores p.store.pool.geometry want))
-
   -- a crash left this where the disk failed
   abbrev Fallen : Type 0
   Fallen = Each (λ want x. LeavesOldOrNext m place.root want ext x c (downed x) p q)
 
   without : (want : Wanted) (x : State) → Of want x → Outside m place want (committed x) p x.transaction
   without want x of = outside_at m place want (committed x) p x.transaction of.stands
+
+  -- a crash left what was wanted
+  pub left_by : LeavesWanted p q → (want : Wanted) (x : State) → Of want x → LeavesOnly p.told q.told (Restores p.store.pool.geometry want)
+  left_by still want x of = let out = without want x of in still.each want out.rests.has.now out.rests.has.stands.store
 
   failed_so : (r : Refusal) → Remains {T = Reply} told len faults d f s u (Err r) → r ≡ refusal.Fault → u.book.down ≡ true → (want : Wanted) (x : State) → Of want x
       → LeavesOldOrNext m place.root want ext x c (downed x) p q → IsFree (LeftBy want x (Refused r)) (HasFailed faults d f) x (downed x)
@@ -100,23 +103,24 @@ module _ {D : Type 0} (told : D → Option Story) (len faults : D → ℕ) (m : 
   }
 
   -- ---- the disk failed
-  pub EndsAlone-fault : (r : Refusal) → Remains {T = Reply} told len faults d f s u (Err r) → IsOnlyFault r u → Still → EndsAlone told len faults m place c d f s u (Err r)
+  pub EndsAlone-fault : (r : Refusal) → Remains {T = Reply} told len faults d f s u (Err r) → IsOnlyFault r u → LeavesWanted p q → EndsAlone told len faults m place c d f s u (Err r)
   EndsAlone-fault r remains only still = record {
-    ends = λ want x of posed. Ends-by (LeftBy want x (Refused r)) (Lacks faults) (HasFailed faults d f) ext x c r
+    ends = λ want x of posed. Ends-by (LeftBy want x (Refused r)) (Lacks s.pool.geometry) (HasFailed faults d f) ext x c r
         (λ given. absurd (false≢true (sym given ∙ ap is_free only.is)))
         (λ room is. absurd (let e = only.is in cc))
         (λ is. absurd (let e = only.is in cc))
-        (λ is. failed_so r remains is only.down want x of (inl (still want x of posed)))
+        (λ is. failed_so r remains is only.down want x of (inl (left_by still want x of)))
         (λ page is. absurd (let e = only.is in cc));
+    leaves = λ not. still;
     none = λ off. not_both u.book.down off only.down;
     remains = remains;
   }
 
   -- ---- it was refused, and the pages are as they were
-  module _ (may : (x : State) → may_want_memory x c ≡ true) (r : Refusal) (remains : Remains {T = Reply} told len faults d f s u (Err r)) (still : (r ≡ refusal.Fault → ⊥) → Still) (fallen : Fallen)
+  module _ (may : (x : State) → may_want_memory x c ≡ true) (r : Refusal) (remains : Remains {T = Reply} told len faults d f s u (Err r)) (still : (r ≡ refusal.Fault → ⊥) → LeavesWanted p q) (fallen : Fallen)
       (none : u.book.down ≡ false → u.book.actives ≡ [])
       (rests : u.book.down ≡ false → (want : Wanted) (x : State) → Of want x → Rests m place.root want (committed x) q)
-      (refuses : Each (λ want x. Refuses faults m c x r u)) where
+      (refuses : Each (λ want x. Refuses faults m c x r s.pool.geometry u)) where
     stays_up : (r ≡ refusal.Fault → ⊥) → u.book.down ≡ false
     stays_up not = still_up told len faults {T = Reply} d f s u (Err r) remains (λ is. absurd (not (err_fault {T = Reply} r is)))
 
@@ -130,7 +134,7 @@ module _ {D : Type 0} (told : D → Option Story) (len faults : D → ℕ) (m : 
         stands = λ on. subst (λ (a : Option PlainTransaction). IsOpenFor m place want (committed x) q None a) (sym (without want x of).none)
             (rests (stays_up (λ is. false≢true (sym not ∙ ap is_end is))) want x of);
       };
-      leaves = inl (still (λ is. false≢true (sym not ∙ ap is_end is)) want x of posed);
+      leaves = inl (left_by (still (λ is. false≢true (sym not ∙ ap is_end is))) want x of);
     }
 
     given_step : (want : Wanted) (x : State) → Of want x → IsPosedIn m x c → is_free r ≡ false → IsStep (LeftBy want x (Refused r)) ext x c (Refused r)
@@ -145,18 +149,19 @@ module _ {D : Type 0} (told : D → Option Story) (len faults : D → ℕ) (m : 
           spare = refl;
           stands = λ on. rests (stays_up (λ is. false≢true (sym given ∙ ap is_free is))) want x of;
         };
-        leaves = inl (still (λ is. false≢true (sym given ∙ ap is_free is)) want x of posed);
+        leaves = inl (left_by (still (λ is. false≢true (sym given ∙ ap is_free is))) want x of);
       };
     }
 
     pub EndsAlone-refused : EndsAlone told len faults m place c d f s u (Err r)
     EndsAlone-refused = record {
-      ends = λ want x of posed. let why = refuses want x of posed in Ends-by (LeftBy want x (Refused r)) (Lacks faults) (HasFailed faults d f) ext x c r
+      ends = λ want x of posed. let why = refuses want x of posed in Ends-by (LeftBy want x (Refused r)) (Lacks s.pool.geometry) (HasFailed faults d f) ext x c r
           (λ given. given_step want x of posed given)
           (λ room is. record {
             up = of.up;
             cause = (
-              record { at = why.there; cause = subst (λ (r : Refusal). HasRefusalCause (FailsOn faults) r why.there) is (why.cause (ap is_free is)) },
+              Lacks-there faults s.pool.geometry why.there (why.sizes (ap is_room is)) room
+                  (subst (λ (r : Refusal). HasRefusalCause (FailsOn faults) r why.there) is (why.cause (ap is_free is))),
               why.lacks (ap is_room is),
             );
             stands = as_it_was want x of posed (ap is_end is);
@@ -164,15 +169,17 @@ module _ {D : Type 0} (told : D → Option Story) (len faults : D → ℕ) (m : 
           (λ is. record { up = of.up; cause = may x; stands = as_it_was want x of posed (ap is_end is) })
           (λ is. failed_so r remains is (why.failed is) want x of (fallen want x of posed))
           (λ page is. subst (λ (r : Refusal). HasRefusalCause (FailsOn faults) r why.there) is (why.cause (ap is_free is)));
+      leaves = λ not. still (λ is. false≢true (sym not ∙ ap (λ (q : Refusal). tells_change (Refused q)) is));
       none = none;
       remains = remains;
     }
 
   -- ---- it went through
-  pub EndsAlone-done : (r : Reply) → Remains told len faults d f s u (Ok r) → (u.book.down ≡ false → u.book.actives ≡ [])
+  pub EndsAlone-done : (r : Reply) → Remains told len faults d f s u (Ok r) → (tells_change r ≡ false → LeavesWanted p q) → (u.book.down ≡ false → u.book.actives ≡ [])
       → Each (λ want x. (is_free_reply r ≡ false) × IsStep (LeftBy want x r) ext x c r) → EndsAlone told len faults m place c d f s u (Ok r)
-  EndsAlone-done r remains none steps = record {
-    ends = λ want x of posed. let to = steps want x of posed in Ends-stepped (LeftBy want x r) (Lacks faults) (HasFailed faults d f) ext x c r to.0 to.1;
+  EndsAlone-done r remains leaves none steps = record {
+    ends = λ want x of posed. let to = steps want x of posed in Ends-stepped (LeftBy want x r) (Lacks s.pool.geometry) (HasFailed faults d f) ext x c r to.0 to.1;
+    leaves = leaves;
     none = none;
     remains = remains;
   }
@@ -204,18 +211,14 @@ module _ {D : Type 0} (told : D → Option Story) (len faults : D → ℕ) (m : 
 
   -- what a crash leaves until a call behind it
   pub leaves_alone : {T : Type 0} (f : D) (u : StoreState) (r : Result T Refusal) → Remains told len faults e f t u r → LeavesWanted (parts told len e t) (parts told len f u)
-      → (want : Wanted) (x : State) → IsOf m place want x (parts told len d s) None → LeavesOnly (told d) (told f) (Restores s.pool.geometry want)
-  leaves_alone f u r remains leaves want x of =
-      let both = comes.store want x of in
-      let rest = leaves_behind told len faults tx comes.mid.disk e comes.mid.store t comes.led f u r remains leaves in
-      and_then (told d) (told comes.mid.disk) (told f) (Restores s.pool.geometry want) (comes.leaves.each want both.0 both.2)
-      (subst (λ (g : Geometry). LeavesOnly (told comes.mid.disk) (told f) (Restores g want)) comes.first.geometry (rest.each want both.1 both.3))
+      → LeavesWanted (parts told len d s) (parts told len f u)
+  leaves_alone f u r remains leaves =
+      LeavesWanted-then (parts told len d s) (parts told len comes.mid.disk comes.mid.store) (parts told len f u) (λ now. now) comes.first.geometry comes.pages comes.leaves
+      (leaves_behind told len faults tx comes.mid.disk e comes.mid.store t comes.led f u r remains leaves)
 
-  pub leaves_so_far : (want : Wanted) (x : State) → IsOf m place want x (parts told len d s) None → LeavesOnly (told d) (told e) (Restores s.pool.geometry want)
-  leaves_so_far want x of =
-      let both = comes.store want x of in
-      and_then (told d) (told comes.mid.disk) (told e) (Restores s.pool.geometry want) (comes.leaves.each want both.0 both.2)
-      (subst (λ (g : Geometry). LeavesOnly (told comes.mid.disk) (told e) (Restores g want)) comes.first.geometry (comes.led.1.leaves.each want both.1 both.3))
+  pub leaves_so_far : LeavesWanted (parts told len d s) (parts told len e t)
+  leaves_so_far =
+      LeavesWanted-then (parts told len d s) (parts told len comes.mid.disk comes.mid.store) (parts told len e t) (λ now. now) comes.first.geometry comes.pages comes.leaves comes.led.1.leaves
 
   pub same_size : t.pool.geometry ≡ s.pool.geometry
   same_size = comes.led.1.geometry ∙ comes.first.geometry
@@ -240,6 +243,12 @@ module _ {D : Type 0} (told : D → Option Story) (len faults : D → ℕ) (m : 
 
   none_in : (want : Wanted) (x : State) → Begun want x → x.transaction ≡ None
   none_in want x of = (outside_at m place want (committed x) from x.transaction of.stands).none
+
+  -- what a crash left so far
+  left_so_far : (want : Wanted) (x : State) → Begun want x → LeavesOnly (told d) (told e) (Restores s.pool.geometry want)
+  left_so_far want x of =
+      let out = outside_at m place want (committed x) from x.transaction of.stands in
+      (leaves_so_far told len faults m place d e s t tx has.comes).each want out.rests.has.now out.rests.has.stands.store
 
   -- work and the work that finishes it
   leads_whole_way : (work : Work Answer) (g h k : Going) (ps qs : List Key) → Leads work g ps (made answer) h → Leads (finish (extensions_of m)) h qs (made tt) k
@@ -275,7 +284,7 @@ module _ {D : Type 0} (told : D → Option Story) (len faults : D → ℕ) (m : 
           commits = subst (λ (g : Geometry). IsCommitted m place.root g.pages pages (committed next)) size commits;
           leaves = and_then (told d) (told e) (told f) (IsOldOrNew s.pool.geometry want pages)
               (weaker (told d) (told e) (Restores s.pool.geometry want) (IsOldOrNew s.pool.geometry want pages) (λ image was. inl was)
-              (leaves_so_far told len faults m place d e s t tx has.comes want x of))
+              (left_so_far want x of))
               (subst (λ (g : Geometry). LeavesOnly (told e) (told f) (IsOldOrNew g want pages)) size leaves);
         }
 
@@ -286,7 +295,7 @@ module _ {D : Type 0} (told : D → Option Story) (len faults : D → ℕ) (m : 
         let why : AnswersCommand m place want c x here tx w answer = has.answers want x of posed in
         ⊎_elim
         (λ (old : LeavesOnly here.told to.told (Restores t.pool.geometry want)).
-        inl (and_then (told d) (told e) (told f) (Restores s.pool.geometry want) (leaves_so_far told len faults m place d e s t tx has.comes want x of)
+        inl (and_then (told d) (told e) (told f) (Restores s.pool.geometry want) (left_so_far want x of)
         (subst (λ (g : Geometry). LeavesOnly (told e) (told f) (Restores g want)) (same_size told len faults m place d e s t tx has.comes) old)))
         (λ (run : Finishes m why.run.after (LeavesEither m place.root want here) to).
         inr (leaves_next want x of (downed x) (with_committed x run.after.db)
@@ -303,6 +312,7 @@ module _ {D : Type 0} (told : D → Option Story) (len faults : D → ℕ) (m : 
     EndsAlone-committed {K} held picks remains none done =
         EndsAlone-done told len faults m place c d f s u (was_up told len faults m place d e s t tx has.comes) (answered answer picks)
         (remains_alone told len faults m place d e s t tx has.comes w {T = K} {U = Reply} f u (Ok held) (Ok (answered answer picks)) (λ is. ok_err held refusal.Fault is) remains)
+        (λ not. absurd (false≢true (sym not ∙ tells_answer answer picks)))
         none
         (λ want x of posed.
         let why = has.answers want x of posed in
@@ -335,7 +345,7 @@ module _ {D : Type 0} (told : D → Option Story) (len faults : D → ℕ) (m : 
 
   module _ (r : Refusal) (stops : (want : Wanted) (g : Going) → IsAt m place want tx g here w → StopsAt told len faults (extensions_of m) tx g r (record { disk = e; store = t })) (u : StoreState)
       (failed : r ≡ refusal.Fault → (want : Wanted) (g : Going) → IsAt m place want tx g here w → u.book.down ≡ true) where
-    pub refuses_commit : (want : Wanted) (x : State) → Begun want x → IsPosedIn m x c → Refuses faults m c x r u
+    pub refuses_commit : (want : Wanted) (x : State) → Begun want x → IsPosedIn m x c → Refuses faults m c x r s.pool.geometry u
     refuses_commit want x of posed =
         let why = has.answers want x of posed in
         let stop = stops want why.run.after why.run.stands in
@@ -350,7 +360,8 @@ module _ {D : Type 0} (told : D → Option Story) (len faults : D → ℕ) (m : 
               let broken : EndsBy (Stopped faults) true (finish (extensions_of m)) why.run.after r stop.there =
               subst (λ (b : Bool). EndsBy (Stopped faults) b (finish (extensions_of m)) why.run.after r stop.there) free stop.stops in
               broken.stopped;
-          lacks = λ room. may_lack_room-works (extensions_of m) x c why.work why.is;
+          sizes = λ room. (stop.led (λ is. false≢true (sym (ap is_room is) ∙ room))).1.geometry ∙ same_size told len faults m place d e s t tx has.comes;
+          lacks = λ room. may_want_room-works (extensions_of m) x c why.work why.is;
           failed = λ is. failed is want why.run.after why.run.stands;
         }
 
@@ -359,17 +370,17 @@ module _ {D : Type 0} (told : D → Option Story) (len faults : D → ℕ) (m : 
     abbrev between : Parts
     between = parts told len g v
 
-    pub moments_abort : {T : Type 0} (a : Result T Refusal) → Remains told len faults g f v u a → LeavesWanted between (parts told len f u)
-        → (want : Wanted) (x : State) → Begun want x → IsPosedIn m x c → LeavesOnly (told d) (told f) (Restores s.pool.geometry want)
-    moments_abort a remains leaves want x of posed =
-        let why = has.answers want x of posed in
-        let at = why.run.stands in
-        let on = stays.stays m place want why.run.after at in
-        let size = same_size told len faults m place d e s t tx has.comes in
-        and_then (told d) (told e) (told f) (Restores s.pool.geometry want) (leaves_so_far told len faults m place d e s t tx has.comes want x of)
-        (and_then (told e) (told g) (told f) (Restores s.pool.geometry want)
-        (subst (λ (a : Geometry). LeavesOnly (told e) (told g) (Restores a want)) size (stays.leaves.each want at.has.now at.has.stands.store))
-        (subst (λ (a : Geometry). LeavesOnly (told g) (told f) (Restores a want)) (kept.geometry ∙ size) (leaves.each want on.has.now on.has.stands.store)))
+    pub moments_abort : LeavesWanted between (parts told len f u) → LeavesWanted from (parts told len f u)
+    moments_abort leaves = record {
+      each = λ want now store.
+          let turns = (has.comes.led.1.makes has.up).pages want now (has.comes.pages want now store) in
+          let on = stays.wanted want turns.pages turns.store in
+          let size = same_size told len faults m place d e s t tx has.comes in
+          and_then (told d) (told e) (told f) (Restores s.pool.geometry want) ((leaves_so_far told len faults m place d e s t tx has.comes).each want now store)
+          (and_then (told e) (told g) (told f) (Restores s.pool.geometry want)
+          (subst (λ (a : Geometry). LeavesOnly (told e) (told g) (Restores a want)) size (stays.leaves.each want turns.pages turns.store))
+          (subst (λ (a : Geometry). LeavesOnly (told g) (told f) (Restores a want)) (kept.geometry ∙ size) (leaves.each want on.0 on.1)));
+    }
 
     pub remains_abort : {T : Type 0} (a : Result T Refusal) (b : Result Reply Refusal) → (IsErrOf a refusal.Fault → IsErrOf b refusal.Fault) → Remains told len faults g f v u a → Remains told len faults d f s u b
     remains_abort {T} a b same remains =

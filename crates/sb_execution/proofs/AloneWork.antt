@@ -1,5 +1,5 @@
 -- The ways in which a transaction of one command ends, by what the calls on the way promise.
-use Rattle.std.proofs.Common.{◌≡◌, inl, ℕ, true, false, List, [], Option, Some, None, Ok, Err, refl, sym, ap, ◌∙◌, subst}
+use Rattle.std.proofs.Common.{◌≡◌, inl, ℕ, true, false, List, [], Option, Some, None, Result, Ok, Err, refl, sym, ap, ◌∙◌, subst}
 use Rattle.std.proofs.lemmas.Bool.{false≢true}
 use Rattle.sb_disk.specs.Disk.{Story}
 use Rattle.sb_disk.specs.Moments.{LeavesOnly}
@@ -8,13 +8,13 @@ use Rattle.sb_relation.specs.Db.{Db}
 use Rattle.sb_fold.specs.declared.refusal.Refusal.{Refusal}
 use Rattle.sb_fold.specs.declared.refusal.Refusal.TheVariants as refusal
 use Rattle.sb_fold.specs.Outcome.{Going}
-use Rattle.sb_cascade.specs.Runs.{MadeFrom, is_free}
+use Rattle.sb_cascade.specs.Runs.{MadeFrom, is_free, is_room}
 use Rattle.sb_engine.specs.Refusals.{HasRefusalCause}
 use Rattle.sb_engine.specs.Working.{extensions_of}
 use Rattle.sb_plain.specs.declared.command.Command.{Command}
 use Rattle.sb_plain.specs.declared.reply.Reply.{Reply}
 use Rattle.sb_plain.specs.declared.reply.Reply.TheVariants.{Refused}
-use Rattle.sb_plain.specs.Licences.{may_want_memory}
+use Rattle.sb_plain.specs.Licences.{may_want_memory, may_want_room}
 use Rattle.sb_plain.specs.Step.{Steps}
 use Rattle.sb_plain.specs.Refusing.{refused}
 use Rattle.sb_plain.specs.State.{State, committed, view}
@@ -22,7 +22,7 @@ use Rattle.sb_plain.specs.Step.{work_of}
 use Rattle.sb_registry.specs.Boxes.{Meanings}
 use Rattle.sb_drive.specs.Spaces.{Wanted}
 use Rattle.sb_map.specs.declared.place.Place.{Place}
-use Rattle.sb_txn.specs.Clauses.{LeavesWanted}
+use Rattle.sb_txn.specs.Clauses.{Leads, LeavesWanted}
 use Rattle.sb_txn.specs.Parts.{Parts, parts}
 use Rattle.sb_txn.specs.State.{State as StoreState}
 use Rattle.sb_space.specs.declared.transactions.Tx.{Tx}
@@ -32,15 +32,14 @@ use Rattle.sb_session.specs.Commits.{FailsOn, IsLed}
 use Rattle.sb_session.specs.Transactions.{IsAt, IsFirst, IsUsable, Rests, WasBegun}
 use Rattle.sb_session.proofs.CallLemmas.{Fault-down, Remains-answered, up-earlier, up-later}
 use Rattle.sb_statements.specs.declared.answers.Answer as code
-use Rattle.sb_execution.specs.Serving.{IsPosedIn, IsSeenIn, IsServed, IsUnserved, is_managing, is_room}
+use Rattle.sb_execution.specs.Serving.{IsPosedIn, IsSeenIn, IsServed, IsUnserved, is_managing}
 use Rattle.sb_statements.specs.Statements.{answer_of}
 use Rattle.sb_session.specs.declared.session.Savepoint.{Savepoint}
-use Rattle.sb_session.specs.Ends.{may_lack_room}
 use Rattle.sb_session.proofs.OpenLemmas.{Outside, outside_at}
 use Rattle.sb_execution.specs.declared.serving.Served.{Served}
 use Rattle.sb_execution.specs.declared.serving.Served.TheVariants as served
 use Rattle.sb_execution.specs.Endings.{ComesAlone, EndsAlone, HasAnswered, IsOf, Passes, going_alone}
-use Rattle.sb_execution.proofs.AloneLemmas.{EndsAlone-done, EndsAlone-fault, EndsAlone-refused, leaves_alone, leaves_so_far, read_so, remains_alone}
+use Rattle.sb_execution.proofs.AloneLemmas.{EndsAlone-done, EndsAlone-fault, EndsAlone-refused, leaves_alone, leaves_so_far, left_by, read_so, remains_alone, same_size}
 use Rattle.sb_execution.proofs.CallLemmas.{Remains-err, Remains-led, Remains-then, not_both, ok_err}
 use Rattle.sb_execution.proofs.EndLemmas.{at_some, free_room, may_want_memory-works, seen_alone, unserved_alone, unserved_cause, unserved_room, work_there}
 use Rattle.sb_execution.proofs.ReplyLemmas.{read_given, refused_given}
@@ -50,13 +49,13 @@ use Rattle.sb_execution.proofs.StepsOf.{Steps-read_alone, Steps-refused_alone, w
 pub EndsAlone-not_begun : {D : Type 0} (told : D → Option Story) (len faults : D → ℕ) (m : Meanings) (place : Place) (c : Command) (d e : D) (s t : StoreState) → s.book.down ≡ false → (r : Refusal)
     → Remains {T = Transaction} told len faults d e s t (Err r) → IsOnlyFault r t → LeavesWanted (parts told len d s) (parts told len e t) → EndsAlone told len faults m place c d e s t (Err r)
 EndsAlone-not_begun told len faults m place c d e s t up r remains only leaves =
-    EndsAlone-fault told len faults m place c d e s t up r (Remains-err told len faults {T = Transaction} {U = Reply} d e s t r remains) only
-    (λ want x of posed. let out = outside_at m place want (committed x) (parts told len d s) x.transaction of.stands in leaves.each want out.rests.has.now out.rests.has.stands.store)
+    EndsAlone-fault told len faults m place c d e s t up r (Remains-err told len faults {T = Transaction} {U = Reply} d e s t r remains) only leaves
 
 module _ {D : Type 0} (told : D → Option Story) (len faults : D → ℕ) (m : Meanings) (place : Place) (c : Command)
     (d b e : D) (s bs t : StoreState) (a y : Transaction) (up : s.book.down ≡ false) (owner : place.owner ≡ 2)
     -- the transaction was begun
     (first : Remains told len faults d b s bs (Ok a)) (leaves_first : LeavesWanted (parts told len d s) (parts told len b bs))
+    (pages_first : Leads (parts told len d s) (parts told len b bs) (λ now. now))
     (begun : (m : Meanings) (root : ℕ) (want : Wanted) (db : Db) → Rests m root want db (parts told len d s) → WasBegun m root want db a.tx.store.number (parts told len b bs))
     (at : (m : Meanings) (place : Place) (want : Wanted) (g : Going) → place.owner ≡ 2 → IsFirst g → Rests m place.root want g.db (parts told len d s) → IsAt m place want a.tx.store.number g (parts told len b bs) a.work)
     -- the command was served
@@ -90,10 +89,7 @@ module _ {D : Type 0} (told : D → Option Story) (len faults : D → ℕ) (m : 
     first = Remains-answered told len faults d b s bs a (Ok tt) first;
     leaves = leaves_first;
     led = led;
-    store = λ want x of.
-        let rests = (out want x of).rests in
-        let on = at_command want x of in
-        (rests.has.now, on.has.now, rests.has.stands.store, on.has.stands.store);
+    pages = pages_first;
     begun = λ off want x of. begun_then off m place.root want (committed x) (begun m place.root want (committed x) (out want x of).rests);
   })
 
@@ -104,19 +100,23 @@ module _ {D : Type 0} (told : D → Option Story) (len faults : D → ℕ) (m : 
       (Remains-then told len faults {T = Transaction} {U = Reply} {V = Reply} d b e s bs t (Ok a) (Err refusal.Fault) (Err refusal.Fault) (up-later told len faults d b s bs a first) (λ is. is) first
       (Remains-led told len faults n b e bs t led {T = Reply} (Err refusal.Fault) (up-later told len faults d b s bs a first) serves.ready.ready (λ on. refl)))
       (record { is = refl; down = down })
-      (λ want x of posed. leaves_so_far told len faults m place d e s t last comes want x of)
+      (leaves_so_far told len faults m place d e s t last comes)
 
   -- ---- the transaction was aborted
   module _ (f : D) (u : StoreState) (leaves : LeavesWanted here (parts told len f u)) where
     abbrev there : Parts
     there = parts told len f u
 
+    -- whatever that answered
+    pub leaves_aborted : {T : Type 0} (r : Result T Refusal) → Remains told len faults e f t u r → LeavesWanted from there
+    leaves_aborted r remains = leaves_alone told len faults m place d e s t last comes f u r remains leaves
+
     -- and the disk failed in that
     pub EndsAlone-failed : (r : Refusal) → Remains {T = Unit {0}} told len faults e f t u (Err r) → IsOnlyFault r u → EndsAlone told len faults m place c d f s u (Err r)
     EndsAlone-failed r remains only =
         EndsAlone-fault told len faults m place c d f s u up r
         (remains_alone told len faults m place d e s t last comes y.work {T = Reply} {U = Reply} f u (Err r) (Err r) (λ is. is) (Remains-err told len faults {T = Unit {0}} {U = Reply} e f t u r remains)) only
-        (λ want x of posed. leaves_alone told len faults m place d e s t last comes {T = Unit {0}} f u (Err r) remains leaves want x of)
+        (leaves_alone told len faults m place d e s t last comes {T = Unit {0}} f u (Err r) remains leaves)
 
     module _ (remains : Remains {T = Unit {0}} told len faults e f t u (Ok tt)) (none : u.book.actives ≡ [])
         (rests : (m : Meanings) (root : ℕ) (want : Wanted) (db : Db) → WasBegun m root want db last here → Rests m root want db there) where
@@ -126,8 +126,11 @@ module _ {D : Type 0} (told : D → Option Story) (len faults : D → ℕ) (m : 
       rests_so : (want : Wanted) (x : State) → IsOf m place want x from None → Rests m place.root want (committed x) there
       rests_so want x of = rests m place.root want (committed x) (comes.begun still want x of)
 
-      moments : (want : Wanted) (x : State) → IsOf m place want x from None → LeavesOnly (told d) (told f) (Restores s.pool.geometry want)
-      moments want x of = leaves_alone told len faults m place d e s t last comes {T = Unit {0}} f u (Ok tt) remains leaves want x of
+      moments : LeavesWanted from there
+      moments = leaves_alone told len faults m place d e s t last comes {T = Unit {0}} f u (Ok tt) remains leaves
+
+      moments_so : (want : Wanted) (x : State) → IsOf m place want x from None → LeavesOnly (told d) (told f) (Restores s.pool.geometry want)
+      moments_so want x of = left_by told len faults m place c d f s u up moments want x of
 
       module _ (ones : List Savepoint) (listed : ones ≡ []) where
         seen : (want : Wanted) (x : State) → IsOf m place want x from None → IsSeenIn m false ones x (going_alone x)
@@ -137,18 +140,19 @@ module _ {D : Type 0} (told : D → Option Story) (len faults : D → ℕ) (m : 
         EndsAlone-behind : ((x : State) → may_want_memory x c ≡ true) → (r : Refusal)
             → ((want : Wanted) (x : State) → IsOf m place want x from None → IsPosedIn m x c
             → (is_free r ≡ false → Steps (extensions_of m) x c (Refused r) (with_open x None)) × (is_free r ≡ true → HasRefusalCause (FailsOn faults) r (record { disk = e; store = t }))
-            × (is_room r ≡ true → may_lack_room x c ≡ true))
+            × (is_room r ≡ true → may_want_room x c ≡ true))
             → EndsAlone told len faults m place c d f s u (Err r)
         EndsAlone-behind may r why =
             EndsAlone-refused told len faults m place c d f s u up may r
             (remains_alone told len faults m place d e s t last comes y.work {T = Unit {0}} {U = Reply} f u (Ok tt) (Err r) (λ is. ok_err tt refusal.Fault is) remains)
-            (λ not want x of posed. moments want x of) (λ want x of posed. inl (moments want x of)) (λ off. none) (λ off want x of. rests_so want x of)
+            (λ not. moments) (λ want x of posed. inl (moments_so want x of)) (λ off. none) (λ off want x of. rests_so want x of)
             (λ want x of posed.
             let both = why want x of posed in
             record {
               given = both.0;
               there = record { disk = e; store = t };
               cause = both.1;
+              sizes = λ room. same_size told len faults m place d e s t last comes;
               lacks = both.2;
               failed = λ is. not_both t.book.down still (Fault-down faults (record { disk = e; store = t }) (fault_cause r is both.1));
             })
@@ -212,11 +216,11 @@ module _ {D : Type 0} (told : D → Option Story) (len faults : D → ℕ) (m : 
         EndsAlone-reads r came is serves_so =
             EndsAlone-done told len faults m place c d f s u up r
             (remains_alone told len faults m place d e s t last comes y.work {T = Unit {0}} {U = Reply} f u (Ok tt) (Ok r) (λ is. ok_err tt refusal.Fault is) remains)
-            (λ off. none)
+            (λ not. moments) (λ off. none)
             (λ want x of posed.
             let did : IsServed (λ h p. IsAt m place want n h p y.work) m x c (going_alone x) (served.Read r) here =
             subst (λ (one : Served). IsServed (λ h p. IsAt m place want n h p y.work) m x c (going_alone x) one here) is (serves_so still want x (going_alone x) (at_command want x of) (seen want x of) posed) in
-            read_so told len faults m place c d f s u up r want x (rests_so want x of) (moments want x of) (read_given (extensions_of m) (view x) c r did.1)
+            read_so told len faults m place c d f s u up r want x (rests_so want x of) (moments_so want x of) (read_given (extensions_of m) (view x) c r did.1)
             (Steps-read_alone (extensions_of m) x c of.up (out want x of).none r did.0 did.1))
 
   -- ---- the command was answered

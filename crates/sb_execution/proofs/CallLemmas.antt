@@ -1,5 +1,5 @@
 -- What calls of a transaction keep, one behind another.
-use Rattle.std.proofs.Common.{◌≡◌, ⊎_elim, inr, ℕ, List, Bool, true, false, Option, Result, Ok, Err, IsErrOf, refl, sym, ap, ◌∙◌, subst, arith}
+use Rattle.std.proofs.Common.{◌≡◌, ⊎_elim, inr, ℕ, List, Bool, true, false, Option, Result, Err, IsErrOf, refl, sym, ap, ◌∙◌, subst, arith}
 use Rattle.std.proofs.lemmas.Bool.{false≢true}
 use Rattle.sb_disk.specs.Causes.{Rose}
 use Rattle.sb_disk.specs.Disk.{Story}

@@ -9,7 +9,7 @@ use Rattle.sb_fold.specs.Extensions.{Extensions}
 use Rattle.sb_fold.specs.Finish.{finish}
 use Rattle.sb_fold.specs.Outcome.{Going, Queue, Trail, Work, made, ◌>>=◌}
 use Rattle.sb_fold.proofs.LeadsLemmas.{leads_refused}
-use Rattle.sb_cascade.specs.Runs.{EndsBy, StopsFrom, is_free}
+use Rattle.sb_cascade.specs.Runs.{EndsBy, StopsFrom, is_free, is_room}
 use Rattle.sb_drive.specs.declared.space.SpaceFault.{SpaceFault}
 use Rattle.sb_engine.specs.Refusals.{HasRefusalCause}
 use Rattle.sb_engine.specs.Working.{extensions_of}
@@ -17,7 +17,7 @@ use Rattle.sb_plain.specs.declared.command.Command.{Command}
 use Rattle.sb_plain.specs.declared.command.Command.TheVariants as command
 use Rattle.sb_plain.specs.declared.reply.Reply.{Reply}
 use Rattle.sb_plain.specs.declared.reply.Reply.TheVariants as reply
-use Rattle.sb_plain.specs.Licences.{may_want_memory}
+use Rattle.sb_plain.specs.Licences.{may_want_memory, may_want_room}
 use Rattle.sb_plain.specs.State.{downed}
 use Rattle.sb_plain.specs.Step.{Steps}
 use Rattle.sb_plain.specs.Reading.{read}
@@ -30,12 +30,12 @@ use Rattle.sb_txn.specs.Parts.{Parts}
 use Rattle.sb_engine.specs.declared.running.Work.{Work as EngineWork}
 use Rattle.sb_session.specs.declared.session.Open.{Open}
 use Rattle.sb_session.specs.declared.session.Savepoint.{Savepoint}
-use Rattle.sb_session.specs.Ends.{Ends, IsFree, IsStep, ends_with, may_lack_room}
+use Rattle.sb_session.specs.Ends.{Ends, IsFree, IsStep, ends_with}
 use Rattle.sb_session.specs.Sessions.{AreSavepoints, IsInside}
 use Rattle.sb_session.proofs.Carried.{Ends-given, end_of_given}
 use Rattle.sb_session.proofs.CommitSteps.{going_on}
 use Rattle.sb_execution.specs.Endings.{IsOf, going_alone}
-use Rattle.sb_execution.specs.Serving.{IsSeenIn, IsUnserved, Looked, Tested, Worked, is_managing, is_room}
+use Rattle.sb_execution.specs.Serving.{IsSeenIn, IsUnserved, Looked, Tested, Worked, is_managing}
 use Rattle.sb_execution.proofs.ReplyLemmas.{is_free_reply, refused_given}
 use Rattle.sb_execution.proofs.StepsOf.{Steps-refused_alone, Steps-refused_inside, Steps-stopped_alone, Steps-stopped_inside, with_open, with_spent_in}
 
@@ -50,7 +50,7 @@ module _ (S : State → Type 0) (Lacks : Room → Type 0) (HasFailed : Type 0) (
   Ends-stepped r given step = step
 
   -- by the kind of the refusal
-  pub Ends-by : (r : Refusal) → (is_free r ≡ false → IsStep S ext s c (reply.Refused r)) → ((room : Room) → r ≡ refusal.Room room → IsFree S (Lacks room × (may_lack_room s c ≡ true)) s s)
+  pub Ends-by : (r : Refusal) → (is_free r ≡ false → IsStep S ext s c (reply.Refused r)) → ((room : Room) → r ≡ refusal.Room room → IsFree S (Lacks room × (may_want_room s c ≡ true)) s s)
       → (r ≡ refusal.NoMemory → IsFree S (may_want_memory s c ≡ true) s s) → (r ≡ refusal.Fault → IsFree S HasFailed s (downed s)) → ((page : ℕ) → r ≡ refusal.Damaged page → ⊥)
       → Ends S Lacks HasFailed ext s c (reply.Refused r)
   Ends-by (refusal.Room room) step lacks wants failed damaged = lacks room refl
@@ -68,7 +68,7 @@ module _ (S T : State → Type 0) (Lacks : Room → Type 0) (HasFailed : Type 0)
   free_wider Cause now free = record { up = free.up; cause = free.cause; stands = wider now free.stands }
 
   pub Ends-as : (r : Reply) → Ends S Lacks HasFailed ext s c r → Ends T Lacks HasFailed ext s c r
-  Ends-as (reply.Refused (refusal.Room room)) ends = free_wider (Lacks room × (may_lack_room s c ≡ true)) s ends
+  Ends-as (reply.Refused (refusal.Room room)) ends = free_wider (Lacks room × (may_want_room s c ≡ true)) s ends
   Ends-as (reply.Refused refusal.NoMemory) ends = free_wider (may_want_memory s c ≡ true) s ends
   Ends-as (reply.Refused refusal.Fault) ends = free_wider HasFailed (downed s) ends
   Ends-as (reply.Refused (refusal.Damaged page)) ends = ends
@@ -106,16 +106,16 @@ may_want_memory-works s (command.Rollback name) works = absurd (false≢true (sy
 may_want_memory-works s c works = refl
 
 -- and room, where it has work
-pub may_lack_room-works : (ext : Extensions) (s : State) (c : Command) (work : Work Answer) → work_of ext c ≡ Some work → may_lack_room s c ≡ true
-may_lack_room-works ext s (command.Create relation method schema key) work is = refl
-may_lack_room-works ext s (command.Drop relation) work is = refl
-may_lack_room-works ext s (command.Attach relation name rule) work is = refl
-may_lack_room-works ext s (command.Detach relation name) work is = refl
-may_lack_room-works ext s (command.Insert relation values) work is = refl
-may_lack_room-works ext s (command.Delete relation at) work is = refl
-may_lack_room-works ext s (command.Update relation at values) work is = refl
-may_lack_room-works ext s (command.Act action) work is = refl
-may_lack_room-works ext s c work is = absurd (cc)
+pub may_want_room-works : (ext : Extensions) (s : State) (c : Command) (work : Work Answer) → work_of ext c ≡ Some work → may_want_room s c ≡ true
+may_want_room-works ext s (command.Create relation method schema key) work is = refl
+may_want_room-works ext s (command.Drop relation) work is = refl
+may_want_room-works ext s (command.Attach relation name rule) work is = refl
+may_want_room-works ext s (command.Detach relation name) work is = refl
+may_want_room-works ext s (command.Insert relation values) work is = refl
+may_want_room-works ext s (command.Delete relation at) work is = refl
+may_want_room-works ext s (command.Update relation at values) work is = refl
+may_want_room-works ext s (command.Act action) work is = refl
+may_want_room-works ext s c work is = absurd (cc)
 
 -- no definition gives want of room
 pub free_room : (r : Refusal) → is_room r ≡ true → is_free r ≡ true
@@ -141,9 +141,9 @@ module _ {N : Type 0} (Fails : SpaceFault → N → N → Type 0) (m : Meanings)
   unserved_cause g (Looked free none cause) also = cause
 
   -- for want of room only where it may be wanting
-  pub unserved_room : (g : Going) → IsUnserved Fails m s c g r new → is_room r ≡ true → may_lack_room s c ≡ true
+  pub unserved_room : (g : Going) → IsUnserved Fails m s c g r new → is_room r ≡ true → may_want_room s c ≡ true
   unserved_room g (Tested is) room = absurd (false≢true (sym (refused_given ext s c r is) ∙ free_room r room))
-  unserved_room g (Worked passed none stops) room = let there = work_there ext (view s) c works none in may_lack_room-works ext s c there.0 there.1
+  unserved_room g (Worked passed none stops) room = let there = work_there ext (view s) c works none in may_want_room-works ext s c there.0 there.1
   unserved_room g (Looked free none cause) room = absurd (false≢true (sym none ∙ room))
 
   -- as the definitions say: it is a step

@@ -1,11 +1,13 @@
 -- What becomes of a session in any command.
-use Rattle.std.proofs.Common.{◌≡◌, ◌||◌, ℕ, Bool, true, false, Option, Result, Ok, Err, OnOk, refl, sym, ap, ◌∙◌, subst, arith}
+use Rattle.std.proofs.Common.{◌≡◌, ◌||◌, ◌&&◌, ℕ, Bool, true, false, List, Option, is_some, Result, Ok, Err, IfErr, OnOk, refl, sym, ap, ◌∙◌, subst, arith}
 use Rattle.std.proofs.lemmas.Bool.{false≢true}
 use Rattle.sb_disk.specs.Disk.{Story}
 use Rattle.sb_engine.specs.Working.{extensions_of}
 use Rattle.sb_fold.specs.declared.refusal.Refusal.{Refusal}
 use Rattle.sb_fold.specs.declared.refusal.Refusal.TheVariants as refusal
+use Rattle.sb_relation.specs.Db.{Key}
 use Rattle.sb_plain.specs.declared.command.Command.{Command}
+use Rattle.sb_plain.specs.declared.command.Command.TheVariants as command
 use Rattle.sb_plain.specs.declared.reply.Reply.{Reply}
 use Rattle.sb_plain.specs.declared.reply.Reply.TheVariants.{Refused}
 use Rattle.sb_plain.specs.State.{State}
@@ -17,10 +19,10 @@ use Rattle.sb_txn.specs.Parts.{parts}
 use Rattle.sb_txn.proofs.KeepsLemmas.{LeavesWanted-none}
 use Rattle.sb_space.specs.declared.transactions.Space.{Space}
 use Rattle.sb_vectors.specs.Vectors.{AreSameBoxes}
-use Rattle.sb_execution.specs.Serving.{IsPosedIn}
+use Rattle.sb_execution.specs.Serving.{IsPosedIn, is_managing}
 use Rattle.sb_session.specs.declared.session.Session.{Session}
-use Rattle.sb_session.specs.Ends.{Ends, ends_with, reply_of}
-use Rattle.sb_session.specs.Sessions.{CanRun, HasFailed, IsFor, KeepsSession, Lacks, StandsBehind, parts_of}
+use Rattle.sb_session.specs.Ends.{Ends, ends_with, may_commit, may_have_committed, picked_reply, reply_of, tells_change}
+use Rattle.sb_session.specs.Sessions.{CanRun, HasFailed, IsFor, KeepsSession, Lacks, StandsBehind, parts_of, sizes_of}
 use Rattle.sb_session.proofs.Behind.{Ends-behind_for}
 use Rattle.sb_session.proofs.Commands.{Carried-down}
 use Rattle.sb_session.proofs.SameBoxes.{same-boxes}
@@ -30,14 +32,37 @@ module _ {B D : Type 0} (meanings : B → Meanings) (told : D → Option Story) 
   module _ (r : Reply) (same : AreSameBoxes (meanings x.boxes) (meanings y.boxes)) (keeps : KeepsSession len faults d e x y r) (runs : CanRun meanings told len e y) where
     -- whatever pages were wanted, they still are
     pub Executed-kept : ((want : Wanted) (s : State) → IsFor meanings told len want s d x → IsPosedIn (meanings x.boxes) s c
-        → Ends (λ t. IsFor meanings told len want t e y) (Lacks faults) (HasFailed faults d e) (extensions_of (meanings x.boxes)) s c r)
+        → Ends (λ t. IsFor meanings told len want t e y) (Lacks (sizes_of x)) (HasFailed faults d e) (extensions_of (meanings x.boxes)) s c r)
         → LeavesWanted (parts_of told len d x) (parts_of told len e y) → Executed meanings told len faults c d e x y r
     Executed-kept ends leaves = record {
       ends = λ want s for posed. Ends-behind_for meanings told len c d e x y leaves want s for faults r (ends want s for posed);
+      leaves = λ not. leaves;
       same = same;
       keeps = keeps;
       runs = runs;
     }
+
+-- a commit that tells of no change was refused, and the disk didn't fail
+pub kept_commit : {P : Type 0} (result : Result (List Key) Refusal) → IfErr result (λ r. (r ≡ refusal.Fault → ⊥) → P) → tells_change (picked_reply result) ≡ false → P
+kept_commit (Ok picks) kept none = absurd (false≢true (sym none))
+kept_commit (Err r) kept none = kept (λ is. false≢true (sym none ∙ ap (λ (q : Refusal). tells_change (Refused q)) is))
+
+-- outside of a transaction a command on relations may commit
+commits_alone : (c : Command) → is_managing c ≡ false → may_commit c false ≡ true
+commits_alone command.Begin works = absurd (false≢true (sym works))
+commits_alone command.Commit works = absurd (false≢true (sym works))
+commits_alone command.Abort works = absurd (false≢true (sym works))
+commits_alone (command.Savepoint name) works = absurd (false≢true (sym works))
+commits_alone (command.Rollback name) works = absurd (false≢true (sym works))
+commits_alone command.Checkpoint works = absurd (false≢true (sym works))
+commits_alone (command.Register method code) works = absurd (false≢true (sym works))
+commits_alone (command.Retire method code) works = absurd (false≢true (sym works))
+commits_alone c works = refl
+
+-- so one that hasn't tells of no change
+pub told_none : (c : Command) (inside : Bool) (r : Reply) → is_managing c ≡ false → inside ≡ false → may_have_committed c inside r ≡ false → tells_change r ≡ false
+told_none c inside r works outside never =
+    sym (ap (λ (b : Bool). may_commit c b && tells_change r) outside ∙ ap (λ (b : Bool). b && tells_change r) (commits_alone c works)) ∙ never
 
 -- what a call makes so that goes through is so where it is answered ok
 pub emptied : {P : Type 0} (result : Result (Unit {0}) Refusal) (r : Reply) → r ≡ reply_of result → OnOk result P → r ≡ ok → P
@@ -62,10 +87,11 @@ module _ {B D : Type 0} (meanings : B → Meanings) (told : D → Option Story) 
     (same : AreSameBoxes (meanings x.boxes) (meanings y.boxes)) (keeps : KeepsSession len faults d e x y r) (runs : CanRun meanings told len e y) where
   -- other pages may be wanted then
   pub Executed-moved : ((want : Wanted) (s : State) → IsFor meanings told len want s d x → IsPosedIn (meanings x.boxes) s c
-      → Ends (StandsBehind meanings told len want (extensions_of (meanings x.boxes)) s c d e x y) (Lacks faults) (HasFailed faults d e) (extensions_of (meanings x.boxes)) s c r)
-      → Executed meanings told len faults c d e x y r
-  Executed-moved ends = record {
+      → Ends (StandsBehind meanings told len want (extensions_of (meanings x.boxes)) s c d e x y) (Lacks (sizes_of x)) (HasFailed faults d e) (extensions_of (meanings x.boxes)) s c r)
+      → (may_have_committed c (is_some x.open) r ≡ false → LeavesWanted (parts_of told len d x) (parts_of told len e y)) → Executed meanings told len faults c d e x y r
+  Executed-moved ends leaves = record {
     ends = λ want s for posed. ends want s for posed;
+    leaves = leaves;
     same = same;
     keeps = keeps;
     runs = runs;

@@ -6,7 +6,7 @@ use Rattle.sb_relation.specs.Db.{Key}
 use Rattle.sb_fold.specs.declared.refusal.Refusal.{Refusal}
 use Rattle.sb_fold.specs.Extensions.{Extensions}
 use Rattle.sb_fold.specs.Outcome.{Going}
-use Rattle.sb_cascade.specs.Runs.{MadeFrom, is_free}
+use Rattle.sb_cascade.specs.Runs.{MadeFrom, is_free, is_room}
 use Rattle.sb_engine.specs.Refusals.{HasRefusalCause}
 use Rattle.sb_engine.specs.Working.{extensions_of}
 use Rattle.sb_engine.specs.declared.running.Work.{Work as EngineWork}
@@ -26,7 +26,7 @@ use Rattle.sb_session.specs.Calls.{IsOnlyFault, Remains}
 use Rattle.sb_session.specs.Commits.{FailsOn, Mounted}
 use Rattle.sb_session.specs.Transactions.{IsAt, unused}
 use Rattle.sb_session.proofs.CallLemmas.{Fault-down}
-use Rattle.sb_execution.specs.Serving.{IsPosedIn, IsServed, IsUnserved, is_managing, is_room}
+use Rattle.sb_execution.specs.Serving.{IsPosedIn, IsServed, IsUnserved, is_managing}
 use Rattle.sb_statements.specs.Statements.{answer_of}
 use Rattle.sb_session.specs.declared.session.Open.{Open}
 use Rattle.sb_session.specs.Ends.{Ends, IsStep, is_end}
@@ -34,6 +34,7 @@ use Rattle.sb_session.specs.Sessions.{CanGoOn, HasFailed, IsInside, IsOpenFor, L
 use Rattle.sb_session.proofs.Carried.{end_of_given}
 use Rattle.sb_session.proofs.CommitSteps.{going_on}
 use Rattle.sb_session.proofs.OpenLemmas.{Inside, IsAt-same, inside_at}
+use Rattle.sb_session.proofs.RoomLemmas.{Lacks-there}
 use Rattle.sb_execution.specs.declared.serving.Served.{Served}
 use Rattle.sb_execution.specs.declared.serving.Served.TheVariants as served
 use Rattle.sb_execution.specs.Endings.{EndsInside, IsLeft, IsOf, IsReplied}
@@ -102,7 +103,7 @@ module _ {D : Type 0} (told : D → Option Story) (len faults : D → ℕ) (m : 
   pub EndsInside-fault : (r : Refusal) → Remains {T = Reply} told len faults d f s u (Err r) → IsOnlyFault r u → EndsInside told len faults m place c d f s u o now (Err r)
   EndsInside-fault r remains only = record {
     ends = λ want x of posed.
-        subst (λ (r : Refusal). Ends (LeftBy want x (Refused r)) (Lacks faults) (HasFailed faults d f) (extensions_of m) x c (Refused r)) (sym only.is) (record {
+        subst (λ (r : Refusal). Ends (LeftBy want x (Refused r)) (Lacks s.pool.geometry) (HasFailed faults d f) (extensions_of m) x c (Refused r)) (sym only.is) (record {
           up = of.up;
           cause = has_failed told len faults d f s u (Err r) remains up only.down;
           stands = record { down = refl; live = refl; spare = refl; stands = λ on. absurd (false≢true (sym on)) };
@@ -128,7 +129,7 @@ module _ {D : Type 0} (told : D → Option Story) (len faults : D → ℕ) (m : 
       ends = λ want x of posed.
           let to = reaches want x of posed in
           let here = within want x of in
-          Ends-stepped (LeftBy want x r) (Lacks faults) (HasFailed faults d f) (extensions_of m) x c r to.given (record {
+          Ends-stepped (LeftBy want x r) (Lacks s.pool.geometry) (HasFailed faults d f) (extensions_of m) x c r to.given (record {
             after = with_open x (Some to.of);
             steps = to.steps;
             stands = record {
@@ -144,7 +145,7 @@ module _ {D : Type 0} (told : D → Option Story) (len faults : D → ℕ) (m : 
     }
 
     -- ---- it was refused, and the work is back
-    module _ (r : Refusal) (remains : Remains {T = Reply} told len faults d f s u (Err r)) (there : Mounted D) (still : there.store.book.down ≡ false)
+    module _ (r : Refusal) (remains : Remains {T = Reply} told len faults d f s u (Err r)) (there : Mounted D) (still : there.store.book.down ≡ false) (sizes : there.store.pool.geometry ≡ s.pool.geometry)
         (back : (want : Wanted) (g : Going) → IsAt m place want tx g p o.transaction.work → IsAt m place want tx (unused g) q now.transaction.work)
         (stops : (want : Wanted) (x : State) (of : IsOf m place want x p (Some o)) → IsPosedIn m x c → IsUnserved (FailsOn faults) m x c (going_on (within want x of).of) r there) where
       stays_inside : (want : Wanted) (x : State) (of : IsOf m place want x p (Some o)) (n : ℕ) → IsInside m place want (committed x) q now (with_spent_in n (within want x of).of)
@@ -179,12 +180,12 @@ module _ {D : Type 0} (told : D → Option Story) (len faults : D → ℕ) (m : 
 
       pub EndsInside-refused : EndsInside told len faults m place c d f s u o now (Err r)
       EndsInside-refused = record {
-        ends = λ want x of posed. Ends-by (LeftBy want x (Refused r)) (Lacks faults) (HasFailed faults d f) (extensions_of m) x c r
+        ends = λ want x of posed. Ends-by (LeftBy want x (Refused r)) (Lacks s.pool.geometry) (HasFailed faults d f) (extensions_of m) x c r
             (λ given. given_step want x of posed given)
             (λ room is. record {
               up = of.up;
               cause = (
-                record { at = there; cause = subst (λ (r : Refusal). HasRefusalCause (FailsOn faults) r there) is (cause want x of posed (ap is_free is)) },
+                Lacks-there faults s.pool.geometry there sizes room (subst (λ (r : Refusal). HasRefusalCause (FailsOn faults) r there) is (cause want x of posed (ap is_free is))),
                 unserved_room (FailsOn faults) m x c works r there (going_on (within want x of).of) (stops want x of posed) (ap is_room is),
               );
               stands = as_it_was want x of (ap is_end is);

@@ -167,7 +167,7 @@ module _ {D : Type 0} (told : D → Option Story) (len faults : D → ℕ) (m : 
             (subst (λ (w : EngineWork). Stays m place first from there o.transaction.work w) (sym (ap (λ (a : Transaction). a.work) is))
             (Stays-then m place first from from there o.transaction.work x.work z.work stays_settled (subst (λ (k : ℕ). Stays m place k from there x.work z.work) number stays_back)))
             goes r (Remains-behind told len faults m place n d e f s t u y.work led (Ok tt) (Err r) (λ fault. ok_err tt refusal.Fault fault) remains)
-            (record { disk = e; store = t }) still
+            (record { disk = e; store = t }) still led.1.geometry
             (λ want g at. subst (λ (w : EngineWork). IsAt m place want first (unused g) there w) (sym (ap (λ (a : Transaction). a.work) is))
             (subst (λ (k : ℕ). IsAt m place want k (unused g) there z.work) number
             (at_first (λ k. IsAt m place want k (unused g) there z.work)

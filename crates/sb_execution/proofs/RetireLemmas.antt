@@ -6,6 +6,7 @@ use Rattle.sb_disk.specs.Disk.{Story}
 use Rattle.sb_disk.specs.Moments.{LeavesOnly}
 use Rattle.sb_disk.proofs.CauseLemmas.{Rose-later}
 use Rattle.sb_images.specs.Images.{Restores}
+use Rattle.sb_log.specs.declared.geometry.Geometry.{Geometry}
 use Rattle.sb_engine.specs.Working.{extensions_of}
 use Rattle.sb_fold.specs.declared.refusal.Refusal.TheVariants as refusal
 use Rattle.sb_plain.specs.declared.command.Command.{Command}
@@ -15,12 +16,14 @@ use Rattle.sb_plain.specs.State.{State, Transaction as PlainTransaction, committ
 use Rattle.sb_plain.specs.Step.{ok}
 use Rattle.sb_registry.specs.Boxes.{Meanings}
 use Rattle.sb_drive.specs.Spaces.{Wanted}
-use Rattle.sb_txn.specs.Parts.{Parts}
+use Rattle.sb_txn.specs.Clauses.{LeavesWanted}
+use Rattle.sb_txn.specs.Parts.{Parts, parts}
+use Rattle.sb_space.specs.declared.transactions.Space.{Space}
 use Rattle.sb_vectors.specs.Vectors.{AreSameBoxes}
 use Rattle.sb_session.specs.declared.session.Open.{Open}
 use Rattle.sb_session.specs.declared.session.Session.{Session}
 use Rattle.sb_session.specs.Ends.{Ends}
-use Rattle.sb_session.specs.Sessions.{CanRun, HasFailed, IsFor, IsOpenFor, KeepsSession, Lacks, StandsBehind, parts_of}
+use Rattle.sb_session.specs.Sessions.{CanRun, HasFailed, IsFor, IsOpenFor, KeepsSession, Lacks, StandsBehind, parts_of, sizes_of}
 use Rattle.sb_session.proofs.Carried.{CanRun-as, IsFor-as}
 use Rattle.sb_session.proofs.Commands.{outside_for}
 use Rattle.sb_execution.specs.Endings.{Executed, IsOf, Passes}
@@ -73,22 +76,29 @@ module _ {B D : Type 0} (meanings : B → Meanings) (told : D → Option Story) 
     ended = λ on. absurd (false≢true (sym up ∙ on));
   }
 
+  left_tested : (want : Wanted) (s : State) → IsFor meanings told len want s d x → LeavesOnly (told d) (told e) (Restores x.space.store.pool.geometry want)
+  left_tested want s for =
+      let rests = (outside_for meanings told len faults d x runs up none want s for).rests in
+      passes.any_moment.each want rests.has.now rests.has.stands.store
+
   -- and the command goes on, and asks nothing of the disk
-  pub Executed-tested : (f : D) (z : Session B) (r : Reply) → f ≡ e → AreSameBoxes (meanings y.boxes) (meanings z.boxes) → KeepsSession len faults e f y z r → CanRun meanings told len f z
+  pub Executed-tested : (f : D) (z : Session B) (r : Reply) → f ≡ e → z.space ≡ y.space → AreSameBoxes (meanings y.boxes) (meanings z.boxes) → KeepsSession len faults e f y z r → CanRun meanings told len f z
       → ((want : Wanted) (s : State) → IsFor meanings told len want s e y → refused (extensions_of m) s c ≡ None
-      → Ends (λ t. IsFor meanings told len want t f z) (Lacks faults) (HasFailed faults e f) (extensions_of (meanings y.boxes)) s c r)
+      → Ends (λ t. IsFor meanings told len want t f z) (Lacks (sizes_of y)) (HasFailed faults e f) (extensions_of (meanings y.boxes)) s c r)
       → Executed meanings told len faults c d f x z r
-  Executed-tested f z r disk same keeps runs_on ends = record {
+  Executed-tested f z r disk space same keeps runs_on ends = record {
     ends = λ want s for posed.
-        Ends-as (λ t. IsFor meanings told len want t f z) (StandsBehind meanings told len want (extensions_of m) s c d f x z) (Lacks faults) (HasFailed faults d f) (extensions_of m) s c
+        Ends-as (λ t. IsFor meanings told len want t f z) (StandsBehind meanings told len want (extensions_of m) s c d f x z) (Lacks (sizes_of x)) (HasFailed faults d f) (extensions_of m) s c
         (λ t is. record {
           stands = record { want = want; is = is };
-          leaves = λ on. inl (subst (λ (g : D). LeavesOnly (told d) (told g) (Restores x.space.store.pool.geometry want)) (sym disk) (passes.any_moment want s (of_state want s for)));
+          leaves = λ on. inl (subst (λ (g : D). LeavesOnly (told d) (told g) (Restores x.space.store.pool.geometry want)) (sym disk) (left_tested want s for));
         }) r
-        (Ends-since (λ t. IsFor meanings told len want t f z) (Lacks faults) (HasFailed faults e f) (HasFailed faults d f) (extensions_of m) s c
+        (Ends-since (λ t. IsFor meanings told len want t f z) (Lacks (sizes_of x)) (HasFailed faults e f) (HasFailed faults d f) (extensions_of m) s c
         (Rose-later (faults d) (faults e) (faults f) passes.remains.later) r
-        (subst (λ (b : B). Ends (λ t. IsFor meanings told len want t f z) (Lacks faults) (HasFailed faults e f) (extensions_of (meanings b)) s c r) boxes
-        (ends want s (IsFor-tested want s for) (passes.passed want s (of_state want s for)))));
+        (subst (λ (g : Geometry). Ends (λ t. IsFor meanings told len want t f z) (Lacks g) (HasFailed faults e f) (extensions_of m) s c r) passes.remains.geometry
+        (subst (λ (b : B). Ends (λ t. IsFor meanings told len want t f z) (Lacks (sizes_of y)) (HasFailed faults e f) (extensions_of (meanings b)) s c r) boxes
+        (ends want s (IsFor-tested want s for) (passes.passed want s (of_state want s for))))));
+    leaves = λ not. subst (λ (a : Space). LeavesWanted p (parts told len f a.store)) (sym space) (subst (λ (g : D). LeavesWanted p (parts told len g y.space.store)) (sym disk) passes.any_moment);
     same = subst (λ (b : B). AreSameBoxes (meanings b) (meanings z.boxes)) boxes same;
     keeps = KeepsSession-then len faults d e f x y z ok r up down keeps_tested keeps;
     runs = runs_on;

@@ -5,7 +5,7 @@ use Rattle.sb_fold.specs.Outcome.{Going}
 use Rattle.sb_plain.specs.declared.command.Command.{Command}
 use Rattle.sb_plain.specs.Refusing.{refused}
 use Rattle.sb_plain.specs.State.{State}
-use Rattle.sb_cascade.specs.Runs.{is_free}
+use Rattle.sb_cascade.specs.Runs.{is_free, is_room}
 use Rattle.sb_refusals.specs.Catalogue.{is_damage}
 use Rattle.sb_registry.specs.Boxes.{Meanings}
 use Rattle.sb_drive.specs.declared.space.SpaceFault.{SpaceFault}
@@ -17,7 +17,7 @@ use Rattle.sb_engine.specs.Working.{Stands, extensions_of}
 use Rattle.sb_execution.specs.declared.seen.Seen.{Seen}
 use Rattle.sb_execution.specs.Seen.{HasFailed, LooksOn, Sees}
 use Rattle.sb_execution.specs.SeenLaws.{look_cause, look_free}
-use Rattle.sb_execution.specs.Serving.{IsSeenIn, is_room}
+use Rattle.sb_execution.specs.Serving.{IsSeenIn}
 use Rattle.sb_execution.proofs.SeenLemmas.{look_refusal, stands-seen}
 
 module _ {B S : Type 0} (Has : Wanted → Slots → S → Type 0) (Leads : ℕ → S → S → Type 0) (Fails : SpaceFault → S → S → Type 0) (meanings : B → Meanings)

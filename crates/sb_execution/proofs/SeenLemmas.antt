@@ -23,13 +23,14 @@ use Rattle.sb_fold.specs.Extensions.{box_of}
 use Rattle.sb_fold.specs.Outcome.{Going, Queue}
 use Rattle.sb_deferred.specs.Complete.{AreMirrored, IsComplete}
 use Rattle.sb_cascade.specs.Fitting.{AllFit, AllMayStand}
+use Rattle.sb_cascade.specs.Runs.{is_room}
 use Rattle.sb_drive.specs.Spaces.{IsReadFault, Wanted}
 use Rattle.sb_session.specs.declared.session.Savepoint.{Savepoint}
 use Rattle.sb_engine.specs.declared.running.Work.{Work}
 use Rattle.sb_engine.specs.Refusals.{refusal_of}
 use Rattle.sb_engine.specs.Working.{ArePaired, IsNoneGone, Stands, extensions_of, left_of}
 use Rattle.sb_engine.proofs.LateLemmas.{drop_first, drop_none}
-use Rattle.sb_execution.specs.Serving.{IsSeenIn, is_room, waiting_in}
+use Rattle.sb_execution.specs.Serving.{IsSeenIn, waiting_in}
 
 -- ---- descriptors
 pub describes : (m : Meanings) (root : ℕ) (s : Slots) (kept : List Kept) (name : Name) (db : Db) (d : Option Descriptor) → db ≡ db_of kept → Tables m IsDurable root s kept

@@ -17,7 +17,7 @@ use Rattle.sb_execution.specs.Serving.{IsPosedIn}
 use Rattle.sb_session.specs.declared.session.Open.{Open}
 use Rattle.sb_session.specs.declared.session.Session.{Session}
 use Rattle.sb_session.specs.Ends.{Ends, ends_with}
-use Rattle.sb_session.specs.Sessions.{CanRun, HasFailed, IsFor, IsOpenFor, KeepsSession, Lacks, LeavesOldOrNext, StandsBehind, parts_of}
+use Rattle.sb_session.specs.Sessions.{CanRun, HasFailed, IsFor, IsOpenFor, KeepsSession, Lacks, LeavesOldOrNext, StandsBehind, parts_of, sizes_of}
 use Rattle.sb_session.proofs.Carried.{CanRun-as, IsFor-as, leaves-for}
 use Rattle.sb_execution.specs.Endings.{EndsAlone, EndsInside, IsLeft, IsLeftSo, IsOf, reply_by}
 use Rattle.sb_execution.proofs.CallLemmas.{still_up}
@@ -77,10 +77,10 @@ module _ {B D : Type 0} (meanings : B → Meanings) (told : D → Option Story) 
     module _ (before after : Open) (some : x.open ≡ Some before) (put : y.open ≡ Some after)
         (ended : EndsInside told len faults m x.place c d e x.space.store space.store before after result) where
       pub ends_inside : (want : Wanted) (s : State) → IsFor meanings told len want s d x → IsPosedIn m s c
-          → Ends (λ t. IsFor meanings told len want t e y) (Lacks faults) (HasFailed faults d e) (extensions_of m) s c r
+          → Ends (λ t. IsFor meanings told len want t e y) (Lacks (sizes_of x)) (HasFailed faults d e) (extensions_of m) s c r
       ends_inside want s for posed =
-          subst (λ (r : Reply). Ends (λ t. IsFor meanings told len want t e y) (Lacks faults) (HasFailed faults d e) (extensions_of m) s c r) (sym replies)
-          (Ends-as (IsLeft m x.place want s q (Some after) (reply_by result)) (λ t. IsFor meanings told len want t e y) (Lacks faults) (HasFailed faults d e) (extensions_of m) s c
+          subst (λ (r : Reply). Ends (λ t. IsFor meanings told len want t e y) (Lacks (sizes_of x)) (HasFailed faults d e) (extensions_of m) s c r) (sym replies)
+          (Ends-as (IsLeft m x.place want s q (Some after) (reply_by result)) (λ t. IsFor meanings told len want t e y) (Lacks (sizes_of x)) (HasFailed faults d e) (extensions_of m) s c
           (λ t left. IsFor-as meanings told len want s d e x y for want t (Some after) q same_boxes place put now (ends ∙ sym left.down) left.live left.spare left.stands)
           (reply_by result) (ended.ends want s (of_state (Some before) some want s for) posed))
 
@@ -93,10 +93,10 @@ module _ {B D : Type 0} (meanings : B → Meanings) (told : D → Option Story) 
       Behind want s t = StandsBehind meanings told len want (extensions_of m) s c d e x y t
 
       pub ends_alone : (want : Wanted) (s : State) → IsFor meanings told len want s d x → IsPosedIn m s c
-          → Ends (Behind want s) (Lacks faults) (HasFailed faults d e) (extensions_of m) s c r
+          → Ends (Behind want s) (Lacks (sizes_of x)) (HasFailed faults d e) (extensions_of m) s c r
       ends_alone want s for posed =
-          subst (λ (r : Reply). Ends (Behind want s) (Lacks faults) (HasFailed faults d e) (extensions_of m) s c r) (sym replies)
-          (Ends-as (IsLeftSo m x.place want s c p q None (reply_by result)) (Behind want s) (Lacks faults) (HasFailed faults d e) (extensions_of m) s c
+          subst (λ (r : Reply). Ends (Behind want s) (Lacks (sizes_of x)) (HasFailed faults d e) (extensions_of m) s c r) (sym replies)
+          (Ends-as (IsLeftSo m x.place want s c p q None (reply_by result)) (Behind want s) (Lacks (sizes_of x)) (HasFailed faults d e) (extensions_of m) s c
           (λ t left. record {
             stands = record {
               want = left.now;

@@ -1,8 +1,6 @@
 -- How commands on relations end, in an open transaction and in one of their own.
-use Rattle.std.specs.Prelude.{◌≡◌, ℕ, false, List, [], Option, Some, None, Result, Ok, Err}
+use Rattle.std.specs.Prelude.{◌≡◌, ℕ, false, is_some, [], Option, Some, None, Result, Ok, Err}
 use Rattle.sb_disk.specs.Disk.{Story}
-use Rattle.sb_disk.specs.Moments.{LeavesOnly}
-use Rattle.sb_images.specs.Images.{Restores}
 use Rattle.sb_fold.specs.declared.refusal.Refusal.{Refusal}
 use Rattle.sb_fold.specs.Outcome.{Going, Work, begun}
 use Rattle.sb_cascade.specs.Runs.{MadeFrom}
@@ -15,7 +13,7 @@ use Rattle.sb_plain.specs.Step.{Answer, answered, work_of}
 use Rattle.sb_registry.specs.Boxes.{Meanings}
 use Rattle.sb_drive.specs.Spaces.{Wanted}
 use Rattle.sb_map.specs.declared.place.Place.{Place}
-use Rattle.sb_txn.specs.Clauses.{HoldsPages, LeavesWanted}
+use Rattle.sb_txn.specs.Clauses.{Leads, LeavesWanted}
 use Rattle.sb_txn.specs.Parts.{Parts, parts}
 use Rattle.sb_txn.specs.State.{State as StoreState}
 use Rattle.sb_engine.specs.declared.running.Work.{Work as EngineWork}
@@ -27,9 +25,9 @@ use Rattle.sb_vectors.specs.Vectors.{AreSameBoxes, live_codes, spare_codes}
 use Rattle.sb_execution.specs.Serving.{IsPosedIn, is_managing}
 use Rattle.sb_statements.specs.Statements.{answer_of}
 use Rattle.sb_session.specs.declared.session.Open.{Open}
-use Rattle.sb_session.specs.Ends.{Ends, ends_with}
+use Rattle.sb_session.specs.Ends.{Ends, ends_with, may_have_committed, tells_change}
 use Rattle.sb_session.specs.declared.session.Session.{Session}
-use Rattle.sb_session.specs.Sessions.{CanGoOn, CanRun, HasFailed, IsFor, IsOpenFor, KeepsSession, Lacks, LeavesOldOrNext, StandsBehind}
+use Rattle.sb_session.specs.Sessions.{CanGoOn, CanRun, HasFailed, IsFor, IsOpenFor, KeepsSession, Lacks, LeavesOldOrNext, StandsBehind, parts_of, sizes_of}
 use Rattle.sb_execution.specs.declared.serving.Served.{Served}
 use Rattle.sb_execution.specs.declared.serving.Served.TheVariants as served
 
@@ -79,19 +77,21 @@ pub record IsLeftSo (m : Meanings) (place : Place) (want : Wanted) (s : State) (
 pub record EndsInside {D : Type 0} (told : D → Option Story) (len faults : D → ℕ) (m : Meanings) (place : Place) (c : Command)
     (d e : D) (s t : StoreState) (o now : Open) (result : Result Reply Refusal) : Type 0 where
   pub ends : (want : Wanted) (x : State) → IsOf m place want x (parts told len d s) (Some o) → IsPosedIn m x c
-      → Ends (IsLeft m place want x (parts told len e t) (Some now) (reply_by result)) (Lacks faults) (HasFailed faults d e)
+      → Ends (IsLeft m place want x (parts told len e t) (Some now) (reply_by result)) (Lacks s.pool.geometry) (HasFailed faults d e)
       (extensions_of m) x c (reply_by result)
   pub leaves : LeavesWanted (parts told len d s) (parts told len e t)
   pub goes : ends_with (reply_by result) ≡ false → CanGoOn m place (parts told len e t) (Some now)
   pub remains : Remains told len faults d e s t result
 
 -- ---- in a transaction of its own
--- A command in it ends well, and the transaction is over then. What a crash left on the way is told with the state to which the command leads.
+-- A command in it ends well, and the transaction is over then. What a crash left on the way is told with the state to which the command leads; where
+-- the reply tells of no change, it is what was wanted, whatever the pages stand for.
 pub record EndsAlone {D : Type 0} (told : D → Option Story) (len faults : D → ℕ) (m : Meanings) (place : Place) (c : Command)
     (d e : D) (s t : StoreState) (result : Result Reply Refusal) : Type 0 where
   pub ends : (want : Wanted) (x : State) → IsOf m place want x (parts told len d s) None → IsPosedIn m x c
-      → Ends (IsLeftSo m place want x c (parts told len d s) (parts told len e t) None (reply_by result)) (Lacks faults) (HasFailed faults d e)
+      → Ends (IsLeftSo m place want x c (parts told len d s) (parts told len e t) None (reply_by result)) (Lacks s.pool.geometry) (HasFailed faults d e)
       (extensions_of m) x c (reply_by result)
+  pub leaves : tells_change (reply_by result) ≡ false → LeavesWanted (parts told len d s) (parts told len e t)
   pub none : t.book.down ≡ false → t.book.actives ≡ []
   pub remains : Remains told len faults d e s t result
 
@@ -106,8 +106,7 @@ pub record ComesAlone {D : Type 0} (told : D → Option Story) (len faults : D �
   pub first : Remains {T = Unit {0}} told len faults d mid.disk s mid.store (Ok tt)
   pub leaves : LeavesWanted (parts told len d s) (parts told len mid.disk mid.store)
   pub led : IsLed told len faults tx mid (record { disk = e; store = t })
-  pub store : (want : Wanted) (x : State) → IsOf m place want x (parts told len d s) None
-      → (was now : ℕ → List ℕ) × HoldsPages want was (parts told len d s) × HoldsPages want now (parts told len mid.disk mid.store)
+  pub pages : Leads (parts told len d s) (parts told len mid.disk mid.store) (λ now. now)
   pub begun : t.book.down ≡ false → (want : Wanted) (x : State) → IsOf m place want x (parts told len d s) None
       → WasBegun m place.root want (committed x) tx (parts told len e t)
 
@@ -135,19 +134,19 @@ pub record Passes {D : Type 0} (told : D → Option Story) (len faults : D → �
   pub passed : (want : Wanted) (x : State) → IsOf m place want x (parts told len d s) None → refused (extensions_of m) x c ≡ None
   pub rests : (want : Wanted) (x : State) → IsOf m place want x (parts told len d s) None
       → Rests m place.root want (committed x) (parts told len e t)
-  pub any_moment : (want : Wanted) (x : State) → IsOf m place want x (parts told len d s) None
-      → LeavesOnly (told d) (told e) (Restores s.pool.geometry want)
+  pub any_moment : LeavesWanted (parts told len d s) (parts told len e t)
   pub none : t.book.actives ≡ []
   pub remains : Remains {T = Unit {0}} told len faults d e s t (Ok tt)
 
 -- ---- any command
 -- A command of the session ends well with this reply, and the boxes are the same ones. What a crash left on the way is told with the state to which
--- the command leads.
+-- the command leads; where no database can have been committed, it is what was wanted, whatever the pages stand for.
 pub record Executed {B D : Type 0} (meanings : B → Meanings) (told : D → Option Story) (len faults : D → ℕ) (c : Command)
     (d e : D) (x y : Session B) (r : Reply) : Type 0 where
   pub ends : (want : Wanted) (s : State) → IsFor meanings told len want s d x → IsPosedIn (meanings x.boxes) s c
-      → Ends (StandsBehind meanings told len want (extensions_of (meanings x.boxes)) s c d e x y) (Lacks faults) (HasFailed faults d e)
+      → Ends (StandsBehind meanings told len want (extensions_of (meanings x.boxes)) s c d e x y) (Lacks (sizes_of x)) (HasFailed faults d e)
       (extensions_of (meanings x.boxes)) s c r
+  pub leaves : may_have_committed c (is_some x.open) r ≡ false → LeavesWanted (parts_of told len d x) (parts_of told len e y)
   pub same : AreSameBoxes (meanings x.boxes) (meanings y.boxes)
   pub keeps : KeepsSession len faults d e x y r
   pub runs : CanRun meanings told len e y

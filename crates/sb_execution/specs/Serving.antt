@@ -1,7 +1,6 @@
 -- What comes of a command on an engine, for a state of the plain database.
 use Rattle.std.specs.Prelude.{◌≡◌, Bool, true, false, List, map, Some, None, IfSome}
 use Rattle.sb_fold.specs.declared.refusal.Refusal.{Refusal}
-use Rattle.sb_fold.specs.declared.refusal.Refusal.TheVariants as refusal
 use Rattle.sb_fold.specs.Outcome.{Going, Queue}
 use Rattle.sb_plain.specs.declared.command.Command.{Command}
 use Rattle.sb_plain.specs.declared.command.Command.TheVariants as command
@@ -9,7 +8,7 @@ use Rattle.sb_plain.specs.Reading.{read}
 use Rattle.sb_plain.specs.Refusing.{refused}
 use Rattle.sb_plain.specs.State.{State, is_inside, no_queue, points_of, view}
 use Rattle.sb_plain.specs.Step.{Answer, work_of}
-use Rattle.sb_cascade.specs.Runs.{MadeFrom, StopsFrom, is_free}
+use Rattle.sb_cascade.specs.Runs.{MadeFrom, StopsFrom, is_free, is_room}
 use Rattle.sb_registry.specs.Boxes.{Meanings}
 use Rattle.sb_drive.specs.declared.space.SpaceFault.{SpaceFault}
 use Rattle.sb_engine.specs.Refusals.{HasRefusalCause}
@@ -71,11 +70,6 @@ IsServed IsSo m s c g (served.Read reply) new =
     (refused (extensions_of m) s c ≡ None) × (read (extensions_of m) (view s) c ≡ Some reply) × IsSo g new
 IsServed IsSo m s c g (served.Worked answer) new =
     (refused (extensions_of m) s c ≡ None) × (read (extensions_of m) (view s) c ≡ None) × Makes IsSo m c g (answer_of answer) new
-
--- it says that room is wanting
-abbrev pub is_room : Refusal → Bool
-is_room (refusal.Room room) = true
-is_room r = false
 
 -- A command is refused: by a test; or by its work; or the space has refused a look at its pages, to which no room is wanting.
 pub data IsUnserved {S : Type 0} (Fails : SpaceFault → S → S → Type 0) (m : Meanings) (s : State) (c : Command)

@@ -1,6 +1,6 @@
 //! The execution of a command.
 
-ghost use Rattle.std.specs.Prelude.{◌≡◌, false};
+ghost use Rattle.std.specs.Prelude.{◌≡◌, false, is_some};
 ghost use Rattle.sb_journal.specs.State.{used_of};
 ghost use Rattle.sb_drive.specs.Spaces.{Wanted};
 ghost use Rattle.sb_engine.specs.Working.{extensions_of};
@@ -9,9 +9,10 @@ ghost use Rattle.sb_plain.specs.Step.{ok};
 ghost use Rattle.sb_plain.specs.declared.command.Command.TheVariants as plain;
 ghost use Rattle.sb_execution.specs.Serving.{IsPosedIn};
 ghost use Rattle.sb_execution.specs.Endings.{Executed};
-ghost use Rattle.sb_session.specs.Ends.{Ends};
+ghost use Rattle.sb_session.specs.Ends.{Ends, may_have_committed};
 ghost use Rattle.sb_session.specs.Ends as answers;
-ghost use Rattle.sb_session.specs.Sessions.{CanRun, HasFailed, IsFor, KeepsSession, Lacks, StandsBehind};
+ghost use Rattle.sb_session.specs.Sessions.{CanRun, HasFailed, IsFor, KeepsSession, Lacks, StandsBehind, parts_of, sizes_of};
+ghost use Rattle.sb_txn.specs.Clauses.{LeavesWanted};
 ghost use Rattle.sb_vectors.specs.Vectors.{AreSameBoxes};
 
 use crate::inside::exec_inside;
@@ -26,7 +27,8 @@ use std::alloc::Global;
 
 /// Carries out a command. Its reply is that of a step of the plain database, and the session stands for what the step leads to. Where room or memory
 /// is wanting all stays as it was; where the disk fails a call the session is down. All along a crash leaves what was committed, or what the step commits;
-/// where the disk failed, it may leave what some other step of the command commits.
+/// where the disk failed, it may leave what some other step of the command commits. Where no database can have been committed, a crash leaves the pages
+/// that were wanted, whatever they stand for.
 pub fn exec<B: Vectors, D: Disk>(
     session: &mut Session<B>,
     disk: &mut D,
@@ -37,7 +39,9 @@ pub fn exec<B: Vectors, D: Disk>(
 
     ensures ends { (want : Wanted) (s : State) → IsFor B.meanings D.told D.len want s disk.old session.old → IsPosedIn (B.meanings session.old.boxes) s command.now
         → Ends (StandsBehind B.meanings D.told D.len want (extensions_of (B.meanings session.old.boxes)) s command.now disk.old disk.new session.old session.new)
-        (Lacks D.faults) (HasFailed D.faults disk.old disk.new) (extensions_of (B.meanings session.old.boxes)) s command.now result }
+        (Lacks (sizes_of session.old)) (HasFailed D.faults disk.old disk.new) (extensions_of (B.meanings session.old.boxes)) s command.now result }
+    ensures leaves { may_have_committed command.now (is_some session.old.open) result ≡ false
+        → LeavesWanted (parts_of D.told D.len disk.old session.old) (parts_of D.told D.len disk.new session.new) }
     ensures empties { command.now ≡ plain.Checkpoint → result ≡ ok → used_of session.new.space.store.journal ≡ 0 }
     ensures same { AreSameBoxes (B.meanings session.old.boxes) (B.meanings session.new.boxes) }
     ensures keeps { KeepsSession D.len D.faults disk.old disk.new session.old session.new result }

@@ -5,10 +5,10 @@ ghost use Rattle.sb_fold.specs.Outcome.{Going};
 ghost use Rattle.sb_engine.specs.Refusals.{HasRefusalCause};
 ghost use Rattle.sb_engine.specs.Working.{extensions_of};
 ghost use Rattle.sb_engine.specs.Working as engine;
-ghost use Rattle.sb_cascade.specs.Runs.{is_free};
+ghost use Rattle.sb_cascade.specs.Runs.{is_free, is_room};
 ghost use Rattle.sb_plain.specs.Refusing.{refused};
 ghost use Rattle.sb_plain.specs.State.{State};
-ghost use Rattle.sb_execution.specs.Serving.{IsSeenIn, is_room};
+ghost use Rattle.sb_execution.specs.Serving.{IsSeenIn};
 
 use crate::seen::Seen;
 use sb_engine::Work;

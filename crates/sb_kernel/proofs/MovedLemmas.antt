@@ -25,7 +25,7 @@ use Rattle.sb_vectors.specs.Vectors.{AreSameBoxes}
 use Rattle.sb_opening.specs.Naming.{all_live}
 use Rattle.sb_opening.specs.Session.{Session}
 use Rattle.sb_opening.specs.Ends.{Ends}
-use Rattle.sb_opening.specs.Sessions.{HasFailed, IsFor, IsNext, KeepsSession, Lacks, LeavesNext, LeavesOldOrNext, StandsBehind, parts_of}
+use Rattle.sb_opening.specs.Sessions.{HasFailed, IsFor, IsNext, KeepsSession, Lacks, LeavesNext, LeavesOldOrNext, StandsBehind, parts_of, sizes_of}
 use Rattle.sb_opening.proofs.MoveLists.{found_more}
 use Rattle.sb_opening.proofs.SameBoxes.{same-then}
 use Rattle.sb_execution.specs.Serving.{IsPosedIn}
@@ -61,6 +61,7 @@ HasReplied-bad w line column d x up is = record {
   item = Bad column;
   is_item = is;
   bad = refl;
+  sizes = refl;
   moves = λ m s now single. record {
     state = s;
     moves = record {
@@ -76,7 +77,7 @@ HasReplied-bad w line column d x up is = record {
 -- ---- a command
 module _ {B D : Type 0} (w : World B D) (c : Command) (old new : D) (x y : Session B) (reply : Reply) (up : x.down ≡ false)
     (ends : (want : Wanted) (s : State) → IsFor w.meanings w.told w.len want s old x → IsPosedIn (w.meanings x.boxes) s c
-    → Ends (StandsBehind w.meanings w.told w.len want (extensions_of (w.meanings x.boxes)) s c old new x y) (Lacks w.faults) (HasFailed w.faults old new) (extensions_of (w.meanings x.boxes)) s c reply)
+    → Ends (StandsBehind w.meanings w.told w.len want (extensions_of (w.meanings x.boxes)) s c old new x y) (Lacks (sizes_of x)) (HasFailed w.faults old new) (extensions_of (w.meanings x.boxes)) s c reply)
     (same : AreSameBoxes (w.meanings x.boxes) (w.meanings y.boxes)) (keeps : KeepsSession w.len w.faults old new x y reply) where
   abbrev n : Meanings
   n = w.meanings x.boxes
@@ -112,15 +113,15 @@ module _ {B D : Type 0} (w : World B D) (c : Command) (old new : D) (x y : Sessi
   moments_left m s now are want for up t (inr next) =
       weaker (w.told old) (w.told new) (IsOldOrNew g want next.pages) (IsLeft m s (Says c) t) (next_left m s now are want for up t next) next.leaves
 
-  moved : (line : List ℕ) → IsItem line (Says c) → (m : Meanings) (s : State) → IsNow w m old x s → AreSingle (all_live m) → HasMoved w m s (Says c) reply old new y
+  moved : (line : List ℕ) → IsItem line (Says c) → (m : Meanings) (s : State) → IsNow w m old x s → AreSingle (all_live m) → HasMoved w m (sizes_of x) s (Says c) reply old new y
   moved line item m s now single =
       let want = now.stands.want in
       let for = now.stands.is in
       let are : AreBoxesOf m s n = record { same = now.same; live = for.live; spare = for.spare } in
       let posed : IsPosedIn n s c = read-posed n s line c (AreSingle-live m n now.same single) for.live item in
       let Behind : State → Type 0 = StandsBehind w.meanings w.told w.len want (extensions_of n) s c old new x y in
-      let comes : Comes Behind (Lacks w.faults) (HasFailed w.faults old new) (extensions_of n) s c reply =
-      Ends-comes Behind (Lacks w.faults) (HasFailed w.faults old new) (extensions_of n) s c reply (ends want s for posed) in
+      let comes : Comes Behind (Lacks (sizes_of x)) (HasFailed w.faults old new) (extensions_of n) s c reply =
+      Ends-comes Behind (Lacks (sizes_of x)) (HasFailed w.faults old new) (extensions_of n) s c reply (ends want s for posed) in
       record {
         state = comes.state;
         moves = record { boxes = n; are = are; moves = comes.ends };
@@ -133,4 +134,4 @@ module _ {B D : Type 0} (w : World B D) (c : Command) (old new : D) (x y : Sessi
       }
 
   pub HasReplied-command : (line : List ℕ) → IsItem line (Says c) → HasReplied w line old new x y reply
-  HasReplied-command line item = record { item = Says c; is_item = item; bad = tt; moves = moved line item }
+  HasReplied-command line item = record { item = Says c; is_item = item; bad = tt; sizes = keeps.geometry; moves = moved line item }

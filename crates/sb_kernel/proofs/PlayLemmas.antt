@@ -6,12 +6,12 @@ use Rattle.sb_fold.specs.Extensions.{Extensions}
 use Rattle.sb_plain.specs.declared.command.Command.{Command}
 use Rattle.sb_plain.specs.declared.reply.Reply.{Reply}
 use Rattle.sb_plain.specs.declared.reply.Reply.TheVariants.{Refused}
-use Rattle.sb_plain.specs.Licences.{may_want_memory}
+use Rattle.sb_plain.specs.Licences.{may_want_memory, may_want_room}
 use Rattle.sb_plain.specs.State.{State, downed}
 use Rattle.sb_grammar.specs.Columns.{Item, Says, Bad}
 use Rattle.sb_registry.specs.Boxes.{Meanings}
 use Rattle.sb_execution.specs.Working.{extensions_of}
-use Rattle.sb_opening.specs.Ends.{Ends, IsFree, IsStep, may_lack_room}
+use Rattle.sb_opening.specs.Ends.{Ends, IsFree, IsStep}
 use Rattle.sb_execution.proofs.EndLemmas.{Ends-since}
 use Rattle.sb_kernel.specs.Plays.{Moves, MovesBy, Plays, last_state}
 
@@ -67,7 +67,7 @@ module _ (Stands : State → Type 0) (Lacks : Room → Type 0) (HasFailed : Type
   this_free Cause now free = record { up = free.up; cause = free.cause; stands = refl }
 
   pub Ends-comes : (r : Reply) → Ends Stands Lacks HasFailed ext s c r → Comes Stands Lacks HasFailed ext s c r
-  Ends-comes (Refused (refusal.Room room)) ends = record { state = s; ends = this_free (Lacks room × (may_lack_room s c ≡ true)) s ends; stands = ends.stands }
+  Ends-comes (Refused (refusal.Room room)) ends = record { state = s; ends = this_free (Lacks room × (may_want_room s c ≡ true)) s ends; stands = ends.stands }
   Ends-comes (Refused refusal.NoMemory) ends = record { state = s; ends = this_free (may_want_memory s c ≡ true) s ends; stands = ends.stands }
   Ends-comes (Refused refusal.Fault) ends = record { state = downed s; ends = this_free HasFailed (downed s) ends; stands = ends.stands }
   Ends-comes (Refused (refusal.Damaged page)) ends = absurd ends

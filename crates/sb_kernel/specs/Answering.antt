@@ -9,16 +9,18 @@ use Rattle.sb_posing.specs.Posing.{AreSingle}
 use Rattle.sb_registry.specs.Boxes.{Meanings}
 use Rattle.sb_opening.specs.Naming.{all_live}
 use Rattle.sb_opening.specs.Session.{Session}
-use Rattle.sb_opening.specs.Sessions.{Lacks}
+use Rattle.sb_log.specs.declared.geometry.Geometry.{Geometry}
+use Rattle.sb_opening.specs.Sessions.{Lacks, sizes_of}
 use Rattle.sb_kernel.specs.World.{World, IsNow}
 use Rattle.sb_kernel.specs.Plays.{MovesBy}
 use Rattle.sb_kernel.specs.Ending.{AnswersBad}
 use Rattle.sb_kernel.specs.Crashes.{HoldsDatabase, IsLeft}
 
 -- The item has this reply in this state, and leads to one that the session stands for. Meanwhile a crash leaves the last commit, or the next one.
-pub record HasMoved {B D : Type 0} (w : World B D) (m : Meanings) (s : State) (item : Item) (reply : Reply) (old new : D) (y : Session B) : Type 0 where
+pub record HasMoved {B D : Type 0} (w : World B D) (m : Meanings) (g : Geometry) (s : State) (item : Item) (reply : Reply) (old new : D) (y : Session B)
+    : Type 0 where
   pub state : State
-  pub moves : MovesBy m (Lacks w.faults) (Rose (w.faults old) (w.faults new)) s item reply state
+  pub moves : MovesBy m (Lacks g) (Rose (w.faults old) (w.faults new)) s item reply state
   pub now : IsNow w m new y state
   pub leaves : LeavesOnly (w.told old) (w.told new) (IsLeft m s item state)
 
@@ -28,7 +30,8 @@ pub record HasReplied {B D : Type 0} (w : World B D) (line : List ℕ) (old new 
   pub item : Item
   pub is_item : IsItem line item
   pub bad : AnswersBad item reply
-  pub moves : (m : Meanings) (s : State) → IsNow w m old x s → AreSingle (all_live m) → HasMoved w m s item reply old new y
+  pub sizes : sizes_of y ≡ sizes_of x
+  pub moves : (m : Meanings) (s : State) → IsNow w m old x s → AreSingle (all_live m) → HasMoved w m (sizes_of x) s item reply old new y
 
 -- What a close leaves: while a session isn't down a crash goes on leaving its last commit, and one that is down is left alone.
 pub record Closes {B D : Type 0} (w : World B D) (old new : D) (x : Session B) : Type 0 where

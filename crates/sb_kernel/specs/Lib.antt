@@ -5,6 +5,7 @@ pub use Rattle.sb_opening.specs.Naming
 pub use Rattle.sb_opening.specs.Opening
 pub use Rattle.sb_opening.specs.Session
 pub use Rattle.sb_opening.specs.Sessions
+pub use Rattle.sb_log.specs.declared.geometry.Geometry
 pub use Rattle.sb_opening.specs.Table
 pub use Rattle.sb_opening.specs.declared.codes.Named
 pub use Rattle.sb_posing.specs.Posing

@@ -12,7 +12,8 @@ use Rattle.sb_lines.specs.Lines.{asking, whole_lines, held_of, AreItems, AreFirs
 use Rattle.sb_posing.specs.Posing.{AreSingle}
 use Rattle.sb_registry.specs.Boxes.{Meanings}
 use Rattle.sb_opening.specs.Naming.{all_live}
-use Rattle.sb_opening.specs.Sessions.{Lacks}
+use Rattle.sb_log.specs.declared.geometry.Geometry.{Geometry}
+use Rattle.sb_opening.specs.Sessions.{Lacks, sizes_of}
 use Rattle.sb_kernel.specs.declared.ending.Stop.{Stop}
 use Rattle.sb_kernel.specs.World.{World, At, IsNow}
 use Rattle.sb_kernel.specs.Plays.{Plays, last_state}
@@ -34,12 +35,13 @@ AreInOrder (start ∷ starts) end = (start ≤ next_start starts end) × AreInOr
 abbrev pub BeginsAt : Option Story → List ℕ → ℕ → Type 0
 BeginsAt told starts until = is_some told ≡ true → (next_start starts until ≡ moment told) × AreInOrder starts until
 
--- The items had these replies in a play from the state, and the session stands for what it led to. All along a crash leaves the last commit, or the next
+-- The items had these replies in a play from the state, with a store of these sizes, and the session stands for what it led to. All along a crash leaves the last commit, or the next
 -- one of the item that is being answered.
-pub record HasPlayed {B D : Type 0} (w : World B D) (m : Meanings) (first : D) (s : State) (items : List Item) (replies : List Reply) (here : At B D)
+pub record HasPlayed {B D : Type 0} (w : World B D) (m : Meanings) (g : Geometry) (first : D) (s : State) (items : List Item) (replies : List Reply) (here : At B D)
     : Type 0 where
   pub states : List State
-  pub plays : Plays m (Lacks w.faults) (Rose (w.faults first) (w.faults here.disk)) s items replies states
+  pub sizes : sizes_of here.session ≡ g
+  pub plays : Plays m (Lacks g) (Rose (w.faults first) (w.faults here.disk)) s items replies states
   pub now : IsNow w m here.disk here.session (last_state s states)
   pub on : GoesOn (w.told first) (w.told here.disk)
   pub begins : BeginsAt (w.told first) here.starts (moment (w.told here.disk))
@@ -48,17 +50,17 @@ pub record HasPlayed {B D : Type 0} (w : World B D) (m : Meanings) (first : D) (
 -- so it is from every state that the session stood for at first, with boxes that live together
 abbrev pub PlaysOn : {B D : Type 0} → World B D → Meanings → List Item → List Reply → At B D → At B D → Type 0
 PlaysOn w m items replies first now =
-    (s : State) → IsNow w m first.disk first.session s → AreSingle (all_live m) → HasPlayed w m first.disk s items replies now
+    (s : State) → IsNow w m first.disk first.session s → AreSingle (all_live m) → HasPlayed w m (sizes_of first.session) first.disk s items replies now
 
 -- from this moment on a crash leaves the last commit of a state that isn't down
 abbrev pub HoldsLast : Meanings → Option Story → ℕ → State → Type 0
 HoldsLast m told from t = t.down ≡ false → (moment : ℕ) (image : List ℕ) → from ≤ moment → MayLeave told moment image → HoldsDatabase m image (committed t)
 
 -- The same once the session is closed. From when the last item was answered a crash leaves the last commit; where that item met a fault, nothing followed.
-pub record HasPlayedOut {D : Type 0} (told : D → Option Story) (faults : D → ℕ) (m : Meanings) (first : D) (s : State) (items : List Item)
+pub record HasPlayedOut {D : Type 0} (told : D → Option Story) (faults : D → ℕ) (m : Meanings) (g : Geometry) (first : D) (s : State) (items : List Item)
     (replies : List Reply) (starts : List ℕ) (now : D) : Type 0 where
   pub states : List State
-  pub plays : Plays m (Lacks faults) (Rose (faults first) (faults now)) s items replies states
+  pub plays : Plays m (Lacks g) (Rose (faults first) (faults now)) s items replies states
   pub until : ℕ
   pub within : until ≤ moment (told now)
   pub on : GoesOn (told first) (told now)
@@ -70,7 +72,7 @@ pub record HasPlayedOut {D : Type 0} (told : D → Option Story) (faults : D →
 abbrev pub PlaysOut : {B D : Type 0} → World B D → Meanings → List Item → List Reply → At B D → At B D → Type 0
 PlaysOut w m items replies first now =
     (s : State) → IsNow w m first.disk first.session s → AreSingle (all_live m)
-    → HasPlayedOut w.told w.faults m first.disk s items replies now.starts now.disk
+    → HasPlayedOut w.told w.faults m (sizes_of first.session) first.disk s items replies now.starts now.disk
 
 -- All asking lines were answered: the items with their replies, written in full.
 pub record HasAnswered {B D : Type 0} (w : World B D) (m : Meanings) (lines : List (List ℕ)) (first now : At B D) : Type 0 where

@@ -86,14 +86,14 @@ module _ (m : Meanings) (told : Option Story) (end : ℕ) where
   leaves_lawful s _ _ _ are lawful all leaves t image from below may = absurd leaves
 
 -- ---- the laws
-pub plays-lawful : {D : Type 0} (faults : D → ℕ) → PlaysAreLawful faults
-plays-lawful faults m old new s items replies states are lawful plays = plays_lawful m _ _ s items replies states are lawful plays
+pub plays-lawful : PlaysAreLawful
+plays-lawful m g old new s items replies states are lawful plays = plays_lawful m _ _ s items replies states are lawful plays
 
 pub played-lawful : {B D : Type 0} (w : World B D) → PlayedAreLawful w
-played-lawful w m first s items replies here are lawful played = plays_lawful m _ _ s items replies played.states are lawful played.plays
+played-lawful w m g first s items replies here are lawful played = plays_lawful m _ _ s items replies played.states are lawful played.plays
 
 pub played-out-lawful : {D : Type 0} (told : D → Option Story) (faults : D → ℕ) → PlayedOutAreLawful told faults
-played-out-lawful {D} told faults m first s items replies starts now are lawful played =
+played-out-lawful {D} told faults m g first s items replies starts now are lawful played =
     let all : All (IsLawfulFor m) played.states = plays_lawful m _ _ s items replies played.states are lawful played.plays in
     record {
       lawful = all;
@@ -116,9 +116,9 @@ played-out-lawful {D} told faults m first s items replies starts now are lawful 
     of_test all t image from within may false e = of_down all t image (leb-false t played.until e) within may ((last_state s played.states).down) refl
 
 pub runs-lawful : {D : Type 0} (told : D → Option Story) (faults : D → ℕ) → RunsAreLawful told faults
-runs-lawful told faults m boxes db ending taken first items replies starts now lawful answers played =
-    played-out-lawful told faults m first (opened boxes db) items replies starts now (answers-written ending taken items answers) (lawful boxes) played
+runs-lawful told faults m boxes g db ending taken first items replies starts now lawful answers played =
+    played-out-lawful told faults m g first (opened boxes db) items replies starts now (answers-written ending taken items answers) (lawful boxes) played
 
 pub made-lawful : {D : Type 0} (told : D → Option Story) (faults : D → ℕ) → MadeRunsAreLawful told faults
-made-lawful told faults m boxes ending taken first items replies starts now answers played =
-    runs-lawful told faults m boxes [] ending taken first items replies starts now (nothing-over m) answers played
+made-lawful told faults m boxes g ending taken first items replies starts now answers played =
+    runs-lawful told faults m boxes g [] ending taken first items replies starts now (nothing-over m) answers played

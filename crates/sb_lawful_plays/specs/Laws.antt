@@ -11,6 +11,7 @@ use Rattle.sb_registry.specs.Boxes.{Meanings}
 use Rattle.sb_kernel.specs.Working.{extensions_of}
 use Rattle.sb_vectors.specs.Vectors.{AreSameBoxes}
 use Rattle.sb_kernel.specs.Opening.{opened}
+use Rattle.sb_kernel.specs.Geometry.{Geometry}
 use Rattle.sb_kernel.specs.Sessions.{Lacks}
 use Rattle.sb_kernel.specs.declared.ending.Ending.{Ending}
 use Rattle.sb_kernel.specs.World.{World, At}
@@ -64,16 +65,16 @@ CrashesLeaveLawful =
 
 -- ---- plays
 -- the states of a play from a lawful state
-abbrev pub PlaysAreLawful : {D : Type 0} → (D → ℕ) → Type 0
-PlaysAreLawful faults =
-    (m : Meanings) (old new : ℕ) (s : State) (items : List Item) (replies : List Reply) (states : List State) → All IsWrittenItem items → IsLawfulFor m s
-    → Plays m (Lacks faults) (Rose old new) s items replies states → All (IsLawfulFor m) states
+abbrev pub PlaysAreLawful : Type 0
+PlaysAreLawful =
+    (m : Meanings) (g : Geometry) (old new : ℕ) (s : State) (items : List Item) (replies : List Reply) (states : List State) → All IsWrittenItem items → IsLawfulFor m s
+    → Plays m (Lacks g) (Rose old new) s items replies states → All (IsLawfulFor m) states
 
 -- those of what a session has played
 abbrev pub PlayedAreLawful : {B D : Type 0} → World B D → Type 0
 PlayedAreLawful {B} {D} w =
-    (m : Meanings) (first : D) (s : State) (items : List Item) (replies : List Reply) (here : At B D) → All IsWrittenItem items → IsLawfulFor m s
-    → (played : HasPlayed w m first s items replies here) → All (IsLawfulFor m) played.states
+    (m : Meanings) (g : Geometry) (first : D) (s : State) (items : List Item) (replies : List Reply) (here : At B D) → All IsWrittenItem items → IsLawfulFor m s
+    → (played : HasPlayed w m g first s items replies here) → All (IsLawfulFor m) played.states
 
 -- The states are lawful, and since the first item began a crash leaves lawful databases alone.
 pub record IsLawfulPlay (m : Meanings) (told : Option Story) (starts : List ℕ) (until : ℕ) (states : List State) : Type 0 where
@@ -83,20 +84,20 @@ pub record IsLawfulPlay (m : Meanings) (told : Option Story) (starts : List ℕ)
 -- so it is of what was played when the session was closed
 abbrev pub PlayedOutAreLawful : {D : Type 0} → (D → Option Story) → (D → ℕ) → Type 0
 PlayedOutAreLawful {D} told faults =
-    (m : Meanings) (first : D) (s : State) (items : List Item) (replies : List Reply) (starts : List ℕ) (now : D) → All IsWrittenItem items → IsLawfulFor m s
-    → (played : HasPlayedOut told faults m first s items replies starts now) → IsLawfulPlay m (told now) starts played.until played.states
+    (m : Meanings) (g : Geometry) (first : D) (s : State) (items : List Item) (replies : List Reply) (starts : List ℕ) (now : D) → All IsWrittenItem items → IsLawfulFor m s
+    → (played : HasPlayedOut told faults m g first s items replies starts now) → IsLawfulPlay m (told now) starts played.until played.states
 
 -- ---- runs
 -- A run over a store is opened over its database, and what lines say is played: where that database was lawful, all states are.
 abbrev pub RunsAreLawful : {D : Type 0} → (D → Option Story) → (D → ℕ) → Type 0
 RunsAreLawful {D} told faults =
-    (m boxes : Meanings) (db : Db) (ending : Ending) (taken : List ℕ) (first : D) (items : List Item) (replies : List Reply) (starts : List ℕ) (now : D)
-    → IsLawfulOver m db → AnswersItems ending taken items → (played : HasPlayedOut told faults m first (opened boxes db) items replies starts now)
+    (m boxes : Meanings) (g : Geometry) (db : Db) (ending : Ending) (taken : List ℕ) (first : D) (items : List Item) (replies : List Reply) (starts : List ℕ) (now : D)
+    → IsLawfulOver m db → AnswersItems ending taken items → (played : HasPlayedOut told faults m g first (opened boxes db) items replies starts now)
     → IsLawfulPlay m (told now) starts played.until played.states
 
 -- a run over a store that it made, whose database is empty
 abbrev pub MadeRunsAreLawful : {D : Type 0} → (D → Option Story) → (D → ℕ) → Type 0
 MadeRunsAreLawful {D} told faults =
-    (m boxes : Meanings) (ending : Ending) (taken : List ℕ) (first : D) (items : List Item) (replies : List Reply) (starts : List ℕ) (now : D)
-    → AnswersItems ending taken items → (played : HasPlayedOut told faults m first (opened boxes []) items replies starts now)
+    (m boxes : Meanings) (g : Geometry) (ending : Ending) (taken : List ℕ) (first : D) (items : List Item) (replies : List Reply) (starts : List ℕ) (now : D)
+    → AnswersItems ending taken items → (played : HasPlayedOut told faults m g first (opened boxes []) items replies starts now)
     → IsLawfulPlay m (told now) starts played.until played.states

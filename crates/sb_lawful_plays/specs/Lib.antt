@@ -2,6 +2,7 @@ pub use Rattle.sb_kernel.specs.Crashes
 pub use Rattle.sb_kernel.specs.Creating
 pub use Rattle.sb_kernel.specs.Ending
 pub use Rattle.sb_kernel.specs.Ends
+pub use Rattle.sb_kernel.specs.Geometry
 pub use Rattle.sb_kernel.specs.Named
 pub use Rattle.sb_kernel.specs.Naming
 pub use Rattle.sb_kernel.specs.Opening

@@ -15,7 +15,7 @@ pub fn answers_are_written()
 /// All states of a play of such items from a lawful state are lawful, whatever room, memory or disk was wanting. So it is of what a session has played,
 /// and of what was played when it was closed: then each image that a crash may leave, since the first item began, holds a lawful database.
 pub fn plays_are_lawful<B: Vectors, D: Disk>()
-    ensures plays { PlaysAreLawful D.faults }
+    ensures plays { PlaysAreLawful }
     ensures played { PlayedAreLawful (world B.meanings D.told D.len D.clock D.faults) }
     ensures out { PlayedOutAreLawful D.told D.faults }
 {}

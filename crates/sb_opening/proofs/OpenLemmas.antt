@@ -148,6 +148,10 @@ module _ {D : Type 0} (told : D → Option Story) (len faults : D → ℕ) (d e 
   pub up-opened : s.book.down ≡ false
   up-opened = ap (λ (b : Book). b.down) was.book
 
+  -- and behind calls that keep its sizes
+  pub sizes-opened : (t : State) → t.pool.geometry ≡ s.pool.geometry → (want : ℕ → List ℕ) (g : Geometry) → IsMounted want (told d) g → IfTold (told d) (t.pool.geometry ≡ g)
+  sizes-opened t same want g mounted = told_map (told d) (g ≡ s.pool.geometry) (t.pool.geometry ≡ g) (λ is. same ∙ sym is) (was.sizes want g mounted)
+
   size_of : (want : ℕ → List ℕ) (g : Geometry) → IsMounted want (told d) g → is_some (told d) ≡ true → g ≡ s.pool.geometry
   size_of want g mounted tells = told_from (told d) (g ≡ s.pool.geometry) tells (was.sizes want g mounted)
 

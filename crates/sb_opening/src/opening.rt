@@ -4,12 +4,12 @@ ghost use Rattle.std.specs.Prelude.{◌≡◌, ◌≤◌, None, false, ℕ, List
 ghost use Rattle.sb_disk.specs.Causes.{Rose};
 ghost use Rattle.sb_disk.specs.Moments.{LeavesOnly};
 ghost use Rattle.sb_images.specs.Images.{Restores};
-ghost use Rattle.sb_images.specs.Store.{IsMounted};
+ghost use Rattle.sb_images.specs.Store.{IfTold, IsMounted};
 ghost use Rattle.sb_log.specs.declared.geometry.Geometry.{Geometry};
 ghost use Rattle.sb_relation.specs.Db.{Db};
 ghost use Rattle.sb_registry.specs.Boxes.{Meanings, repeated_in};
 ghost use Rattle.sb_drive.specs.Spaces.{Wanted};
-ghost use Rattle.sb_session.specs.Sessions.{CanRun, IsFor};
+ghost use Rattle.sb_session.specs.Sessions.{CanRun, IsFor, sizes_of};
 ghost use Rattle.sb_space.specs.Table.{slots_in, table_len};
 ghost use Rattle.sb_standing.specs.Standing.{AreKnown, owners_in};
 ghost use Rattle.sb_standing.specs.Tables.{Kept};
@@ -48,6 +48,8 @@ pub fn open<B: Vectors + Drop, D: Disk>(
     ensures live { IfOk result (λ session. (g : Geometry) (want : Wanted) (db : Db) (stored : IsStored (B.meanings boxes) (D.told disk.old) g want db)
         → HasLive (B.meanings boxes) (named_in stored.committed.kept) (B.meanings session.boxes)) }
     ensures runs { IfOk result (λ session. CanRun B.meanings D.told D.len disk.new session) }
+    ensures sizes { IfOk result (λ session. (want : ℕ → List ℕ) (g : Geometry) → IsMounted want (D.told disk.old) g
+        → IfTold (D.told disk.old) (sizes_of session ≡ g)) }
     ensures place { IfOk result (λ session. session.place ≡ record { owner = 2; root = table_len session.space.store.pool.geometry.pages }) }
     ensures up { IfOk result (λ session. session.down ≡ false) }
 

@@ -2,6 +2,8 @@
 use Rattle.std.proofs.Common.{◌≡◌, ◌≤◌, inr, ℕ, arith, Bool, true, false, Option, None, List, [], subst}
 use Rattle.sb_disk.specs.Disk.{Mounted}
 use Rattle.sb_disk.specs.Moments.{LeavesOnly}
+use Rattle.sb_images.specs.Layout.{geometry_of}
+use Rattle.sb_log.specs.declared.geometry.Geometry.{Geometry}
 use Rattle.sb_relation.specs.Db.{Db}
 use Rattle.sb_plain.specs.declared.reply.Reply.{Reply}
 use Rattle.sb_grammar.specs.Columns.{Item}
@@ -25,18 +27,18 @@ use Rattle.sb_run.specs.Starting.{HasStarted}
 use Rattle.sb_run.proofs.EarlyLemmas.{early-along, holds-opened}
 
 -- ---- what was played
-played-from : {D : Type 0} (d : Tells D) (m boxes : Meanings) (IsEarly : List ℕ → Type 0) (db : Db) (mounted first now : D)
+played-from : {D : Type 0} (d : Tells D) (m boxes : Meanings) (g : Geometry) (IsEarly : List ℕ → Type 0) (db : Db) (mounted first now : D)
     (ending : Ending) (taken : List ℕ) (items : List Item) (replies : List Reply) (starts : List ℕ) → AnswersItems ending taken items
     → LeavesOnly (d.told mounted) (d.told first) IsEarly
-    → ((image : List ℕ) → HoldsDatabase m image db → IsEarly image) → HasPlayedOut d.told d.faults m first (opened boxes db) items replies starts now
-    → HasPlayedFrom d m boxes IsEarly db mounted first now items replies starts
-played-from d m boxes IsEarly db mounted first now ending taken items replies starts answers early holds played = record {
+    → ((image : List ℕ) → HoldsDatabase m image db → IsEarly image) → HasPlayedOut d.told d.faults m g first (opened boxes db) items replies starts now
+    → HasPlayedFrom d m boxes g IsEarly db mounted first now items replies starts
+played-from d m boxes g IsEarly db mounted first now ending taken items replies starts answers early holds played = record {
   early = early-along (d.told mounted) (d.told first) (d.told now) starts played.until IsEarly early played.on played.begins
       (λ none t image from left. holds image
       (holds-opened m boxes db (d.told now) played.until _ items played.states starts played.leaves played.last none t image from left));
   played = played;
-  lawful = λ lawful. runs-lawful d.told d.faults m boxes db ending taken first items replies starts now lawful answers played;
-  sound = λ sound. runs-sound d.told d.faults m boxes db ending taken first items replies starts now sound answers played;
+  lawful = λ lawful. runs-lawful d.told d.faults m boxes g db ending taken first items replies starts now lawful answers played;
+  sound = λ sound. runs-sound d.told d.faults m boxes g db ending taken first items replies starts now sound answers played;
 }
 
 plays-from : {B D : Type 0} (w : World B D) (m : Meanings) (words : Words) (create : Bool) (mounted : D) (ending : Ending) (taken : List ℕ) (items : List Item) (replies : List Reply)
@@ -49,8 +51,10 @@ plays-from w m words false mounted ending taken items replies first now answers 
       let start = started.1 g want db stored in (
         record { boxes = w.meanings first.session.boxes; live = start.live; first = first.disk; later = start.later; early = start.early },
         λ single.
-            played-from (tells w.told w.len w.faults) m (w.meanings first.session.boxes) (λ image. HoldsDatabase m image db) db mounted first.disk now.disk
-            ending taken items replies now.starts answers start.early (λ image holds. holds) (plays (opened (w.meanings first.session.boxes) db) start.now single),
+            played-from (tells w.told w.len w.faults) m (w.meanings first.session.boxes) g (λ image. HoldsDatabase m image db) db mounted first.disk now.disk
+            ending taken items replies now.starts answers start.early (λ image holds. holds)
+            (subst (λ (h : Geometry). HasPlayedOut w.told w.faults m h first.disk (opened (w.meanings first.session.boxes) db) items replies now.starts now.disk) start.sizes
+            (plays (opened (w.meanings first.session.boxes) db) start.now single)),
       ),
 )
 plays-from w m words true mounted ending taken items replies first now answers started plays = (
@@ -60,9 +64,10 @@ plays-from w m words true mounted ending taken items replies first now answers s
         record { boxes = w.meanings first.session.boxes; live = start.0.live; first = first.disk; later = start.0.later; early = start.0.early },
         start.1,
         λ single.
-            let from = played-from (tells w.told w.len w.faults) m (w.meanings first.session.boxes) (HoldsNew m) [] mounted first.disk now.disk
+            let from = played-from (tells w.told w.len w.faults) m (w.meanings first.session.boxes) (geometry_of words.pages words.log) (HoldsNew m) [] mounted first.disk now.disk
             ending taken items replies now.starts answers start.0.early (λ image holds. inr holds)
-            (plays (opened (w.meanings first.session.boxes) []) start.0.now single) in
+            (subst (λ (h : Geometry). HasPlayedOut w.told w.faults m h first.disk (opened (w.meanings first.session.boxes) []) items replies now.starts now.disk) start.0.sizes
+            (plays (opened (w.meanings first.session.boxes) []) start.0.now single)) in
             (from, record { lawful = from.lawful (nothing-lawful m); sound = from.sound (nothing-sound m) }),
       ),
 )

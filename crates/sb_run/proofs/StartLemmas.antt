@@ -21,7 +21,7 @@ use Rattle.sb_registry.specs.Boxes.{Meanings}
 use Rattle.sb_drive.specs.Spaces.{Wanted}
 use Rattle.sb_sound_plays.specs.Table.{table_len}
 use Rattle.sb_sound_plays.specs.Session.{Session}
-use Rattle.sb_sound_plays.specs.Sessions.{IsFor}
+use Rattle.sb_sound_plays.specs.Sessions.{IsFor, sizes_of}
 use Rattle.sb_sound_plays.specs.Creating.{CreateErr}
 use Rattle.sb_sound_plays.specs.Naming.{HasLive, all_live, named_in}
 use Rattle.sb_sound_plays.specs.Opening.{HasBoxes, IsStored, opened}
@@ -56,14 +56,16 @@ module _ {B D E : Type 0} (w : World B D) (m : Meanings) (words : Words) (create
       → IfOk r (λ x. (g : Geometry) (want : Wanted) (db : Db) (stored : IsStored m (w.told mounted) g want db)
       → HasLive m (named_in stored.committed.kept) (w.meanings x.boxes))
       → IfOk r IsPlaced
+      → IfOk r (λ x. (want : ℕ → List ℕ) (g : Geometry) → IsMounted want (w.told mounted) g → IfTold (w.told mounted) (sizes_of x ≡ g))
       → ((want : ℕ → List ℕ) (g : Geometry) → IsMounted want (w.told mounted) g → LeavesOnly (w.told mounted) (w.told here) (Restores g want))
       → IfOk r (λ x. HasStarted w m words create mounted here x)
-  opens (Err e) asked present stands live place leaves = tt
-  opens (Ok x) asked present stands live place leaves =
+  opens (Err e) asked present stands live place sizes leaves = tt
+  opens (Ok x) asked present stands live place sizes leaves =
       subst (λ (create : Bool). HasStarted w m words create mounted here x) (sym asked) (
         present,
         λ g want db stored. record {
           live = live g want db stored;
+          sizes = if_told (w.told mounted) _ stored.tells (sizes want g stored.mounted);
           later = later;
           now = record {
             same = (live g want db stored).same;
@@ -80,17 +82,19 @@ module _ {B D E : Type 0} (w : World B D) (m : Meanings) (words : Words) (create
       → IfOk r (λ x. IfTold (w.told mounted) (IsFor w.meanings w.told w.len (first_page words.pages) (opened (w.meanings x.boxes) []) here x))
       → IfOk r (λ x. IfTold (w.told mounted) (HasLive m [] (w.meanings x.boxes)))
       → IfOk r IsPlaced
+      → IfOk r (λ x. IfTold (w.told mounted) (sizes_of x ≡ geometry_of words.pages words.log))
       → OnOk r (HoldsNone (w.told mounted))
       → (IsSettled (w.told mounted) → HoldsNone (w.told mounted) → LeavesOnly (w.told mounted) (w.told here) (IsFormatting (geometry_of words.pages words.log)))
       → IfOk r (λ x. HasStarted w m words create mounted here x)
-  makes (Err e) asked stands live place none leaves = tt
-  makes (Ok x) asked stands live place none leaves =
+  makes (Err e) asked stands live place sizes none leaves = tt
+  makes (Ok x) asked stands live place sizes none leaves =
       subst (λ (create : Bool). HasStarted w m words create mounted here x) (sym asked) (
         none,
         λ tells settled.
             let is_live : HasLive m [] (w.meanings x.boxes) = if_told (w.told mounted) _ tells live in (
               record {
                 live = is_live;
+                sizes = if_told (w.told mounted) _ tells sizes;
                 later = later;
                 now = record {
                   same = is_live.same;

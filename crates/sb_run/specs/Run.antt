@@ -62,19 +62,19 @@ pub record HasBegun {D : Type 0} (d : Tells D) (m : Meanings) (named : List Name
   pub later : d.faults mounted ≤ d.faults first
   pub early : LeavesOnly (d.told mounted) (d.told first) IsEarly
 
--- The items had these replies in a play from the database, with these boxes. From the mount until the first item began, a crash left what is said of early
+-- The items had these replies in a play from the database, with these boxes and a store of these sizes. From the mount until the first item began, a crash left what is said of early
 -- images. Over a lawful database all states of the play are lawful, and so is each database that a crash leaves of it; over one whose rules hold they hold.
-pub record HasPlayedFrom {D : Type 0} (d : Tells D) (m boxes : Meanings) (IsEarly : List ℕ → Type 0) (db : Db) (mounted first now : D)
+pub record HasPlayedFrom {D : Type 0} (d : Tells D) (m boxes : Meanings) (g : Geometry) (IsEarly : List ℕ → Type 0) (db : Db) (mounted first now : D)
     (items : List Item) (replies : List Reply) (starts : List ℕ) : Type 0 where
   pub early : (t : ℕ) (image : List ℕ) → moment (d.told mounted) ≤ t → t < next_start starts (suc (moment (d.told now)))
       → MayLeave (d.told now) t image → IsEarly image
-  pub played : HasPlayedOut d.told d.faults m first (opened boxes db) items replies starts now
+  pub played : HasPlayedOut d.told d.faults m g first (opened boxes db) items replies starts now
   pub lawful : IsLawfulOver m db → IsLawfulPlay m (d.told now) starts played.until played.states
   pub sound : IsSoundOver m db → IsSoundPlay m (d.told now) starts played.until played.states
 
 -- So it is without a premise over a new store, whose database is empty.
-pub record KeepsRules {D : Type 0} (d : Tells D) (m boxes : Meanings) (IsEarly : List ℕ → Type 0) (mounted first now : D) (items : List Item)
-    (replies : List Reply) (starts : List ℕ) (from : HasPlayedFrom d m boxes IsEarly [] mounted first now items replies starts) : Type 0 where
+pub record KeepsRules {D : Type 0} (d : Tells D) (m boxes : Meanings) (g : Geometry) (IsEarly : List ℕ → Type 0) (mounted first now : D) (items : List Item)
+    (replies : List Reply) (starts : List ℕ) (from : HasPlayedFrom d m boxes g IsEarly [] mounted first now items replies starts) : Type 0 where
   pub lawful : IsLawfulPlay m (d.told now) starts from.played.until from.played.states
   pub sound : IsSoundPlay m (d.told now) starts from.played.until from.played.states
 
@@ -90,14 +90,14 @@ PlaysFrom d m words false mounted now starts items replies =
     HasBoxes m (d.told mounted)
     × ((g : Geometry) (want : Wanted) (db : Db) (stored : IsStored m (d.told mounted) g want db)
     → (begun : HasBegun d m (named_in stored.committed.kept) (λ image. HoldsDatabase m image db) mounted)
-    × (AreSingle (all_live m) → HasPlayedFrom d m begun.boxes (λ image. HoldsDatabase m image db) db mounted begun.first now items replies starts))
+    × (AreSingle (all_live m) → HasPlayedFrom d m begun.boxes g (λ image. HoldsDatabase m image db) db mounted begun.first now items replies starts))
 PlaysFrom d m words true mounted now starts items replies =
     HoldsNone (d.told mounted)
     × (is_some (d.told mounted) ≡ true → IsSettled (d.told mounted)
     → (begun : HasBegun d m [] (HoldsNew m) mounted)
     × MakesStore words (d.told mounted) (d.told begun.first)
-    × (AreSingle (all_live m) → (from : HasPlayedFrom d m begun.boxes (HoldsNew m) [] mounted begun.first now items replies starts)
-    × KeepsRules d m begun.boxes (HoldsNew m) mounted begun.first now items replies starts from))
+    × (AreSingle (all_live m) → (from : HasPlayedFrom d m begun.boxes (geometry_of words.pages words.log) (HoldsNew m) [] mounted begun.first now items replies starts)
+    × KeepsRules d m begun.boxes (geometry_of words.pages words.log) (HoldsNew m) mounted begun.first now items replies starts from))
 
 -- a store was opened, or made and opened, and items were answered until the run ended
 pub record HasRun {D : Type 0} (d : Tells D) (m : Meanings) (words : Words) (most : ℕ) (old new : Seen) (mounted now : D) (report : Report) : Type 0 where

@@ -14,6 +14,7 @@ use Rattle.sb_sound_plays.specs.Session.{Session}
 use Rattle.sb_sound_plays.specs.Named.{Named}
 use Rattle.sb_sound_plays.specs.Naming.{HasLive, named_in}
 use Rattle.sb_sound_plays.specs.Opening.{HasBoxes, IsStored, opened}
+use Rattle.sb_sound_plays.specs.Sessions.{sizes_of}
 use Rattle.sb_sound_plays.specs.World.{World, IsNow}
 use Rattle.sb_sound_plays.specs.Crashes.{HoldsDatabase}
 use Rattle.sb_words.specs.declared.words.Words.{Words}
@@ -25,9 +26,10 @@ pub record AreSizes (words : Words) : Type 0 where
 
 -- The session stands for the database, with those of the boxes live that were, and the named ones. Meanwhile a crash left what is said of early
 -- images.
-pub record StartsAt {B D : Type 0} (w : World B D) (m : Meanings) (named : List Named) (IsEarly : List ℕ → Type 0) (db : Db) (mounted here : D)
+pub record StartsAt {B D : Type 0} (w : World B D) (m : Meanings) (g : Geometry) (named : List Named) (IsEarly : List ℕ → Type 0) (db : Db) (mounted here : D)
     (x : Session B) : Type 0 where
   pub live : HasLive m named (w.meanings x.boxes)
+  pub sizes : sizes_of x ≡ g
   pub later : w.faults mounted ≤ w.faults here
   pub now : IsNow w m here x (opened (w.meanings x.boxes) db)
   pub early : LeavesOnly (w.told mounted) (w.told here) IsEarly
@@ -42,8 +44,8 @@ abbrev pub HasStarted : {B D : Type 0} → World B D → Meanings → Words → 
 HasStarted w m words false mounted now x =
     HasBoxes m (w.told mounted)
     × ((g : Geometry) (want : Wanted) (db : Db) (stored : IsStored m (w.told mounted) g want db)
-    → StartsAt w m (named_in stored.committed.kept) (λ image. HoldsDatabase m image db) db mounted now x)
+    → StartsAt w m g (named_in stored.committed.kept) (λ image. HoldsDatabase m image db) db mounted now x)
 HasStarted w m words true mounted now x =
     HoldsNone (w.told mounted)
     × (is_some (w.told mounted) ≡ true → IsSettled (w.told mounted)
-    → StartsAt w m [] (λ image. IsNoStore image ⊎ HoldsDatabase m image []) [] mounted now x × MakesStore words (w.told mounted) (w.told now))
+    → StartsAt w m (geometry_of words.pages words.log) [] (λ image. IsNoStore image ⊎ HoldsDatabase m image []) [] mounted now x × MakesStore words (w.told mounted) (w.told now))

@@ -8,7 +8,7 @@ use Rattle.sb_fold.specs.Extensions.{Extensions}
 use Rattle.sb_plain.specs.declared.command.Command.{Command}
 use Rattle.sb_plain.specs.declared.reply.Reply.{Reply}
 use Rattle.sb_plain.specs.declared.reply.Reply.TheVariants as reply
-use Rattle.sb_plain.specs.Licences.{may_want_memory}
+use Rattle.sb_plain.specs.Licences.{may_want_memory, may_want_room}
 use Rattle.sb_plain.specs.State.{downed}
 use Rattle.sb_plain.specs.State.{State, Transaction as PlainTransaction, committed}
 use Rattle.sb_registry.specs.Boxes.{Meanings}
@@ -19,8 +19,8 @@ use Rattle.sb_txn.specs.Parts.{Parts}
 use Rattle.sb_transactions.specs.Working.{extensions_of}
 use Rattle.sb_session.specs.declared.session.Open.{Open}
 use Rattle.sb_session.specs.declared.session.Session.{Session}
-use Rattle.sb_session.specs.Ends.{Ends, IsFree, IsStep, may_lack_room}
-use Rattle.sb_session.specs.Sessions.{HasFailed, IsFor, IsOpenFor, Lacks, StandsBehind, StandsFor, parts_of}
+use Rattle.sb_session.specs.Ends.{Ends, IsFree, IsStep}
+use Rattle.sb_session.specs.Sessions.{HasFailed, IsFor, IsOpenFor, Lacks, StandsBehind, StandsFor, parts_of, sizes_of}
 
 -- ---- ends of other states
 module _ (S T : State → Type 0) (Lacks : Room → Type 0) (HasFailed : Type 0) (ext : Extensions) (s : State) (c : Command) (wider : (t : State) → S t → T t) where
@@ -31,7 +31,7 @@ module _ (S T : State → Type 0) (Lacks : Room → Type 0) (HasFailed : Type 0)
   free-wider Cause now free = record { up = free.up; cause = free.cause; stands = wider now free.stands }
 
   pub Ends-wider : (r : Reply) → Ends S Lacks HasFailed ext s c r → Ends T Lacks HasFailed ext s c r
-  Ends-wider (reply.Refused (refusal.Room room)) ends = free-wider (Lacks room × (may_lack_room s c ≡ true)) s ends
+  Ends-wider (reply.Refused (refusal.Room room)) ends = free-wider (Lacks room × (may_want_room s c ≡ true)) s ends
   Ends-wider (reply.Refused refusal.NoMemory) ends = free-wider (may_want_memory s c ≡ true) s ends
   Ends-wider (reply.Refused refusal.Fault) ends = free-wider HasFailed (downed s) ends
   Ends-wider (reply.Refused (refusal.Damaged page)) ends = ends
@@ -81,13 +81,13 @@ module _ {B D : Type 0} (meanings : B → Meanings) (told : D → Option Story) 
         inl (leaves.each want store.0 store.1);
   }
 
-  pub Ends-behind : (faults : D → ℕ) (r : Reply) → Ends (λ t. StandsFor meanings told len t e y) (Lacks faults) (HasFailed faults d e) (extensions_of (meanings x.boxes)) s c r
-      → Ends Behind (Lacks faults) (HasFailed faults d e) (extensions_of (meanings x.boxes)) s c r
-  Ends-behind faults r ends = Ends-wider (λ t. StandsFor meanings told len t e y) Behind (Lacks faults) (HasFailed faults d e) (extensions_of (meanings x.boxes)) s c StandsBehind-wanted r ends
+  pub Ends-behind : (faults : D → ℕ) (r : Reply) → Ends (λ t. StandsFor meanings told len t e y) (Lacks (sizes_of x)) (HasFailed faults d e) (extensions_of (meanings x.boxes)) s c r
+      → Ends Behind (Lacks (sizes_of x)) (HasFailed faults d e) (extensions_of (meanings x.boxes)) s c r
+  Ends-behind faults r ends = Ends-wider (λ t. StandsFor meanings told len t e y) Behind (Lacks (sizes_of x)) (HasFailed faults d e) (extensions_of (meanings x.boxes)) s c StandsBehind-wanted r ends
 
   -- with the same pages wanted
-  pub Ends-behind_for : (faults : D → ℕ) (r : Reply) → Ends (λ t. IsFor meanings told len want t e y) (Lacks faults) (HasFailed faults d e) (extensions_of (meanings x.boxes)) s c r
-      → Ends Behind (Lacks faults) (HasFailed faults d e) (extensions_of (meanings x.boxes)) s c r
+  pub Ends-behind_for : (faults : D → ℕ) (r : Reply) → Ends (λ t. IsFor meanings told len want t e y) (Lacks (sizes_of x)) (HasFailed faults d e) (extensions_of (meanings x.boxes)) s c r
+      → Ends Behind (Lacks (sizes_of x)) (HasFailed faults d e) (extensions_of (meanings x.boxes)) s c r
   Ends-behind_for faults r ends =
-      Ends-wider (λ t. IsFor meanings told len want t e y) Behind (Lacks faults) (HasFailed faults d e) (extensions_of (meanings x.boxes)) s c
+      Ends-wider (λ t. IsFor meanings told len want t e y) Behind (Lacks (sizes_of x)) (HasFailed faults d e) (extensions_of (meanings x.boxes)) s c
       (λ t is. StandsBehind-wanted t (record { want = want; is = is })) r ends

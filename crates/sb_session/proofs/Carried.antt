@@ -35,7 +35,7 @@ use Rattle.sb_session.specs.declared.session.Open.{Open}
 use Rattle.sb_session.specs.declared.session.Savepoint.{Savepoint}
 use Rattle.sb_session.specs.declared.session.Session.{Session}
 use Rattle.sb_session.specs.Ends.{Ends, IsStep, ends_with, is_end}
-use Rattle.sb_session.specs.Sessions.{AreInOrder, CanGoOn, CanRun, HasFailed, IsFor, IsOpenFor, KeepsSession, Lacks, parts_of}
+use Rattle.sb_session.specs.Sessions.{AreInOrder, CanGoOn, CanRun, HasFailed, IsFor, IsOpenFor, KeepsSession, Lacks, parts_of, sizes_of}
 use Rattle.sb_session.proofs.OpenLemmas.{IsInside-same, IsOpenFor-spent}
 use Rattle.sb_session.proofs.Stepped.{Stepped}
 use Rattle.sb_session.proofs.StepLemmas.{at_fields}
@@ -214,7 +214,7 @@ module _ {B D : Type 0} (meanings : B → Meanings) (told : D → Option Story) 
 -- all that is said of it
 pub record Carried {B D : Type 0} (meanings : B → Meanings) (told : D → Option Story) (len faults : D → ℕ) (c : Command) (d e : D) (x y : Session B) (reply : Reply) : Type 0 where
   pub ends : (want : Wanted) (s : State) → IsFor meanings told len want s d x
-      → Ends (λ t. IsFor meanings told len want t e y) (Lacks faults) (HasFailed faults d e) (extensions_of (meanings x.boxes)) s c reply
+      → Ends (λ t. IsFor meanings told len want t e y) (Lacks (sizes_of x)) (HasFailed faults d e) (extensions_of (meanings x.boxes)) s c reply
   pub keeps : KeepsSession len faults d e x y reply
   pub runs : CanRun meanings told len e y
 
@@ -223,7 +223,7 @@ module _ {B D : Type 0} (meanings : B → Meanings) (told : D → Option Story) 
   module _ (d : D) (x y : Session B) (same : IsSame meanings x y) (ended : x.down ≡ true → y ≡ x) (runs : CanRun meanings told len d x) where
     unchanged : (reply : Reply) → ends_with reply ≡ false
         → ((want : Wanted) (s : State) → IsFor meanings told len want s d x
-        → Ends (λ t. IsFor meanings told len want t d y) (Lacks faults) (HasFailed faults d d) (extensions_of (meanings x.boxes)) s c reply)
+        → Ends (λ t. IsFor meanings told len want t d y) (Lacks (sizes_of x)) (HasFailed faults d d) (extensions_of (meanings x.boxes)) s c reply)
         → Carried meanings told len faults c d d x y reply
     unchanged reply goes_on ends = record {
       ends = ends;
@@ -243,7 +243,7 @@ module _ {B D : Type 0} (meanings : B → Meanings) (told : D → Option Story) 
         → Carried meanings told len faults c d d x y (Refused r)
     Carried-given r given steps =
         unchanged (Refused r) (end_of_given r given)
-        (λ want s is. Ends-given (λ t. IsFor meanings told len want t d y) (Lacks faults) (HasFailed faults d d) (extensions_of (meanings x.boxes)) s c r given
+        (λ want s is. Ends-given (λ t. IsFor meanings told len want t d y) (Lacks (sizes_of x)) (HasFailed faults d d) (extensions_of (meanings x.boxes)) s c r given
         (record { after = if_up s; steps = steps want s is; stands = IsFor-same meanings told len d x y same want (if_up s) (IsFor-paid meanings told len want d x s is) }))
 
     -- memory was wanting

@@ -14,11 +14,11 @@ use Rattle.sb_fold.specs.declared.refusal.Room.{Room}
 use Rattle.sb_fold.specs.Extensions.{Extensions}
 use Rattle.sb_fold.specs.Finish.{finish}
 use Rattle.sb_fold.specs.Outcome.{Going, Trail, Work}
-use Rattle.sb_cascade.specs.Runs.{EndsBy, RefusedFrom, StopsFrom, is_free}
+use Rattle.sb_cascade.specs.Runs.{EndsBy, RefusedFrom, StopsFrom, is_free, is_room}
 use Rattle.sb_plain.specs.declared.command.Command.TheVariants as command
 use Rattle.sb_plain.specs.declared.reply.Reply.{Reply}
 use Rattle.sb_plain.specs.declared.reply.Reply.TheVariants as reply
-use Rattle.sb_plain.specs.Licences.{may_want_memory}
+use Rattle.sb_plain.specs.Licences.{may_want_memory, may_want_room}
 use Rattle.sb_plain.specs.State.{downed}
 use Rattle.sb_plain.specs.Step.{Steps}
 use Rattle.sb_plain.specs.State.{State, Transaction as PlainTransaction, committed}
@@ -27,7 +27,7 @@ use Rattle.sb_drive.specs.Spaces.{Wanted}
 use Rattle.sb_txn.specs.Clauses.{LeavesWanted}
 use Rattle.sb_txn.specs.Parts.{Parts, parts}
 use Rattle.sb_transactions.specs.Refusals.{HasRefusalCause}
-use Rattle.sb_transactions.specs.Working.{extensions_of}
+use Rattle.sb_transactions.specs.Working.{IsNoneGone, extensions_of}
 use Rattle.sb_transactions.specs.Work.{Work as EngineWork}
 use Rattle.sb_transactions.specs.Space.{Space}
 use Rattle.sb_transactions.specs.Tx.{Tx}
@@ -38,14 +38,15 @@ use Rattle.sb_transactions.specs.Transactions.{HasNothingLeft, IsAt, IsCommitted
 use Rattle.sb_session.specs.declared.session.Open.{Open}
 use Rattle.sb_session.specs.declared.session.Session.{Session}
 use Rattle.sb_session.specs.Ends.{Ends, IsFree, IsStep, ends_with, is_end}
-use Rattle.sb_session.specs.Sessions.{AreSavepoints, CanGoOn, CanRun, HasFailed, IsFor, IsInside, IsOpenFor, KeepsSession, Lacks, LeavesNext, LeavesOldOrNext, StandsBehind, StandsFor, going_in, parts_of}
+use Rattle.sb_session.specs.Sessions.{AreSavepoints, CanGoOn, CanRun, HasFailed, IsFor, IsInside, IsOpenFor, KeepsSession, Lacks, LeavesNext, LeavesOldOrNext, StandsBehind, StandsFor, going_in, parts_of, sizes_of}
 use Rattle.sb_session.proofs.Behind.{Ends-behind_for}
 use Rattle.sb_session.proofs.Carried.{CanRun-as, Carried, Ends-given, IsFor-as, end_of_given}
 use Rattle.sb_session.proofs.Commands.{inside_for}
 use Rattle.sb_session.proofs.CommitSteps.{Steps-committed, Steps-refused_commit, committed-push, going_on, with_committed, without_transaction}
 use Rattle.sb_session.proofs.OpenLemmas.{Inside, IsAt-same}
 use Rattle.sb_session.proofs.PointLemmas.{AreSavepoints-kept}
-use Rattle.sb_session.proofs.WantLemmas.{may_want_memory-commit}
+use Rattle.sb_session.proofs.RoomLemmas.{Lacks-there}
+use Rattle.sb_session.proofs.WantLemmas.{may_want_memory-commit, may_want_room-commit}
 
 -- ---- refusals by kind
 -- what the definition gives, a fault, damage, or want of room or memory
@@ -143,7 +144,7 @@ module _ {D : Type 0} (faults : D → ℕ) (work : Work (Unit {0})) (g : Going) 
 -- what is said of it
 pub record Committed {B D : Type 0} (meanings : B → Meanings) (told : D → Option Story) (len faults : D → ℕ) (d e : D) (x y : Session B) (r : Reply) : Type 0 where
   pub ends : (want : Wanted) (s : State) → IsFor meanings told len want s d x
-      → Ends (StandsBehind meanings told len want (extensions_of (meanings x.boxes)) s command.Commit d e x y) (Lacks faults) (HasFailed faults d e) (extensions_of (meanings x.boxes)) s command.Commit r
+      → Ends (StandsBehind meanings told len want (extensions_of (meanings x.boxes)) s command.Commit d e x y) (Lacks (sizes_of x)) (HasFailed faults d e) (extensions_of (meanings x.boxes)) s command.Commit r
   pub keeps : KeepsSession len faults d e x y r
   pub runs : CanRun meanings told len e y
 
@@ -341,10 +342,10 @@ module _ {B D : Type 0} (meanings : B → Meanings) (told : D → Option Story) 
               };
             }
 
-        over_ends : (want : Wanted) (s : State) (for : IsFor meanings told len want s d x) → Ends (Behind want s) (Lacks faults) (HasFailed faults d e) ext s command.Commit (reply.Refused r)
+        over_ends : (want : Wanted) (s : State) (for : IsFor meanings told len want s d x) → Ends (Behind want s) (Lacks (sizes_of x)) (HasFailed faults d e) ext s command.Commit (reply.Refused r)
         over_ends want s for =
             let stops = stopped want (going_on (within want s for).of) (at_commit want s for) in
-            over_by (Behind want s) (Lacks faults) (HasFailed faults d e) ext s r (kind_of r) over (λ given. given_step given want s for) (λ is. fault_free is want s for)
+            over_by (Behind want s) (Lacks (sizes_of x)) (HasFailed faults d e) ext s r (kind_of r) over (λ given. given_step given want s for) (λ is. fault_free is want s for)
             (λ page is. damage_stops faults (finish ext) (going_on (within want s for).of) page r is stops.there stops.stops)
 
         pub Committed-over : Committed meanings told len faults d e x y (reply.Refused r)
@@ -356,7 +357,8 @@ module _ {B D : Type 0} (meanings : B → Meanings) (told : D → Option Story) 
 
       -- ---- and goes on
       module _ (wanting : is_wanting r ≡ true) (t : Transaction) (is : y.open ≡ Some (record { transaction = t; points = o.points })) (numbered : t.tx ≡ o.transaction.tx)
-          (stays : StaysOpen tx p q w t.work) (quiet : HasNothingLeft w → IsOnlyFault r space.store) where
+          (stays : StaysOpen tx p q w t.work) (quiet : HasNothingLeft w → IsOnlyFault r space.store)
+          (bare : (want : Wanted) (g : Going) → IsAt m x.place want tx g p w → g.queue.actions ≡ [] → IsNoneGone g.gone → is_room r ≡ false) where
         abbrev new : Open
         new = record { transaction = t; points = o.points }
 
@@ -391,7 +393,14 @@ module _ {B D : Type 0} (meanings : B → Meanings) (told : D → Option Story) 
               (λ on. subst (λ (a : Option PlainTransaction). IsOpenFor m x.place want (committed s) q (Some new) a) (sym (within want s for).is) (still_inside want s for));
         })
 
-        -- room or memory may be wanting where the definition says so, since something is left
+        -- room may be wanting where the definition says so, since an action waits or something is gone
+        may_lack : (want : Wanted) (s : State) → IsFor meanings told len want s d x → (room : Room) → r ≡ refusal.Room room → may_want_room s command.Commit ≡ true
+        may_lack want s for room is =
+            let inside = within want s for in
+            may_want_room-commit s inside.of inside.is (λ none gone.
+            false≢true (sym (bare want (going_on inside.of) (at_commit want s for) none gone) ∙ ap is_room is))
+
+        -- so may memory, since something is left
         may_want : (want : Wanted) (s : State) → IsFor meanings told len want s d x → may_want_memory s command.Commit ≡ true
         may_want want s for =
             let inside = within want s for in
@@ -400,18 +409,22 @@ module _ {B D : Type 0} (meanings : B → Meanings) (told : D → Option Story) 
 
         wanting_ends : (want : Wanted) (s : State) (for : IsFor meanings told len want s d x)
             → ((room : Room) × (r ≡ refusal.Room room)) ⊎ (r ≡ refusal.NoMemory)
-            → Ends (Behind want s) (Lacks faults) (HasFailed faults d e) ext s command.Commit (reply.Refused r)
+            → Ends (Behind want s) (Lacks (sizes_of x)) (HasFailed faults d e) ext s command.Commit (reply.Refused r)
         wanting_ends want s for = ⊎_elim
             (λ (a : (room : Room) × (r ≡ refusal.Room room)).
             let stops = stopped want (going_on (within want s for).of) (at_commit want s for) in
-            subst (λ (r : Refusal). Ends (Behind want s) (Lacks faults) (HasFailed faults d e) ext s command.Commit (reply.Refused r)) (sym a.1)
+            subst (λ (r : Refusal). Ends (Behind want s) (Lacks (sizes_of x)) (HasFailed faults d e) ext s command.Commit (reply.Refused r)) (sym a.1)
             (record {
               up = up_for want s for;
-              cause = (record { at = stops.there; cause = room_stops faults (finish ext) (going_on (within want s for).of) a.0 r a.1 stops.there stops.stops }, may_want want s for);
+              cause = (
+                Lacks-there faults (sizes_of x) stops.there (stops.led (λ fault. fault_wanting r fault wanting)).1.geometry a.0
+                    (room_stops faults (finish ext) (going_on (within want s for).of) a.0 r a.1 stops.there stops.stops),
+                may_lack want s for a.0 a.1,
+              );
               stands = still_for want s for;
             }))
             (λ (a : r ≡ refusal.NoMemory).
-            subst (λ (r : Refusal). Ends (Behind want s) (Lacks faults) (HasFailed faults d e) ext s command.Commit (reply.Refused r)) (sym a)
+            subst (λ (r : Refusal). Ends (Behind want s) (Lacks (sizes_of x)) (HasFailed faults d e) ext s command.Commit (reply.Refused r)) (sym a)
             (record { up = up_for want s for; cause = may_want want s for; stands = still_for want s for }))
 
         pub Committed-wanting : Committed meanings told len faults d e x y (reply.Refused r)

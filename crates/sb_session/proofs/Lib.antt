@@ -18,4 +18,5 @@ pub mod MoveBoxes
 pub mod SameBoxes
 pub mod Moves
 pub mod WantLemmas
+pub mod RoomLemmas
 pub mod CommitLemmas

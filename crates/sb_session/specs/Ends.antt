@@ -8,8 +8,8 @@ use Rattle.sb_fold.specs.Extensions.{Extensions}
 use Rattle.sb_plain.specs.declared.command.Command.{Command}
 use Rattle.sb_plain.specs.declared.command.Command.TheVariants as command
 use Rattle.sb_plain.specs.declared.reply.Reply.{Reply}
-use Rattle.sb_plain.specs.declared.reply.Reply.TheVariants.{Done, Refused}
-use Rattle.sb_plain.specs.Licences.{has_no_actions, has_no_entries, has_none_gone, may_want_memory, may_want_room}
+use Rattle.sb_plain.specs.declared.reply.Reply.TheVariants.{Count, Done, Refused}
+use Rattle.sb_plain.specs.Licences.{may_want_memory, may_want_room}
 use Rattle.sb_plain.specs.State.{downed}
 use Rattle.sb_plain.specs.Step.{Steps}
 use Rattle.sb_plain.specs.State.{State}
@@ -37,15 +37,33 @@ pub record IsFree (StandsFor : State → Type 0) (Cause : Type 0) (s now : State
   pub cause : Cause
   pub stands : StandsFor now
 
--- A command of which room may be wanting: one that changes a database, or a commit that has something left to do.
-abbrev pub may_lack_room : State → Command → Bool
-may_lack_room s command.Commit = not (has_no_actions s && has_no_entries s && has_none_gone s)
-may_lack_room s c = may_want_room s c
+-- A command that may commit a database: a commit, and outside of a transaction each that manages neither transactions nor boxes.
+abbrev pub may_commit : Command → (inside : Bool) → Bool
+may_commit command.Commit inside = true
+may_commit command.Begin inside = false
+may_commit command.Abort inside = false
+may_commit (command.Savepoint name) inside = false
+may_commit (command.Rollback name) inside = false
+may_commit command.Checkpoint inside = false
+may_commit (command.Register method code) inside = false
+may_commit (command.Retire method code) inside = false
+may_commit c inside = not inside
+
+-- a reply that tells of a change, or that the disk failed; the others are refusals, and what was read
+abbrev pub tells_change : Reply → Bool
+tells_change (Done key picks) = true
+tells_change (Count count picks) = true
+tells_change (Refused refusal.Fault) = true
+tells_change reply = false
+
+-- such a command with such a reply may have committed a database; all else leaves what was wanted
+abbrev pub may_have_committed : Command → (inside : Bool) → Reply → Bool
+may_have_committed c inside reply = may_commit c inside && tells_change reply
 
 -- A command's reply, and what stands then: those of a step; or room was wanting, or memory, to a command to which it may be, and the state stays; or
 -- the disk failed a call, and the session is down. No page is damaged that stands for a state.
 abbrev pub Ends : (StandsFor : State → Type 0) (Lacks : Room → Type 0) (HasFailed : Type 0) → Extensions → State → Command → Reply → Type 0
-Ends StandsFor Lacks HasFailed ext s c (Refused (refusal.Room room)) = IsFree StandsFor (Lacks room × (may_lack_room s c ≡ true)) s s
+Ends StandsFor Lacks HasFailed ext s c (Refused (refusal.Room room)) = IsFree StandsFor (Lacks room × (may_want_room s c ≡ true)) s s
 Ends StandsFor Lacks HasFailed ext s c (Refused refusal.NoMemory) = IsFree StandsFor (may_want_memory s c ≡ true) s s
 Ends StandsFor Lacks HasFailed ext s c (Refused refusal.Fault) = IsFree StandsFor HasFailed s (downed s)
 Ends StandsFor Lacks HasFailed ext s c (Refused (refusal.Damaged page)) = ⊥

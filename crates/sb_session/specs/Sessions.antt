@@ -1,12 +1,13 @@
 -- What a session stands for.
-use Rattle.std.specs.Prelude.{◌≡◌, ◌⊎◌, ◌||◌, ℕ, ◌≤◌, true, false, List, [], ◌∷◌, All, Option, Some, None}
+use Rattle.std.specs.Prelude.{◌≡◌, ◌⊎◌, ◌||◌, ℕ, ◌+◌, ◌<◌, ◌≤◌, true, false, List, [], ◌∷◌, All, Option, Some, None}
 use Rattle.std.specs.List.{AllZip}
 use Rattle.sb_disk.specs.Causes.{Rose}
 use Rattle.sb_disk.specs.Disk.{Story}
 use Rattle.sb_disk.specs.Moments.{LeavesOnly}
 use Rattle.sb_images.specs.Images.{IsOldOrNew, Restores}
+use Rattle.sb_log.specs.declared.geometry.Geometry.{Geometry}
 use Rattle.sb_fold.specs.declared.refusal.Room.{Room}
-use Rattle.sb_fold.specs.declared.refusal.Refusal.TheVariants as refusal
+use Rattle.sb_fold.specs.declared.refusal.Room.TheVariants.{Data, Temp, Log, Gates}
 use Rattle.sb_fold.specs.Extensions.{Extensions}
 use Rattle.sb_fold.specs.Outcome.{Going, begun}
 use Rattle.sb_plain.specs.declared.command.Command.{Command}
@@ -20,8 +21,6 @@ use Rattle.sb_transactions.specs.Place.{Place}
 use Rattle.sb_txn.specs.Clauses.{IsReady}
 use Rattle.sb_txn.specs.Parts.{Parts, parts}
 use Rattle.sb_transactions.specs.Work.{Work}
-use Rattle.sb_transactions.specs.Refusals.{HasRefusalCause}
-use Rattle.sb_transactions.specs.Commits.{FailsOn, Mounted}
 use Rattle.sb_transactions.specs.Transactions.{HasNothingLeft, IsAt, IsCommitted, IsNotBehind, IsPointOf, IsUsable, Rests, WasBegun, WasSo}
 use Rattle.sb_vectors.specs.Vectors.{live_codes, spare_codes}
 use Rattle.sb_session.specs.declared.session.Open.{Open}
@@ -72,6 +71,10 @@ IsOpenFor m place want committed p _ _ = ⊥
 abbrev pub parts_of : {B D : Type 0} → (D → Option Story) → (D → ℕ) → D → Session B → Parts
 parts_of told len disk x = parts told len disk x.space.store
 
+-- the sizes of its store
+abbrev pub sizes_of : {B : Type 0} → Session B → Geometry
+sizes_of x = x.space.store.pool.geometry
+
 -- With these pages wanted it stands for the state: its boxes have the codes; and until it is down its pages keep the databases, and its transaction
 -- is that of the state.
 pub record IsFor {B D : Type 0} (meanings : B → Meanings) (told : D → Option Story) (len : D → ℕ) (want : Wanted) (s : State) (disk : D)
@@ -115,7 +118,7 @@ HasWork (Some o) = HasNothingLeft o.transaction.work → ⊥
 pub record KeepsSession {B D : Type 0} (len faults : D → ℕ) (old new : D) (x y : Session B) (reply : Reply) : Type 0 where
   pub size : len new ≡ len old
   pub later : faults old ≤ faults new
-  pub geometry : y.space.store.pool.geometry ≡ x.space.store.pool.geometry
+  pub geometry : sizes_of y ≡ sizes_of x
   pub place : y.place ≡ x.place
   pub down : y.down ≡ (x.down || ends_with reply)
   pub ended : x.down ≡ true → (new ≡ old) × (y ≡ x)
@@ -124,10 +127,13 @@ pub record KeepsSession {B D : Type 0} (len faults : D → ℕ) (old new : D) (x
 abbrev pub HasFailed : {D : Type 0} → (D → ℕ) → D → D → Type 0
 HasFailed faults old new = Rose (faults old) (faults new)
 
--- room was wanting, by the numbers of a store on its disk
-pub record Lacks {D : Type 0} (faults : D → ℕ) (room : Room) : Type 0 where
-  pub at : Mounted D
-  pub cause : HasRefusalCause (FailsOn faults) (refusal.Room room) at
+-- Room was wanting in a store of these sizes, by its numbers: all its pages are used; or a change wants more bytes than its log has left; or no gate
+-- of its log is left but the last.
+abbrev pub Lacks : Geometry → Room → Type 0
+Lacks g (Data used total) = (used ≡ total) × (total ≡ g.pages)
+Lacks g (Temp used total) = ⊥
+Lacks g (Log used more total) = (more ≤ 13424) × (total ≡ g.log) × (total < used + more)
+Lacks g (Gates used total) = (65534 < used) × (total ≡ 65536)
 
 -- ---- what a crash leaves
 -- some step of the command leads to the state

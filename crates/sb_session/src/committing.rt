@@ -1,12 +1,13 @@
 //! The commit of the open transaction.
 
-ghost use Rattle.std.specs.Prelude.{◌≡◌, IsErrOf};
+ghost use Rattle.std.specs.Prelude.{◌≡◌, IfErr, IsErrOf};
 ghost use Rattle.sb_drive.specs.Spaces.{Wanted};
 ghost use Rattle.sb_transactions.specs.Working.{extensions_of};
 ghost use Rattle.sb_plain.specs.State.{State};
 ghost use Rattle.sb_plain.specs.declared.command.Command.TheVariants as command;
+ghost use Rattle.sb_txn.specs.Clauses.{LeavesWanted};
 ghost use Rattle.sb_session.specs.Ends.{Ends, picked_reply};
-ghost use Rattle.sb_session.specs.Sessions.{CanRun, HasFailed, HasWork, IsFor, KeepsSession, Lacks, StandsBehind};
+ghost use Rattle.sb_session.specs.Sessions.{CanRun, HasFailed, HasWork, IsFor, KeepsSession, Lacks, StandsBehind, parts_of, sizes_of};
 
 use crate::session::{Open, Session};
 use sb_disk::Disk;
@@ -23,8 +24,9 @@ impl<B: Vectors> Session<B> {
 
         ensures ends { (want : Wanted) (s : State) → IsFor B.meanings D.told D.len want s disk.old self.old
             → Ends (StandsBehind B.meanings D.told D.len want (extensions_of (B.meanings self.old.boxes)) s command.Commit disk.old disk.new self.old self.new)
-            (Lacks D.faults) (HasFailed D.faults disk.old disk.new) (extensions_of (B.meanings self.old.boxes)) s command.Commit (picked_reply result) }
+            (Lacks (sizes_of self.old)) (HasFailed D.faults disk.old disk.new) (extensions_of (B.meanings self.old.boxes)) s command.Commit (picked_reply result) }
         ensures memory { IsErrOf result Refusal.NoMemory → HasWork self.old.open }
+        ensures kept { IfErr result (λ r. (r ≡ Refusal.Fault → ⊥) → LeavesWanted (parts_of D.told D.len disk.old self.old) (parts_of D.told D.len disk.new self.new)) }
         ensures boxes { self.new.boxes ≡ self.old.boxes }
         ensures keeps { KeepsSession D.len D.faults disk.old disk.new self.old self.new (picked_reply result) }
         ensures runs { CanRun B.meanings D.told D.len disk.new self.new }

@@ -7,7 +7,7 @@ ghost use Rattle.sb_plain.specs.Refusing.{first_use};
 ghost use Rattle.sb_plain.specs.State.{State, view};
 ghost use Rattle.sb_plain.specs.declared.command.Command.TheVariants as command;
 ghost use Rattle.sb_session.specs.Ends.{Ends, reply_of};
-ghost use Rattle.sb_session.specs.Sessions.{CanRun, HasFailed, IsFor, KeepsSession, Lacks};
+ghost use Rattle.sb_session.specs.Sessions.{CanRun, HasFailed, IsFor, KeepsSession, Lacks, sizes_of};
 ghost use Rattle.sb_vectors.specs.Vectors.{AreSameBoxes};
 
 use crate::session::Session;
@@ -26,7 +26,7 @@ impl<B: Vectors> Session<B> {
         requires runs { CanRun B.meanings D.told D.len disk.old self.old }
 
         ensures ends { (want : Wanted) (s : State) → IsFor B.meanings D.told D.len want s disk.old self.old
-            → Ends (λ t. IsFor B.meanings D.told D.len want t disk.new self.new) (Lacks D.faults) (HasFailed D.faults disk.old disk.new)
+            → Ends (λ t. IsFor B.meanings D.told D.len want t disk.new self.new) (Lacks (sizes_of self.old)) (HasFailed D.faults disk.old disk.new)
             (extensions_of (B.meanings self.old.boxes)) s (command.Register method code) (reply_of result) }
         ensures disk { disk.new ≡ disk.old }
         ensures space { self.new.space ≡ self.old.space }
@@ -53,7 +53,7 @@ impl<B: Vectors> Session<B> {
 
         ensures ends { (want : Wanted) (s : State) → IsFor B.meanings D.told D.len want s disk.old self.old
             → first_use (view s) (command.Retire method code) ≡ None
-            → Ends (λ t. IsFor B.meanings D.told D.len want t disk.new self.new) (Lacks D.faults) (HasFailed D.faults disk.old disk.new)
+            → Ends (λ t. IsFor B.meanings D.told D.len want t disk.new self.new) (Lacks (sizes_of self.old)) (HasFailed D.faults disk.old disk.new)
             (extensions_of (B.meanings self.old.boxes)) s (command.Retire method code) (reply_of result) }
         ensures disk { disk.new ≡ disk.old }
         ensures space { self.new.space ≡ self.old.space }

@@ -10,7 +10,7 @@ ghost use Rattle.sb_txn.specs.Clauses.{LeavesWanted};
 ghost use Rattle.sb_session.specs.declared.session.Savepoint.{Savepoint};
 ghost use Rattle.sb_session.specs.Ends.{Ends, reply_of};
 ghost use Rattle.sb_session.specs.Points.{IsSaved, NotSaved, NotThere, is_named};
-ghost use Rattle.sb_session.specs.Sessions.{CanRun, HasFailed, IsFor, KeepsSession, Lacks, parts_of};
+ghost use Rattle.sb_session.specs.Sessions.{CanRun, HasFailed, IsFor, KeepsSession, Lacks, parts_of, sizes_of};
 
 use crate::session::{Open, Savepoint, Session};
 use sb_disk::Disk;
@@ -28,7 +28,7 @@ impl<B: Vectors> Session<B> {
         requires runs { CanRun B.meanings D.told D.len disk.old self.old }
 
         ensures ends { (want : Wanted) (s : State) → IsFor B.meanings D.told D.len want s disk.old self.old
-            → Ends (λ t. IsFor B.meanings D.told D.len want t disk.new self.new) (Lacks D.faults) (HasFailed D.faults disk.old disk.new)
+            → Ends (λ t. IsFor B.meanings D.told D.len want t disk.new self.new) (Lacks (sizes_of self.old)) (HasFailed D.faults disk.old disk.new)
             (extensions_of (B.meanings self.old.boxes)) s (command.Savepoint name.now) (reply_of result) }
         ensures disk { disk.new ≡ disk.old }
         ensures space { self.new.space ≡ self.old.space }
@@ -52,7 +52,7 @@ impl<B: Vectors> Session<B> {
         requires runs { CanRun B.meanings D.told D.len disk.old self.old }
 
         ensures ends { (want : Wanted) (s : State) → IsFor B.meanings D.told D.len want s disk.old self.old
-            → Ends (λ t. IsFor B.meanings D.told D.len want t disk.new self.new) (Lacks D.faults) (HasFailed D.faults disk.old disk.new)
+            → Ends (λ t. IsFor B.meanings D.told D.len want t disk.new self.new) (Lacks (sizes_of self.old)) (HasFailed D.faults disk.old disk.new)
             (extensions_of (B.meanings self.old.boxes)) s (command.Rollback name.now) (reply_of result) }
         ensures any_moment { LeavesWanted (parts_of D.told D.len disk.old self.old) (parts_of D.told D.len disk.new self.new) }
         ensures boxes { self.new.boxes ≡ self.old.boxes }

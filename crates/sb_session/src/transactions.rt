@@ -8,7 +8,7 @@ ghost use Rattle.sb_plain.specs.State.{State};
 ghost use Rattle.sb_plain.specs.declared.command.Command.TheVariants as command;
 ghost use Rattle.sb_txn.specs.Clauses.{LeavesWanted};
 ghost use Rattle.sb_session.specs.Ends.{Ends, reply_of};
-ghost use Rattle.sb_session.specs.Sessions.{CanRun, HasFailed, IsFor, KeepsSession, Lacks, parts_of};
+ghost use Rattle.sb_session.specs.Sessions.{CanRun, HasFailed, IsFor, KeepsSession, Lacks, parts_of, sizes_of};
 
 use crate::session::{Open, Session};
 use sb_disk::Disk;
@@ -23,7 +23,7 @@ impl<B: Vectors> Session<B> {
         requires runs { CanRun B.meanings D.told D.len disk.old self.old }
 
         ensures ends { (want : Wanted) (s : State) → IsFor B.meanings D.told D.len want s disk.old self.old
-            → Ends (λ t. IsFor B.meanings D.told D.len want t disk.new self.new) (Lacks D.faults) (HasFailed D.faults disk.old disk.new)
+            → Ends (λ t. IsFor B.meanings D.told D.len want t disk.new self.new) (Lacks (sizes_of self.old)) (HasFailed D.faults disk.old disk.new)
             (extensions_of (B.meanings self.old.boxes)) s command.Begin (reply_of result) }
         ensures memory { IsErrOf result Refusal.NoMemory → ⊥ }
         ensures any_moment { LeavesWanted (parts_of D.told D.len disk.old self.old) (parts_of D.told D.len disk.new self.new) }
@@ -54,7 +54,7 @@ impl<B: Vectors> Session<B> {
         requires runs { CanRun B.meanings D.told D.len disk.old self.old }
 
         ensures ends { (want : Wanted) (s : State) → IsFor B.meanings D.told D.len want s disk.old self.old
-            → Ends (λ t. IsFor B.meanings D.told D.len want t disk.new self.new) (Lacks D.faults) (HasFailed D.faults disk.old disk.new)
+            → Ends (λ t. IsFor B.meanings D.told D.len want t disk.new self.new) (Lacks (sizes_of self.old)) (HasFailed D.faults disk.old disk.new)
             (extensions_of (B.meanings self.old.boxes)) s command.Abort (reply_of result) }
         ensures any_moment { LeavesWanted (parts_of D.told D.len disk.old self.old) (parts_of D.told D.len disk.new self.new) }
         ensures boxes { self.new.boxes ≡ self.old.boxes }
@@ -78,7 +78,7 @@ impl<B: Vectors> Session<B> {
         requires runs { CanRun B.meanings D.told D.len disk.old self.old }
 
         ensures ends { (want : Wanted) (s : State) → IsFor B.meanings D.told D.len want s disk.old self.old
-            → Ends (λ t. IsFor B.meanings D.told D.len want t disk.new self.new) (Lacks D.faults) (HasFailed D.faults disk.old disk.new)
+            → Ends (λ t. IsFor B.meanings D.told D.len want t disk.new self.new) (Lacks (sizes_of self.old)) (HasFailed D.faults disk.old disk.new)
             (extensions_of (B.meanings self.old.boxes)) s command.Checkpoint (reply_of result) }
         ensures memory { IsErrOf result Refusal.NoMemory → ⊥ }
         ensures any_moment { LeavesWanted (parts_of D.told D.len disk.old self.old) (parts_of D.told D.len disk.new self.new) }

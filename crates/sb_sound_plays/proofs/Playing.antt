@@ -77,14 +77,14 @@ module _ (m : Meanings) (told : Option Story) (end : ℕ) where
   leaves_sound s _ _ _ are sound all leaves t image from below may = absurd leaves
 
 -- ---- the laws
-pub plays-sound : {D : Type 0} (faults : D → ℕ) → PlaysAreSound faults
-plays-sound faults m old new s items replies states are sound plays = plays_sound m _ _ s items replies states are sound plays
+pub plays-sound : PlaysAreSound
+plays-sound m g old new s items replies states are sound plays = plays_sound m _ _ s items replies states are sound plays
 
 pub played-sound : {B D : Type 0} (w : World B D) → PlayedAreSound w
-played-sound w m first s items replies here are sound played = plays_sound m _ _ s items replies played.states are sound played.plays
+played-sound w m g first s items replies here are sound played = plays_sound m _ _ s items replies played.states are sound played.plays
 
 pub played-out-sound : {D : Type 0} (told : D → Option Story) (faults : D → ℕ) → PlayedOutAreSound told faults
-played-out-sound {D} told faults m first s items replies starts now are sound played =
+played-out-sound {D} told faults m g first s items replies starts now are sound played =
     let all : All (IsSoundFor m) played.states = plays_sound m _ _ s items replies played.states are sound played.plays in
     record {
       sound = all;
@@ -107,9 +107,9 @@ played-out-sound {D} told faults m first s items replies starts now are sound pl
     of_test all t image from within may false e = of_down all t image (leb-false t played.until e) within may ((last_state s played.states).down) refl
 
 pub runs-sound : {D : Type 0} (told : D → Option Story) (faults : D → ℕ) → RunsAreSound told faults
-runs-sound told faults m boxes db ending taken first items replies starts now sound answers played =
-    played-out-sound told faults m first (opened boxes db) items replies starts now (answers-written ending taken items answers) (sound boxes) played
+runs-sound told faults m boxes g db ending taken first items replies starts now sound answers played =
+    played-out-sound told faults m g first (opened boxes db) items replies starts now (answers-written ending taken items answers) (sound boxes) played
 
 pub made-sound : {D : Type 0} (told : D → Option Story) (faults : D → ℕ) → MadeRunsAreSound told faults
-made-sound told faults m boxes ending taken first items replies starts now answers played =
-    runs-sound told faults m boxes [] ending taken first items replies starts now (nothing-over m) answers played
+made-sound told faults m boxes g ending taken first items replies starts now answers played =
+    runs-sound told faults m boxes g [] ending taken first items replies starts now (nothing-over m) answers played

@@ -11,6 +11,7 @@ use Rattle.sb_registry.specs.Boxes.{Meanings}
 use Rattle.sb_lawful_plays.specs.Working.{extensions_of}
 use Rattle.sb_vectors.specs.Vectors.{AreSameBoxes}
 use Rattle.sb_lawful_plays.specs.Opening.{opened}
+use Rattle.sb_lawful_plays.specs.Geometry.{Geometry}
 use Rattle.sb_lawful_plays.specs.Sessions.{Lacks}
 use Rattle.sb_lawful_plays.specs.DeclaredEnding.{Ending}
 use Rattle.sb_lawful_plays.specs.World.{World, At}
@@ -59,16 +60,16 @@ CrashesLeaveSound =
 
 -- ---- plays
 -- the states of a play from a sound state
-abbrev pub PlaysAreSound : {D : Type 0} → (D → ℕ) → Type 0
-PlaysAreSound faults =
-    (m : Meanings) (old new : ℕ) (s : State) (items : List Item) (replies : List Reply) (states : List State) → All IsWrittenItem items → IsSoundFor m s
-    → Plays m (Lacks faults) (Rose old new) s items replies states → All (IsSoundFor m) states
+abbrev pub PlaysAreSound : Type 0
+PlaysAreSound =
+    (m : Meanings) (g : Geometry) (old new : ℕ) (s : State) (items : List Item) (replies : List Reply) (states : List State) → All IsWrittenItem items → IsSoundFor m s
+    → Plays m (Lacks g) (Rose old new) s items replies states → All (IsSoundFor m) states
 
 -- those of what a session has played
 abbrev pub PlayedAreSound : {B D : Type 0} → World B D → Type 0
 PlayedAreSound {B} {D} w =
-    (m : Meanings) (first : D) (s : State) (items : List Item) (replies : List Reply) (here : At B D) → All IsWrittenItem items → IsSoundFor m s
-    → (played : HasPlayed w m first s items replies here) → All (IsSoundFor m) played.states
+    (m : Meanings) (g : Geometry) (first : D) (s : State) (items : List Item) (replies : List Reply) (here : At B D) → All IsWrittenItem items → IsSoundFor m s
+    → (played : HasPlayed w m g first s items replies here) → All (IsSoundFor m) played.states
 
 -- The states are sound, and since the first item began a crash leaves sound databases alone.
 pub record IsSoundPlay (m : Meanings) (told : Option Story) (starts : List ℕ) (until : ℕ) (states : List State) : Type 0 where
@@ -78,20 +79,20 @@ pub record IsSoundPlay (m : Meanings) (told : Option Story) (starts : List ℕ) 
 -- so it is of what was played when the session was closed
 abbrev pub PlayedOutAreSound : {D : Type 0} → (D → Option Story) → (D → ℕ) → Type 0
 PlayedOutAreSound {D} told faults =
-    (m : Meanings) (first : D) (s : State) (items : List Item) (replies : List Reply) (starts : List ℕ) (now : D) → All IsWrittenItem items → IsSoundFor m s
-    → (played : HasPlayedOut told faults m first s items replies starts now) → IsSoundPlay m (told now) starts played.until played.states
+    (m : Meanings) (g : Geometry) (first : D) (s : State) (items : List Item) (replies : List Reply) (starts : List ℕ) (now : D) → All IsWrittenItem items → IsSoundFor m s
+    → (played : HasPlayedOut told faults m g first s items replies starts now) → IsSoundPlay m (told now) starts played.until played.states
 
 -- ---- runs
 -- A run over a store is opened over its database, and what lines say is played: where that database was sound, all states are.
 abbrev pub RunsAreSound : {D : Type 0} → (D → Option Story) → (D → ℕ) → Type 0
 RunsAreSound {D} told faults =
-    (m boxes : Meanings) (db : Db) (ending : Ending) (taken : List ℕ) (first : D) (items : List Item) (replies : List Reply) (starts : List ℕ) (now : D)
-    → IsSoundOver m db → AnswersItems ending taken items → (played : HasPlayedOut told faults m first (opened boxes db) items replies starts now)
+    (m boxes : Meanings) (g : Geometry) (db : Db) (ending : Ending) (taken : List ℕ) (first : D) (items : List Item) (replies : List Reply) (starts : List ℕ) (now : D)
+    → IsSoundOver m db → AnswersItems ending taken items → (played : HasPlayedOut told faults m g first (opened boxes db) items replies starts now)
     → IsSoundPlay m (told now) starts played.until played.states
 
 -- a run over a store that it made, whose database is empty
 abbrev pub MadeRunsAreSound : {D : Type 0} → (D → Option Story) → (D → ℕ) → Type 0
 MadeRunsAreSound {D} told faults =
-    (m boxes : Meanings) (ending : Ending) (taken : List ℕ) (first : D) (items : List Item) (replies : List Reply) (starts : List ℕ) (now : D)
-    → AnswersItems ending taken items → (played : HasPlayedOut told faults m first (opened boxes []) items replies starts now)
+    (m boxes : Meanings) (g : Geometry) (ending : Ending) (taken : List ℕ) (first : D) (items : List Item) (replies : List Reply) (starts : List ℕ) (now : D)
+    → AnswersItems ending taken items → (played : HasPlayedOut told faults m g first (opened boxes []) items replies starts now)
     → IsSoundPlay m (told now) starts played.until played.states

@@ -11,7 +11,7 @@ use sb_vectors::Vectors;
 /// of each commit. So it is of what a session has played, and of what was played when it was closed: then each image that a crash may leave, since the
 /// first item began, holds a sound database.
 pub fn plays_are_sound<B: Vectors, D: Disk>()
-    ensures plays { PlaysAreSound D.faults }
+    ensures plays { PlaysAreSound }
     ensures played { PlayedAreSound (world B.meanings D.told D.len D.clock D.faults) }
     ensures out { PlayedOutAreSound D.told D.faults }
 {}

@@ -1,5 +1,5 @@
 -- A change of a range, or its refusal.
-use Rattle.std.proofs.Common.{◌≡◌, ⊎_elim, ℕ, ◌+◌, ◌<◌, ◌≤◌, ◌==◌, Bool, true, false, cond, Option, Some, None, is_some, Result, Ok, Err, OnOk, IfErr, IsErrOf, List, [], ◌∷◌, ◌++◌, length, take, drop, All, inl, inr, refl, sym, ap, subst, ◌∙◌, arith}
+use Rattle.std.proofs.Common.{◌≡◌, ◌⊎◌, ⊎_elim, ℕ, ◌+◌, ◌<◌, ◌≤◌, ◌==◌, Bool, true, false, cond, Option, Some, None, is_some, Result, Ok, Err, OnOk, IfErr, IsErrOf, List, [], ◌∷◌, ◌++◌, length, take, drop, All, inl, inr, refl, sym, ap, subst, ◌∙◌, arith}
 use Rattle.std.proofs.lemmas.Bool.{false≢true, eq-eqb}
 use Rattle.std.proofs.lemmas.List.{length-take, length-drop}
 use Rattle.std.proofs.lemmas.List.Elements.{All-append, All-take, All-drop}
@@ -8,12 +8,13 @@ use Rattle.sb_bytes.proofs.BytesLaws.{length-splice}
 use Rattle.sb_disk.specs.Disk.{Story, Range}
 use Rattle.sb_forms.specs.Pages.{IsWhole}
 use Rattle.sb_log.specs.declared.geometry.Geometry.{Geometry}
+use Rattle.sb_images.specs.Layout.{gates_of, log_of}
 use Rattle.sb_pool.specs.Pages.{with_bytes}
 use Rattle.sb_txn.specs.declared.fault.StoreFault.{StoreFault}
 use Rattle.sb_txn.specs.declared.fault.StoreFault.TheVariants.{Fault, LogFull, GatesFull, Down, NoMemory}
 use Rattle.sb_txn.specs.Book.{Undo, ActiveTransaction, Book, transaction_with, others, put_in, changed_transaction, wants_of}
-use Rattle.sb_txn.specs.Clauses.{HoldsPages, StaysReady, LeavesWanted, Changes, ChangeErr, Refused, undo_in, unwound}
-use Rattle.sb_txn.specs.Parts.{parts}
+use Rattle.sb_txn.specs.Clauses.{HoldsPages, IsReady, StaysReady, LeavesWanted, Changes, ChangeErr, Refused, undo_in, unwound}
+use Rattle.sb_txn.specs.Parts.{Parts, parts}
 use Rattle.sb_txn.specs.State.{State}
 use Rattle.sb_txn.proofs.CalledLemmas.{transaction_with-among, transaction_with-split, transaction_with-put, others-put}
 use Rattle.sb_txn.proofs.LawLemmas.{last_is_undone}
@@ -197,6 +198,15 @@ module _ {D : Type 0} (told : D → Option Story) (len faults : D → ℕ) (tx :
       whole = subst (λ (n : ℕ). AreWhole n now) (ap (λ (g : Geometry). g.pages) (sym keeps.geometry)) stands.whole;
     }
 
+-- ---- the regions of a store that is up
+regions_of : (p : Parts) → IsReady p → p.store.book.down ≡ false
+    → (p.store.journal.log ≡ log_of p.store.pool.geometry) × (p.store.journal.gates ≡ gates_of p.store.pool.geometry)
+regions_of p ready up = let found = ready up in by found.0 found.1 found.2
+  where
+    by : (want now : ℕ → List ℕ) → HoldsPages want now p
+        → (p.store.journal.log ≡ log_of p.store.pool.geometry) × (p.store.journal.gates ≡ gates_of p.store.pool.geometry)
+    by want now holds = (holds.2.serves.log, holds.2.serves.gates)
+
 -- ---- a refusal, whatever it is
 module _ {D : Type 0} (told : D → Option Story) (len faults : D → ℕ) (tx : ℕ) (d e : D) (s t : State) (leaves : LeavesWanted (parts told len d s) (parts told len e t)) (only : IsAlone tx s.book) (page count : ℕ) (few : count ≤ 4096) where
   pub Works-err : (f : StoreFault) → StaysReady {T = Unit {0}} told len faults d e s t (Err f) → ((o : ActiveTransaction) → transaction_with tx s.book.actives ≡ Some o → ChangeErr (parts told len d s) (parts told len e t) o page count f) → Works told len faults tx 1 d e s t
@@ -221,6 +231,15 @@ module _ {D : Type 0} (told : D → Option Story) (len faults : D → ℕ) (tx :
   up-err (GatesFull used total) keeps = λ on. ⊎_elim (λ (was : s.book.down ≡ true). was) (λ (x : IsErrOf {T = Unit {0}} (Err (GatesFull used total)) Fault). absurd cc) (keeps.up on)
   up-err NoMemory keeps = λ on. ⊎_elim (λ (was : s.book.down ≡ true). was) (λ (x : IsErrOf {T = Unit {0}} (Err NoMemory) Fault). absurd cc) (keeps.up on)
 
+  -- a refusal that is no fault leaves it up
+  still_up : {f : StoreFault} → s.book.down ≡ false → (t.book.down ≡ true → (s.book.down ≡ true) ⊎ IsErrOf {T = Unit {0}} (Err f) Fault)
+      → (IsErrOf {T = Unit {0}} (Err f) Fault → ⊥) → t.book.down ≡ false
+  still_up was_up fell other =
+      elim t.book.down as (λ b. t.book.down ≡ b → t.book.down ≡ false) [
+        | true ↦ λ on. absurd (⊎_elim (λ (was : s.book.down ≡ true). false≢true (sym was_up ∙ was)) other (fell on))
+        | false ↦ λ off. off
+      ] refl
+
   pub Fails-err : (f : StoreFault) → StaysReady {T = Unit {0}} told len faults d e s t (Err f) → ((o : ActiveTransaction) → transaction_with tx s.book.actives ≡ Some o → ChangeErr (parts told len d s) (parts told len e t) o page count f) → Fails faults (fault_of f) d e s t
   Fails-err Fault keeps err = keeps.fault refl
   Fails-err Down keeps err = let on = keeps.only refl in (keeps.later, inl on, ap (λ (x : State). x.book.down) (keeps.down on).store ∙ on)
@@ -233,7 +252,8 @@ module _ {D : Type 0} (told : D → Option Story) (len faults : D → ℕ) (tx :
       let one = ap (λ (os : List ActiveTransaction). length os) (alone_active tx s.book.actives found.0 found.1 (only up).1) in
       let most = change_len-most (wants_of s.book found.0 page) count few in
       let sizes = ap (λ (r : Range). r.len) same.log_is in
-      (is.0 ∙ sym same.used, omega (arith, is.1, one, most), is.2 ∙ sym sizes, is.3)
+      let regions = regions_of (parts told len e t) keeps.ready (still_up up keeps.up (λ x. cc)) in
+      (is.0 ∙ sym same.used, omega (arith, is.1, one, most), is.2 ∙ sym sizes ∙ ap (λ (r : Range). r.len) regions.0, is.3)
   Fails-err (GatesFull used total) keeps err =
       let up = was_up told len faults tx d e s t {T = Unit {0}} (Err (GatesFull used total)) keeps (λ x. cc) in
       let found = transaction_with-among tx s.book.actives (only up).0 in
@@ -241,7 +261,8 @@ module _ {D : Type 0} (told : D → Option Story) (len faults : D → ℕ) (tx :
       let same = SameRoom-forced s.journal t.journal is.4.journal in
       let one = ap (λ (os : List ActiveTransaction). length os) (alone_active tx s.book.actives found.0 found.1 (only up).1) in
       let sizes = ap (λ (r : Range). r.len) same.gates_is in
-      (is.1, is.2 ∙ sym sizes, omega (arith, is.3, one))
+      let regions = regions_of (parts told len e t) keeps.ready (still_up up keeps.up (λ x. cc)) in
+      (is.1, is.2 ∙ sym sizes ∙ ap (λ (r : Range). r.len) regions.1, omega (arith, is.3, one))
 
 -- ---- and the store serves on
 pub Serves-changed : {D : Type 0} (told : D → Option Story) (len faults : D → ℕ) (tx : ℕ) (d e : D) (s t : State) (r : Result (Unit {0}) StoreFault) (owner page offset : ℕ) (bytes : List ℕ) → StaysReady told len faults d e s t r

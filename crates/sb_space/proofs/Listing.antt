@@ -9,7 +9,7 @@ use Rattle.std.specs.Result.{IsErrAnd}
 use Rattle.sb_drive.specs.declared.space.SpaceFault.{SpaceFault}
 use Rattle.sb_drive.specs.Spaces.{UnlessDown, Wanted}
 use Rattle.sb_space.proofs.Calling.{UnlessDown-map}
-use Rattle.sb_txn.specs.Parts.{Parts, stored}
+use Rattle.sb_txn.specs.Parts.{Parts}
 use Rattle.sb_space.specs.Stored.{taken_in, is_among, Ends, Touches, IsSet, AreSet}
 use Rattle.sb_space.specs.Works.{HasPages}
 

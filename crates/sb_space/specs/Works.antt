@@ -44,6 +44,10 @@ pub record HasPages (want : Wanted) (s : Slots) (p : Parts) : Type 0 where
   pub table : IsTable p.store.pool.geometry.pages now
   pub slots : s ≡ slots_in p.store.pool.geometry.pages now
 
+-- whatever pages are wanted stay so
+abbrev pub StaysWanted : Parts → Parts → Type 0
+StaysWanted old new = (want now : ℕ → List ℕ) → HoldsPages want now old → (then : ℕ → List ℕ) × HoldsPages want then new
+
 -- ---- what calls make of it
 -- This undo list, its last undo first, leads the pages back to those that were. The pages are whole at each step.
 pub record LeadsBack (count : ℕ) (undos : List Undo) (was now : ℕ → List ℕ) : Type 0 where
@@ -81,8 +85,8 @@ abbrev pub Fails : {D : Type 0} → (D → ℕ) → SpaceFault → D → D → S
 Fails faults Fault old new s t = Rose (faults old) (faults new) × (t.book.down ≡ true)
 Fails faults Down old new s t = (faults old ≤ faults new) × ((s.book.down ≡ true) ⊎ Rose (faults old) (faults new)) × (t.book.down ≡ true)
 Fails faults (LogFull used need total) old new s t =
-    (used ≡ used_of t.journal) × (need ≤ 13424) × (total ≡ t.journal.log.len) × (total < used + need)
-Fails faults (GatesFull used total) old new s t = (used ≡ length t.journal.lens) × (total ≡ t.journal.gates.len) × (65534 < used)
+    (used ≡ used_of t.journal) × (need ≤ 13424) × (total ≡ t.pool.geometry.log) × (total < used + need)
+Fails faults (GatesFull used total) old new s t = (used ≡ length t.journal.lens) × (total ≡ 65536) × (65534 < used)
 Fails faults (DataFull used total) old new s t = (used ≡ total) × (total ≡ t.pool.geometry.pages)
 Fails faults (Damaged page) old new s t = ⊥
 Fails faults (TempFull used total) old new s t = ⊥

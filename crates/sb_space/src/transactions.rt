@@ -11,7 +11,7 @@ ghost use Rattle.sb_txn.specs.Clauses.{AsksNothing, Begins, Grows, CommitAsksNot
 ghost use Rattle.sb_txn.specs.Parts.{parts};
 ghost use Rattle.sb_space.specs.Table.{slots_in};
 ghost use Rattle.sb_space.specs.Transactions.{AreFormed, KeepsSpace, WasAt};
-ghost use Rattle.sb_space.specs.Works.{HasPages, MeansDown, Serves};
+ghost use Rattle.sb_space.specs.Works.{HasPages, MeansDown, Serves, StaysWanted};
 
 use crate::fault::fault_of;
 use sb_disk::Disk;
@@ -94,6 +94,7 @@ impl Space {
             → WasAt tx.now.store.number want s n (parts D.told D.len disk.old self.old.store)
             → WasAt tx.now.store.number want s n (parts D.told D.len disk.new self.new.store)) }
         ensures standing { OnOk result (standing_of tx.now.store.number self.new.store.book.actives ≡ mark.store.changes) }
+        ensures wanted { OnOk result (StaysWanted (parts D.told D.len disk.old self.old.store) (parts D.told D.len disk.new self.new.store)) }
         ensures serves { Serves tx.now.store.number (parts D.told D.len disk.new self.new.store) }
         ensures grows { OnOk result (Grows self.old.store self.new.store 0 0) }
         ensures any_moment { LeavesWanted (parts D.told D.len disk.old self.old.store) (parts D.told D.len disk.new self.new.store) }

@@ -38,7 +38,6 @@ use Rattle.sb_transactions.specs.Commits.{by_refusal, ComesTo, FailsOn, Finishes
 use Rattle.sb_transactions.specs.Transactions.{HasNothingLeft, IsAt, IsCommitted, IsFinished}
 use Rattle.sb_transactions.proofs.CallLemmas.{Fault-down}
 use Rattle.sb_transactions.proofs.FinishLemmas.{StopsFrom-behind, StopsFrom-else, StopsFrom-fault, finish-at_once, finish-map}
-use Rattle.sb_value.proofs.Truths.{ok_err}
 
 fault_free : (r : Refusal) → r ≡ Fault → is_free r ≡ true
 fault_free r is = ap is_free is

@@ -72,6 +72,7 @@ module _ {D : Type 0} (told : D → Option Story) (len faults : D → ℕ) (tx :
       begun = λ m root want db is. back.begun m root want db (begun up m root want db is);
       points = λ one of. back.stand one (latest (up-first up) one of) (points one of);
       was = λ m place want g one so. back.earlier m place want g one (latest (up-first up) one so.of) (was up m place want g one so);
+      wanted = λ want now store. let turns = (works.makes up).pages want now store in back.wanted want turns.pages turns.store;
       leaves = leaves-open up leaves;
     }
 

@@ -17,7 +17,7 @@ use Rattle.sb_drive.specs.declared.space.SpaceFault.{SpaceFault}
 use Rattle.sb_txn.specs.Clauses.{IsReady, LeavesWanted}
 use Rattle.sb_txn.specs.Parts.{Parts, parts}
 use Rattle.sb_txn.specs.State.{State}
-use Rattle.sb_space.specs.Works.{Fails, Works}
+use Rattle.sb_space.specs.Works.{Fails, StaysWanted, Works}
 use Rattle.sb_tables.specs.Refusals.{HasRefusalCause}
 use Rattle.sb_tables.specs.Working.{extensions_of}
 use Rattle.sb_tables.specs.Work.{Work}
@@ -106,7 +106,7 @@ by_refusal (Ok x) = Ok x
 by_refusal (Err e) = Err e.refusal
 
 -- A transaction goes on where it was before the commit: it can be worked in, and what it had come to, the points to go back to and the database over
--- which it was begun stand. No pick is noted. At each moment a crash leaves what was wanted.
+-- which it was begun stand. No pick is noted. Whatever pages are wanted stay so, and at each moment a crash leaves them.
 pub record StaysOpen (tx : ℕ) (p q : Parts) (v w : Work) : Type 0 where
   pub up : q.store.book.down ≡ false
   pub usable : (m : Meanings) (place : Place) → place.owner ≡ 2 → IsUsable m place tx q w
@@ -115,4 +115,5 @@ pub record StaysOpen (tx : ℕ) (p q : Parts) (v w : Work) : Type 0 where
   pub points : (one : Point) → IsPointOf tx one p v → IsPointOf tx one q w
   pub was : (m : Meanings) (place : Place) (want : Wanted) (g : Going) (one : Point)
       → WasSo m place want tx g one p v → WasSo m place want tx g one q w
+  pub wanted : StaysWanted p q
   pub leaves : LeavesWanted p q

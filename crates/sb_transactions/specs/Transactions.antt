@@ -18,7 +18,7 @@ use Rattle.sb_txn.specs.Book.{standing_of}
 use Rattle.sb_txn.specs.Parts.{Parts}
 use Rattle.sb_space.specs.Table.{slots_in}
 use Rattle.sb_space.specs.Transactions.{AreFormed, WasAt}
-use Rattle.sb_space.specs.Works.{HasPages}
+use Rattle.sb_space.specs.Works.{HasPages, StaysWanted}
 use Rattle.sb_space.specs.Works as space
 use Rattle.sb_tables.specs.Work.{Work}
 use Rattle.sb_tables.specs.Working.{AreLasting, AreOpened, ArePaired, IsNoneGone, extensions_of, left_of}
@@ -133,6 +133,7 @@ pub record IsBack (tx : ℕ) (point : Point) (p q : Parts) (v w : Work) : Type 0
       → WasSo m place want tx g one p v → WasSo m place want tx g one q w
   pub stand : (one : Point) → IsNotBehind one point → IsPointOf tx one p v → IsPointOf tx one q w
   pub begun : (m : Meanings) (root : ℕ) (want : Wanted) (db : Db) → WasBegun m root want db tx p → WasBegun m root want db tx q
+  pub wanted : StaysWanted p q
 
 -- what is kept beside the pages once it was cut to the point: nothing is open, and no pick is noted
 pub record IsCutTo (point : Point) (old new : Work) : Type 0 where

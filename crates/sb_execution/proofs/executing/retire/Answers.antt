@@ -9,7 +9,7 @@ use Rattle.sb_fold.specs.declared.refusal.Refusal.TheVariants as refusal
 use Rattle.sb_engine.specs.Working.{extensions_of}
 use Rattle.sb_session.specs.declared.session.Session.{Session}
 use Rattle.sb_session.specs.Ends.{Ends, reply_of}
-use Rattle.sb_session.specs.Sessions.{HasFailed, IsFor, Lacks}
+use Rattle.sb_session.specs.Sessions.{HasFailed, IsFor, Lacks, sizes_of}
 use Rattle.sb_session.proofs.Carried.{IsSame-itself}
 use Rattle.sb_session.proofs.Commands.{Carried-misplaced}
 use Rattle.sb_session.proofs.SameBoxes.{same-boxes, same-stays}
@@ -17,7 +17,7 @@ use Rattle.sb_statements.proofs.PassedLemmas.{passed}
 use Rattle.sb_execution.specs.Endings.{Executed}
 use Rattle.sb_execution.proofs.ExecLemmas.{Executed-kept, Executed-moved, leaves_still}
 use Rattle.sb_execution.proofs.RetireLemmas.{Executed-tested}
-use Rattle.sb_execution.proofs.SessionLemmas.{ends_alone, keeps_session, runs_alone}
+use Rattle.sb_execution.proofs.SessionLemmas.{ends_alone, keeps_session, leaves_session, runs_alone}
 use Rattle.sb_execution.proofs.executing.retire.Goals as goal
 
 -- in a transaction it has no place
@@ -53,9 +53,9 @@ returns-in-Ok g c =
     let did = c.retire.ensures in
     let none = is_some-none x.open (sym c.is_some.ensures ∙ c.if-is_some.false) in
     subst (λ (r : Reply). Executed meanings told len faults k d f x z r) (sym c.reply_of.ensures)
-    (Executed-tested meanings told len faults k d e x y c.requires.runs c.requires.up none refl refl refl refl c.in-Ok.ensures.passes f z (reply_of c.retire.result) did.disk did.same did.keeps did.runs
+    (Executed-tested meanings told len faults k d e x y c.requires.runs c.requires.up none refl refl refl refl c.in-Ok.ensures.passes f z (reply_of c.retire.result) did.disk did.space did.same did.keeps did.runs
     (λ want s for none.
-    subst (λ (k : Command). Ends (λ t. IsFor meanings told len want t f z) (Lacks faults) (HasFailed faults e f) (extensions_of (meanings x.boxes)) s k (reply_of c.retire.result)) (sym c.requires.retires)
+    subst (λ (k : Command). Ends (λ t. IsFor meanings told len want t f z) (Lacks (sizes_of y)) (HasFailed faults e f) (extensions_of (meanings x.boxes)) s k (reply_of c.retire.result)) (sym c.requires.retires)
     (did.ends want s for
     (passed (extensions_of (meanings x.boxes)) s (command.Retire method code)
     (sym (ap (λ (k : Command). refused (extensions_of (meanings x.boxes)) s k) c.requires.retires) ∙ none)).unused)))
@@ -82,3 +82,4 @@ returns-in-Err g c =
     (keeps_session meanings told len faults k d e x y c.requires.runs c.requires.up space did.space did.boxes did.place result c.told.result did.reply did.down ended.remains)
     (runs_alone meanings told len faults k d e x y c.requires.runs c.requires.up space did.space did.boxes did.place result c.told.result did.reply did.down ended.remains none still ended)
     (ends_alone meanings told len faults k d e x y c.requires.runs c.requires.up space did.space did.boxes did.place result c.told.result did.reply did.down ended.remains none still ended)
+    (λ never. leaves_session meanings told len faults k d e x y c.requires.runs c.requires.up space did.space did.boxes did.place result c.told.result did.reply did.down c.test_outside-tested.ensures.leaves)

@@ -1,11 +1,11 @@
-use Rattle.std.proofs.Common.{sym, ap, subst}
+use Rattle.std.proofs.Common.{Bool, sym, ap, ◌∙◌, subst}
 use Rattle.sb_plain.specs.declared.command.Command.{Command}
 use Rattle.sb_plain.specs.declared.command.Command.TheVariants as command
 use Rattle.sb_plain.specs.declared.reply.Reply.{Reply}
-use Rattle.sb_session.specs.Ends.{picked_reply, reply_of}
+use Rattle.sb_session.specs.Ends.{may_have_committed, picked_reply, reply_of}
 use Rattle.sb_session.proofs.SameBoxes.{same-stays}
 use Rattle.sb_execution.specs.Endings.{Executed}
-use Rattle.sb_execution.proofs.ExecLemmas.{Executed-down, Executed-kept, Executed-moved, emptied, leaves_still}
+use Rattle.sb_execution.proofs.ExecLemmas.{Executed-down, Executed-kept, Executed-moved, emptied, kept_commit, leaves_still}
 use Rattle.sb_execution.proofs.executing.run.Goals as goal
 
 pub returns-then-session-clause-ended : goal.returns-then-session-clause-ended
@@ -118,7 +118,8 @@ returns-in-Commit-clause-ended g c =
     let did = c.commit.ensures in
     subst (λ (k : Command). Executed meanings told len faults k d e x y c.picked_reply.result) (sym c.in-Commit.is)
     (subst (λ (r : Reply). Executed meanings told len faults command.Commit d e x y r) (sym c.picked_reply.ensures)
-    (Executed-moved meanings told len faults command.Commit d e x y (picked_reply c.commit.result) (same-stays (meanings x.boxes) (meanings y.boxes) (ap meanings did.boxes)) did.keeps did.runs (λ want s for posed. did.ends want s for)))
+    (Executed-moved meanings told len faults command.Commit d e x y (picked_reply c.commit.result) (same-stays (meanings x.boxes) (meanings y.boxes) (ap meanings did.boxes)) did.keeps did.runs (λ want s for posed. did.ends want s for)
+    (kept_commit c.commit.result did.kept)))
 
 pub returns-then-is_some-clause-ended : goal.returns-then-is_some-clause-ended
 returns-then-is_some-clause-ended g c =
@@ -143,3 +144,4 @@ returns-else-is_some-clause-ended g c =
     let y = c.exec_outside.new.session in
     let did = c.exec_outside.ensures in
     Executed-moved meanings told len faults c.args.command.now d c.exec_outside.new.disk x y c.exec_outside.result (same-stays (meanings x.boxes) (meanings y.boxes) (ap meanings did.boxes)) did.keeps did.runs did.ends
+    (λ never. did.leaves (ap (λ (b : Bool). may_have_committed c.args.command.now b c.exec_outside.result) (sym (sym c.is_some.ensures ∙ c.if-is_some.false)) ∙ never))

@@ -1,5 +1,5 @@
-use Rattle.std.proofs.Common.{[], refl, sym, ◌∙◌}
-use Rattle.sb_execution.proofs.AloneWork.{EndsAlone-failed, EndsAlone-looked, EndsAlone-not_begun, EndsAlone-tested, Passes-alone}
+use Rattle.std.proofs.Common.{[], Ok, Err, refl, sym, ◌∙◌}
+use Rattle.sb_execution.proofs.AloneWork.{EndsAlone-failed, EndsAlone-looked, EndsAlone-not_begun, EndsAlone-tested, Passes-alone, leaves_aborted}
 use Rattle.sb_execution.proofs.outside.test_outside.Goals as goal
 
 pub returns-in-Err-clause-refused : goal.returns-in-Err-clause-refused
@@ -30,7 +30,7 @@ returns-in-Ok-None-clause-passes g c =
     let begun = c.in-Ok.ensures in
     let tests = c.test_in-tested.ensures in
     let ends = c.in-Ok-abort.ensures in
-    Passes-alone told len faults m place c.args.command.now d b e s bs t a a c.requires.up c.requires.owner begun.remains begun.any_moment begun.begun begun.at
+    Passes-alone told len faults m place c.args.command.now d b e s bs t a a c.requires.up c.requires.owner begun.remains begun.any_moment begun.pages begun.begun begun.at
     refl tests.usable tests.led tests.begun f u ends.any_moment ends.remains ends.none ends.rests
     [] refl (λ want x h at seen. sym c.in-Ok-None.field-0-is ∙ c.in-Ok-None.ensures.refused want x h at seen)
 
@@ -53,7 +53,7 @@ returns-in-Ok-Some-clause-refused g c =
     let begun = c.in-Ok.ensures in
     let tests = c.test_in-tested.ensures in
     let ends = c.in-Ok-abort.ensures in
-    EndsAlone-tested told len faults m place c.args.command.now d b e s bs t a a c.requires.up c.requires.owner begun.remains begun.any_moment begun.begun begun.at
+    EndsAlone-tested told len faults m place c.args.command.now d b e s bs t a a c.requires.up c.requires.owner begun.remains begun.any_moment begun.pages begun.begun begun.at
     refl tests.usable tests.led tests.begun f u ends.any_moment ends.remains ends.none ends.rests
     [] refl c.requires.may c.in-Ok-Some.refusal (λ want x h at seen. sym c.in-Ok-Some.field-0-is ∙ c.in-Ok-Some.ensures.refused want x h at seen)
 
@@ -76,7 +76,7 @@ returns-in-Err-tested-clause-refused g c =
     let begun = c.in-Ok.ensures in
     let tests = c.test_in-tested.ensures in
     let ends = c.in-Ok-abort.ensures in
-    EndsAlone-looked told len faults m place c.args.command.now d b e s bs t a a c.requires.up c.requires.owner begun.remains begun.any_moment begun.begun begun.at
+    EndsAlone-looked told len faults m place c.args.command.now d b e s bs t a a c.requires.up c.requires.owner begun.remains begun.any_moment begun.pages begun.begun begun.at
     refl tests.usable tests.led tests.begun f u ends.any_moment ends.remains ends.none ends.rests
     [] refl c.requires.may c.in-Err-tested.refusal c.in-Err-tested.ensures.free c.in-Err-tested.ensures.room c.in-Err-tested.ensures.cause
 
@@ -99,5 +99,49 @@ returns-in-Err-abort-clause-refused g c =
     let begun = c.in-Ok.ensures in
     let tests = c.test_in-tested.ensures in
     let ends = c.in-Err-abort.ensures in
-    EndsAlone-failed told len faults m place c.args.command.now d b e s bs t a a c.requires.up c.requires.owner begun.remains begun.any_moment begun.begun begun.at
+    EndsAlone-failed told len faults m place c.args.command.now d b e s bs t a a c.requires.up c.requires.owner begun.remains begun.any_moment begun.pages begun.begun begun.at
     refl tests.usable tests.led tests.begun f u ends.any_moment c.in-Err-abort.fault ends.remains ends.err
+
+pub returns-in-Ok-None-clause-leaves : goal.returns-in-Ok-None-clause-leaves
+returns-in-Ok-None-clause-leaves g c =
+    let m = g.B.Boxes.meanings c.args.boxes.now in
+    let a = c.in-Ok.transaction in
+    let begun = c.in-Ok.ensures in
+    let tests = c.test_in-tested.ensures in
+    let ends = c.in-Ok-abort.ensures in
+    leaves_aborted g.D.Disk.told g.D.Disk.len g.D.Disk.faults m c.args.place c.args.command.now c.args.disk.now c.begin.new.disk c.test_in-tested.new.disk c.args.space.now.store c.begin.new.space.store
+    c.test_in-tested.new.space.store a a c.requires.up c.requires.owner begun.remains begun.any_moment begun.pages begun.begun begun.at
+    refl tests.usable tests.led tests.begun c.abort.new.disk c.abort.new.space.store ends.any_moment {T = Unit {0}} (Ok tt) ends.remains
+
+pub returns-in-Ok-Some-clause-leaves : goal.returns-in-Ok-Some-clause-leaves
+returns-in-Ok-Some-clause-leaves g c =
+    let m = g.B.Boxes.meanings c.args.boxes.now in
+    let a = c.in-Ok.transaction in
+    let begun = c.in-Ok.ensures in
+    let tests = c.test_in-tested.ensures in
+    let ends = c.in-Ok-abort.ensures in
+    leaves_aborted g.D.Disk.told g.D.Disk.len g.D.Disk.faults m c.args.place c.args.command.now c.args.disk.now c.begin.new.disk c.test_in-tested.new.disk c.args.space.now.store c.begin.new.space.store
+    c.test_in-tested.new.space.store a a c.requires.up c.requires.owner begun.remains begun.any_moment begun.pages begun.begun begun.at
+    refl tests.usable tests.led tests.begun c.abort.new.disk c.abort.new.space.store ends.any_moment {T = Unit {0}} (Ok tt) ends.remains
+
+pub returns-in-Err-tested-clause-leaves : goal.returns-in-Err-tested-clause-leaves
+returns-in-Err-tested-clause-leaves g c =
+    let m = g.B.Boxes.meanings c.args.boxes.now in
+    let a = c.in-Ok.transaction in
+    let begun = c.in-Ok.ensures in
+    let tests = c.test_in-tested.ensures in
+    let ends = c.in-Ok-abort.ensures in
+    leaves_aborted g.D.Disk.told g.D.Disk.len g.D.Disk.faults m c.args.place c.args.command.now c.args.disk.now c.begin.new.disk c.test_in-tested.new.disk c.args.space.now.store c.begin.new.space.store
+    c.test_in-tested.new.space.store a a c.requires.up c.requires.owner begun.remains begun.any_moment begun.pages begun.begun begun.at
+    refl tests.usable tests.led tests.begun c.abort.new.disk c.abort.new.space.store ends.any_moment {T = Unit {0}} (Ok tt) ends.remains
+
+pub returns-in-Err-abort-clause-leaves : goal.returns-in-Err-abort-clause-leaves
+returns-in-Err-abort-clause-leaves g c =
+    let m = g.B.Boxes.meanings c.args.boxes.now in
+    let a = c.in-Ok.transaction in
+    let begun = c.in-Ok.ensures in
+    let tests = c.test_in-tested.ensures in
+    let ends = c.in-Err-abort.ensures in
+    leaves_aborted g.D.Disk.told g.D.Disk.len g.D.Disk.faults m c.args.place c.args.command.now c.args.disk.now c.begin.new.disk c.test_in-tested.new.disk c.args.space.now.store c.begin.new.space.store
+    c.test_in-tested.new.space.store a a c.requires.up c.requires.owner begun.remains begun.any_moment begun.pages begun.begun begun.at
+    refl tests.usable tests.led tests.begun c.abort.new.disk c.abort.new.space.store ends.any_moment {T = Unit {0}} (Err c.in-Err-abort.fault) ends.remains

@@ -3,7 +3,7 @@ use Rattle.sb_lawful_plays.proofs.Playing.{plays-lawful, played-lawful, played-o
 use Rattle.sb_lawful_plays.proofs.laws.plays_are_lawful.Goals as goal
 
 pub returns-clause-plays : goal.returns-clause-plays
-returns-clause-plays g c = plays-lawful g.D.Disk.faults
+returns-clause-plays g c = plays-lawful
 
 pub returns-clause-played : goal.returns-clause-played
 returns-clause-played g c = played-lawful (world g.B.Boxes.meanings g.D.Disk.told g.D.Disk.len g.D.Disk.clock g.D.Disk.faults)

@@ -5,7 +5,7 @@ use Rattle.sb_standing.specs.Standing.{owners_in}
 use Rattle.sb_space.specs.Table.{slots_in}
 use Rattle.sb_opening.specs.Naming.{HasLive, first_absent, named_in}
 use Rattle.sb_opening.specs.Owners.{HasNoStray, TellsStray}
-use Rattle.sb_opening.proofs.OpenLemmas.{CanRun-opened, IsFor-opened, MayRefuse-absent, MayRefuse-looked, MayRefuse-space, NamesEntry-space, NamesMissing-absent, NamesMissing-looked, NamesMissing-space, NamesTable-opened, NamesTable-space, OpeningErr-absent, OpeningErr-looked, OpeningErr-space, TellsStray-absent, fault-absent, fault-looked, fault-space, leaves-looked, over-catalogued, over-stored, up-opened}
+use Rattle.sb_opening.proofs.OpenLemmas.{CanRun-opened, IsFor-opened, MayRefuse-absent, MayRefuse-looked, MayRefuse-space, NamesEntry-space, NamesMissing-absent, NamesMissing-looked, NamesMissing-space, NamesTable-opened, NamesTable-space, OpeningErr-absent, OpeningErr-looked, OpeningErr-space, TellsStray-absent, fault-absent, fault-looked, fault-space, leaves-looked, over-catalogued, over-stored, sizes-opened, up-opened}
 use Rattle.sb_opening.proofs.OwnerLemmas.{AreKnown-all}
 use Rattle.sb_opening.proofs.opening.open.Goals as goal
 
@@ -199,3 +199,8 @@ pub returns-clause-any_moment : goal.returns-clause-any_moment
 returns-clause-any_moment g c =
     leaves-looked g.D.Disk.told g.D.Disk.len g.D.Disk.faults c.args.disk.now c.open_store.new.disk c.in_ok-store.store c.in_ok-store.ensures.opened c.in_ok-store.ensures.space
     c.named_codes.new.disk c.named_codes.new.space.store c.in_ok-named.ensures.look c.in_ok-store.ensures.any_moment
+
+pub returns-clause-sizes : goal.returns-clause-sizes
+returns-clause-sizes g c =
+    sizes-opened g.D.Disk.told g.D.Disk.len g.D.Disk.faults c.args.disk.now c.open_store.new.disk c.in_ok-store.store c.in_ok-store.ensures.opened c.in_ok-store.ensures.space
+    c.named_codes.new.space.store c.in_ok-named.ensures.look.geometry

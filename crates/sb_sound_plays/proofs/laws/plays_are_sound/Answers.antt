@@ -3,7 +3,7 @@ use Rattle.sb_sound_plays.proofs.Playing.{plays-sound, played-sound, played-out-
 use Rattle.sb_sound_plays.proofs.laws.plays_are_sound.Goals as goal
 
 pub returns-clause-plays : goal.returns-clause-plays
-returns-clause-plays g c = plays-sound g.D.Disk.faults
+returns-clause-plays g c = plays-sound
 
 pub returns-clause-played : goal.returns-clause-played
 returns-clause-played g c = played-sound (world g.B.Boxes.meanings g.D.Disk.told g.D.Disk.len g.D.Disk.clock g.D.Disk.faults)

@@ -24,6 +24,7 @@ returns-in-Ok-clause-back g c =
       earlier = c.in-Ok.ensures.earlier;
       stand = c.in-Ok.ensures.stand;
       begun = c.in-Ok.ensures.begun;
+      wanted = c.in-Ok.ensures.wanted;
     }
 
 pub returns-in-Ok-clause-aborted : goal.returns-in-Ok-clause-aborted
