@@ -13,13 +13,13 @@ use Rattle.sb_registry.specs.Boxes.{Meanings}
 use Rattle.sb_drive.specs.Spaces.{Wanted}
 use Rattle.sb_opening.specs.Place.{Place}
 use Rattle.sb_txn.specs.Clauses.{HoldsPages, LeavesWanted}
-use Rattle.sb_txn.specs.Parts.{Parts, stored}
+use Rattle.sb_txn.specs.Parts.{Parts}
 use Rattle.sb_txn.proofs.KeepsLemmas.{LeavesWanted-none}
 use Rattle.sb_opening.specs.Table.{table_len}
 use Rattle.sb_opening.specs.Transactions.{IsCommitted}
 use Rattle.sb_vectors.specs.Vectors.{AreSameBoxes}
-use Rattle.sb_opening.specs.Naming.{all_live}
-use Rattle.sb_opening.proofs.CommittedLemmas.{committed-by-all, committed-by-same}
+use Rattle.sb_opening.specs.Naming.{all_live, named_in}
+use Rattle.sb_opening.proofs.CommittedLemmas.{committed-by-all, committed-by-same, same-named}
 use Rattle.sb_opening.specs.Open.{Open}
 use Rattle.sb_opening.specs.Session.{Session}
 use Rattle.sb_opening.specs.Sessions.{IsFor, IsOpenFor, KeepsSession, parts_of}
@@ -39,8 +39,10 @@ Holds-restored m n g root want db same at of image restores = record {
   geometry = g;
   want = want;
   restores = restores;
-  committed = committed-by-same n m (table_len g.pages) g.pages want db (same_back m n same)
-      (subst (λ (r : ℕ). IsCommitted (all_live n) r g.pages want db) at (committed-by-all n root g.pages want db of));
+  committed =
+      let all : IsCommitted (all_live n) (table_len g.pages) g.pages want db =
+      subst (λ (r : ℕ). IsCommitted (all_live n) r g.pages want db) at (committed-by-all n root g.pages want db of) in
+      committed-by-same n m (table_len g.pages) g.pages want db all (same-named n m (named_in all.kept) (same_back m n same));
 }
 
 -- the pages wanted keep the committed database, within a transaction too
@@ -96,12 +98,12 @@ mounted_of None g want image settled is restores = tt
 mounted_of (Some s) g want image settled is restores = (settled, subst (λ (bytes : List ℕ). Restores g want bytes) (sym is) restores)
 
 pub held-stored : HeldIsStored
-held-stored m n image db told same holds tells settled is = record {
+held-stored m n image db told holds same tells settled is = record {
   geometry = holds.geometry;
   want = holds.want;
   stored = record {
     tells = tells;
     mounted = mounted_of told holds.geometry holds.want image settled is holds.restores;
-    committed = committed-by-same m n (table_len holds.geometry.pages) holds.geometry.pages holds.want db same holds.committed;
+    committed = committed-by-same m n (table_len holds.geometry.pages) holds.geometry.pages holds.want db holds.committed same;
   };
 }

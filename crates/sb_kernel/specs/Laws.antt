@@ -7,7 +7,7 @@ use Rattle.sb_relation.specs.Db.{Db}
 use Rattle.sb_plain.specs.State.{State, committed}
 use Rattle.sb_registry.specs.Boxes.{Meanings}
 use Rattle.sb_drive.specs.Spaces.{Wanted}
-use Rattle.sb_vectors.specs.Vectors.{AreSameBoxes}
+use Rattle.sb_opening.specs.Naming.{HasSameNamed, named_in}
 use Rattle.sb_opening.specs.Opening.{IsStored}
 use Rattle.sb_opening.specs.Session.{Session}
 use Rattle.sb_kernel.specs.World.{World, IsNow}
@@ -19,11 +19,12 @@ pub record StoresSome (m : Meanings) (told : Option Story) (db : Db) : Type 0 wh
   pub want : Wanted
   pub stored : IsStored m told geometry want db
 
--- a disk on which no byte is pending, with the contents of an image that holds a database, stores it for the same boxes
+-- A disk on which no byte is pending, with the contents of an image that holds a database, stores it for boxes of which those are the same ones that its
+-- relations name.
 abbrev pub HeldIsStored : Type 0
 HeldIsStored =
-    (m n : Meanings) (image : List ℕ) (db : Db) (told : Option Story) → AreSameBoxes m n → HoldsDatabase m image db → is_some told ≡ true → IsSettled told
-    → contents told ≡ image → StoresSome n told db
+    (m n : Meanings) (image : List ℕ) (db : Db) (told : Option Story) (held : HoldsDatabase m image db) → HasSameNamed (named_in held.committed.kept) m n
+    → is_some told ≡ true → IsSettled told → contents told ≡ image → StoresSome n told db
 
 -- while nothing is asked of a session that isn't down, a crash leaves the last commit
 abbrev pub RestsHeld : {B D : Type 0} → World B D → Type 0

@@ -6,7 +6,7 @@ ghost use Rattle.sb_kernel.specs.World.{world};
 use sb_disk::Disk;
 use sb_vectors::Vectors;
 
-/// What a crash leaves that holds a database, the next run opens for it.
+/// What a crash leaves that holds a database, the next run opens for it, if it has the boxes that the relations of the database name.
 pub fn held_images_are_stored()
     ensures { HeldIsStored }
 {}

@@ -9,7 +9,7 @@ use Rattle.sb_registry.specs.Boxes.{Meanings, repeated_in}
 use Rattle.sb_drive.specs.Spaces.{Wanted}
 use Rattle.sb_session.specs.Transactions.{IsCommitted}
 use Rattle.sb_vectors.specs.Vectors.{AreSameBoxes, Registers, Retires}
-use Rattle.sb_opening.specs.Naming.{all_live}
+use Rattle.sb_opening.specs.Naming.{HasSameNamed, all_live, named_in}
 use Rattle.sb_opening.specs.Opening.{IsStored}
 
 -- what a run has committed with its live boxes is so with all its boxes live
@@ -17,11 +17,11 @@ abbrev pub CommittedByAll : Type 0
 CommittedByAll =
     (m : Meanings) (root pages : ℕ) (want : Wanted) (db : Db) → IsCommitted m root pages want db → IsCommitted (all_live m) root pages want db
 
--- and with the same boxes in another order
+-- and with any others of which those are the same ones that its relations name, in whichever order
 abbrev pub CommittedBySame : Type 0
 CommittedBySame =
-    (m n : Meanings) (root pages : ℕ) (want : Wanted) (db : Db) → AreSameBoxes m n → IsCommitted (all_live m) root pages want db
-    → IsCommitted (all_live n) root pages want db
+    (m n : Meanings) (root pages : ℕ) (want : Wanted) (db : Db) (of : IsCommitted (all_live m) root pages want db)
+    → HasSameNamed (named_in of.kept) m n → IsCommitted (all_live n) root pages want db
 
 -- a box that becomes live or spare is there before and after
 abbrev pub MovedAreSame : Type 0

@@ -1,7 +1,7 @@
 -- Which boxes the relations of a catalogue want, and which are live once these are.
 use Rattle.std.specs.Prelude.{◌≡◌, ℕ, ◌==◌, ◌&&◌, ◌||◌, Bool, true, false, not, List, [], ◌∷◌, ◌++◌, map, Option, Some, None, option_map}
 use Rattle.std.specs.List.{find, flat_map, list_any}
-use Rattle.sb_registry.specs.Boxes.{Meanings, repeated_in}
+use Rattle.sb_registry.specs.Boxes.{Meanings, attachment_of, method_of, repeated_in}
 use Rattle.sb_recover.specs.declared.fault.OpenFault.{OpenFault}
 use Rattle.sb_recover.specs.declared.fault.OpenFault.TheVariants.{MissingExtension, NoMemory}
 use Rattle.sb_catalog.specs.declared.descriptor.Attached.{Attached}
@@ -58,6 +58,13 @@ all_live m = record {
   spare_methods = [];
   spare_attachments = [];
 }
+
+-- for each code that is named the same box is there, live or spare
+pub record HasSameNamed (named : List Named) (old new : Meanings) : Type 0 where
+  pub methods : (code : ℕ) → is_named true code named ≡ true
+      → method_of code (new.methods ++ new.spare_methods) ≡ method_of code (old.methods ++ old.spare_methods)
+  pub attachments : (code : ℕ) → is_named false code named ≡ true
+      → attachment_of code (new.attachments ++ new.spare_attachments) ≡ attachment_of code (old.attachments ++ old.spare_attachments)
 
 -- The same boxes: those that are named are live now, beside those that were.
 pub record HasLive (old : Meanings) (named : List Named) (new : Meanings) : Type 0 where

@@ -7,7 +7,8 @@ pub fn boxes_may_be_live()
     ensures { CommittedByAll }
 {}
 
-/// Boxes that become live or spare are the same, and what was committed with all of them live stays so.
+/// Boxes that become live or spare are the same, and what was committed with all of them live stays so: with them, and with any others of which those
+/// are the same ones that its relations name.
 pub fn boxes_may_move()
     ensures registered { MovedAreSame }
     ensures retired { RetiredAreSame }
