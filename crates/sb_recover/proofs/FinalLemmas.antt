@@ -1,5 +1,5 @@
 -- What each step of a restart leaves.
-use Rattle.std.proofs.Common.{◌≡◌, inl, inr, ⊎_elim, ℕ, ◌+◌, ◌*◌, ◌<◌, ◌≤◌, true, false, Option, Some, None, Result, OnOk, OnErr, List, [], ◌∷◌, length, refl, sym, ◌∙◌, ap, subst, arith}
+use Rattle.std.proofs.Common.{◌≡◌, inl, inr, ⊎_elim, ℕ, ◌+◌, ◌*◌, ◌<◌, ◌≤◌, true, false, Option, Some, None, Result, OnOk, OnErr, List, [], ◌∷◌, length, sym, ◌∙◌, ap, subst, arith}
 use Rattle.std.proofs.lemmas.Bool.{cases_Bool, both_ways}
 use Rattle.sb_disk.specs.Disk.{Range, Story, IsIn, AgreesBut, WhereTold, synced, after_sync, FailedSync}
 use Rattle.sb_disk.specs.Moments.{LeavesOnly, Sure}

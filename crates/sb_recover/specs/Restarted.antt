@@ -32,10 +32,6 @@ pub record IsRestarted (g : Geometry) (s t : Story) : Type 0 where
 abbrev pub WasSynced : Option Story → Option Story → Type 0
 WasSynced old new = new ≡ synced old
 
--- so all along a crash leaves what one could leave before
-abbrev pub SyncedLeavesNow : Type 0
-SyncedLeavesNow = (old new : Option Story) → WasSynced old new → LeavesOnly old new (LeavesNow old)
-
 -- the contents were a store whose log is bad at this chunk and offset
 abbrev pub WasBad : Option Story → ℕ → ℕ → Type 0
 WasBad None chunk offset = Unit {0}
@@ -48,3 +44,7 @@ RestartErr NoMemory old new = WasSynced old new
 RestartErr NotStore old new = HoldsNone old × WasSynced old new
 RestartErr (BadLog chunk offset) old new = WasBad old chunk offset × WasSynced old new
 RestartErr other old new = ⊥
+
+-- so all along a crash leaves what one could leave before, unless the disk failed
+abbrev pub RefusedLeavesNow : Type 0
+RefusedLeavesNow = (e : OpenFault) (old new : Option Story) → (e ≡ Fault → ⊥) → RestartErr e old new → LeavesOnly old new (LeavesNow old)
