@@ -1,8 +1,7 @@
 //! Pages that go before a commit.
 
-ghost use Rattle.std.specs.Prelude.{◌≡◌, ◌∷◌, [], false, ℕ, List, IfErr, OnErr, OnOk};
+ghost use Rattle.std.specs.Prelude.{◌≡◌, ◌∷◌, [], ℕ, List, IfErr, OnErr, OnOk};
 ghost use Rattle.sb_fold.specs.Outcome.{Going};
-ghost use Rattle.sb_cascade.specs.Runs.{is_room};
 ghost use Rattle.sb_drive.specs.Slots.{Slots};
 ghost use Rattle.sb_drive.specs.Spaces.{LeadsOn, Wanted};
 ghost use Rattle.sb_registry.specs.Boxes.{Meanings};
@@ -37,7 +36,7 @@ pub fn free_gone<B: Boxes, S: Owners>(
     ensures cause { IfErr result (λ r. HasRefusalCause S.fails r running.new.space.now) }
     ensures frees { Frees S.leads running.old running.new }
     ensures kept { IfErr result (λ r. running.new.work.now.gone ≡ running.old.work.now.gone) }
-    ensures idle { running.old.work.now.gone.items ≡ [] → IfErr result (λ r. is_room r ≡ false) }
+    ensures idle { running.old.work.now.gone.items ≡ [] → OnErr result ⊥ }
     ensures ready { IsServing S.is_ready B.meanings running.new }
 {
     match free_all(running.space, alloc, &mut running.work.gone) {

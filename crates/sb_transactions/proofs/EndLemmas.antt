@@ -24,7 +24,7 @@ use Rattle.sb_cascade.specs.Runs.{is_free, is_room, MadeFrom, StopsFrom}
 use Rattle.sb_registry.specs.Boxes.{Meanings}
 use Rattle.sb_drive.specs.Spaces.{Wanted}
 use Rattle.sb_map.specs.declared.place.Place.{Place}
-use Rattle.sb_txn.specs.Clauses.{HoldsPages, IsReady, LeavesWanted}
+use Rattle.sb_txn.specs.Clauses.{HoldsPages, LeavesWanted}
 use Rattle.sb_txn.specs.Parts.{Parts, parts}
 use Rattle.sb_txn.specs.State.{State}
 use Rattle.sb_space.specs.Works.{Works}
@@ -105,7 +105,6 @@ pub StopsAt-left : {D : Type 0} (told : D → Option Story) (len faults : D → 
 StopsAt-left told len faults m place want tx g p w old new r at left only cause = record {
   there = new;
   led = λ not. absurd (not only.is);
-  ready = λ not. absurd (not only.is);
   stops = StopsFrom-behind (λ h x. Unit {0}) (λ refusal trail x. HasRefusalCause (FailsOn faults) refusal x) (finish (extensions_of m)) g tt new r new (fault_free r only.is) (λ trail. cause)
       (finished-left m place want tx g p w at left (λ h x. Unit {0}) new tt);
 }
@@ -223,7 +222,6 @@ module _ {D : Type 0} (told : D → Option Story) (len faults : D → ℕ) (m : 
     StopsAt-commit r only cause = record {
       there = record { disk = f; store = u };
       led = λ not. absurd (not only.is);
-      ready = λ not. absurd (not only.is);
       stops = StopsFrom-behind (ComesTo m place want tx w) (λ refusal trail x. HasRefusalCause (FailsOn faults) refusal x) (finish ext) g tt mid r (record { disk = f; store = u }) (fault_free r only.is) (λ trail. cause) finished;
     }
 
@@ -246,15 +244,14 @@ module _ {D : Type 0} (told : D → Option Story) (len faults : D → ℕ) (m : 
     LeavesOldOrFinished-abort r remains leaves = inl ((LeavesWanted-stopped r remains leaves).each want at.1.has.now at.1.has.stands.store)
 
   module _ (g : Going) (r : Refusal) (stops : StopsFrom (λ refusal trail x. HasRefusalCause (FailsOn faults) refusal x) (finish (extensions_of m)) g r (record { disk = e; store = t })) where
-    pub StopsAt-abort : IsReady mid → StopsAt told len faults (extensions_of m) tx g r (record { disk = d; store = s })
-    StopsAt-abort ready = record { there = record { disk = e; store = t }; led = λ not. led; ready = λ not. ready; stops = stops }
+    pub StopsAt-abort : StopsAt told len faults (extensions_of m) tx g r (record { disk = d; store = s })
+    StopsAt-abort = record { there = record { disk = e; store = t }; led = λ not. led; stops = stops }
 
     -- the disk failed in it
     pub StopsAt-fault : (q : Refusal) → IsOnlyFault q u → HasRefusalCause (FailsOn faults) q (record { disk = f; store = u }) → StopsAt told len faults (extensions_of m) tx g q (record { disk = d; store = s })
     StopsAt-fault q only cause = record {
       there = record { disk = f; store = u };
       led = λ not. absurd (not only.is);
-      ready = λ not. absurd (not only.is);
       stops = StopsFrom-else (λ refusal trail x. HasRefusalCause (FailsOn faults) refusal x) (λ refusal trail x. HasRefusalCause (FailsOn faults) refusal x) (finish (extensions_of m)) g r q (record { disk = e; store = t })
           (record { disk = f; store = u }) (fault_free q only.is) (λ trail. cause) stops;
     }
@@ -263,10 +260,10 @@ module _ {D : Type 0} (told : D → Option Story) (len faults : D → ℕ) (m : 
     abbrev answered : Refusal → Type 0
     answered q = IsOrFaulted faults r q (record { disk = f; store = u })
 
-    pub StopsAt-stopped : IsReady mid → (q : Refusal) → answered q → StopsAt told len faults (extensions_of m) tx g q (record { disk = d; store = s })
-    StopsAt-stopped ready q is =
+    pub StopsAt-stopped : (q : Refusal) → answered q → StopsAt told len faults (extensions_of m) tx g q (record { disk = d; store = s })
+    StopsAt-stopped q is =
         ⊎_elim
-        (λ (same : q ≡ r). subst (λ (x : Refusal). StopsAt told len faults (extensions_of m) tx g x (record { disk = d; store = s })) (sym same) (StopsAt-abort ready))
+        (λ (same : q ≡ r). subst (λ (x : Refusal). StopsAt told len faults (extensions_of m) tx g x (record { disk = d; store = s })) (sym same) StopsAt-abort)
         (λ (failed : IsFaulted faults q (record { disk = f; store = u })). StopsAt-fault q failed.only failed.cause)
         is
 

@@ -90,8 +90,8 @@ module _ {B S : Type 0} (Has : Wanted → Slots → S → Type 0) (Fails : Space
         (made g (parts-to meanings boxes place x w a lent (IsSo g) stands)))
 
     -- and behind it no owner is to go where nothing was gone
-    pub freed-roomless : (r : Refusal) → (b.work.now.gone.items ≡ [] → is_room r ≡ false)
+    pub freed-roomless : (r : Refusal) → (b.work.now.gone.items ≡ [] → ⊥)
         → (g : Going) → Stands Has (meanings boxes) place.root g x w → g.queue.actions ≡ [] → IsNoneGone g.gone → is_room r ≡ false
-    freed-roomless r room g stands none idle =
+    freed-roomless r some g stands none idle =
         let from = made g (parts-to meanings boxes place x w a lent (IsSo g) stands) in
-        room (from.stands.gone (subst (λ (gone : Gone). IsNoneGone gone) (finish-gone (extensions_in meanings a) g from.after from.picks none from.leads) idle))
+        absurd (some (from.stands.gone (subst (λ (gone : Gone). IsNoneGone gone) (finish-gone (extensions_in meanings a) g from.after from.picks none from.leads) idle)))

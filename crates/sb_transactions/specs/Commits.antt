@@ -14,8 +14,8 @@ use Rattle.sb_cascade.specs.Runs.{MadeFrom, StopsFrom}
 use Rattle.sb_registry.specs.Boxes.{Meanings}
 use Rattle.sb_drive.specs.Spaces.{Wanted}
 use Rattle.sb_drive.specs.declared.space.SpaceFault.{SpaceFault}
-use Rattle.sb_txn.specs.Clauses.{IsReady, LeavesWanted}
-use Rattle.sb_txn.specs.Parts.{Parts, parts}
+use Rattle.sb_txn.specs.Clauses.{LeavesWanted}
+use Rattle.sb_txn.specs.Parts.{Parts}
 use Rattle.sb_txn.specs.State.{State}
 use Rattle.sb_space.specs.Works.{Fails, StaysWanted, Works}
 use Rattle.sb_tables.specs.Refusals.{HasRefusalCause}
@@ -68,11 +68,10 @@ abbrev pub IsLed : {D : Type 0} → (D → Option Story) → (D → ℕ) → (D 
 IsLed told len faults tx old new = (k : ℕ) × Works told len faults tx k old.disk new.disk old.store new.store
 
 -- Finishing the transaction is refused: as the definition says; or the disk has failed; or room or memory is wanting at a moment behind calls of it.
--- The store is ready there. To a fault no such calls lead where it came in the commit of the pages, or on the way back from the work.
+-- To a fault no such calls lead where it came in the commit of the pages, or on the way back from the work.
 pub record StopsAt {D : Type 0} (told : D → Option Story) (len faults : D → ℕ) (ext : Extensions) (tx : ℕ) (g : Going) (r : Refusal) (old : Mounted D) : Type 0 where
   pub there : Mounted D
   pub led : (r ≡ Fault → ⊥) → IsLed told len faults tx old there
-  pub ready : (r ≡ Fault → ⊥) → IsReady (parts told len there.disk there.store)
   pub stops : StopsFrom (λ refusal trail x. HasRefusalCause (FailsOn faults) refusal x) (finish ext) g r there
 
 -- the refusal that led here, or a fault, since the disk failed on the way back

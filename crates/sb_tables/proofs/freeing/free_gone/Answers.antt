@@ -22,7 +22,7 @@ pub returns-in-Err-clause-cause : goal.returns-in-Err-clause-cause
 returns-in-Err-clause-cause g c = rw c.refusal_of.ensures (refused_soundly g.S.PageSpace.fails c.in-Err.fault c.free_all.new.space c.in-Err.ensures.refused c.in-Err.ensures.undamaged)
 
 pub returns-in-Err-clause-idle : goal.returns-in-Err-clause-idle
-returns-in-Err-clause-idle g c = λ none. absurd (c.in-Err.ensures.idle none)
+returns-in-Err-clause-idle g c = c.in-Err.ensures.idle
 
 pub returns-in-Err-clause-frees : goal.returns-in-Err-clause-frees
 returns-in-Err-clause-frees g c =

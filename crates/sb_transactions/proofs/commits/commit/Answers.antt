@@ -432,7 +432,7 @@ returns-in-Err-clause-refused g c =
     let f = c.stop.new.disk in
     let u = c.stop.new.space.store in
     let q = c.stop.result.refusal in
-    λ want h at. StopsAt-stopped told len faults m c.args.place tx d e f s t u w led h c.in-Err.refusal (c.in-Err.ensures.refused want h at) c.finish_work.ensures.usable.ready.ready q c.stop.ensures.refused
+    λ want h at. StopsAt-stopped told len faults m c.args.place tx d e f s t u w led h c.in-Err.refusal (c.in-Err.ensures.refused want h at) q c.stop.ensures.refused
 
 pub returns-in-Err-clause-faulted : goal.returns-in-Err-clause-faulted
 returns-in-Err-clause-faulted g c =
