@@ -10,6 +10,7 @@ use Rattle.sb_engine.specs.Working.{extensions_of}
 use Rattle.sb_engine.specs.declared.running.Work.{Work as EngineWork}
 use Rattle.sb_plain.specs.declared.command.Command.{Command}
 use Rattle.sb_plain.specs.declared.reply.Reply.{Reply}
+use Rattle.sb_plain.specs.declared.reply.Reply.TheVariants.{Refused}
 use Rattle.sb_plain.specs.State.{committed}
 use Rattle.sb_plain.specs.Step.{Answer}
 use Rattle.sb_registry.specs.Boxes.{Meanings}
@@ -22,9 +23,10 @@ use Rattle.sb_session.specs.Calls.{IsOnlyFault, Remains}
 use Rattle.sb_session.specs.Commits.{LeavesOldOrFinished, StaysOpen, StopsAt, is_wanting}
 use Rattle.sb_session.specs.Transactions.{IsAt, Rests, WasBegun}
 use Rattle.sb_execution.specs.Endings.{EndsAlone, HasAnswered}
+use Rattle.sb_execution.specs.Serving.{may_have_changed}
 use Rattle.sb_execution.proofs.AloneLemmas.{EndsAlone-fault, EndsAlone-refused, fallen_commit, leaves_alone, left_by, moments_abort, refuses_commit, remains_abort, remains_alone, rests_abort, was_up}
 use Rattle.sb_execution.proofs.CallLemmas.{Remains-err, err_fault, ok_err}
-use Rattle.sb_execution.proofs.EndLemmas.{may_want_memory-works}
+use Rattle.sb_execution.proofs.EndLemmas.{may_want_memory-works, told_none}
 
 not_wanting : {A : Type 0} (r : Refusal) → is_wanting r ≡ true → r ≡ refusal.Fault → A
 not_wanting r wanting is = absurd (false≢true (sym (ap (λ (q : Refusal). is_wanting q) is) ∙ wanting))
@@ -51,7 +53,8 @@ module _ {D : Type 0} (told : D → Option Story) (len faults : D → ℕ) (m : 
     EndsAlone-over moments still none aborted faulted =
         EndsAlone-refused told len faults m place c d b s v up (λ x. may_want_memory-works x c has.works) r
         (remains_alone told len faults m place d e s t tx has.comes w {T = Reply} {U = Reply} b v (Err r) (Err r) (λ is. is) (Remains-err told len faults {T = K} {U = Reply} e b t v r kept))
-        (λ not. leaves_alone told len faults m place d e s t tx has.comes {T = K} b v (Err r) kept (still not))
+        (λ not. leaves_alone told len faults m place d e s t tx has.comes {T = K} b v (Err r) kept
+        (still (λ is. false≢true (sym (told_none c (Refused r) has.works has.changes not) ∙ ap (λ (q : Refusal). may_have_changed (Refused q)) is))))
         (fallen_commit told len faults m place c d e s t tx w answer has b v moments)
         none
         (λ off want x of. aborted off m place.root want (committed x) (has.comes.begun has.up want x of))

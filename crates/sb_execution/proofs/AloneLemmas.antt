@@ -36,8 +36,8 @@ use Rattle.sb_session.specs.Calls.{IsOnlyFault, Remains}
 use Rattle.sb_session.specs.Commits.{FailsOn, Finishes, IsDone, LeavesEither, LeavesOldOrFinished, Mounted, StaysOpen, StopsAt}
 use Rattle.sb_session.specs.Transactions.{IsAt, IsCommitted, Rests, WasBegun}
 use Rattle.sb_session.proofs.EndLemmas.{Remains-behind}
-use Rattle.sb_execution.specs.Serving.{IsPosedIn}
-use Rattle.sb_session.specs.Ends.{IsFree, IsStep, is_end, tells_change}
+use Rattle.sb_execution.specs.Serving.{IsPosedIn, may_have_committed}
+use Rattle.sb_session.specs.Ends.{IsFree, IsStep, is_end}
 use Rattle.sb_session.specs.Sessions.{HasFailed, IsNext, IsOpenFor, Lacks, LeavesNext, LeavesOldOrNext}
 use Rattle.sb_session.proofs.Carried.{end_of_given}
 use Rattle.sb_session.proofs.CommitSteps.{committed-push, with_committed}
@@ -45,7 +45,7 @@ use Rattle.sb_session.proofs.OpenLemmas.{Outside, outside_at}
 use Rattle.sb_session.proofs.RoomLemmas.{Lacks-there}
 use Rattle.sb_execution.specs.Endings.{AnswersCommand, ComesAlone, EndsAlone, HasAnswered, IsLeftSo, IsOf, going_alone}
 use Rattle.sb_execution.proofs.CallLemmas.{Remains-then, err_fault, has_failed, leaves_behind, not_both, ok_err, still_up}
-use Rattle.sb_execution.proofs.EndLemmas.{Ends-by, Ends-stepped, ends_given, may_want_room-works}
+use Rattle.sb_execution.proofs.EndLemmas.{Ends-by, Ends-stepped, ends_given, may_want_room-works, none_committed, told_none}
 use Rattle.sb_execution.proofs.ReplyLemmas.{answered_given, is_free_reply, tells_answer}
 use Rattle.sb_execution.proofs.StepsOf.{Steps-stopped_alone, Steps-worked_alone, with_open}
 
@@ -117,7 +117,7 @@ module _ {D : Type 0} (told : D → Option Story) (len faults : D → ℕ) (m : 
   }
 
   -- ---- it was refused, and the pages are as they were
-  module _ (may : (x : State) → may_want_memory x c ≡ true) (r : Refusal) (remains : Remains {T = Reply} told len faults d f s u (Err r)) (still : (r ≡ refusal.Fault → ⊥) → LeavesWanted p q) (fallen : Fallen)
+  module _ (may : (x : State) → may_want_memory x c ≡ true) (r : Refusal) (remains : Remains {T = Reply} told len faults d f s u (Err r)) (still : may_have_committed c false (Refused r) ≡ false → LeavesWanted p q) (fallen : Fallen)
       (none : u.book.down ≡ false → u.book.actives ≡ [])
       (rests : u.book.down ≡ false → (want : Wanted) (x : State) → Of want x → Rests m place.root want (committed x) q)
       (refuses : Each (λ want x. Refuses faults m c x r s.pool.geometry u)) where
@@ -134,7 +134,7 @@ module _ {D : Type 0} (told : D → Option Story) (len faults : D → ℕ) (m : 
         stands = λ on. subst (λ (a : Option PlainTransaction). IsOpenFor m place want (committed x) q None a) (sym (without want x of).none)
             (rests (stays_up (λ is. false≢true (sym not ∙ ap is_end is))) want x of);
       };
-      leaves = inl (left_by (still (λ is. false≢true (sym not ∙ ap is_end is))) want x of);
+      leaves = inl (left_by (still (none_committed c r (λ is. false≢true (sym not ∙ ap is_end is)))) want x of);
     }
 
     given_step : (want : Wanted) (x : State) → Of want x → IsPosedIn m x c → is_free r ≡ false → IsStep (LeftBy want x (Refused r)) ext x c (Refused r)
@@ -149,7 +149,7 @@ module _ {D : Type 0} (told : D → Option Story) (len faults : D → ℕ) (m : 
           spare = refl;
           stands = λ on. rests (stays_up (λ is. false≢true (sym given ∙ ap is_free is))) want x of;
         };
-        leaves = inl (left_by (still (λ is. false≢true (sym given ∙ ap is_free is))) want x of);
+        leaves = inl (left_by (still (none_committed c r (λ is. false≢true (sym given ∙ ap is_free is)))) want x of);
       };
     }
 
@@ -169,13 +169,13 @@ module _ {D : Type 0} (told : D → Option Story) (len faults : D → ℕ) (m : 
           (λ is. record { up = of.up; cause = may x; stands = as_it_was want x of posed (ap is_end is) })
           (λ is. failed_so r remains is (why.failed is) want x of (fallen want x of posed))
           (λ page is. subst (λ (r : Refusal). HasRefusalCause (FailsOn faults) r why.there) is (why.cause (ap is_free is)));
-      leaves = λ not. still (λ is. false≢true (sym not ∙ ap (λ (q : Refusal). tells_change (Refused q)) is));
+      leaves = still;
       none = none;
       remains = remains;
     }
 
   -- ---- it went through
-  pub EndsAlone-done : (r : Reply) → Remains told len faults d f s u (Ok r) → (tells_change r ≡ false → LeavesWanted p q) → (u.book.down ≡ false → u.book.actives ≡ [])
+  pub EndsAlone-done : (r : Reply) → Remains told len faults d f s u (Ok r) → (may_have_committed c false r ≡ false → LeavesWanted p q) → (u.book.down ≡ false → u.book.actives ≡ [])
       → Each (λ want x. (is_free_reply r ≡ false) × IsStep (LeftBy want x r) ext x c r) → EndsAlone told len faults m place c d f s u (Ok r)
   EndsAlone-done r remains leaves none steps = record {
     ends = λ want x of posed. let to = steps want x of posed in Ends-stepped (LeftBy want x r) (Lacks s.pool.geometry) (HasFailed faults d f) ext x c r to.0 to.1;
@@ -312,7 +312,7 @@ module _ {D : Type 0} (told : D → Option Story) (len faults : D → ℕ) (m : 
     EndsAlone-committed {K} held picks remains none done =
         EndsAlone-done told len faults m place c d f s u (was_up told len faults m place d e s t tx has.comes) (answered answer picks)
         (remains_alone told len faults m place d e s t tx has.comes w {T = K} {U = Reply} f u (Ok held) (Ok (answered answer picks)) (λ is. ok_err held refusal.Fault is) remains)
-        (λ not. absurd (false≢true (sym not ∙ tells_answer answer picks)))
+        (λ not. absurd (false≢true (sym (told_none c (answered answer picks) has.works has.changes not) ∙ tells_answer answer picks)))
         none
         (λ want x of posed.
         let why = has.answers want x of posed in

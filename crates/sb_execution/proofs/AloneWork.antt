@@ -38,6 +38,7 @@ use Rattle.sb_session.specs.declared.session.Savepoint.{Savepoint}
 use Rattle.sb_session.proofs.OpenLemmas.{Outside, outside_at}
 use Rattle.sb_execution.specs.declared.serving.Served.{Served}
 use Rattle.sb_execution.specs.declared.serving.Served.TheVariants as served
+use Rattle.sb_reads.specs.Reads.{is_reading}
 use Rattle.sb_execution.specs.Endings.{ComesAlone, EndsAlone, HasAnswered, IsOf, Passes, going_alone}
 use Rattle.sb_execution.proofs.AloneLemmas.{EndsAlone-done, EndsAlone-fault, EndsAlone-refused, leaves_alone, leaves_so_far, left_by, read_so, remains_alone, same_size}
 use Rattle.sb_execution.proofs.CallLemmas.{Remains-err, Remains-led, Remains-then, not_both, ok_err}
@@ -204,7 +205,6 @@ module _ {D : Type 0} (told : D → Option Story) (len faults : D → ℕ) (m : 
         Passes-alone passed = record {
           passed = λ want x of. sym (passed want x (going_alone x) (at_command want x of) (seen want x of));
           rests = rests_so;
-          any_moment = moments;
           none = none;
           remains = remains_alone told len faults m place d e s t last comes y.work {T = Unit {0}} {U = Unit {0}} f u (Ok tt) (Ok tt) (λ is. is) remains;
         }
@@ -224,12 +224,13 @@ module _ {D : Type 0} (told : D → Option Story) (len faults : D → ℕ) (m : 
             (Steps-read_alone (extensions_of m) x c of.up (out want x of).none r did.0 did.1))
 
   -- ---- the command was answered
-  pub has_answered : is_managing c ≡ false → (ones : List Savepoint) → ones ≡ [] → (answer : code.Answer) (came : Served) → came ≡ served.Worked answer → t.book.down ≡ false
+  pub has_answered : is_managing c ≡ false → is_reading c ≡ false → (ones : List Savepoint) → ones ≡ [] → (answer : code.Answer) (came : Served) → came ≡ served.Worked answer → t.book.down ≡ false
       → (t.book.down ≡ false → (want : Wanted) (x : State) (g : Going) → IsAt m place want n g (parts told len b bs) a.work → IsSeenIn m false ones x g → IsPosedIn m x c
       → IsServed (λ h p. IsAt m place want n h p y.work) m x c g came here)
       → HasAnswered told len faults m place c d e s t last y.work (answer_of answer)
-  has_answered works ones listed answer came is still serves_so = record {
+  has_answered works changes ones listed answer came is still serves_so = record {
     works = works;
+    changes = changes;
     up = still;
     comes = comes;
     answers = λ want x of posed.

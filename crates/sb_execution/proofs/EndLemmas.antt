@@ -1,5 +1,5 @@
 -- How commands on relations end, by what they reply and by why they are refused.
-use Rattle.std.proofs.Common.{◌≡◌, ℕ, ◌+◌, Bool, true, false, List, [], ◌∷◌, map, Option, Some, None, IfSome, is_some, refl, sym, ap, ◌∙◌, subst}
+use Rattle.std.proofs.Common.{◌≡◌, ℕ, ◌+◌, Bool, true, false, not, ◌||◌, ◌&&◌, List, [], ◌∷◌, map, Option, Some, None, IfSome, is_some, refl, sym, ap, ◌∙◌, subst}
 use Rattle.std.proofs.lemmas.Bool.{false≢true}
 use Rattle.sb_relation.specs.Db.{Name, Db}
 use Rattle.sb_fold.specs.declared.refusal.Refusal.{Refusal}
@@ -34,8 +34,9 @@ use Rattle.sb_session.specs.Ends.{Ends, IsFree, IsStep, ends_with}
 use Rattle.sb_session.specs.Sessions.{AreSavepoints, IsInside}
 use Rattle.sb_session.proofs.Carried.{Ends-given, end_of_given}
 use Rattle.sb_session.proofs.CommitSteps.{going_on}
+use Rattle.sb_reads.specs.Reads.{is_reading}
 use Rattle.sb_execution.specs.Endings.{IsOf, going_alone}
-use Rattle.sb_execution.specs.Serving.{IsSeenIn, IsUnserved, Looked, Tested, Worked, is_managing}
+use Rattle.sb_execution.specs.Serving.{IsSeenIn, IsUnserved, Looked, Tested, Worked, is_managing, can_commit, may_have_changed, may_have_committed}
 use Rattle.sb_execution.proofs.ReplyLemmas.{is_free_reply, refused_given}
 use Rattle.sb_execution.proofs.StepsOf.{Steps-refused_alone, Steps-refused_inside, Steps-stopped_alone, Steps-stopped_inside, with_open, with_spent_in}
 
@@ -203,3 +204,25 @@ module _ (m : Meanings) (place : Place) (want : Wanted) where
       points = ap (λ (ones : List Savepoint). map (λ (a : Savepoint). a.name) ones) none
           ∙ sym (ap (λ (t : Option Transaction). map (λ (a : PlainPoint). a.name) (elim t as (λ c. List PlainPoint) [ None ↦ [] | Some t ↦ t.points ])) is);
     }
+
+-- ---- what may have been committed
+-- behind a refusal but a fault nothing has
+none_changed : (r : Refusal) → (r ≡ refusal.Fault → ⊥) → may_have_changed (reply.Refused r) ≡ false
+none_changed refusal.Fault not = absurd (not refl)
+none_changed r not = refl
+
+and_none : (b : Bool) → (b && false) ≡ false
+and_none true = refl
+and_none false = refl
+
+pub none_committed : (c : Command) (r : Refusal) → (r ≡ refusal.Fault → ⊥) → may_have_committed c false (reply.Refused r) ≡ false
+none_committed c r not = ap (λ (b : Bool). can_commit c false && b) (none_changed r not) ∙ and_none (can_commit c false)
+
+-- outside of a transaction a command that changes a relation may commit
+commits_alone : (c : Command) → is_managing c ≡ false → is_reading c ≡ false → can_commit c false ≡ true
+commits_alone command.Commit works changes = refl
+commits_alone c works changes = ap (λ (b : Bool). not (b || is_reading c)) works ∙ ap not changes
+
+-- so behind one that has committed nothing no reply tells of a change
+pub told_none : (c : Command) (r : Reply) → is_managing c ≡ false → is_reading c ≡ false → may_have_committed c false r ≡ false → may_have_changed r ≡ false
+told_none c r works changes never = sym (ap (λ (b : Bool). b && may_have_changed r) (commits_alone c works changes)) ∙ never

@@ -1,5 +1,5 @@
 -- What becomes of a session in any command.
-use Rattle.std.proofs.Common.{◌≡◌, ◌||◌, ◌&&◌, ℕ, Bool, true, false, List, Option, is_some, Result, Ok, Err, IfErr, OnOk, refl, sym, ap, ◌∙◌, subst, arith}
+use Rattle.std.proofs.Common.{◌≡◌, ◌||◌, ℕ, Bool, true, false, List, Option, is_some, Result, Ok, Err, IfErr, OnOk, refl, sym, ap, ◌∙◌, subst, arith}
 use Rattle.std.proofs.lemmas.Bool.{false≢true}
 use Rattle.sb_disk.specs.Disk.{Story}
 use Rattle.sb_engine.specs.Working.{extensions_of}
@@ -7,7 +7,6 @@ use Rattle.sb_fold.specs.declared.refusal.Refusal.{Refusal}
 use Rattle.sb_fold.specs.declared.refusal.Refusal.TheVariants as refusal
 use Rattle.sb_relation.specs.Db.{Key}
 use Rattle.sb_plain.specs.declared.command.Command.{Command}
-use Rattle.sb_plain.specs.declared.command.Command.TheVariants as command
 use Rattle.sb_plain.specs.declared.reply.Reply.{Reply}
 use Rattle.sb_plain.specs.declared.reply.Reply.TheVariants.{Refused}
 use Rattle.sb_plain.specs.State.{State}
@@ -19,9 +18,9 @@ use Rattle.sb_txn.specs.Parts.{parts}
 use Rattle.sb_txn.proofs.KeepsLemmas.{LeavesWanted-none}
 use Rattle.sb_space.specs.declared.transactions.Space.{Space}
 use Rattle.sb_vectors.specs.Vectors.{AreSameBoxes}
-use Rattle.sb_execution.specs.Serving.{IsPosedIn, is_managing}
+use Rattle.sb_execution.specs.Serving.{IsPosedIn, may_have_changed, may_have_committed}
 use Rattle.sb_session.specs.declared.session.Session.{Session}
-use Rattle.sb_session.specs.Ends.{Ends, ends_with, may_commit, may_have_committed, picked_reply, reply_of, tells_change}
+use Rattle.sb_session.specs.Ends.{Ends, ends_with, picked_reply, reply_of}
 use Rattle.sb_session.specs.Sessions.{CanRun, HasFailed, IsFor, KeepsSession, Lacks, StandsBehind, parts_of, sizes_of}
 use Rattle.sb_session.proofs.Behind.{Ends-behind_for}
 use Rattle.sb_session.proofs.Commands.{Carried-down}
@@ -43,26 +42,9 @@ module _ {B D : Type 0} (meanings : B → Meanings) (told : D → Option Story) 
     }
 
 -- a commit that tells of no change was refused, and the disk didn't fail
-pub kept_commit : {P : Type 0} (result : Result (List Key) Refusal) → IfErr result (λ r. (r ≡ refusal.Fault → ⊥) → P) → tells_change (picked_reply result) ≡ false → P
+pub kept_commit : {P : Type 0} (result : Result (List Key) Refusal) → IfErr result (λ r. (r ≡ refusal.Fault → ⊥) → P) → may_have_changed (picked_reply result) ≡ false → P
 kept_commit (Ok picks) kept none = absurd (false≢true (sym none))
-kept_commit (Err r) kept none = kept (λ is. false≢true (sym none ∙ ap (λ (q : Refusal). tells_change (Refused q)) is))
-
--- outside of a transaction a command on relations may commit
-commits_alone : (c : Command) → is_managing c ≡ false → may_commit c false ≡ true
-commits_alone command.Begin works = absurd (false≢true (sym works))
-commits_alone command.Commit works = absurd (false≢true (sym works))
-commits_alone command.Abort works = absurd (false≢true (sym works))
-commits_alone (command.Savepoint name) works = absurd (false≢true (sym works))
-commits_alone (command.Rollback name) works = absurd (false≢true (sym works))
-commits_alone command.Checkpoint works = absurd (false≢true (sym works))
-commits_alone (command.Register method code) works = absurd (false≢true (sym works))
-commits_alone (command.Retire method code) works = absurd (false≢true (sym works))
-commits_alone c works = refl
-
--- so one that hasn't tells of no change
-pub told_none : (c : Command) (inside : Bool) (r : Reply) → is_managing c ≡ false → inside ≡ false → may_have_committed c inside r ≡ false → tells_change r ≡ false
-told_none c inside r works outside never =
-    sym (ap (λ (b : Bool). may_commit c b && tells_change r) outside ∙ ap (λ (b : Bool). b && tells_change r) (commits_alone c works)) ∙ never
+kept_commit (Err r) kept none = kept (λ is. false≢true (sym none ∙ ap (λ (q : Refusal). may_have_changed (Refused q)) is))
 
 -- what a call makes so that goes through is so where it is answered ok
 pub emptied : {P : Type 0} (result : Result (Unit {0}) Refusal) (r : Reply) → r ≡ reply_of result → OnOk result P → r ≡ ok → P

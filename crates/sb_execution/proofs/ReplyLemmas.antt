@@ -14,7 +14,7 @@ use Rattle.sb_plain.specs.Reading.{read, row_reply}
 use Rattle.sb_plain.specs.Refusing.{refused, first_of, refuse_where, is_misplaced, relations_of, first_existing, first_absent, missing_code, first_use, is_well_kinded, is_mixed, passes_limits}
 use Rattle.sb_plain.specs.State.{State, view}
 use Rattle.sb_plain.specs.Step.{Answer, Plain, Keyed, PickedKey, Counts, answered, reply_without}
-use Rattle.sb_session.specs.Ends.{tells_change}
+use Rattle.sb_execution.specs.Serving.{may_have_changed}
 use Rattle.std.specs.Prelude.{not}
 
 -- ---- refusals that definitions give
@@ -62,7 +62,7 @@ answered_given (PickedKey key) picks = refl
 answered_given (Counts n) picks = refl
 
 -- what work answers tells of a change
-pub tells_answer : (answer : Answer) (picks : List Key) → tells_change (answered answer picks) ≡ true
+pub tells_answer : (answer : Answer) (picks : List Key) → may_have_changed (answered answer picks) ≡ true
 tells_answer Plain picks = refl
 tells_answer (Keyed key) picks = refl
 tells_answer (PickedKey key) picks = refl

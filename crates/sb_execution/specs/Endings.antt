@@ -22,10 +22,11 @@ use Rattle.sb_session.specs.Calls.{Remains}
 use Rattle.sb_session.specs.Commits.{IsLed, Mounted}
 use Rattle.sb_session.specs.Transactions.{IsAt, Rests, WasBegun}
 use Rattle.sb_vectors.specs.Vectors.{AreSameBoxes, live_codes, spare_codes}
-use Rattle.sb_execution.specs.Serving.{IsPosedIn, is_managing}
+use Rattle.sb_reads.specs.Reads.{is_reading}
+use Rattle.sb_execution.specs.Serving.{IsPosedIn, is_managing, may_have_committed}
 use Rattle.sb_statements.specs.Statements.{answer_of}
 use Rattle.sb_session.specs.declared.session.Open.{Open}
-use Rattle.sb_session.specs.Ends.{Ends, ends_with, may_have_committed, tells_change}
+use Rattle.sb_session.specs.Ends.{Ends, ends_with}
 use Rattle.sb_session.specs.declared.session.Session.{Session}
 use Rattle.sb_session.specs.Sessions.{CanGoOn, CanRun, HasFailed, IsFor, IsOpenFor, KeepsSession, Lacks, LeavesOldOrNext, StandsBehind, parts_of, sizes_of}
 use Rattle.sb_execution.specs.declared.serving.Served.{Served}
@@ -85,13 +86,13 @@ pub record EndsInside {D : Type 0} (told : D → Option Story) (len faults : D �
 
 -- ---- in a transaction of its own
 -- A command in it ends well, and the transaction is over then. What a crash left on the way is told with the state to which the command leads; where
--- the reply tells of no change, it is what was wanted, whatever the pages stand for.
+-- no database can have been committed, it is what was wanted, whatever the pages stand for.
 pub record EndsAlone {D : Type 0} (told : D → Option Story) (len faults : D → ℕ) (m : Meanings) (place : Place) (c : Command)
     (d e : D) (s t : StoreState) (result : Result Reply Refusal) : Type 0 where
   pub ends : (want : Wanted) (x : State) → IsOf m place want x (parts told len d s) None → IsPosedIn m x c
       → Ends (IsLeftSo m place want x c (parts told len d s) (parts told len e t) None (reply_by result)) (Lacks s.pool.geometry) (HasFailed faults d e)
       (extensions_of m) x c (reply_by result)
-  pub leaves : tells_change (reply_by result) ≡ false → LeavesWanted (parts told len d s) (parts told len e t)
+  pub leaves : may_have_committed c false (reply_by result) ≡ false → LeavesWanted (parts told len d s) (parts told len e t)
   pub none : t.book.down ≡ false → t.book.actives ≡ []
   pub remains : Remains told len faults d e s t result
 
@@ -122,6 +123,7 @@ pub record AnswersCommand (m : Meanings) (place : Place) (want : Wanted) (c : Co
 pub record HasAnswered {D : Type 0} (told : D → Option Story) (len faults : D → ℕ) (m : Meanings) (place : Place) (c : Command)
     (d e : D) (s t : StoreState) (tx : ℕ) (w : EngineWork) (answer : Answer) : Type 0 where
   pub works : is_managing c ≡ false
+  pub changes : is_reading c ≡ false
   pub up : t.book.down ≡ false
   pub comes : ComesAlone told len faults m place d e s t tx
   pub answers : (want : Wanted) (x : State) → IsOf m place want x (parts told len d s) None → IsPosedIn m x c
@@ -134,7 +136,6 @@ pub record Passes {D : Type 0} (told : D → Option Story) (len faults : D → �
   pub passed : (want : Wanted) (x : State) → IsOf m place want x (parts told len d s) None → refused (extensions_of m) x c ≡ None
   pub rests : (want : Wanted) (x : State) → IsOf m place want x (parts told len d s) None
       → Rests m place.root want (committed x) (parts told len e t)
-  pub any_moment : LeavesWanted (parts told len d s) (parts told len e t)
   pub none : t.book.actives ≡ []
   pub remains : Remains {T = Unit {0}} told len faults d e s t (Ok tt)
 

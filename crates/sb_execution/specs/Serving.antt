@@ -1,9 +1,12 @@
 -- What comes of a command on an engine, for a state of the plain database.
-use Rattle.std.specs.Prelude.{◌≡◌, Bool, true, false, List, map, Some, None, IfSome}
+use Rattle.std.specs.Prelude.{◌≡◌, Bool, true, false, not, ◌||◌, ◌&&◌, List, map, Some, None, IfSome}
 use Rattle.sb_fold.specs.declared.refusal.Refusal.{Refusal}
+use Rattle.sb_fold.specs.declared.refusal.Refusal.TheVariants as refusal
 use Rattle.sb_fold.specs.Outcome.{Going, Queue}
 use Rattle.sb_plain.specs.declared.command.Command.{Command}
 use Rattle.sb_plain.specs.declared.command.Command.TheVariants as command
+use Rattle.sb_plain.specs.declared.reply.Reply.{Reply}
+use Rattle.sb_plain.specs.declared.reply.Reply.TheVariants.{Count, Done, Refused}
 use Rattle.sb_plain.specs.Reading.{read}
 use Rattle.sb_plain.specs.Refusing.{refused}
 use Rattle.sb_plain.specs.State.{State, is_inside, no_queue, points_of, view}
@@ -15,6 +18,7 @@ use Rattle.sb_engine.specs.Refusals.{HasRefusalCause}
 use Rattle.sb_engine.specs.Working.{extensions_of}
 use Rattle.sb_vectors.specs.Vectors.{live_codes, spare_codes}
 use Rattle.sb_session.specs.declared.session.Savepoint.{Savepoint}
+use Rattle.sb_reads.specs.Reads.{is_reading}
 use Rattle.sb_statements.specs.Posed.{IsPosed, IsWhere}
 use Rattle.sb_statements.specs.Statements.{answer_of}
 use Rattle.sb_execution.specs.declared.serving.Served.{Served}
@@ -31,6 +35,22 @@ is_managing command.Checkpoint = true
 is_managing (command.Register method code) = true
 is_managing (command.Retire method code) = true
 is_managing c = false
+
+-- A command that may commit a database: a commit, and outside of a transaction each that changes a relation.
+abbrev pub can_commit : Command → (inside : Bool) → Bool
+can_commit command.Commit inside = true
+can_commit c inside = not (inside || is_managing c || is_reading c)
+
+-- a reply behind which a database may have been changed: it tells of a change, or that the disk failed; the others are refusals, and what was read
+abbrev pub may_have_changed : Reply → Bool
+may_have_changed (Done key picks) = true
+may_have_changed (Count count picks) = true
+may_have_changed (Refused refusal.Fault) = true
+may_have_changed reply = false
+
+-- such a command with such a reply may have committed a database; all else leaves what was wanted
+abbrev pub may_have_committed : Command → (inside : Bool) → Reply → Bool
+may_have_committed c inside reply = can_commit c inside && may_have_changed reply
 
 -- what waits in the transaction of a state
 abbrev pub waiting_in : State → Queue
@@ -63,6 +83,11 @@ Makes IsSo m c g answer new = IfSome (work_of (extensions_of m) c) (λ work. Mad
 -- or which is refused so, for a cause that the space has
 abbrev pub IsRefusedIn : {S : Type 0} → (SpaceFault → S → S → Type 0) → Meanings → Command → Going → Refusal → S → Type 0
 IsRefusedIn Fails m c g r new = IfSome (work_of (extensions_of m) c) (λ work. StopsFrom (λ refusal trail x. HasRefusalCause Fails refusal x) work g r new)
+
+-- what came of a command was read
+abbrev pub is_read : Served → Bool
+is_read (served.Read reply) = true
+is_read (served.Worked answer) = false
 
 -- A command that no test refuses reads its reply, and the work stands as it was; or its work gives the answer.
 abbrev pub IsServed : {S : Type 0} → (Going → S → Type 0) → Meanings → State → Command → Going → Served → S → Type 0

@@ -12,7 +12,8 @@ ghost use Rattle.sb_engine.specs.Working.{extensions_of};
 ghost use Rattle.sb_engine.specs.Working as engine;
 ghost use Rattle.sb_plain.specs.Refusing.{refused};
 ghost use Rattle.sb_plain.specs.State.{State};
-ghost use Rattle.sb_execution.specs.Serving.{IsPosedIn, IsRefusedIn, IsSeenIn, IsServed, IsUnserved, Makes, MayServe};
+ghost use Rattle.sb_reads.specs.Reads.{is_reading};
+ghost use Rattle.sb_execution.specs.Serving.{IsPosedIn, IsRefusedIn, IsSeenIn, IsServed, IsUnserved, Makes, MayServe, is_read};
 ghost use Rattle.sb_statements.specs.Statements.{MayWork, answer_of};
 ghost use Rattle.sb_session.specs.Driven.{WorksOn};
 ghost use Rattle.sb_txn.specs.Clauses.{LeavesWanted};
@@ -81,6 +82,7 @@ fn carry_out<B: Boxes, S: Owners>(
     ensures served { IfOk result (λ x. (s : State) (g : Going) → engine.Stands S.has (B.meanings boxes.now) place.root g space.old work.old
         → MayServe (B.meanings boxes.now) s command.now g
         → IsServed (λ h y. engine.Stands S.has (B.meanings boxes.now) place.root h y work.new) (B.meanings boxes.now) s command.now g x space.new) }
+    ensures reads { IfOk result (λ x. is_read x ≡ is_reading command.now) }
     ensures refused { IfErr result (λ r. (s : State) (g : Going) → engine.Stands S.has (B.meanings boxes.now) place.root g space.old work.old
         → MayServe (B.meanings boxes.now) s command.now g → IsUnserved S.fails (B.meanings boxes.now) s command.now g r space.new) }
     ensures works { WorksOn S.leads space.old space.new work.old work.new }
@@ -113,6 +115,7 @@ fn serve<B: Vectors, S: Owners>(
     ensures served { IfOk result (λ x. (s : State) (g : Going) → engine.Stands S.has (B.meanings boxes.now) place.root g space.old work.old
         → IsSeenIn (B.meanings boxes.now) inside points.now s g → IsPosedIn (B.meanings boxes.now) s command.now
         → IsServed (λ h y. engine.Stands S.has (B.meanings boxes.now) place.root h y work.new) (B.meanings boxes.now) s command.now g x space.new) }
+    ensures reads { IfOk result (λ x. is_read x ≡ is_reading command.now) }
     ensures refused { IfErr result (λ r. (s : State) (g : Going) → engine.Stands S.has (B.meanings boxes.now) place.root g space.old work.old
         → IsSeenIn (B.meanings boxes.now) inside points.now s g → IsPosedIn (B.meanings boxes.now) s command.now
         → IsUnserved S.fails (B.meanings boxes.now) s command.now g r space.new) }
@@ -146,6 +149,7 @@ pub(crate) fn serve_in<B: Vectors, D: Disk>(
         → IsSeenIn (B.meanings boxes.now) inside points.now s g → IsPosedIn (B.meanings boxes.now) s command.now
         → IsServed (λ h p. IsAt (B.meanings boxes.now) place want transaction.old.tx.store.number h p transaction.new.work) (B.meanings boxes.now) s
         command.now g x (parts D.told D.len disk.new space.new.store)) }
+    ensures reads { IfOk result (λ x. is_read x ≡ is_reading command.now) }
     ensures refused { IfErr result (λ r. (want : Wanted) (s : State) (g : Going)
         → IsAt (B.meanings boxes.now) place want transaction.old.tx.store.number g (parts D.told D.len disk.old space.old.store) transaction.old.work
         → IsSeenIn (B.meanings boxes.now) inside points.now s g → IsPosedIn (B.meanings boxes.now) s command.now

@@ -1,5 +1,5 @@
 -- What commands read, and when they may.
-use Rattle.std.specs.Prelude.{◌≡◌, ℕ, ◌^◌, true, Option, Some, None, is_some, option_map}
+use Rattle.std.specs.Prelude.{◌≡◌, ℕ, ◌^◌, Bool, true, false, Option, Some, None, is_some, option_map}
 use Rattle.sb_relation.specs.Db.{Name, Key, Row, Rows, Db, relation_at, row_at, schema_at}
 use Rattle.sb_relation.specs.Images.{Entry}
 use Rattle.sb_fold.specs.Building.{rule_at}
@@ -15,6 +15,17 @@ relation_read (command.Lookup relation name values) = Some relation
 relation_read (command.Range relation name low high) = Some relation
 relation_read (command.Entries relation name) = Some relation
 relation_read _ = None
+
+-- a command that only reads: rows, attachments, how a relation was made, or which there are
+abbrev pub is_reading : Command → Bool
+is_reading (command.Get relation at) = true
+is_reading (command.Scan relation after limit) = true
+is_reading (command.Lookup relation name values) = true
+is_reading (command.Range relation name low high) = true
+is_reading (command.Entries relation name) = true
+is_reading (command.Show relation) = true
+is_reading command.Tables = true
+is_reading _ = false
 
 abbrev pub IsThere : Db → Name → Type 0
 IsThere db relation = is_some (relation_at db relation) ≡ true

@@ -1,14 +1,13 @@
 -- How a command ends.
-use Rattle.std.specs.Prelude.{◌≡◌, Bool, true, false, not, ◌&&◌, List, None, Result, Ok, Err}
+use Rattle.std.specs.Prelude.{◌≡◌, Bool, true, false, List, None, Result, Ok, Err}
 use Rattle.sb_relation.specs.Db.{Key}
 use Rattle.sb_fold.specs.declared.refusal.Room.{Room}
 use Rattle.sb_fold.specs.declared.refusal.Refusal.{Refusal}
 use Rattle.sb_fold.specs.declared.refusal.Refusal.TheVariants as refusal
 use Rattle.sb_fold.specs.Extensions.{Extensions}
 use Rattle.sb_plain.specs.declared.command.Command.{Command}
-use Rattle.sb_plain.specs.declared.command.Command.TheVariants as command
 use Rattle.sb_plain.specs.declared.reply.Reply.{Reply}
-use Rattle.sb_plain.specs.declared.reply.Reply.TheVariants.{Count, Done, Refused}
+use Rattle.sb_plain.specs.declared.reply.Reply.TheVariants.{Done, Refused}
 use Rattle.sb_plain.specs.Licences.{may_want_memory, may_want_room}
 use Rattle.sb_plain.specs.State.{downed}
 use Rattle.sb_plain.specs.Step.{Steps}
@@ -36,29 +35,6 @@ pub record IsFree (StandsFor : State → Type 0) (Cause : Type 0) (s now : State
   pub up : s.down ≡ false
   pub cause : Cause
   pub stands : StandsFor now
-
--- A command that may commit a database: a commit, and outside of a transaction each that manages neither transactions nor boxes.
-abbrev pub may_commit : Command → (inside : Bool) → Bool
-may_commit command.Commit inside = true
-may_commit command.Begin inside = false
-may_commit command.Abort inside = false
-may_commit (command.Savepoint name) inside = false
-may_commit (command.Rollback name) inside = false
-may_commit command.Checkpoint inside = false
-may_commit (command.Register method code) inside = false
-may_commit (command.Retire method code) inside = false
-may_commit c inside = not inside
-
--- a reply that tells of a change, or that the disk failed; the others are refusals, and what was read
-abbrev pub tells_change : Reply → Bool
-tells_change (Done key picks) = true
-tells_change (Count count picks) = true
-tells_change (Refused refusal.Fault) = true
-tells_change reply = false
-
--- such a command with such a reply may have committed a database; all else leaves what was wanted
-abbrev pub may_have_committed : Command → (inside : Bool) → Reply → Bool
-may_have_committed c inside reply = may_commit c inside && tells_change reply
 
 -- A command's reply, and what stands then: those of a step; or room was wanting, or memory, to a command to which it may be, and the state stays; or
 -- the disk failed a call, and the session is down. No page is damaged that stands for a state.

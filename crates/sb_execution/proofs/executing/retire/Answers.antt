@@ -53,7 +53,7 @@ returns-in-Ok g c =
     let did = c.retire.ensures in
     let none = is_some-none x.open (sym c.is_some.ensures ∙ c.if-is_some.false) in
     subst (λ (r : Reply). Executed meanings told len faults k d f x z r) (sym c.reply_of.ensures)
-    (Executed-tested meanings told len faults k d e x y c.requires.runs c.requires.up none refl refl refl refl c.in-Ok.ensures.passes f z (reply_of c.retire.result) did.disk did.space did.same did.keeps did.runs
+    (Executed-tested meanings told len faults k d e x y c.requires.runs c.requires.up none refl refl refl refl c.in-Ok.ensures.passes c.test_outside-tested.ensures.leaves f z (reply_of c.retire.result) did.disk did.space did.same did.keeps did.runs
     (λ want s for none.
     subst (λ (k : Command). Ends (λ t. IsFor meanings told len want t f z) (Lacks (sizes_of y)) (HasFailed faults e f) (extensions_of (meanings x.boxes)) s k (reply_of c.retire.result)) (sym c.requires.retires)
     (did.ends want s for

@@ -2,7 +2,8 @@ use Rattle.std.proofs.Common.{Bool, sym, ap, ◌∙◌, subst}
 use Rattle.sb_plain.specs.declared.command.Command.{Command}
 use Rattle.sb_plain.specs.declared.command.Command.TheVariants as command
 use Rattle.sb_plain.specs.declared.reply.Reply.{Reply}
-use Rattle.sb_session.specs.Ends.{may_have_committed, picked_reply, reply_of}
+use Rattle.sb_session.specs.Ends.{picked_reply, reply_of}
+use Rattle.sb_execution.specs.Serving.{may_have_committed}
 use Rattle.sb_session.proofs.SameBoxes.{same-stays}
 use Rattle.sb_execution.specs.Endings.{Executed}
 use Rattle.sb_execution.proofs.ExecLemmas.{Executed-down, Executed-kept, Executed-moved, emptied, kept_commit, leaves_still}

@@ -1,11 +1,10 @@
-use Rattle.std.proofs.Common.{false, Option, refl, sym, ap, ◌∙◌, subst}
+use Rattle.std.proofs.Common.{false, Option, sym, ap, ◌∙◌, subst}
 use Rattle.sb_txn.specs.Parts.{parts}
 use Rattle.sb_session.specs.declared.session.Open.{Open}
 use Rattle.sb_session.specs.Sessions.{CanGoOn}
 use Rattle.sb_execution.proofs.SessionLemmas.{ends_alone, keeps_session, leaves_session, runs_alone}
-use Rattle.sb_execution.proofs.ExecLemmas.{told_none}
 use Rattle.sb_plain.specs.declared.reply.Reply.{Reply}
-use Rattle.sb_session.specs.Ends.{tells_change}
+use Rattle.sb_execution.specs.Serving.{may_have_committed}
 use Rattle.sb_execution.proofs.outside.exec_outside.Goals as goal
 
 pub work_outside-result-requires-clause-none : goal.work_outside-result-requires-clause-none
@@ -40,4 +39,4 @@ returns-clause-leaves g c = λ never.
     leaves_session g.B.Boxes.meanings g.D.Disk.told g.D.Disk.len g.D.Disk.faults c.args.command.now c.args.disk.now c.work_outside-result.new.disk x c.told.new.session c.requires.runs c.requires.up
     c.work_outside-result.new.space c.told.ensures.space c.told.ensures.boxes c.told.ensures.place c.work_outside-result.result c.told.result c.told.ensures.reply c.told.ensures.down
     (c.work_outside-result.ensures.leaves
-    (sym (ap (λ (r : Reply). tells_change r) c.told.ensures.reply) ∙ told_none c.args.command.now false c.told.result c.requires.works refl never))
+    (sym (ap (λ (r : Reply). may_have_committed c.args.command.now false r) c.told.ensures.reply) ∙ never))

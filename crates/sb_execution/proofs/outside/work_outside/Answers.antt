@@ -1,4 +1,6 @@
-use Rattle.std.proofs.Common.{[], refl, sym, ◌∙◌}
+use Rattle.std.proofs.Common.{[], refl, sym, ap, ◌∙◌}
+use Rattle.sb_execution.specs.declared.serving.Served.{Served}
+use Rattle.sb_execution.specs.Serving.{is_read}
 use Rattle.sb_execution.proofs.AloneWork.{EndsAlone-back, EndsAlone-down, EndsAlone-failed, EndsAlone-not_begun, EndsAlone-reads, has_answered}
 use Rattle.sb_execution.proofs.outside.work_outside.Goals as goal
 
@@ -97,7 +99,7 @@ returns-in-Worked g c =
     let serves = c.serve_in-served.ensures in
     c.commit_answer.ensures c.args.command.now d s
     (has_answered told len faults m place c.args.command.now d b e s bs t a y c.requires.up c.requires.owner begun.remains begun.any_moment begun.pages begun.begun begun.at
-    serves.tx serves.usable serves.led serves.begun c.requires.works [] refl c.in-Worked.answer c.in-Ok-served.served c.in-Worked.is (sym c.is_down.ensures ∙ c.if-is_down.false) c.in-Ok-served.ensures.served)
+    serves.tx serves.usable serves.led serves.begun c.requires.works (sym c.in-Ok-served.ensures.reads ∙ ap (λ (x : Served). is_read x) c.in-Worked.is) [] refl c.in-Worked.answer c.in-Ok-served.served c.in-Worked.is (sym c.is_down.ensures ∙ c.if-is_down.false) c.in-Ok-served.ensures.served)
 
 pub returns-in-Ok-abort-2 : goal.returns-in-Ok-abort-2
 returns-in-Ok-abort-2 g c =

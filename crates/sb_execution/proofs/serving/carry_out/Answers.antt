@@ -1,4 +1,5 @@
-use Rattle.std.proofs.Common.{◌∙◌}
+use Rattle.std.proofs.Common.{◌∙◌, Option, is_some, sym, ap}
+use Rattle.sb_plain.specs.declared.reply.Reply.{Reply}
 use Rattle.sb_execution.specs.Serving.{Worked}
 use Rattle.sb_execution.proofs.SeenLemmas.{stands-same}
 use Rattle.sb_execution.proofs.ServeLemmas.{look_refused, was_read, works_may}
@@ -37,6 +38,13 @@ pub returns-in-Err-clause-refused : goal.returns-in-Err-clause-refused
 returns-in-Err-clause-refused g c = λ s h stands may.
     look_refused g.S.PageSpace.has (g.B.Boxes.meanings c.args.boxes.now) c.args.place.root c.args.space.now c.args.work.now c.args.command.now s h stands may
     g.S.PageSpace.fails (g.S.PageSpace.leads 0 c.args.space.now c.read.new.space) c.read.new.space c.in-Err.fault c.refusal_of.result c.refusal_of.ensures c.in-Err.ensures.looks.fault c.in-Err.ensures.looks.refused c.in-Err.ensures.undamaged
+
+-- ---- what it reads
+pub returns-in-Ok-Some-clause-reads : goal.returns-in-Ok-Some-clause-reads
+returns-in-Ok-Some-clause-reads g c = sym (ap (λ (o : Option Reply). is_some o) c.in-Ok-Some.field-0-is) ∙ c.in-Ok-Some.ensures.reads
+
+pub returns-in-Ok-clause-reads : goal.returns-in-Ok-clause-reads
+returns-in-Ok-clause-reads g c = sym (ap (λ (o : Option Reply). is_some o) c.in-Ok-None.field-0-is) ∙ c.in-Ok-None.ensures.reads
 
 -- ---- calls
 pub returns-in-Ok-Some-clause-works : goal.returns-in-Ok-Some-clause-works

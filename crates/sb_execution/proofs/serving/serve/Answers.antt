@@ -22,6 +22,9 @@ returns-in-Ok-Some-clause-refused g c = λ s h stands seen posed. Tested (sym (c
 pub returns-in-Err-clause-refused : goal.returns-in-Err-clause-refused
 returns-in-Err-clause-refused g c = λ s h stands seen posed. Looked c.in-Err.ensures.free c.in-Err.ensures.room (c.in-Err.ensures.cause s h stands seen)
 
+pub returns-in-Ok-None-clause-reads : goal.returns-in-Ok-None-clause-reads
+returns-in-Ok-None-clause-reads g c = c.carry_out.ensures.reads
+
 -- ---- calls
 pub returns-in-Ok-None-clause-works : goal.returns-in-Ok-None-clause-works
 returns-in-Ok-None-clause-works g c =

@@ -26,6 +26,7 @@ returns g c =
     record {
       served = served-lent told len faults m place disk store tx a b v w is works ready _ same c.args.inside c.args.points.now c.args.command.now c.serve.result c.serve.ensures.served;
       refused = unserved-lent told len faults m place disk store tx a b v w is works ready _ same c.args.inside c.args.points.now c.args.command.now c.serve.result c.serve.ensures.refused;
+      reads = c.serve.ensures.reads;
       points = points-lent told len faults m place disk store tx a b v w is works ready _ same;
       stand = stand-lent told len faults m place disk store tx a b v w is works ready _ same;
       begun = begun-lent told len faults m place disk store tx a b v w is works ready _ same;
