@@ -1,49 +1,43 @@
 -- Attaching a rule without a mirror, on an engine at work.
-use Rattle.std.proofs.Common.{◌≡◌, ℕ, ◌<◌, ◌≤◌, ◌==◌, nat_le, nat_lt, Bool, true, false, cond, ◌||◌, not, List, [], ◌∷◌, ◌++◌, length, map, All, Option, Some, None, is_none, bytes_eq, arith, refl, sym, ap, subst, ◌∙◌}
+use Rattle.std.proofs.Common.{◌≡◌, ℕ, ◌<◌, ◌≤◌, ◌==◌, nat_le, nat_lt, Bool, true, false, cond, ◌||◌, List, [], ◌∷◌, ◌++◌, length, map, Option, Some, None, is_none, bytes_eq, arith, refl, sym, ap, subst, ◌∙◌}
 use Rattle.std.proofs.lemmas.Bool.Decides.{nat_tests}
 use Rattle.std.proofs.lemmas.List.Elements.{All-weaker}
 use Rattle.std.proofs.lemmas.Option.{same_Some}
 use Rattle.sb_value.specs.declared.schema.Column.{Column}
-use Rattle.sb_rule.specs.declared.action.Action.{Action}
-use Rattle.sb_rule.specs.declared.rule.Side.TheVariants.{Main, Mirror}
 use Rattle.sb_rule.specs.declared.rule.Rule.{Rule}
 use Rattle.sb_rule.specs.declared.rule.Rule.TheVariants.{TreeIndex, HashIndex, JoinIndex, Stats, Check, Refers, Trigger, Foreign}
 use Rattle.sb_rule.specs.Spelling.{rule_code}
-use Rattle.sb_relation.specs.Build.{mirror_of, with_attached, with_instance, with_rule}
+use Rattle.sb_relation.specs.Build.{with_attached, with_instance, with_rule}
 use Rattle.sb_relation.specs.Db.{Name, Relation, Db, relation_at, schema_at, with_relation}
 use Rattle.sb_relation.specs.Fits.{MayStand, first_missing}
 use Rattle.sb_relation.specs.Foreign.{AttachRules, attach_rules}
 use Rattle.sb_relation.specs.Limits.{attached_at, descriptor_len, has_large_descriptor, is_crowded, is_large_at}
 use Rattle.sb_relation.specs.Rules.{holds}
-use Rattle.sb_fold.specs.declared.refusal.Refusal.{Refusal}
 use Rattle.sb_fold.specs.declared.refusal.Refusal.TheVariants.{TooLong as LongRow, Veto}
 use Rattle.sb_fold.specs.Building.{build, has_long_row}
 use Rattle.sb_fold.specs.Extensions.{Extensions, box_of}
 use Rattle.sb_fold.specs.Outcome.{Going, Gone}
 use Rattle.sb_deferred.specs.Complete.{AreMirrored}
 use Rattle.sb_deferred.proofs.CatalogLemmas.{with-rule-complete}
-use Rattle.sb_deferred.proofs.RelationLemmas.{attachments_of, relation_same}
-use Rattle.sb_cascade.specs.Fitting.{AllFit, IsFitting}
+use Rattle.sb_deferred.proofs.RelationLemmas.{relation_same}
+use Rattle.sb_cascade.specs.Fitting.{IsFitting}
 use Rattle.sb_cascade.proofs.Attaching.{attached-may-stand}
 use Rattle.sb_cascade.proofs.Commanding.{attaching-stays}
 use Rattle.sb_ctx.specs.Attachment.{Attachment}
 use Rattle.sb_registry.specs.Boxes.{Meanings, attachment_of}
-use Rattle.sb_drive.specs.declared.space.SpaceFault.{SpaceFault}
 use Rattle.sb_drive.specs.Slots.{Slots}
 use Rattle.sb_drive.specs.Spaces.{Wanted}
-use Rattle.sb_standing.specs.Tables.{Kept, db_of}
+use Rattle.sb_standing.specs.Tables.{db_of}
 use Rattle.sb_standing.proofs.KeptLemmas.{IsThere, kept_at-relation}
 use Rattle.sb_standing.proofs.RuleLemmas.{with_rule-alone}
 use Rattle.sb_tables.specs.Work.{Work as Beside}
-use Rattle.sb_tables.specs.Refusals.{HasRefusalCause}
 use Rattle.sb_tables.specs.Working.{ArePaired, IsNoneGone, Stands, extensions_of}
 use Rattle.sb_tables.specs.Keeping.{KeepsDb}
-use Rattle.sb_building.specs.declared.attaching.Attaching.{Attaching}
 use Rattle.sb_building.specs.declared.attaching.Attaching.TheVariants.{TooLarge, TooLong, Vetoed, Attached}
 use Rattle.sb_building.specs.Attaching.{HasEnded, MayAdd, MayAttach, Stores, new_attached}
 use Rattle.sb_building.specs.Instances.{Site}
 use Rattle.sb_building.proofs.PairLemmas.{mirrored-alone, paired-alone}
-use Rattle.sb_building.proofs.WorkLemmas.{Comes, IsClosed, IsRefusedSo, Stands-other, leads_attached, leads_long, leads_vetoed, reached, reached_db, reached_gone, reached_queue, reached_used}
+use Rattle.sb_building.proofs.WorkLemmas.{Comes, IsClosed, IsRefusedSo, Stands-other, leads_attached, leads_long, leads_vetoed, reached_db, reached_gone, reached_queue, reached_used}
 
 -- ---- the extension of the rule is the live box
 attach_rules-live : (code : ℕ) (live spare : List Attachment) (box : Attachment) → attachment_of code live ≡ Some box → attach_rules code (map (λ x. x.rules) (live ++ spare)) ≡ Some box.rules

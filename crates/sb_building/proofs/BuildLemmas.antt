@@ -1,18 +1,16 @@
 -- A content that is built row by row, so far.
-use Rattle.std.proofs.Common.{◌≡◌, ℕ, ◌+◌, ◌<◌, ◌≤◌, ◌^◌, Bool, true, false, true≢false, ◌&&◌, ◌||◌, List, [], ◌∷◌, ◌++◌, length, T, Option, Some, None, arith, append_assoc, refl, sym, ap, subst, ◌∙◌}
+use Rattle.std.proofs.Common.{◌≡◌, ℕ, ◌+◌, ◌≤◌, ◌^◌, Bool, true, false, true≢false, ◌&&◌, ◌||◌, List, [], ◌∷◌, ◌++◌, T, Option, Some, None, append_assoc, refl, sym, ap, subst, ◌∙◌}
 use Rattle.std.specs.FinMap.Entries.{is_sorted}
 use Rattle.std.specs.List.{list_any}
 use Rattle.std.proofs.lemmas.List.Folds.{list_any-append}
 use Rattle.sb_value.specs.declared.schema.Column.{Column}
 use Rattle.sb_value.specs.Order.{bytes_cmp}
-use Rattle.sb_rule.specs.declared.change.Change.TheVariants.{Insert}
 use Rattle.sb_rule.specs.declared.rule.Rule.{Rule}
-use Rattle.sb_relation.specs.Db.{Key, Row, Rows, Db}
+use Rattle.sb_relation.specs.Db.{Key, Row, Rows}
 use Rattle.sb_relation.specs.Lawful.{is_long_for}
-use Rattle.sb_forms.specs.Pages.{Pages}
 use Rattle.sb_ctx.specs.declared.instance.Instance.{Instance}
 use Rattle.sb_ctx.specs.Attachment.{Attachment}
-use Rattle.sb_ctx.specs.AttachAnswers.{Holds, admits_built}
+use Rattle.sb_ctx.specs.AttachAnswers.{Holds}
 use Rattle.sb_ctx.specs.MethodAnswers.{row_above}
 use Rattle.sb_registry.specs.Boxes.{Meanings}
 use Rattle.sb_drive.specs.Slots.{Slots, owned}
@@ -26,7 +24,7 @@ use Rattle.sb_building.specs.Instances.{IsSite, Site}
 use Rattle.sb_building.proofs.ContentLemmas.{IsOver-next}
 use Rattle.sb_building.proofs.HeldLemmas.{IsOver, holds_of-more, holds_of-none, holds_of-vetoed}
 use Rattle.sb_building.proofs.RowsLemmas.{IsNext-read, IsRead, IsRead-all, IsRead-few, IsRead-next, IsRead-none}
-use Rattle.sb_building.proofs.SiteLemmas.{IsSite-on, relation_there, rows_are, schema_there, table_there}
+use Rattle.sb_building.proofs.SiteLemmas.{IsSite-on, relation_there, rows_are, table_there}
 
 -- the rows up to a key are built and admitted, and the pages hold the content over them
 pub record IsBuildingUp {S : Type 0} (Has : Wanted → Slots → S → Type 0) (m : Meanings) (root : ℕ) (x : Site) (inst : Instance) (rule : Rule) (box : Attachment) (last : Option Key) (count : ℕ) (space : S) : Type 0 where

@@ -1,15 +1,12 @@
 -- Contents over the rows that are built.
-use Rattle.std.proofs.Common.{◌≡◌, ℕ, suc, ◌+◌, Bool, true, false, cond, List, [], ◌∷◌, ◌++◌, length, All, get_or, Option, Some, None, T, bytes_eq, arith, length-append, refl, sym, ap, subst, ◌∙◌}
-use Rattle.std.specs.FinMap.Entries.{is_sorted}
+use Rattle.std.proofs.Common.{◌≡◌, ℕ, suc, ◌+◌, Bool, true, false, List, [], ◌∷◌, ◌++◌, length, get_or, Option, Some, None, bytes_eq, arith, length-append, refl, sym, ap, subst, ◌∙◌}
 use Rattle.sb_value.specs.declared.schema.Column.{Column}
 use Rattle.sb_value.specs.Equal.{bytes_same}
-use Rattle.sb_value.specs.Order.{bytes_cmp}
 use Rattle.sb_rule.specs.declared.change.Change.TheVariants.{Insert}
 use Rattle.sb_rule.specs.declared.rule.Rule.{Rule}
 use Rattle.sb_rule.specs.declared.rule.Rule.TheVariants.{TreeIndex, HashIndex, JoinIndex, Stats, Check, Refers, Trigger, Foreign}
 use Rattle.sb_relation.specs.Buckets.{buckets_with, counted_buckets, next_buckets, standing_buckets}
-use Rattle.sb_relation.specs.Content.{Content}
-use Rattle.sb_relation.specs.Db.{Name, Key, Row, Rows, Relation, Db, relation_at, rows_at, schema_at, with_relation, with_row, with_rows}
+use Rattle.sb_relation.specs.Db.{Name, Key, Row, Rows, Relation, Db, relation_at, with_relation, with_row, with_rows}
 use Rattle.sb_relation.specs.Fits.{other_relations}
 use Rattle.sb_relation.specs.Lawful.{AreRows}
 use Rattle.sb_ctx.specs.declared.instance.Instance.{Instance}

@@ -1,5 +1,5 @@
 -- What is left once a rule is attached.
-use Rattle.std.proofs.Common.{◌≡◌, ◌≢◌, inl, inr, ℕ, suc, ◌+◌, ◌<◌, ◌≤◌, Bool, true, false, List, [], ◌∷◌, length, map, All, Option, Some, None, get_or, arith, refl, sym, ap, subst, ◌∙◌}
+use Rattle.std.proofs.Common.{◌≡◌, ℕ, suc, ◌≤◌, true, List, [], ◌∷◌, length, map, Option, Some, None, arith, refl, sym, ap, subst, ◌∙◌}
 use Rattle.std.specs.List.{list_any}
 use Rattle.std.specs.FinMap.Entries.{put}
 use Rattle.std.proofs.lemmas.List.Elements.{All-map}
@@ -7,7 +7,6 @@ use Rattle.std.proofs.lemmas.Option.{same_Some}
 use Rattle.sb_value.specs.declared.schema.Column.{Column}
 use Rattle.sb_node.specs.Entries.{key_cmp}
 use Rattle.sb_rule.specs.declared.rule.Rule.{Rule}
-use Rattle.sb_rule.specs.Spelling.{rule_code}
 use Rattle.sb_relation.specs.Build.{main_of, with_attached, with_instance}
 use Rattle.sb_relation.specs.Buckets.{standing_buckets}
 use Rattle.sb_relation.specs.Content.{Content}
@@ -27,7 +26,6 @@ use Rattle.sb_registry.specs.Live.{IsLiveRule}
 use Rattle.sb_drive.specs.Slots.{Slots, owned}
 use Rattle.sb_drive.specs.Spaces.{Leaves, Wanted}
 use Rattle.sb_catalog.specs.declared.descriptor.Attached.{Attached}
-use Rattle.sb_catalog.specs.declared.descriptor.Descriptor.{Descriptor}
 use Rattle.sb_catalog.specs.Descriptors.{described, descriptor_spelling, standing, IsDescriptorOf, IsStorableDescriptor}
 use Rattle.sb_catalog.proofs.Described.{is_as_long}
 use Rattle.sb_standing.specs.Standing.{IsKept, IsOwner, KeepsRule, attached_kept, with_described}
@@ -42,12 +40,12 @@ use Rattle.sb_standing.proofs.StandLemmas.{StandRules-keeps}
 use Rattle.sb_rows.specs.Live.{HasRows}
 use Rattle.sb_tables.specs.OpenRelation.{OpenRelation}
 use Rattle.sb_tables.specs.Opened.{IsDurable, IsOpen, rule_of}
-use Rattle.sb_tables.specs.Working.{AreLasting, IsLasting}
+use Rattle.sb_tables.specs.Working.{IsLasting}
 use Rattle.sb_tables.specs.Keeping.{KeepsDb}
 use Rattle.sb_building.specs.Attaching.{HasBegun, IsEntryOf, IsRoomy, IsStore, MayAdd, Stores, new_attached}
-use Rattle.sb_building.specs.Building.{HasNoLong, IsBuiltOver, content_built}
+use Rattle.sb_building.specs.Building.{content_built}
 use Rattle.sb_building.specs.Held.{holds_of}
-use Rattle.sb_building.specs.Instances.{IsSite, Site}
+use Rattle.sb_building.specs.Instances.{Site}
 use Rattle.sb_building.proofs.ContentLemmas.{content-all}
 use Rattle.sb_building.proofs.HeldLemmas.{holds-all}
 

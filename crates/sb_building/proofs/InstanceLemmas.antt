@@ -1,10 +1,10 @@
 -- New instances, over the relations that a space keeps.
-use Rattle.std.proofs.Common.{◌≡◌, ◌≢◌, inl, inr, ℕ, ◌<◌, ◌==◌, Bool, true, false, cond, List, [], ◌∷◌, All, Option, Some, None, get_or, arith, eqb-true, refl, sym, ap, subst, ◌∙◌}
+use Rattle.std.proofs.Common.{◌≡◌, ◌≢◌, inl, inr, ℕ, ◌<◌, ◌==◌, Bool, true, false, cond, List, [], ◌∷◌, Some, get_or, arith, eqb-true, refl, sym, ap, subst, ◌∙◌}
 use Rattle.std.proofs.lemmas.Option.{same_Some}
 use Rattle.sb_value.specs.declared.schema.Column.{Column}
 use Rattle.sb_rule.specs.declared.rule.Rule.{Rule}
 use Rattle.sb_rule.specs.declared.rule.Rule.TheVariants.{TreeIndex, HashIndex, JoinIndex, Stats, Check, Refers, Trigger, Foreign}
-use Rattle.sb_rule.specs.Spelling.{SpellsRule, rule_code, rule_spelling}
+use Rattle.sb_rule.specs.Spelling.{rule_code, rule_spelling}
 use Rattle.sb_relation.specs.Content.{Content}
 use Rattle.sb_relation.specs.Db
 use Rattle.sb_relation.specs.Db.{Name, Relation, Db, relation_at}
@@ -12,7 +12,7 @@ use Rattle.sb_relation.specs.Fits.{MayStand}
 use Rattle.sb_forms.specs.Pages.{Pages, new_pages}
 use Rattle.sb_ctx.specs.declared.instance.Instance.{Instance}
 use Rattle.sb_ctx.specs.Attachment.{Attachment, IsOwned, JoinsAnother, StandsOn, keeps_pages}
-use Rattle.sb_ctx.specs.AttachAnswers.{Holds, pages_of_new}
+use Rattle.sb_ctx.specs.AttachAnswers.{Holds}
 use Rattle.sb_ctx.specs.Laws.{IsAttachment}
 use Rattle.sb_registry.specs.Boxes.{Meanings, attachment_of}
 use Rattle.sb_registry.specs.Live.{IsLiveRule}
@@ -25,13 +25,12 @@ use Rattle.sb_catalog.specs.declared.descriptor.Descriptor.{Descriptor}
 use Rattle.sb_catalog.specs.Descriptors.{IsCountedRule}
 use Rattle.sb_owners.specs.Instances.{HasCome}
 use Rattle.sb_standing.specs.Standing.{IsOwner, StandsRule, is_join}
-use Rattle.sb_standing.specs.Tables.{Kept, KeepsTable, KeepsOthers, Tables, db_of, kept_at}
+use Rattle.sb_standing.specs.Tables.{Kept, KeepsTable, Tables, db_of, kept_at}
 use Rattle.sb_standing.proofs.KeptLemmas.{kept_at-all, relation_at-there}
 use Rattle.sb_standing.proofs.LawfulLemmas.{AreLawful-tables, roots-tables}
 use Rattle.sb_tables.specs.Opened.{IsDurable, OwnsPages, rule_of}
 use Rattle.sb_tables.specs.Refusals.{HasRefusalCause, refusal_of}
 use Rattle.sb_building.specs.Attaching.{HasBegun, IsEntered, IsEntryOf, IsStore, MayAdd}
-use Rattle.sb_building.specs.Building.{content_built}
 use Rattle.sb_building.specs.Instances.{HasNewPages, HoldsFirst, IsApart, IsPlaced, IsSite, Site}
 use Rattle.sb_building.proofs.ContentLemmas.{content-first}
 use Rattle.sb_building.proofs.SiteLemmas.{Tables-apart}

@@ -1,5 +1,5 @@
 -- Rows that are found, or none.
-use Rattle.std.proofs.Common.{◌≡◌, ℕ, ◌==◌, Bool, true, false, cond, not, ◌||◌, List, [], ◌∷◌, length, take, filter, refl}
+use Rattle.std.proofs.Common.{◌≡◌, ◌==◌, Bool, true, false, cond, not, ◌||◌, List, [], ◌∷◌, length, take, filter, refl}
 use Rattle.std.specs.List.{list_any}
 
 -- one that passes is taken where some passes

@@ -1,12 +1,10 @@
 -- Attaching to a relation that is open.
-use Rattle.std.proofs.Common.{◌≡◌, ℕ, Bool, true, false, List, [], ◌∷◌, map, Option, Some, None, option_map, refl, sym, ap, subst, ◌∙◌}
+use Rattle.std.proofs.Common.{◌≡◌, ℕ, Bool, true, false, List, map, Option, Some, None, option_map, refl, sym, ap, subst, ◌∙◌}
 use Rattle.std.specs.FinMap.Entries.{put}
 use Rattle.std.specs.List.{list_any}
 use Rattle.std.proofs.lemmas.Option.{same_Some}
-use Rattle.sb_value.specs.declared.schema.Column.{Column}
 use Rattle.sb_node.specs.Entries.{key_cmp}
 use Rattle.sb_rule.specs.declared.rule.Rule.{Rule}
-use Rattle.sb_rule.specs.Spelling.{rule_code}
 use Rattle.sb_relation.specs.Build.{main_of}
 use Rattle.sb_relation.specs.Db.{Name, Rows}
 use Rattle.sb_relation.specs.Lawful.{is_long_for}
@@ -29,13 +27,12 @@ use Rattle.sb_standing.specs.Standing.{with_described}
 use Rattle.sb_standing.specs.Tables.{Kept, db_of, entry_of, kept_at, table_of}
 use Rattle.sb_tables.specs.OpenRelation.{OpenRelation}
 use Rattle.sb_tables.specs.Opened.{IsDurable, IsOpen, rule_of}
-use Rattle.sb_tables.specs.Refusals.{HasRefusalCause, refusal_of}
 use Rattle.sb_building.specs.declared.attaching.Attaching.{Attaching}
 use Rattle.sb_building.specs.declared.attaching.Attaching.TheVariants.{TooLong, Vetoed, Attached as Done}
-use Rattle.sb_building.specs.Attaching.{HasBegun, HasEnded, IsEntryOf, IsRoomy, IsStore, MayAdd, Stores}
-use Rattle.sb_building.specs.Building.{HasNoLong, HoldsBuilt, IsBuiltOver, content_built}
+use Rattle.sb_building.specs.Attaching.{HasBegun, HasEnded, IsEntryOf, IsRoomy, MayAdd, Stores}
+use Rattle.sb_building.specs.Building.{HasNoLong, IsBuiltOver}
 use Rattle.sb_building.specs.Held.{holds_of}
-use Rattle.sb_building.specs.Instances.{IsSite, Site}
+use Rattle.sb_building.specs.Instances.{Site}
 use Rattle.sb_building.proofs.EndedLemmas.{IsRoomy-may, KeepsDb-attached, has_long_row-is, holds-is, rows_opened, table_opened, whole_content}
 use Rattle.sb_building.proofs.SiteLemmas.{Tables-apart}
 

@@ -1,8 +1,8 @@
 -- Attachments in their places in a descriptor.
-use Rattle.std.proofs.Common.{◌≡◌, ℕ, suc, ◌+◌, ◌<◌, ◌≤◌, one-add, le_antisymm, ltb-false, unwrap_or, length, position, nat_lt, nat_le, not, Bool, true, false, cond, List, [], ◌∷◌, insert, All, Some, None, refl, sym, ap, subst, ◌∙◌, arith}
+use Rattle.std.proofs.Common.{◌≡◌, ℕ, suc, ◌+◌, ◌<◌, ◌≤◌, one-add, le_antisymm, ltb-false, unwrap_or, length, position, nat_lt, nat_le, not, Bool, true, false, cond, List, [], ◌∷◌, insert, All, Some, None, refl, ap, ◌∙◌, arith}
 use Rattle.std.specs.List.{position_or_len}
 use Rattle.std.proofs.lemmas.Bool.Decides.{nat_tests}
-use Rattle.std.proofs.lemmas.List.Elements.{All-cons, All-head, All-nil, All-tail}
+use Rattle.std.proofs.lemmas.List.Elements.{All-cons, All-head, All-tail}
 use Rattle.std.proofs.lemmas.List.Sums.{prefix_len-le-length}
 use Rattle.sb_tables.specs.Changes.{IsSmall}
 use Rattle.sb_catalog.specs.declared.descriptor.Attached.{Attached}

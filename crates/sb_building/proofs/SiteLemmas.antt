@@ -1,18 +1,13 @@
 -- Calls of a new instance, where it works.
-use Rattle.std.proofs.Common.{◌≡◌, ℕ, ◌+◌, Bool, true, false, true≢false, List, [], ◌∷◌, ◌++◌, All, Option, Some, None, T, get_or, refl, sym, ap, subst, ◌∙◌}
-use Rattle.std.specs.FinMap.Entries.{is_sorted}
-use Rattle.std.specs.List.{list_any}
+use Rattle.std.proofs.Common.{◌≡◌, ℕ, Bool, true, false, true≢false, List, [], Option, Some, None, get_or, refl, sym, ap, subst, ◌∙◌}
 use Rattle.std.proofs.lemmas.Option.{same_Some}
 use Rattle.sb_value.specs.declared.schema.Column.{Column}
-use Rattle.sb_value.specs.Order.{bytes_cmp}
 use Rattle.sb_rule.specs.declared.change.Change.TheVariants.{Insert}
 use Rattle.sb_rule.specs.declared.rule.Rule.{Rule}
 use Rattle.sb_rule.specs.Spelling.{SpellsRule}
 use Rattle.sb_relation.specs.Buckets.{standing_buckets}
 use Rattle.sb_relation.specs.Content.{Content}
-use Rattle.sb_relation.specs.Db
-use Rattle.sb_relation.specs.Db.{Name, Key, Row, Rows, Relation, Db, relation_at, rows_at}
-use Rattle.sb_relation.specs.Keys.{is_record_key}
+use Rattle.sb_relation.specs.Db.{Key, Row, Rows, Relation, Db, relation_at, rows_at}
 use Rattle.sb_relation.specs.Lawful.{AreRows, IsRow, is_long_for}
 use Rattle.sb_forms.specs.Pages.{Pages}
 use Rattle.sb_catalog.proofs.Parts.{one_rule}
@@ -24,10 +19,9 @@ use Rattle.sb_ctx.specs.View.{View}
 use Rattle.sb_ctx.specs.Attachment.{Attachment, MayHold, StandsOn}
 use Rattle.sb_ctx.specs.AttachAnswers.{AreBuilt as AreSome, Answers, BeforeBuild, Built, Holds, admits_built, content_with, first_content, pages_of_new}
 use Rattle.sb_registry.specs.Boxes.{Meanings}
-use Rattle.sb_drive.specs.AttachCalls.{Fits}
 use Rattle.sb_drive.specs.Slots.{Slots, owned}
-use Rattle.sb_drive.specs.Spaces.{Leaves, Wanted}
-use Rattle.sb_standing.specs.Tables.{Kept, KeepsOthers, KeepsTable, Tables, db_of, kept_at, table_of}
+use Rattle.sb_drive.specs.Spaces.{Wanted}
+use Rattle.sb_standing.specs.Tables.{Kept, KeepsOthers, KeepsTable, Tables, db_of}
 use Rattle.sb_standing.proofs.KeptLemmas.{kept_at-all, relation_at-there}
 use Rattle.sb_standing.proofs.LawfulLemmas.{AreRows-table}
 use Rattle.sb_standing.proofs.PagesLemmas.{Tables-pages}
@@ -36,7 +30,7 @@ use Rattle.sb_tables.specs.Calls.{IsAsked, IsFinal}
 use Rattle.sb_building.specs.Building.{HoldsBuilt, IsBuilding, IsBuilt, IsNext, content_built, is_done}
 use Rattle.sb_building.specs.Instances.{IsApart, IsSite, Site}
 use Rattle.sb_building.proofs.ContentLemmas.{content-next}
-use Rattle.sb_building.proofs.RowsLemmas.{AreBuilt-next, AreRows-built, All-next}
+use Rattle.sb_building.proofs.RowsLemmas.{AreBuilt-next, AreRows-built}
 
 -- ---- pages of others
 -- the relations are kept while the instance's own pages change

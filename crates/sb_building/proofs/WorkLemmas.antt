@@ -1,15 +1,13 @@
 -- Attaching and detaching by the definitions, and what an engine stands for then.
-use Rattle.std.proofs.Common.{◌≡◌, ◌⊎◌, inl, inr, ℕ, ◌+◌, ◌≤◌, Bool, true, false, cond, not, List, [], ◌∷◌, ◌++◌, drop, All, Option, Some, None, arith, refl, sym, ap, subst, ◌∙◌}
-use Rattle.std.proofs.lemmas.List.Elements.{All-nil, All-weaker}
-use Rattle.std.proofs.lemmas.Option.{same_Some}
-use Rattle.sb_rule.specs.declared.action.Action.{Action}
+use Rattle.std.proofs.Common.{◌≡◌, ◌⊎◌, inl, inr, ℕ, ◌+◌, ◌≤◌, Bool, true, false, not, List, [], ◌∷◌, drop, Option, Some, None, arith, refl, sym, ap, subst, ◌∙◌}
+use Rattle.std.proofs.lemmas.List.Elements.{All-nil}
 use Rattle.sb_rule.specs.declared.rule.Rule.{Rule}
 use Rattle.sb_relation.specs.Build.{with_rule}
 use Rattle.sb_relation.specs.Db.{Name, Key, Rows, Attached, Db, rows_at}
 use Rattle.sb_relation.specs.Rules.{holds}
 use Rattle.sb_fold.specs.declared.refusal.Refusal.{Refusal}
 use Rattle.sb_fold.specs.declared.refusal.Refusal.TheVariants.{NoMemory, TooLong, Veto}
-use Rattle.sb_fold.specs.Building.{at_point, build, build_rows, built_point, detach, detach_one, has_long_row, leave, reach, reach_build, rule_at, with_gone, without_rule}
+use Rattle.sb_fold.specs.Building.{at_point, build, build_rows, detach, detach_one, has_long_row, reach_build, rule_at}
 use Rattle.sb_fold.specs.Extensions.{Extensions, box_of}
 use Rattle.sb_fold.specs.Outcome.{Gone, Going, Queue, Trail, Work, change_to, made, refuse, refuse_if, with_db, with_picks, ◌>>=◌, Leads}
 use Rattle.sb_fold.proofs.LeadsLemmas.{leads_change, leads_on, leads_refused}
@@ -23,7 +21,7 @@ use Rattle.sb_drive.specs.Slots.{Slots}
 use Rattle.sb_drive.specs.Spaces.{Wanted}
 use Rattle.sb_tables.specs.OpenRelation.{OpenRelation}
 use Rattle.sb_tables.specs.Work.{Work as Beside}
-use Rattle.sb_tables.specs.Working.{AreOpened, ArePaired, IsNoneGone, IsOpened, Stands, extensions_of, left_of}
+use Rattle.sb_tables.specs.Working.{AreOpened, ArePaired, IsNoneGone, IsOpened, Stands, extensions_of}
 use Rattle.sb_tables.specs.Keeping.{KeepsDb}
 
 -- ---- trails

@@ -1,5 +1,5 @@
 -- Contents that are built row by row.
-use Rattle.std.specs.Prelude.{◌≡◌, ℕ, Bool, true, false, List, [], ◌∷◌, ◌++◌, Some, None}
+use Rattle.std.specs.Prelude.{◌≡◌, Bool, true, false, [], ◌∷◌, ◌++◌, Some}
 use Rattle.std.specs.List.{list_any}
 use Rattle.sb_rule.specs.declared.change.Change.TheVariants.{Insert}
 use Rattle.sb_rule.specs.declared.rule.Rule.{Rule}

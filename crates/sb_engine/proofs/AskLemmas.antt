@@ -1,18 +1,16 @@
 -- What comes of an attachment that is asked, as the engine stands for it.
-use Rattle.std.proofs.Common.{◌≡◌, ℕ, zero, suc, ◌+◌, ◌<◌, ◌≤◌, Bool, true, false, cond, List, [], ◌∷◌, ◌++◌, length, map, All, T, Option, Some, None, option_map, IfSome, refl, sym, ap, ◌∙◌, subst, arith, ◌==◌}
-use Rattle.std.specs.List.{slice_get, flat_map, find}
-use Rattle.std.specs.FinMap.Entries.{is_sorted}
-use Rattle.std.proofs.lemmas.List.Elements.{All-append, All-head, All-tail, All-weaker}
+use Rattle.std.proofs.Common.{◌≡◌, ℕ, zero, suc, ◌+◌, ◌<◌, ◌≤◌, Bool, true, false, cond, List, [], ◌∷◌, ◌++◌, length, map, All, Option, Some, None, option_map, IfSome, refl, sym, ap, ◌∙◌, subst, arith, ◌==◌}
+use Rattle.std.specs.List.{slice_get}
+use Rattle.std.proofs.lemmas.List.Elements.{All-append, All-head, All-tail}
 use Rattle.std.proofs.lemmas.Option.{same_Some, slice_get-map, slice_get_past}
-use Rattle.sb_value.specs.Order.{bytes_cmp}
 use Rattle.sb_value.specs.declared.schema.Column.{Column}
 use Rattle.sb_value.specs.Fits.{Fits}
 use Rattle.sb_rule.specs.declared.action.Action.{Action}
 use Rattle.sb_rule.specs.declared.change.Change.{Change}
 use Rattle.sb_rule.specs.declared.change.Change.TheVariants as change
 use Rattle.sb_rule.specs.declared.rule.Rule.{Rule}
-use Rattle.sb_rule.specs.Bound.{FitsSchema, row_after, row_before}
-use Rattle.sb_rule.specs.Spelling.{SpellsRule, rule_code, rule_spelling}
+use Rattle.sb_rule.specs.Bound.{FitsSchema, row_after}
+use Rattle.sb_rule.specs.Spelling.{SpellsRule, rule_code}
 use Rattle.sb_relation.specs.Buckets.{grown}
 use Rattle.sb_relation.specs.Changes.{changed, changed_rows, with_change}
 use Rattle.sb_relation.specs.Db
@@ -27,9 +25,9 @@ use Rattle.std.specs.declared.alloc.Global.{Global}
 use Rattle.sb_fold.specs.Extensions.{box_of}
 use Rattle.sb_fold.specs.Fold.{attachments_at, queue_late, waiting_actions}
 use Rattle.sb_fold.specs.Outcome.{Going, Queue}
-use Rattle.sb_deferred.specs.Complete.{AreMirrored, IsComplete, IsChangeOf}
+use Rattle.sb_deferred.specs.Complete.{AreMirrored, IsChangeOf}
 use Rattle.sb_deferred.proofs.ChangeLemmas.{changed-complete, changed-mirrored}
-use Rattle.sb_cascade.specs.Fitting.{AllFit, AllMayStand, IsFitting}
+use Rattle.sb_cascade.specs.Fitting.{AllFit, IsFitting}
 use Rattle.sb_cascade.specs.Runs.{Admitted, IsVetoed}
 use Rattle.sb_cascade.proofs.Following.{all-waiting-fits, following-fits}
 use Rattle.sb_ctx.specs.declared.instance.Instance.{Instance}
@@ -44,13 +42,13 @@ use Rattle.sb_catalog.specs.declared.descriptor.Descriptor.{Descriptor}
 use Rattle.sb_catalog.specs.Descriptors.{IsStorableAttached, described, standing}
 use Rattle.sb_catalog.proofs.Parts.{one_rule}
 use Rattle.sb_standing.specs.Instances.{rule_instance}
-use Rattle.sb_standing.specs.Tables.{Kept, Tables, db_of, kept_at}
+use Rattle.sb_standing.specs.Tables.{Kept, db_of, kept_at}
 use Rattle.sb_standing.specs.Standing.{StandRules}
-use Rattle.sb_standing.specs.Asked.{Asks, change_kept, changed_kept}
+use Rattle.sb_standing.specs.Asked.{changed_kept}
 use Rattle.sb_standing.proofs.AskedLaws.{CanAsk-next}
 use Rattle.sb_standing.proofs.AskedLemmas.{Keeps-asked}
 use Rattle.sb_standing.proofs.KeptChangedLemmas.{db_of-changed, kept_at-with_changed, rising-before, with_changed}
-use Rattle.sb_standing.proofs.KeptLemmas.{kept_at-relation, relation_at-there}
+use Rattle.sb_standing.proofs.KeptLemmas.{kept_at-relation}
 use Rattle.sb_asking.specs.OpenRelation.{OpenRelation}
 use Rattle.sb_asking.specs.Opened.{IsDurable, IsOpen}
 use Rattle.sb_asking.specs.Verdicts.{Admits, IsNext, LeavesAsked, Situation}
@@ -58,9 +56,9 @@ use Rattle.sb_wishes.specs.Outcomes.{MayBeMade}
 use Rattle.sb_engine.specs.declared.running.Work.{Work}
 use Rattle.sb_engine.specs.Asking.{with_late}
 use Rattle.sb_engine.specs.Opening.{IsKeeping}
-use Rattle.sb_engine.specs.Working.{AreOpened, ArePaired, Stands, StandsAsking, extensions_of, left_of, open_at, queue_first}
+use Rattle.sb_engine.specs.Working.{AreOpened, ArePaired, Stands, StandsAsking, extensions_of, open_at, queue_first}
 use Rattle.sb_engine.proofs.LateLemmas.{left-late, queue_first-all, queue_first-more}
-use Rattle.sb_engine.proofs.OpenedLemmas.{HasOpen, has_open}
+use Rattle.sb_engine.proofs.OpenedLemmas.{has_open}
 use Rattle.sb_engine.proofs.PairedLemmas.{changed-paired}
 use Rattle.sb_engine.proofs.RowLemmas.{lasting-changed}
 use Rattle.sb_standing.proofs.StandLemmas.{StandRules-asks}

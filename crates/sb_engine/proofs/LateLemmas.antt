@@ -1,12 +1,12 @@
 -- What waits as attachments are asked one by one.
-use Rattle.std.proofs.Common.{◌≡◌, ℕ, zero, suc, ◌+◌, ◌<◌, ◌≤◌, Bool, cond, List, [], ◌∷◌, ◌++◌, length, map, take, drop, Option, Some, None, refl, sym, ap, ◌∙◌, subst, append_assoc, append-nil, length-append, get_or, arith}
+use Rattle.std.proofs.Common.{◌≡◌, ℕ, zero, suc, ◌+◌, ◌<◌, ◌≤◌, cond, List, [], ◌∷◌, ◌++◌, length, map, take, drop, Some, None, refl, sym, ap, ◌∙◌, append_assoc, append-nil, length-append, get_or, arith}
 use Rattle.std.specs.List.{flat_map, slice_get, list_any}
 use Rattle.std.proofs.lemmas.Option.{same_Some}
 use Rattle.sb_rule.specs.declared.action.Action.{Action}
 use Rattle.sb_rule.specs.declared.change.Change.{Change}
-use Rattle.sb_relation.specs.Db.{Name, Attached, Db}
+use Rattle.sb_relation.specs.Db.{Name, Attached}
 use Rattle.sb_relation.specs.Rules.{late_actions, late_checks}
-use Rattle.sb_fold.specs.Fold.{attachments_at, queue_late, waiting_actions, waiting_entries}
+use Rattle.sb_fold.specs.Fold.{attachments_at, queue_late}
 use Rattle.sb_fold.specs.Outcome.{Entry, Going, Queue, is_entry, with_waiting}
 use Rattle.sb_deferred.specs.Waiting.{IsFront, check_of, with_action, with_check}
 use Rattle.sb_drive.specs.Spaces.{LeadsOn}

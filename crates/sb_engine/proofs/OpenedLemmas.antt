@@ -1,6 +1,5 @@
 -- What an open relation tells of the pages that keep it.
-use Rattle.std.proofs.Common.{◌≡◌, ℕ, Bool, true, false, true≢false, cond, List, [], ◌∷◌, ◌++◌, map, filter, All, Option, Some, None, bytes_eq, refl, sym, ap, ◌∙◌, subst}
-use Rattle.std.specs.List.{find}
+use Rattle.std.proofs.Common.{◌≡◌, ℕ, Bool, true, false, cond, List, [], ◌∷◌, map, filter, All, Option, Some, None, bytes_eq, refl, sym, ap, ◌∙◌, subst}
 use Rattle.std.proofs.lemmas.List.Elements.{All-head, All-tail}
 use Rattle.std.proofs.lemmas.Option.{same_Some}
 use Rattle.sb_value.specs.declared.schema.Column.{Column}
@@ -21,7 +20,7 @@ use Rattle.sb_standing.specs.Instances.{table_instance}
 use Rattle.sb_standing.specs.Tables.{Kept, KeepsTable, Tables, db_of, kept_at, table_of}
 use Rattle.sb_standing.proofs.KeptLemmas.{kept_at-all, kept_at-name, relation_at-there}
 use Rattle.sb_asking.specs.OpenRelation.{OpenRelation}
-use Rattle.sb_asking.specs.Opened.{IsDurable, IsOpen}
+use Rattle.sb_asking.specs.Opened.{IsDurable}
 use Rattle.sb_engine.specs.Working.{AreOpened, IsOpened, open_at}
 
 -- ---- the open relation of a name

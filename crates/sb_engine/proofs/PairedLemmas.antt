@@ -1,5 +1,5 @@
 -- Mirrors have their main instances after a change of a relation's rows.
-use Rattle.std.proofs.Common.{◌≡◌, ℕ, Bool, true, false, cond, List, [], ◌∷◌, map, All, Option, Some, None, option_map, bytes_eq, refl, sym, ap, ◌∙◌, subst}
+use Rattle.std.proofs.Common.{◌≡◌, Bool, true, false, cond, List, [], ◌∷◌, map, All, Option, Some, None, option_map, bytes_eq, refl, sym, ap, ◌∙◌, subst}
 use Rattle.std.specs.List.{find}
 use Rattle.std.proofs.lemmas.List.Elements.{All-map, All-weaker}
 use Rattle.std.proofs.lemmas.Option.{same_Some}
@@ -13,7 +13,7 @@ use Rattle.sb_fold.specs.Building.{rule_at}
 use Rattle.sb_fold.specs.Fold.{attachments_at}
 use Rattle.sb_cascade.proofs.Staying.{after_put, changed_in}
 use Rattle.sb_standing.proofs.FrameLemmas.{All-unmap}
-use Rattle.sb_engine.specs.Working.{ArePaired, HasMain, HasMainOf}
+use Rattle.sb_engine.specs.Working.{ArePaired, HasMainOf}
 
 -- ---- names and rules
 abbrev head : Attached → Name × Rule

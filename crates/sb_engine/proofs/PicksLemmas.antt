@@ -1,5 +1,5 @@
 -- Which record keys a change takes of the picks.
-use Rattle.std.proofs.Common.{◌≡◌, ℕ, Bool, true, false, cond, List, [], ◌∷◌, ◌++◌, Option, Some, None, refl, sym, ap, ◌∙◌, subst, append-nil}
+use Rattle.std.proofs.Common.{◌≡◌, Bool, true, false, cond, List, [], ◌∷◌, ◌++◌, Option, Some, None, refl, sym, ap, ◌∙◌, subst, append-nil}
 use Rattle.std.specs.Prelude.{ℤ, ◌+ℤ◌}
 use Rattle.sb_value.specs.declared.value.Value.{Value}
 use Rattle.sb_value.specs.declared.value.Value.TheVariants.{Int, Text}
@@ -14,7 +14,7 @@ use Rattle.sb_fold.specs.declared.refusal.Refusal.TheVariants.{Range, TooLong}
 use Rattle.sb_fold.specs.Outcome.{Going, Outcome, Gives, Stopped, NoStep, Work, made, refuse, no_step, continue, refuse_if, ◌>>=◌, with_picks, Leads}
 use Rattle.sb_fold.specs.Wishes.{Wish, Put, Remove, Replace, Raise, Edit, Adds, Takes, Turns, found, raised, edit_of, is_i64, is_long_edit, change_of, pick, take_key, key_for, wished, with_value}
 use Rattle.sb_cascade.specs.Runs.{is_free}
-use Rattle.sb_engine.specs.Picks.{keys_got, picked_by, picks_of}
+use Rattle.sb_engine.specs.Picks.{picked_by, picks_of}
 
 -- what is so of what work gives
 abbrev IfGives : {A : Type 0} → (A → Going → Type 0) → Outcome A → Type 0

@@ -1,24 +1,21 @@
 -- A change of one row, as the engine makes it.
-use Rattle.std.proofs.Common.{◌≡◌, ℕ, ◌+◌, Bool, true, false, List, [], ◌∷◌, ◌++◌, map, All, T, Option, Some, None, option_map, refl, sym, ap, ◌∙◌, subst}
+use Rattle.std.proofs.Common.{◌≡◌, ℕ, Bool, false, List, [], ◌∷◌, ◌++◌, map, All, Option, Some, None, option_map, refl, sym, ap, ◌∙◌, subst}
 use Rattle.std.proofs.lemmas.List.Elements.{All-weaker}
 use Rattle.std.specs.declared.vec.Vec.{Vec}
 use Rattle.std.specs.declared.alloc.Global.{Global}
-use Rattle.std.specs.FinMap.Entries.{is_sorted}
-use Rattle.sb_value.specs.Order.{bytes_cmp}
-use Rattle.sb_rule.specs.declared.action.Action.{Action}
 use Rattle.sb_rule.specs.declared.change.Change.{Change}
 use Rattle.sb_relation.specs.Changes.{changed, changed_rows}
 use Rattle.sb_relation.specs.Db
 use Rattle.sb_relation.specs.Db.{Name, Key, Relation, Db, relation_at}
-use Rattle.sb_relation.specs.Keys.{Counted, keying_of}
+use Rattle.sb_relation.specs.Keys.{keying_of}
 use Rattle.sb_fold.specs.declared.refusal.Refusal.{Refusal}
 use Rattle.sb_fold.specs.Extensions.{Extensions, box_of}
 use Rattle.sb_fold.specs.Fold.{reach_change}
-use Rattle.sb_fold.specs.Outcome.{Going, Trail, Work, made, refuse, change_to, ◌>>=◌, with_picks, Leads}
+use Rattle.sb_fold.specs.Outcome.{Going, Trail, made, refuse, change_to, ◌>>=◌, with_picks, Leads}
 use Rattle.sb_fold.specs.Wishes.{Wish, wished}
 use Rattle.sb_fold.proofs.LeadsLemmas.{leads_change, leads_from, leads_here, leads_on, leads_refused}
 use Rattle.sb_deferred.specs.Complete.{AreMirrored, IsComplete}
-use Rattle.sb_cascade.specs.Fitting.{AllFit, AllMayStand, IsFitting}
+use Rattle.sb_cascade.specs.Fitting.{IsFitting}
 use Rattle.sb_cascade.specs.Runs.{EndsBy, MadeFrom, StopsFrom, is_free, row_change, row_of_relation}
 use Rattle.sb_cascade.proofs.Forward.{IsForward, forward_at, forward_made, forward_next, forward_no_step, forward_reach, forward_wished}
 use Rattle.sb_cascade.proofs.Staying.{actions-stay, rules-stay}
@@ -30,9 +27,8 @@ use Rattle.sb_standing.specs.Live.{HasRows, LeavesRows}
 use Rattle.sb_catalog.specs.declared.descriptor.Attached.{Attached}
 use Rattle.sb_catalog.specs.declared.descriptor.Descriptor.{Descriptor}
 use Rattle.sb_catalog.specs.Descriptors.{described, standing}
-use Rattle.sb_standing.specs.Tables.{Kept, db_of, kept_at, table_of}
-use Rattle.sb_standing.specs.Asked.{Asks, change_kept, changed_kept}
-use Rattle.sb_standing.specs.AskedLaws.{HasPut}
+use Rattle.sb_standing.specs.Tables.{Kept, table_of}
+use Rattle.sb_standing.specs.Asked.{change_kept, changed_kept}
 use Rattle.sb_standing.proofs.AskedLaws.{Asks-put}
 use Rattle.sb_standing.proofs.FrameLemmas.{All-unmap}
 use Rattle.sb_standing.proofs.KeptChangedLemmas.{change_kept-same, db_of-changed, descriptors-changed, kept_at-changed}
@@ -44,7 +40,7 @@ use Rattle.sb_wishes.specs.Outcomes.{Makes, Refuses}
 use Rattle.sb_wishes.specs.Wished.{HasCounts, IsTableOf}
 use Rattle.sb_engine.specs.declared.running.Work.{Work as Kept_work}
 use Rattle.sb_engine.specs.Picks.{picks_of}
-use Rattle.sb_engine.specs.Working.{AreLasting, AreOpened, ArePaired, IsLasting, IsOpened, Stands, StandsAsking, extensions_of, left_of, open_at}
+use Rattle.sb_engine.specs.Working.{AreLasting, AreOpened, ArePaired, IsLasting, IsOpened, Stands, StandsAsking, extensions_of, open_at}
 use Rattle.sb_engine.proofs.LateLemmas.{queue_first-none}
 use Rattle.sb_engine.proofs.OpenedLemmas.{HasOpen, has_open}
 use Rattle.sb_engine.proofs.PicksLemmas.{leads-picks, leads-quiet}

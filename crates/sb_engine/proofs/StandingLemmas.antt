@@ -1,5 +1,5 @@
 -- What an engine stands for as it only looks.
-use Rattle.std.proofs.Common.{◌≡◌, ℕ, suc, arith, ◌+◌, ◌≤◌, List, ◌∷◌, ◌++◌, length, drop, All, Option, Some, refl, sym, ap, ◌∙◌, subst}
+use Rattle.std.proofs.Common.{◌≡◌, ℕ, suc, arith, ◌+◌, List, ◌∷◌, drop, Some, sym, ap, ◌∙◌, subst}
 use Rattle.std.specs.List.{slice_get}
 use Rattle.std.specs.declared.vec.Vec.{Vec}
 use Rattle.std.specs.declared.alloc.Global.{Global}
@@ -8,7 +8,6 @@ use Rattle.sb_rule.specs.declared.action.Action.{Action}
 use Rattle.sb_relation.specs.Db.{Db}
 use Rattle.sb_fold.specs.Finish.{with_actions}
 use Rattle.sb_fold.specs.Outcome.{Going, Queue}
-use Rattle.sb_deferred.specs.Complete.{IsComplete}
 use Rattle.sb_cascade.specs.Fitting.{AllFit, IsFitting}
 use Rattle.sb_registry.specs.Boxes.{Meanings}
 use Rattle.sb_drive.specs.Slots.{Slots}
@@ -19,7 +18,7 @@ use Rattle.sb_asking.specs.OpenRelation.{OpenRelation}
 use Rattle.sb_asking.specs.Opened.{IsDurable}
 use Rattle.sb_engine.specs.declared.running.Work.{Work}
 use Rattle.sb_engine.specs.Opening.{IsKeeping}
-use Rattle.sb_engine.specs.Working.{AreOpened, Stands, left_of}
+use Rattle.sb_engine.specs.Working.{AreOpened, Stands}
 use Rattle.sb_engine.proofs.LateLemmas.{drop_first}
 use Rattle.sb_standing.proofs.StandLemmas.{StandRules-keeps}
 

@@ -1,7 +1,7 @@
 -- What no call changes, and what stays so with it.
-use Rattle.std.specs.Prelude.{◌≡◌, ℕ, ◌+◌, Bool, true, false, cond, List, [], ◌∷◌, ◌++◌, Option, Some, None, is_some, bytes_eq}
-use Rattle.std.proofs.Common.{true≢false, refl, sym, ap, ◌∙◌, subst, append_assoc, append-nil}
-use Rattle.std.specs.List.{find, flat_map}
+use Rattle.std.specs.Prelude.{◌≡◌, ℕ, ◌+◌, Bool, true, false, cond, List, [], ◌∷◌, ◌++◌, Option, Some, is_some, bytes_eq}
+use Rattle.std.proofs.Common.{true≢false, refl, sym, ap, ◌∙◌, append_assoc, append-nil}
+use Rattle.std.specs.List.{flat_map}
 use Rattle.sb_pred.specs.declared.predicate.Term.{Term}
 use Rattle.sb_rule.specs.declared.action.Action.{Action}
 use Rattle.sb_rule.specs.declared.action.Action.TheVariants as action

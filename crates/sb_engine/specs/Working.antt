@@ -1,5 +1,5 @@
 -- What an engine at work on a transaction stands for.
-use Rattle.std.specs.Prelude.{◌≡◌, ℕ, ◌≤◌, List, [], ◌∷◌, ◌++◌, length, map, drop, take, All, Option, Some, None, bytes_eq}
+use Rattle.std.specs.Prelude.{◌≡◌, ℕ, ◌≤◌, List, [], ◌++◌, length, map, drop, take, All, Option, Some, None, bytes_eq}
 use Rattle.std.specs.List.{find, flat_map}
 use Rattle.sb_pred.specs.Typing.{term_kind}
 use Rattle.std.specs.Prelude.{true, false}
@@ -13,7 +13,7 @@ use Rattle.sb_relation.specs.Rules.{late_actions, late_checks}
 use Rattle.sb_fold.specs.Building.{rule_at}
 use Rattle.sb_fold.specs.Extensions.{Extensions, box_of}
 use Rattle.sb_fold.specs.Fold.{attachments_at}
-use Rattle.sb_fold.specs.Outcome.{Entry, Going, Gone, Queue, Trail, with_waiting}
+use Rattle.sb_fold.specs.Outcome.{Going, Gone, Queue, Trail, with_waiting}
 use Rattle.sb_fold.specs.Wishes.{Wish}
 use Rattle.sb_deferred.specs.Complete.{AreMirrored, IsComplete}
 use Rattle.sb_deferred.specs.Waiting.{check_of, IsFront}

@@ -1,6 +1,6 @@
 -- Names of relations that are read one after the other, as rows without values.
-use Rattle.std.proofs.Common.{◌≡◌, ℕ, ◌+◌, ◌-◌, Bool, true, false, ◌&&◌, cond, T, List, [], ◌∷◌, ◌++◌, length, length-append, map, Option, Some, None, option_map, is_lt, arith, refl, sym, ap, subst, ◌∙◌}
-use Rattle.std.specs.List.{filter, find, slice_get}
+use Rattle.std.proofs.Common.{◌≡◌, ℕ, ◌-◌, Bool, true, false, ◌&&◌, cond, T, List, [], ◌∷◌, ◌++◌, length, length-append, map, Option, Some, None, option_map, is_lt, arith, refl, sym, ap, subst, ◌∙◌}
+use Rattle.std.specs.List.{slice_get}
 use Rattle.std.specs.FinMap.Entries.{below_all, is_sorted}
 use Rattle.sb_value.specs.Order.{bytes_cmp}
 use Rattle.sb_relation.specs.Db.{Key, Name, Row, Rows}

@@ -1,12 +1,12 @@
 -- How the work of a command goes on from that of a fold to its answer.
-use Rattle.std.proofs.Common.{◌≡◌, ℕ, List, [], ◌++◌, Option, Some, None, Result, Ok, Err, IfOk, refl, sym, ap, ◌∙◌, subst}
+use Rattle.std.proofs.Common.{◌≡◌, ℕ, Option, Some, None, Result, Ok, Err, IfOk, refl, sym, ap, ◌∙◌, subst}
 use Rattle.sb_relation.specs.Db.{Name, Key, Relation, Db, relation_at}
 use Rattle.sb_relation.specs.Keys.{keying_of}
 use Rattle.sb_fold.specs.declared.refusal.Refusal.{Refusal}
 use Rattle.sb_fold.specs.declared.refusal.Refusal.TheVariants.{NoMemory}
 use Rattle.sb_fold.specs.Extensions.{Extensions}
 use Rattle.sb_fold.specs.Fold.{first_change}
-use Rattle.sb_fold.specs.Outcome.{Trail, Going, Outcome, Gives, Work, made, ◌>>=◌, with_picks}
+use Rattle.sb_fold.specs.Outcome.{Trail, Going, Gives, Work, made, ◌>>=◌, with_picks}
 use Rattle.sb_fold.specs.Wishes.{Wish}
 use Rattle.sb_cascade.specs.Runs.{MadeFrom, StopsFrom}
 use Rattle.sb_cascade.proofs.Forward.{IsForward, forward_at, forward_made, forward_next, forward_within}

@@ -1,5 +1,5 @@
 -- What a command's work on an engine comes to.
-use Rattle.std.specs.Prelude.{◌≡◌, IfSome}
+use Rattle.std.specs.Prelude.{IfSome}
 use Rattle.sb_fold.specs.declared.refusal.Refusal.{Refusal}
 use Rattle.sb_fold.specs.Outcome.{Going}
 use Rattle.sb_fold.specs.Wishes.{Put, Remove, Replace}

@@ -1,4 +1,4 @@
-use Rattle.std.proofs.Common.{◌≡◌, [], append-nil, refl, sym, subst}
+use Rattle.std.proofs.Common.{[], append-nil, refl, sym, subst}
 use Rattle.sb_fold.specs.declared.refusal.Refusal.TheVariants.{TooLong as LongRow, Veto}
 use Rattle.sb_fold.specs.Building.{build}
 use Rattle.sb_cascade.proofs.Stopping.{stops_free}

@@ -1,18 +1,15 @@
-use Rattle.std.proofs.Common.{◌≡◌, ◌∙◌, ◌^◌, true, false, List, Option, Some, None, IfSome, arith, sym, ap, subst}
+use Rattle.std.proofs.Common.{◌∙◌, List, Option, IfSome, arith, sym, ap, subst}
 use Rattle.sb_value.specs.declared.schema.Column.{Column}
 use Rattle.sb_rule.specs.Spelling.{SpellsRule}
 use Rattle.sb_relation.specs.Db.{Key, Row}
 use Rattle.sb_relation.specs.Lawful.{IsRow, is_long_for}
 use Rattle.sb_ctx.specs.declared.instance.Instance.{Instance}
 use Rattle.sb_ctx.specs.MethodAnswers.{IsRowOf}
-use Rattle.sb_drive.specs.Spaces.{Leaves}
 use Rattle.sb_drive.proofs.SpacesLemmas.{IfErr-passed}
 use Rattle.sb_rows.specs.Live.{HasRows}
-use Rattle.sb_standing.specs.Tables.{db_of}
 use Rattle.sb_tables.proofs.RefusedLemmas.{refused_cause}
-use Rattle.sb_building.specs.Building.{IsBuilt}
 use Rattle.sb_building.proofs.BuildLemmas.{building-all, building-few, building-later, building-next, building-none, building-vetoed, next_of, not_long, rows_of_it}
-use Rattle.sb_building.proofs.CallLemmas.{leads_later, leads_then}
+use Rattle.sb_building.proofs.CallLemmas.{leads_then}
 use Rattle.sb_building.proofs.SiteLemmas.{MayHold-row}
 use Rattle.sb_building.proofs.building.build_rows.Goals as goal
 

@@ -1,4 +1,4 @@
-use Rattle.std.proofs.Common.{◌≡◌, ◌++◌, sym, ◌∙◌, subst, arith}
+use Rattle.std.proofs.Common.{◌≡◌, sym, ◌∙◌, subst, arith}
 use Rattle.sb_fold.specs.Outcome.{Queue}
 use Rattle.sb_deferred.specs.Waiting.{IsFront}
 use Rattle.sb_deferred.proofs.FrontLemmas.{IsFront-action}

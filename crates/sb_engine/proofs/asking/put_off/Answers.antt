@@ -1,7 +1,3 @@
-use Rattle.std.proofs.Common.{◌≡◌, ◌++◌, List, sym, ap, ◌∙◌, append-nil}
-use Rattle.sb_rule.specs.declared.action.Action.{Action}
-use Rattle.sb_fold.specs.Outcome.{Queue}
-use Rattle.sb_engine.specs.Asking.{with_late}
 use Rattle.sb_engine.specs.Goings.{front_then}
 use Rattle.sb_engine.proofs.asking.put_off.Goals as goal
 

@@ -1,13 +1,13 @@
-use Rattle.std.proofs.Common.{◌≡◌, Bool, true, false, true≢false, List, Option, Some, None, Bor, is_some, sym, ap, ◌∙◌}
+use Rattle.std.proofs.Common.{◌≡◌, true≢false, List, Option, Some, None, Bor, is_some, sym, ap, ◌∙◌}
 use Rattle.std.specs.Option.{option_copied}
 use Rattle.sb_drive.proofs.SpacesLemmas.{IfErr-passed}
-use Rattle.sb_relation.specs.Db.{Name, Relation, relation_at}
+use Rattle.sb_relation.specs.Db.{Name}
 use Rattle.sb_relation.specs.Fits.{relation_of}
 use Rattle.sb_standing.specs.Tables.{db_of, kept_at}
 use Rattle.sb_asking.specs.OpenRelation.{OpenRelation}
 use Rattle.sb_engine.specs.Working.{open_at}
 use Rattle.sb_engine.proofs.OpenedLemmas.{has_open, schema_there}
-use Rattle.sb_engine.proofs.OpeningLemmas.{copied_some, fits_test, fitting_kept, may_do}
+use Rattle.sb_engine.proofs.OpeningLemmas.{fits_test, fitting_kept, may_do}
 use Rattle.sb_engine.proofs.fitting.prepare.Goals as goal
 
 pub returns-in_err-open_named-clause-undamaged : goal.returns-in_err-open_named-clause-undamaged

@@ -1,4 +1,4 @@
-use Rattle.std.proofs.Common.{◌≡◌, ℕ, ◌+◌, ◌<◌, List, All, Err, get_or, sym, subst, arith}
+use Rattle.std.proofs.Common.{ℕ, Err, get_or, sym, subst, arith}
 use borrow.Author.Count.{below_more}
 use Rattle.sb_rule.specs.declared.action.Action.{Action}
 use Rattle.sb_standing.proofs.CallsLemmas.{Looks-later, Looks-passed}

@@ -1,4 +1,4 @@
-use Rattle.std.proofs.Common.{◌≡◌, ℕ, ◌<◌, List, All, get_or}
+use Rattle.std.proofs.Common.{ℕ, ◌<◌, List, All, get_or}
 use Rattle.sb_rule.specs.declared.action.Action.{Action}
 use Rattle.sb_drive.specs.Slots.{Slots}
 use Rattle.sb_drive.specs.Spaces.{Wanted}

@@ -2,7 +2,7 @@ use Rattle.std.proofs.Common.{◌≡◌, List, Option, Some, Bor, map, filter, s
 use Rattle.std.specs.Option.{option_copied}
 use Rattle.sb_drive.proofs.SpacesLemmas.{IfErr-passed}
 use Rattle.sb_pred.specs.declared.predicate.Term.{Term}
-use Rattle.sb_relation.specs.Db.{Name, Key}
+use Rattle.sb_relation.specs.Db.{Name}
 use Rattle.sb_relation.specs.Fits.{relation_of}
 use Rattle.sb_fold.specs.Wishes.{is_match}
 use Rattle.sb_standing.specs.Tables.{db_of}

@@ -1,4 +1,4 @@
-use Rattle.std.proofs.Common.{◌≡◌, List, Option, Some, None, Bor, IfSome, sym, ap, ◌∙◌, subst}
+use Rattle.std.proofs.Common.{◌≡◌, List, Option, Some, Bor, IfSome, sym, ap, ◌∙◌, subst}
 use Rattle.std.specs.Option.{option_copied}
 use Rattle.std.proofs.lemmas.Option.{same_Some}
 use Rattle.sb_value.specs.declared.schema.Column.{Column}
@@ -9,8 +9,6 @@ use Rattle.sb_relation.specs.Db.{Name, Row}
 use Rattle.sb_relation.specs.Fits.{relation_of}
 use Rattle.sb_relation.specs.Lawful.{IsRow}
 use Rattle.sb_fold.specs.Fold.{wish_for}
-use Rattle.sb_fold.specs.Wishes.{Wish}
-use Rattle.sb_cascade.specs.Wishes.{wish_of}
 use Rattle.sb_standing.specs.Tables.{db_of}
 use Rattle.sb_asking.specs.OpenRelation.{OpenRelation}
 use Rattle.sb_asking.specs.Opened.{IsOpen}

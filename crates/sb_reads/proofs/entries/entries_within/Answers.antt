@@ -1,7 +1,7 @@
-use Rattle.std.proofs.Common.{◌≡◌, ◌∙◌, List, [], length, true, false, true≢false, is_some, Option, Some, None, Ok, Err, Bor, option_map, option_copied, refl, sym, ap, subst, arith}
+use Rattle.std.proofs.Common.{◌∙◌, Ok, sym}
 use Rattle.sb_drive.proofs.SpacesLemmas.{IfErr-passed}
 use Rattle.sb_drive.specs.Slots.{owned}
-use Rattle.sb_rows.proofs.CallsLemmas.{Looks-damaged, Looks-later, Looks-made, Looks-no_memory, Looks-passed}
+use Rattle.sb_rows.proofs.CallsLemmas.{Looks-later, Looks-made, Looks-no_memory}
 use Rattle.sb_reads.proofs.EntriesLemmas.{IsRead-beyond, IsRead-end, IsRead-next, IsRead-none}
 use Rattle.sb_reads.proofs.entries.entries_within.Goals as goal
 

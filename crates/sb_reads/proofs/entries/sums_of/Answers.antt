@@ -1,4 +1,4 @@
-use Rattle.std.proofs.Common.{◌≡◌, ◌∙◌, List, [], length, true, false, true≢false, is_some, Option, Some, None, Ok, Err, Bor, option_map, option_copied, refl, sym, ap, subst, arith}
+use Rattle.std.proofs.Common.{◌∙◌}
 use Rattle.sb_drive.proofs.SpacesLemmas.{IfErr-passed}
 use Rattle.sb_drive.specs.Slots.{owned}
 use Rattle.sb_reads.proofs.StoresLemmas.{Holds-live, IsSums-final, sums-answered}

@@ -1,4 +1,4 @@
-use Rattle.std.proofs.Common.{◌≡◌, ◌∙◌, List, [], length, true, false, true≢false, is_some, Option, Some, None, Ok, Err, Bor, option_map, option_copied, refl, sym, ap, subst, arith}
+use Rattle.std.proofs.Common.{◌∙◌, true≢false, is_some, Option, Bor, option_copied, sym, ap}
 use Rattle.sb_drive.proofs.SpacesLemmas.{IfErr-passed}
 use Rattle.sb_ctx.specs.declared.instance.Instance.{Instance}
 use Rattle.sb_registry.specs.Live.{IsLiveRule}

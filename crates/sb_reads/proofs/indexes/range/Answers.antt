@@ -1,10 +1,9 @@
-use Rattle.std.proofs.Common.{◌≡◌, ◌∙◌, List, [], length, true, false, true≢false, is_some, Option, Some, None, Ok, Err, Bor, option_map, option_copied, refl, sym, ap, subst, arith}
+use Rattle.std.proofs.Common.{◌∙◌, true≢false, Option, Some, Ok, Err, Bor, option_copied, sym, ap}
 use Rattle.std.specs.List.{filter, filter_map}
 use Rattle.sb_drive.proofs.SpacesLemmas.{IfErr-passed}
-use Rattle.sb_rows.proofs.CallsLemmas.{Looks-damaged, Looks-later, Looks-made, Looks-no_memory, Looks-passed}
+use Rattle.sb_rows.proofs.CallsLemmas.{Looks-later, Looks-made, Looks-passed}
 use Rattle.sb_ctx.specs.declared.instance.Instance.{Instance}
 use Rattle.sb_registry.specs.Live.{IsLiveRule}
-use Rattle.sb_plain.specs.declared.reply.Reply.TheVariants.{Rows as Rowed}
 use Rattle.sb_plain.specs.Refusing.{is_range}
 use Rattle.sb_standing.specs.Tables.{db_of}
 use Rattle.sb_reads.specs.Entries.{is_within}

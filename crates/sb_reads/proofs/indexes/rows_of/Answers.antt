@@ -1,4 +1,4 @@
-use Rattle.std.proofs.Common.{◌≡◌, ◌∙◌, List, [], length, true, false, true≢false, is_some, Option, Some, None, Ok, Err, Bor, option_map, option_copied, refl, sym, ap, subst, arith}
+use Rattle.std.proofs.Common.{◌∙◌, [], Option, Err, option_map, sym, ap}
 use Rattle.std.proofs.Common.{◌∷◌, ◌++◌, take}
 use Rattle.std.specs.List.{cons_option, filter_map}
 use Rattle.std.proofs.lemmas.List.{take_all, take_more}
@@ -6,7 +6,7 @@ use Rattle.sb_relation.specs.Db.{Row}
 use Rattle.sb_relation.specs.Images.{Entry}
 use Rattle.sb_reads.specs.Reads.{row_of}
 use Rattle.sb_drive.proofs.SpacesLemmas.{IfErr-passed}
-use Rattle.sb_rows.proofs.CallsLemmas.{Looks-damaged, Looks-later, Looks-made, Looks-no_memory, Looks-passed}
+use Rattle.sb_rows.proofs.CallsLemmas.{Looks-later, Looks-no_memory, Looks-passed}
 use Rattle.sb_reads.proofs.RowsLemmas.{rows_more}
 use Rattle.sb_reads.proofs.indexes.rows_of.Goals as goal
 

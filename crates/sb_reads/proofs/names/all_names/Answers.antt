@@ -1,11 +1,10 @@
-use Rattle.std.proofs.Common.{◌≡◌, ◌∙◌, List, [], length, ◌-◌, true, false, true≢false, is_some, Option, Some, None, Ok, Err, Bor, option_map, option_copied, refl, sym, ap, subst, arith}
+use Rattle.std.proofs.Common.{◌∙◌, List, length, ◌-◌, Option, Ok, Err, option_map, sym, ap}
 use Rattle.std.specs.List.{slice_get}
 use Rattle.sb_drive.proofs.SpacesLemmas.{IfErr-passed}
-use Rattle.sb_rows.proofs.CallsLemmas.{Looks-damaged, Looks-later, Looks-made, Looks-no_memory, Looks-passed}
+use Rattle.sb_rows.proofs.CallsLemmas.{Looks-later, Looks-made, Looks-no_memory, Looks-passed}
 use Rattle.sb_relation.specs.Db.{Name}
 use Rattle.sb_standing.specs.Tables.{first_above}
 use Rattle.sb_standing.proofs.StandLemmas.{StandRules-keeps}
-use Rattle.sb_asking.specs.OpenRelation.{OpenRelation}
 use Rattle.sb_asking.specs.Opened.{IsDurable, header_of, kept_header}
 use Rattle.sb_reads.proofs.NamesLemmas.{AreNamed-all, AreNamed-next}
 use Rattle.sb_reads.proofs.names.all_names.Goals as goal

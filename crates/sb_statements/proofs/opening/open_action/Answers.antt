@@ -1,4 +1,4 @@
-use Rattle.std.proofs.Common.{◌≡◌, [], append-nil, refl, sym}
+use Rattle.std.proofs.Common.{[], append-nil, refl, sym}
 use Rattle.sb_building.specs.Goings.{front_none}
 use Rattle.sb_building.proofs.RefusedLemmas.{free_refusal, refused_cause}
 use Rattle.sb_building.proofs.StandingLemmas.{keeping_of, rules_of}

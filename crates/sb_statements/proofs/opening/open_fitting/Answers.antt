@@ -1,8 +1,8 @@
-use Rattle.std.proofs.Common.{◌≡◌, Bool, true, false, true≢false, List, Option, Some, None, Bor, is_some, sym, ap, ◌∙◌}
+use Rattle.std.proofs.Common.{◌≡◌, true≢false, List, Option, Some, None, Bor, is_some, sym, ap, ◌∙◌}
 use Rattle.std.specs.Option.{option_copied}
 use Rattle.sb_cascade.specs.Wishes.{wish_of}
 use Rattle.sb_drive.proofs.SpacesLemmas.{IfErr-passed}
-use Rattle.sb_building.specs.Tables.{db_of, kept_at}
+use Rattle.sb_building.specs.Tables.{db_of}
 use Rattle.sb_building.specs.OpenRelation.{OpenRelation}
 use Rattle.sb_building.specs.Working.{open_at}
 use Rattle.sb_building.proofs.OpenedLemmas.{has_open, schema_there}

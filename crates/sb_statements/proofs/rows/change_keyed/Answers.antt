@@ -1,4 +1,4 @@
-use Rattle.std.proofs.Common.{◌≡◌, List, Option, is_some, ap, sym, ◌∙◌, subst}
+use Rattle.std.proofs.Common.{List, is_some, ap, sym, ◌∙◌, subst}
 use Rattle.sb_relation.specs.Db.{Db}
 use Rattle.sb_fold.specs.Fold.{first_change}
 use Rattle.sb_cascade.specs.Wishes.{wish_of}

@@ -1,4 +1,3 @@
-use Rattle.std.proofs.Common.{◌≡◌}
 use Rattle.sb_fold.specs.Fold.{first_change}
 use Rattle.sb_cascade.specs.Wishes.{wish_of}
 use Rattle.sb_building.specs.Working.{IsStoppedBy, StandsFor, extensions_in}

@@ -1,5 +1,5 @@
-use Rattle.std.proofs.Common.{◌≡◌, IfErr, IfOk, subst}
-use Rattle.sb_relation.specs.Db.{Key, Row}
+use Rattle.std.proofs.Common.{IfErr, IfOk, subst}
+use Rattle.sb_relation.specs.Db.{Key}
 use Rattle.sb_fold.specs.Fold.{first_change}
 use Rattle.sb_fold.specs.Wishes.{Remove}
 use Rattle.sb_cascade.proofs.Forward.{forward_within}

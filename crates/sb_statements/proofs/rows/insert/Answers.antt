@@ -1,8 +1,6 @@
-use Rattle.std.proofs.Common.{◌≡◌, IfErr, IfOk, subst}
-use Rattle.sb_relation.specs.Db.{Key, Row}
-use Rattle.sb_fold.specs.Fold.{first_change}
+use Rattle.std.proofs.Common.{IfErr, IfOk, subst}
+use Rattle.sb_relation.specs.Db.{Row}
 use Rattle.sb_fold.specs.Wishes.{Put}
-use Rattle.sb_cascade.proofs.Forward.{forward_within}
 use Rattle.sb_building.specs.Goings.{goes_none}
 use Rattle.sb_building.specs.Working.{IsStoppedBy, extensions_in}
 use Rattle.sb_plain.specs.declared.command.Command.TheVariants as command

@@ -1,4 +1,4 @@
-use Rattle.std.proofs.Common.{◌≡◌, IfErr, IfOk, sym, subst}
+use Rattle.std.proofs.Common.{IfErr, IfOk, sym, subst}
 use Rattle.sb_plain.specs.declared.command.Command.{Command}
 use Rattle.sb_statements.specs.Statements.{IsDone, IsStopped, answer_of}
 use Rattle.sb_statements.proofs.statements.work.Goals as goal

@@ -1,4 +1,3 @@
-use Rattle.std.proofs.Common.{◌≡◌}
 use Rattle.sb_fold.specs.Building.{create}
 use Rattle.sb_building.specs.Working.{IsStoppedBy, StandsFor, extensions_in}
 use Rattle.sb_plain.specs.Step.{Plain}

@@ -1,4 +1,4 @@
-use Rattle.std.proofs.Common.{◌≡◌, List, [], All, append-nil, refl, sym, ap, ◌∙◌, subst}
+use Rattle.std.proofs.Common.{List, [], All, append-nil, refl, sym, ap, ◌∙◌, subst}
 use Rattle.sb_relation.specs.Db.{Db}
 use Rattle.sb_asking.specs.OpenRelation.{OpenRelation}
 use Rattle.sb_asking.specs.Opened.{IsOpen}
