@@ -27,7 +27,7 @@ pub fn finish<L: Layer>(layer: &mut L, alloc: Global) -> Result<(), Refusal>
     ensures leads { L.leads layer.old layer.new }
     ensures ready { L.is_ready layer.new }
 
-    // Where no action waits it only reads.
+    // Where no action waits no room is wanting.
     ensures room { IfErr result (λ r. (g : Going) → L.stands g layer.old → g.queue.actions ≡ [] → is_room r ≡ false) }
 {
     drain(layer, alloc, MOST_WAITING)?;
@@ -46,7 +46,7 @@ fn drain<L: Layer>(layer: &mut L, alloc: Global, most: u32) -> Result<(), Refusa
     ensures leads { L.leads layer.old layer.new }
     ensures ready { L.is_ready layer.new }
 
-    // Where no action waits it only reads.
+    // Where no action waits no room is wanting.
     ensures room { IfErr result (λ r. (g : Going) → L.stands g layer.old → g.queue.actions ≡ [] → is_room r ≡ false) }
 {
     let mut left = most;

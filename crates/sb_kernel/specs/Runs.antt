@@ -35,8 +35,8 @@ AreInOrder (start ∷ starts) end = (start ≤ next_start starts end) × AreInOr
 abbrev pub BeginsAt : Option Story → List ℕ → ℕ → Type 0
 BeginsAt told starts until = is_some told ≡ true → (next_start starts until ≡ moment told) × AreInOrder starts until
 
--- The items had these replies in a play from the state, with a store of these sizes, and the session stands for what it led to. All along a crash leaves the last commit, or the next
--- one of the item that is being answered.
+-- The items had these replies in a play from the state, with a store of these sizes, and the session stands for what it led to. All along a crash
+-- leaves the last commit, or the next one of the item that is being answered.
 pub record HasPlayed {B D : Type 0} (w : World B D) (m : Meanings) (g : Geometry) (first : D) (s : State) (items : List Item) (replies : List Reply) (here : At B D)
     : Type 0 where
   pub states : List State

@@ -62,8 +62,9 @@ pub record HasBegun {D : Type 0} (d : Tells D) (m : Meanings) (named : List Name
   pub later : d.faults mounted ≤ d.faults first
   pub early : LeavesOnly (d.told mounted) (d.told first) IsEarly
 
--- The items had these replies in a play from the database, with these boxes and a store of these sizes. From the mount until the first item began, a crash left what is said of early
--- images. Over a lawful database all states of the play are lawful, and so is each database that a crash leaves of it; over one whose rules hold they hold.
+-- The items had these replies in a play from the database, with these boxes and a store of these sizes. From the mount until the first item began, a
+-- crash left what is said of early images. Over a lawful database all states of the play are lawful, and so is each database that a crash leaves of it;
+-- over one whose rules hold they hold.
 pub record HasPlayedFrom {D : Type 0} (d : Tells D) (m boxes : Meanings) (g : Geometry) (IsEarly : List ℕ → Type 0) (db : Db) (mounted first now : D)
     (items : List Item) (replies : List Reply) (starts : List ℕ) : Type 0 where
   pub early : (t : ℕ) (image : List ℕ) → moment (d.told mounted) ≤ t → t < next_start starts (suc (moment (d.told now)))

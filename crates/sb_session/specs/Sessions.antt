@@ -127,8 +127,8 @@ pub record KeepsSession {B D : Type 0} (len faults : D → ℕ) (old new : D) (x
 abbrev pub HasFailed : {D : Type 0} → (D → ℕ) → D → D → Type 0
 HasFailed faults old new = Rose (faults old) (faults new)
 
--- Room was wanting in a store of these sizes, by its numbers: all its pages are used; or a change wants more bytes than its log has left; or no gate
--- of its log is left but the last.
+-- Room was wanting in a store of these sizes, by what is told as used and as the whole: all its pages are used; or a change wants more bytes than its
+-- log has left; or no gate of its log is left but the last.
 abbrev pub Lacks : Geometry → Room → Type 0
 Lacks g (Data used total) = (used ≡ total) × (total ≡ g.pages)
 Lacks g (Temp used total) = ⊥
