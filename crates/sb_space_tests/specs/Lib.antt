@@ -1,2 +1,1 @@
 pub mod Scribes
-pub mod Turns

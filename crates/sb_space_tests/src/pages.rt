@@ -1,15 +1,15 @@
 //! A store of 64 pages that fills: each page that a call takes becomes its owner's, until all are used.
 
-ghost use Rattle.std.specs.Prelude.{◌≡◌, [], IfSome};
+ghost use Rattle.std.specs.Prelude.{◌≡◌};
 ghost use Rattle.sb_space.specs.Durable.{parts_in};
 ghost use Rattle.sb_space.specs.View.{lent};
-ghost use Rattle.sb_txn.specs.Clauses.{IsReady};
 ghost use Rattle.sb_txn.specs.Parts.{parts};
 ghost use Rattle.sb_space.specs.Works.{Serves};
 
 mod instances;
 mod opening;
 
+use crate::{LOG, PAGES, SIZE, opened};
 use sb_ctx::Ctx;
 use sb_disk::Disk;
 use sb_drive::{Ask, PageSpace, SpaceFault};
@@ -18,13 +18,6 @@ use sb_recover::format;
 use sb_space::Durable;
 use sb_txn::{Store, Tx};
 use std::alloc::Global;
-
-/// The smallest store, and the bytes that it takes of a disk.
-pub(crate) const PAGES: u32 = 64;
-
-pub(crate) const LOG: u64 = 2_097_152;
-
-pub(crate) const SIZE: u64 = 2_428_928;
 
 /// Takes a fresh page for owner 3.
 fn take_one<D: Disk>(alloc: Global, space: &mut Durable<'_, D>) -> Result<(), SpaceFault>
@@ -72,23 +65,6 @@ fn fill_store<D: Disk>(
 {
     let mut space = Durable::new(store, disk, tx);
     fill(alloc, &mut space)
-}
-
-/// Opens a store of 64 pages.
-pub(crate) fn opened<D: Disk>(alloc: Global, disk: &mut D) -> Option<Store>
-    ensures ready { IfSome result (λ s. IsReady (parts D.told D.len disk.new s)) }
-    ensures none { IfSome result (λ s. s.book.actives ≡ []) }
-    ensures pages { IfSome result (λ s. s.pool.geometry.pages ≡ 64) }
-{
-    let store = match Store::open(alloc, disk, 8) {
-        Ok(store) => store,
-        Err(_) => return None,
-    };
-    if store.pages() != PAGES {
-        drop(store);
-        return None;
-    }
-    Some(store)
 }
 
 /// How many pages of a new store can be taken, and why no more. Then they are given back.

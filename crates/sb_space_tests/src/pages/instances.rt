@@ -6,7 +6,7 @@ ghost use Rattle.sb_space.specs.View.{lent};
 ghost use Rattle.sb_space.specs.Works.{Serves};
 ghost use Rattle.sb_txn.specs.Parts.{parts};
 
-use super::{LOG, PAGES, SIZE, opened};
+use crate::{LOG, PAGES, SIZE, opened};
 use sb_disk::Disk;
 use sb_drive::SpaceFault;
 use sb_memdisk::MemDisk;

@@ -1,6 +1,6 @@
 //! What no clause says: that a store opens where memory lasts. And entries of its table that are turned.
 
-use super::{LOG, PAGES, SIZE};
+use crate::{LOG, PAGES, SIZE};
 use sb_disk::Disk;
 use sb_memdisk::MemDisk;
 use sb_recover::{OpenFault, format};

@@ -1,6 +1,0 @@
-use Rattle.sb_txn.specs.Parts.{parts}
-use Rattle.sb_space_tests.specs.Turns.{IsAtRest}
-use Rattle.sb_space_tests.proofs.turns.run.Given as goal
-
-abbrev pub invariant-loop-next : goal.invariant-loop-next
-invariant-loop-next g l = IsAtRest (parts g.D.Disk.told g.D.Disk.len l.disk l.space.store)

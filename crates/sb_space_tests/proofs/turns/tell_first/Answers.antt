@@ -1,6 +1,0 @@
-use Rattle.std.proofs.Common.{refl}
-use Rattle.sb_space_tests.proofs.Scribing.{IsInstance-scribe}
-use Rattle.sb_space_tests.proofs.turns.tell_first.Goals as goal
-
-pub drive-told-requires-clause-inst : goal.drive-told-requires-clause-inst
-drive-told-requires-clause-inst g c = IsInstance-scribe _ 0 c.in_ok-inst.inst refl refl refl c.in_ok-inst.ensures
