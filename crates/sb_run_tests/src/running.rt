@@ -1,11 +1,10 @@
-//! What a run gets, and what it comes to.
+//! Runs over a disk, a source and a sink in memory.
 
 mod damage;
 mod endings;
 mod filling;
 mod foreign;
 mod lines;
-mod rows;
 mod stops;
 
 use sb_disk::{Sink, Source};
@@ -14,6 +13,7 @@ use sb_memdisk::{MemDisk, MemSink, MemSource};
 use sb_registry::{Extensions, Registry};
 use sb_rules::{Check, Trigger};
 use sb_run::{Report, run_boxes};
+use sb_scripts::{Numbered, Row, SIZE, rows};
 use sb_treemethod::TreeMethod;
 use sb_value::Str;
 use std::alloc::Global;
@@ -35,71 +35,12 @@ fn words_of(rt: &impl Abort, alloc: Global, texts: &[&str]) -> Vec<Str> {
     words
 }
 
-/// What a run gets, and what it comes to.
-#[derive(Clone, Copy, Drop)]
-struct Row<'a> {
-    words: &'static [&'static str],
-    /// The size of a new disk of zeros; None: the disk of the run before.
-    disk: Option<u64>,
-    checks: usize,
-    triggers: usize,
-    script: &'a [u8],
-    /// The calls on the source and the sink that fail.
-    source_fails: Option<u64>,
-    sink_fails: Option<u64>,
-    /// So many bytes are taken at most.
-    most: u64,
-    output: &'static [u8],
-    status: u8,
-    /// How many items have begun.
-    begun: usize,
-}
-
-const OPENED: Row<'static> = Row {
-    words: &["--store", "s"],
-    disk: None,
-    checks: 1,
-    triggers: 1,
-    script: b"",
-    source_fails: None,
-    sink_fails: None,
-    most: 1 << 32,
-    output: b"",
-    status: 0,
-    begun: 0,
-};
-
-/// The words of the smallest store, and the bytes that it takes of a disk.
-const SMALLEST: [&str; 9] = [
-    "--store", "s", "--create", "--pages", "64", "--log", "2097152", "--frames", "8",
-];
-
-const SIZE: u64 = 2_428_928;
-
-// Rows that are passed by reference are statics: a constant is put together wherever it is named.
-
-/// Makes the smallest store.
-static MAKING: Row<'static> = Row {
-    words: &SMALLEST,
-    ..OPENED
-};
-
 /// The row with another script.
 fn scripted<'a>(row: &Row<'static>, script: &'a str) -> Row<'a> {
     Row {
         script: script.as_bytes(),
         ..*row
     }
-}
-
-/// A script with a line for each number from 0 on.
-struct Numbered {
-    front: &'static str,
-    /// What stands in a line in front of its number, and behind it.
-    before: &'static str,
-    after: &'static str,
-    count: u32,
-    behind: &'static str,
 }
 
 fn script_of(rt: &impl Abort, alloc: Global, lines: &Numbered) -> String {

@@ -1,7 +1,8 @@
 //! Stores some bytes of which were written over.
 
-use super::{OPENED, Row, SIZE, SMALLEST, comes_to, new_disk, output_of, run_row};
+use super::{comes_to, new_disk, output_of, run_row};
 use sb_memdisk::MemDisk;
+use sb_scripts::{OPENED, Row, SIZE, SMALLEST};
 use std::alloc::Global;
 use std::process::Abort;
 use std::test::*;

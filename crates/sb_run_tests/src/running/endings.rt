@@ -1,9 +1,10 @@
 //! How a run ends whose source, sink or disk fails, or of which no more is taken.
 
-use super::{OPENED, Row, SIZE, SMALLEST, has_come, new_disk, run_row};
+use super::{has_come, new_disk, run_row};
 use sb_disk::Disk;
 use sb_memdisk::{MemDisk, MemSink};
 use sb_run::Report;
+use sb_scripts::{OPENED, Row, SIZE, SMALLEST};
 use std::alloc::Global;
 use std::process::Abort;
 use std::test::*;

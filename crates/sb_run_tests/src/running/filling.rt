@@ -1,6 +1,7 @@
 //! Rows of the greatest length, and stores that they fill.
 
-use super::{MAKING, Numbered, OPENED, Row, SIZE, holds, script_of, written};
+use super::{holds, script_of, written};
+use sb_scripts::{MAKING, Numbered, OPENED, Row, SIZE};
 use std::alloc::Global;
 use std::process::Abort;
 use std::test::*;

@@ -2,8 +2,9 @@
 
 ghost use Rattle.std.specs.Prelude.{None};
 
-use super::{MAKING, SIZE, SMALLEST, boxes_of, holds, new_disk, run_to, words_of, written};
+use super::{boxes_of, holds, new_disk, run_to, words_of, written};
 use sb_disk::{Failed, Sink, Source};
+use sb_scripts::{MAKING, SIZE, SMALLEST};
 use std::alloc::Global;
 use std::cell::Cell;
 use std::fs;

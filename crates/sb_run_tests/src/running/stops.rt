@@ -1,9 +1,10 @@
 //! Runs that stop at each write and sync in turn, and what the next run finds.
 
-use super::{MAKING, OPENED, Row, SIZE, holds, new_disk, output_of, run_row};
+use super::{holds, new_disk, output_of, run_row};
 use sb_disk::Disk;
 use sb_memdisk::MemDisk;
 use sb_run::Report;
+use sb_scripts::{MAKING, OPENED, Row, SIZE};
 use sb_value::Bytes;
 use std::alloc::Global;
 use std::process::Abort;

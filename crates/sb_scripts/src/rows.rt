@@ -1,11 +1,11 @@
 //! Scripts with their replies. Each row over a new disk makes its store; a row behind it opens the store again.
 
-use super::{OPENED, Row, SIZE, SMALLEST};
+use crate::{OPENED, Row, SIZE, SMALLEST};
 
 /// A disk for a store of the sizes that are taken where the words tell none.
 const LARGE: u64 = 16 << 20;
 
-pub(super) const ROWS: [Row<'static>; 18] = [
+pub const ROWS: [Row<'static>; 18] = [
     Row {
         words: &[],
         disk: Some(SIZE),
