@@ -120,6 +120,7 @@ impl Space {
             → HasPages want (slots_in self.old.store.pool.geometry.pages want) (parts D.told D.len disk.new self.new.store)) }
 
         ensures none { OnOk result (self.new.store.book.actives ≡ []) }
+        ensures wanted { OnOk result (StaysWanted (parts D.told D.len disk.old self.old.store) (parts D.told D.len disk.new self.new.store)) }
         ensures grows { OnOk result (Grows self.old.store self.new.store 0 0) }
         ensures any_moment { LeavesWanted (parts D.told D.len disk.old self.old.store) (parts D.told D.len disk.new self.new.store) }
         ensures err { IfErr result MeansDown }
@@ -163,6 +164,7 @@ impl Space {
             → HasPages want s (parts D.told D.len disk.new self.new.store)) }
         ensures empties { OnOk result (used_of self.new.store.journal ≡ 0) }
         ensures none { OnOk result (self.new.store.book.actives ≡ []) }
+        ensures wanted { OnOk result (StaysWanted (parts D.told D.len disk.old self.old.store) (parts D.told D.len disk.new self.new.store)) }
         ensures any_moment { LeavesWanted (parts D.told D.len disk.old self.old.store) (parts D.told D.len disk.new self.new.store) }
         ensures err { IfErr result MeansDown }
         ensures keeps { KeepsSpace D.told D.len D.faults disk.old disk.new self.old.store self.new.store result }

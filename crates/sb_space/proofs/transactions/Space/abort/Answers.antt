@@ -69,3 +69,10 @@ returns-in-Ok-clause-grows g c =
 pub returns-in-Ok-clause-keeps : goal.returns-in-Ok-clause-keeps
 returns-in-Ok-clause-keeps g c =
     Kept-ok g.D.Disk.told g.D.Disk.len g.D.Disk.faults c.args.disk.now c.abort.new.disk c.args.self.now.store c.abort.new.self tt tt c.in-Ok.ensures.keeps
+
+pub returns-in-Ok-clause-wanted : goal.returns-in-Ok-clause-wanted
+returns-in-Ok-clause-wanted g c =
+    let keeps = c.in-Ok.ensures.keeps in
+    let found = the_one g.D.Disk.told g.D.Disk.len g.D.Disk.faults c.args.tx.store.number c.args.disk.now c.abort.new.disk c.args.self.now.store c.abort.new.self keeps c.requires.ready.alone in
+    let aborts = c.in-Ok.ensures.aborts found.0 found.1 in
+    λ want now store. (_, aborts.pages want now store)

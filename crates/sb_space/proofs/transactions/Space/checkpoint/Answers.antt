@@ -27,3 +27,6 @@ returns-in-Ok-clause-keeps g c =
     let t = c.checkpoint.new.self in
     let keeps = c.in-Ok.ensures.keeps in
     Kept-ok told len faults d e s t tt tt keeps
+
+pub returns-in-Ok-clause-wanted : goal.returns-in-Ok-clause-wanted
+returns-in-Ok-clause-wanted g c = λ want now store. (now, ([], [], c.in-Ok.ensures.checkpoints.pages want now store))
