@@ -20,7 +20,7 @@ use Rattle.sb_session.specs.Point.{Point}
 use Rattle.sb_session.specs.Transaction.{Transaction}
 use Rattle.sb_session.specs.Calls.{IsOnlyFault, Remains}
 use Rattle.sb_session.specs.Commits.{FailsOn, IsLed}
-use Rattle.sb_session.specs.Transactions.{IsAt, IsCleared, IsNotBehind, IsPointOf, IsUsable, WasBegun, WasSo, unused}
+use Rattle.sb_session.specs.Transactions.{IsAt, IsNotBehind, IsPointOf, IsTrimmed, IsUsable, WasBegun, WasSo, unused}
 use Rattle.sb_session.proofs.CallLemmas.{up-earlier, up-later}
 use Rattle.sb_session.proofs.EndLemmas.{Remains-behind, Remains-stopped}
 use Rattle.sb_execution.specs.Serving.{IsPosedIn, IsSeenIn, IsServed, IsUnserved, is_managing}
@@ -39,7 +39,7 @@ use Rattle.sb_execution.proofs.StandingLemmas.{Stays, Stays-beside, Stays-then}
 module _ {D : Type 0} (told : D → Option Story) (len faults : D → ℕ) (m : Meanings) (place : Place) (c : Command) (works : is_managing c ≡ false)
     (d e : D) (s t : StoreState) (o : Open) (x y : Transaction) (up : s.book.down ≡ false) (goes : CanGoOn m place (parts told len d s) (Some o))
     -- the work was settled
-    (same : x.tx ≡ o.transaction.tx) (cleared : IsCleared o.transaction.work x.work)
+    (same : x.tx ≡ o.transaction.tx) (trimmed : IsTrimmed o.transaction.work x.work)
     (settled : (m : Meanings) (place : Place) (want : Wanted) (g : Going) (p : Parts) → IsAt m place want o.transaction.tx.store.number g p o.transaction.work
     → IsAt m place want o.transaction.tx.store.number (unused g) p x.work)
     (usable : (m : Meanings) (place : Place) (p : Parts) → IsUsable m place o.transaction.tx.store.number p o.transaction.work → IsUsable m place o.transaction.tx.store.number p x.work)
@@ -72,7 +72,7 @@ module _ {D : Type 0} (told : D → Option Story) (len faults : D → ℕ) (m : 
 
   -- ---- what stands
   stays_settled : Stays m place first from from o.transaction.work x.work
-  stays_settled = Stays-beside m place first from o.transaction.work x.work cleared.queue cleared.gone (usable m place from goes.0)
+  stays_settled = Stays-beside m place first from o.transaction.work x.work trimmed.queue trimmed.gone (usable m place from goes.0)
 
   at_work : (want : Wanted) (g : Going) → IsAt m place want first g from o.transaction.work → IsAt m place want n (unused g) from x.work
   at_work want g at = subst (λ (k : ℕ). IsAt m place want k (unused g) from x.work) (sym number) (settled m place want g from at)

@@ -28,7 +28,9 @@ use Rattle.sb_drive.specs.Spaces.{IsReadFault, Wanted}
 use Rattle.sb_session.specs.declared.session.Savepoint.{Savepoint}
 use Rattle.sb_engine.specs.declared.running.Work.{Work}
 use Rattle.sb_engine.specs.Refusals.{refusal_of}
-use Rattle.sb_engine.specs.Working.{ArePaired, IsNoneGone, Stands, extensions_of, left_of}
+use Rattle.sb_engine.specs.OpenRelation.{OpenRelation}
+use Rattle.sb_engine.specs.Working.{AreOpened, ArePaired, IsNoneGone, IsOpened, Stands, extensions_of, left_of, open_at}
+use Rattle.sb_engine.proofs.OpenedLemmas.{open_at-all, open_at-name}
 use Rattle.sb_engine.proofs.LateLemmas.{drop_first, drop_none}
 use Rattle.sb_execution.specs.Serving.{IsSeenIn, waiting_in}
 
@@ -43,6 +45,14 @@ describes m root s kept name db d same tables is =
     of_kept : (o : Option Kept) → kept_at kept name ≡ o → Describes (option_map (λ (k : Kept). k.relation) o) (option_map (λ (k : Kept). k.descriptor) o)
     of_kept None at = tt
     of_kept (Some k) at = (kept_at-all (KeepsTable m IsDurable s) kept name k tables.each at).is
+
+-- that of an open relation is the one that the pages keep
+pub described : (m : Meanings) (kept : List Kept) (opened : List OpenRelation) (name : Name) (one : OpenRelation) → AreOpened m kept opened
+    → open_at opened name ≡ Some one → Some one.descriptor ≡ option_map (λ k. k.descriptor) (kept_at kept name)
+described m kept opened name one are at =
+    let is = open_at-all (IsOpened m kept) opened name one are at in
+    sym (subst (λ (n : Name). option_map (λ (k : Kept). k.descriptor) (kept_at kept n) ≡ Some one.descriptor) (open_at-name opened name one at)
+    (ap (λ (o : Option Kept). option_map (λ (k : Kept). k.descriptor) o) is.at ∙ ap (λ (d : Descriptor). Some d) is.same))
 
 same_above : (low : Option Name) (name : Name) → is_above low name ≡ standing.is_above low name
 same_above None name = refl

@@ -1,13 +1,13 @@
 //! What is seen of an engine before a command changes anything.
 
-ghost use Rattle.std.specs.Prelude.{◌≡◌, bytes_eq};
+ghost use Rattle.std.specs.Prelude.{◌≡◌, Some, bytes_eq, IfErr, IfOk};
 ghost use Rattle.std.specs.List.{list_any};
 ghost use Rattle.sb_engine.specs.Working.{extensions_of};
 ghost use Rattle.sb_execution.specs.Seen.{HasFailed, IsReady, LooksOn, Sees};
 
 use sb_catalog::Descriptor;
 use sb_drive::PageSpace;
-use sb_engine::{Work, descriptor_at, next_descriptor, refusal_of};
+use sb_engine::{OpenRelation, Work, descriptor_at, next_descriptor, open_at, refusal_of};
 use sb_fold::Refusal;
 use sb_map::Place;
 use sb_refusals::Catalogue;
@@ -42,6 +42,9 @@ impl<B: Vectors, S: PageSpace> Catalogue for Seen<'_, B, S> {
     ghost fails = { λ r a b. HasFailed S.leads S.fails r a b };
 
     fn descriptor(&mut self, alloc: Global, name: &Str) -> Result<Option<Descriptor>, Refusal> {
+        if let Some(one) = open_at(&self.work.opened, name) {
+            return copied(one, alloc);
+        }
         match descriptor_at(self.space, alloc, self.place, name) {
             Ok(descriptor) => Ok(descriptor),
             Err(fault) => Err(refusal_of(fault)),
@@ -108,6 +111,17 @@ impl<B: Vectors, S: PageSpace> Catalogue for Seen<'_, B, S> {
     ghost rising = { λ s a sees. rising S.has B.meanings s a sees };
 
     ghost few = { λ s a sees. few S.has B.meanings s a sees };
+}
+
+/// The descriptor of an open relation.
+fn copied(one: &OpenRelation, alloc: Global) -> Result<Option<Descriptor>, Refusal>
+    ensures found { IfOk result (λ d. d ≡ Some one.now.descriptor) }
+    ensures wants { IfErr result (λ r. r ≡ Refusal.NoMemory) }
+{
+    match one.descriptor.copy(alloc) {
+        Ok(descriptor) => Ok(Some(descriptor)),
+        Err(_) => Err(Refusal::NoMemory),
+    }
 }
 
 /// Whether one of the savepoints has the name.

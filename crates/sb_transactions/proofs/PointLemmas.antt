@@ -21,23 +21,23 @@ use Rattle.sb_space.proofs.GoingBack.{WasAt-mark}
 use Rattle.sb_tables.specs.Work.{Work}
 use Rattle.sb_tables.specs.Working.{left_of}
 use Rattle.sb_transactions.specs.declared.transactions.Point.{Point}
-use Rattle.sb_transactions.specs.Transactions.{IsAt, IsCleared, IsCommitted, IsCutTo, IsFirst, IsNotBehind, IsPointOf, IsSettled, Rests, WasBegun, WasSo, unused}
-use Rattle.sb_transactions.proofs.WorkLemmas.{IsUsable-cleared, IsUsable-none, cut_gone, cut_left, cut_long, cut_queue, cut_waited, cut_within, left_same, mark_waited, none_opened}
+use Rattle.sb_transactions.specs.Transactions.{IsAt, IsCommitted, IsCutTo, IsFirst, IsNotBehind, IsPointOf, IsSettled, IsTrimmed, Rests, WasBegun, WasSo, unused}
+use Rattle.sb_transactions.proofs.WorkLemmas.{IsUsable-none, IsUsable-trimmed, cut_gone, cut_left, cut_long, cut_queue, cut_waited, cut_within, left_same, mark_waited, none_opened, trimmed_opened}
 
--- ---- cleared
-pub IsAt-cleared : (m : Meanings) (place : Place) (want : Wanted) (tx : ℕ) (g : Going) (p : Parts) (old new : Work) → IsCleared old new → IsAt m place want tx g p old → IsAt m place want tx (unused g) p new
-IsAt-cleared m place want tx g p old new cleared at = record {
-  usable = IsUsable-cleared m place tx p old new cleared at.usable;
+-- ---- trimmed
+pub IsAt-trimmed : (m : Meanings) (place : Place) (want : Wanted) (tx : ℕ) (g : Going) (p : Parts) (old new : Work) → IsTrimmed old new → IsAt m place want tx g p old → IsAt m place want tx (unused g) p new
+IsAt-trimmed m place want tx g p old new trimmed at = record {
+  usable = IsUsable-trimmed m place tx p old new trimmed at.usable;
   slots = at.slots;
   kept = at.kept;
   has = at.has;
   db = at.db;
-  keeps = subst (λ (gone : List ℕ). Keeps m IsDurable place.root at.slots gone at.kept) (sym cleared.gone) at.keeps;
+  keeps = subst (λ (gone : List ℕ). Keeps m IsDurable place.root at.slots gone at.kept) (sym trimmed.gone) at.keeps;
   settled = at.settled;
-  opened = none_opened m at.kept new.opened.items cleared.opened;
-  waits = left_same old new cleared.done cleared.queue ∙ at.waits;
-  picked = cleared.picks;
-  gone = λ none. cleared.gone ∙ at.gone none;
+  opened = trimmed_opened m at.kept old new trimmed at.opened;
+  waits = left_same old new trimmed.done trimmed.queue ∙ at.waits;
+  picked = trimmed.picks;
+  gone = λ none. trimmed.gone ∙ at.gone none;
 }
 
 -- ---- at the begin

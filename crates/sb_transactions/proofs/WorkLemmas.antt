@@ -1,8 +1,8 @@
--- What is kept beside the pages, cleared or cut to a point.
+-- What is kept beside the pages, trimmed or cut to a point.
 use Rattle.std.proofs.Common.{◌≡◌, ℕ, ◌≤◌, List, [], ◌++◌, length, take, drop, All, sym, ap, subst, ◌∙◌, arith}
 use Rattle.std.proofs.Math.Seq.{take-length}
 use Rattle.std.proofs.lemmas.List.{drop_all, length-append, length-drop, length-take-le, nil_from_length, take-append-le, take-take}
-use Rattle.std.proofs.lemmas.List.Elements.{All-nil}
+use Rattle.std.proofs.lemmas.List.Elements.{All-nil, All-take}
 use Rattle.sb_rule.specs.declared.action.Action.{Action}
 use Rattle.sb_fold.specs.Outcome.{Entry, Queue}
 use Rattle.sb_deferred.specs.Waiting.{IsFront, IsWithin, mark_of, nothing}
@@ -16,7 +16,7 @@ use Rattle.sb_space.specs.Works as space
 use Rattle.sb_tables.specs.Work.{Work}
 use Rattle.sb_tables.specs.Working.{AreOpened, IsOpened, left_of}
 use Rattle.sb_transactions.specs.declared.transactions.Point.{Point}
-use Rattle.sb_transactions.specs.Transactions.{IsCleared, IsCutTo, IsNotBehind, IsUsable, waited_at}
+use Rattle.sb_transactions.specs.Transactions.{IsCutTo, IsNotBehind, IsTrimmed, IsUsable, waited_at}
 
 pub Queue-same : (p q : Queue) → p.actions ≡ q.actions → p.entries ≡ q.entries → p ≡ q
 Queue-same p q actions entries = λ i. record { actions = actions i; entries = entries i }
@@ -41,10 +41,18 @@ left_same old new done queue = λ i. record { actions = drop (done i) (queue i).
 pub IsUsable-none : (m : Meanings) (place : Place) (tx : ℕ) (p : Parts) (w : Work) → space.Serves tx p → place.owner ≡ 2 → w.opened.items ≡ [] → w.done ≤ length w.queue.actions → IsUsable m place tx p w
 IsUsable-none m place tx p w serves owner none within = record { ready = serves; owner = owner; opened = none_open m w.opened.items none; within = within }
 
-pub IsUsable-cleared : (m : Meanings) (place : Place) (tx : ℕ) (p : Parts) (old new : Work) → IsCleared old new → IsUsable m place tx p old → IsUsable m place tx p new
-IsUsable-cleared m place tx p old new cleared usable =
-    IsUsable-none m place tx p new usable.ready usable.owner cleared.opened
-    (let done = cleared.done in let long = ap (λ (q : Queue). length q.actions) cleared.queue in let within = usable.within in omega arith)
+-- so can one of which the first relations stay open
+pub IsUsable-trimmed : (m : Meanings) (place : Place) (tx : ℕ) (p : Parts) (old new : Work) → IsTrimmed old new → IsUsable m place tx p old → IsUsable m place tx p new
+IsUsable-trimmed m place tx p old new trimmed usable = record {
+  ready = usable.ready;
+  owner = usable.owner;
+  opened = subst (λ (os : List OpenRelation). All (IsOpen m) os) (sym trimmed.opened) (All-take (IsOpen m) 64 old.opened.items usable.opened);
+  within = let done = trimmed.done in let long = ap (λ (q : Queue). length q.actions) trimmed.queue in let within = usable.within in omega arith;
+}
+
+pub trimmed_opened : (m : Meanings) (kept : List Kept) (old new : Work) → IsTrimmed old new → AreOpened m kept old.opened.items → AreOpened m kept new.opened.items
+trimmed_opened m kept old new trimmed are =
+    subst (λ (os : List OpenRelation). AreOpened m kept os) (sym trimmed.opened) (All-take (IsOpened m kept) 64 old.opened.items are)
 
 -- ---- cut to a point
 module _ (point : Point) (old new : Work) (queue : IsWithin point.queue old.queue) (cut : IsCutTo point old new) where

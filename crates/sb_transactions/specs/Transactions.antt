@@ -144,10 +144,10 @@ pub record IsCutTo (point : Point) (old new : Work) : Type 0 where
   pub opened : new.opened.items ≡ []
   pub picks : new.picks.items ≡ []
 
--- nothing is open, and no pick is noted; the rest is as it was
-pub record IsCleared (old new : Work) : Type 0 where
+-- the first 64 relations stay open, and no pick is noted; the rest is as it was
+pub record IsTrimmed (old new : Work) : Type 0 where
   pub queue : new.queue ≡ old.queue
   pub done : new.done ≡ old.done
   pub gone : new.gone.items ≡ old.gone.items
-  pub opened : new.opened.items ≡ []
+  pub opened : new.opened.items ≡ take 64 old.opened.items
   pub picks : new.picks.items ≡ []

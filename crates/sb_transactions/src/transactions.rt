@@ -13,7 +13,7 @@ ghost use Rattle.sb_space.specs.Works.{Serves};
 ghost use Rattle.sb_tables.specs.Refusals.{HasRefusalCause};
 ghost use Rattle.sb_transactions.specs.Calls.{IsOnlyFault, Remains};
 ghost use Rattle.sb_transactions.specs.Commits.{FailsOn};
-ghost use Rattle.sb_transactions.specs.Transactions.{IsAt, IsCleared, IsFirst, IsUsable, Rests, WasBegun, unused};
+ghost use Rattle.sb_transactions.specs.Transactions.{IsAt, IsFirst, IsTrimmed, IsUsable, Rests, WasBegun, unused};
 
 use sb_deferred::{Queue, QueueMark};
 use sb_disk::Disk;
@@ -90,9 +90,12 @@ fn new_work(alloc: Global) -> Work
     }
 }
 
-/// Before a command: no relation is open, and no pick is noted.
+/// How many relations stay open from one command of a transaction to the next.
+const MOST_OPEN: usize = 64;
+
+/// Before a command: at most 64 relations stay open, those that were opened first, so that their descriptors aren't read again; and no pick is noted.
 pub fn settle(transaction: &mut Transaction)
-    ensures cleared { IsCleared transaction.old.work transaction.new.work }
+    ensures trimmed { IsTrimmed transaction.old.work transaction.new.work }
     ensures tx { transaction.new.tx ≡ transaction.old.tx }
     ensures settled { (m : Meanings) (place : Place) (want : Wanted) (g : Going) (p : Parts)
         → IsAt m place want transaction.old.tx.store.number g p transaction.old.work
@@ -101,7 +104,7 @@ pub fn settle(transaction: &mut Transaction)
         → IsUsable m place transaction.old.tx.store.number p transaction.old.work
         → IsUsable m place transaction.old.tx.store.number p transaction.new.work }
 {
-    transaction.work.opened.clear();
+    transaction.work.opened.truncate(MOST_OPEN);
     transaction.work.picks.clear();
 }
 

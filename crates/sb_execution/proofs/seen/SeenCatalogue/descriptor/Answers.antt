@@ -1,6 +1,13 @@
-use Rattle.std.proofs.Common.{◌∙◌, refl, sym}
+use Rattle.std.proofs.Common.{◌≡◌, ◌∙◌, Bor, List, Option, Some, option_copied, refl, sym, ap, subst}
+use Rattle.std.proofs.lemmas.Result.{IfErr-weaker, IfOk-weaker}
+use Rattle.sb_fold.specs.declared.refusal.Refusal.{Refusal}
+use Rattle.sb_refusals.specs.Catalogue.{is_damage, is_free}
+use Rattle.sb_engine.specs.OpenRelation.{OpenRelation}
+use Rattle.sb_engine.specs.Working.{open_at}
+use Rattle.sb_execution.specs.Seen.{HasFailed}
+use Rattle.sb_execution.specs.SeenLaws.{stays, wants}
 use Rattle.sb_plain.specs.State.{view}
-use Rattle.sb_execution.proofs.SeenLemmas.{describes, free_refusal, stands-same, undamaged_refusal}
+use Rattle.sb_execution.proofs.SeenLemmas.{described, describes, free_refusal, stands-same, undamaged_refusal}
 use Rattle.sb_execution.proofs.seen.SeenCatalogue.descriptor.Goals as goal
 
 pub returns-in-Ok-clause-found : goal.returns-in-Ok-clause-found
@@ -53,3 +60,34 @@ returns-in-Err-clause-leads g c = record {
 
 pub returns-in-Err-clause-ready : goal.returns-in-Err-clause-ready
 returns-in-Err-clause-ready g c = record { ready = c.in-Err.ensures.ready; owner = c.requires.ready.owner }
+
+-- ---- of an open relation
+pub returns-in-Some-clause-found : goal.returns-in-Some-clause-found
+returns-in-Some-clause-found g c =
+    let a = c.args.self.now in
+    let m = g.B.Boxes.meanings a.boxes.now in
+    IfOk-weaker c.copied.result _ _ (λ d is s sees.
+    let at : open_at a.work.now.opened.items c.args.name.now ≡ Some c.in-Some.one.now =
+    ap (λ (l : List OpenRelation). open_at l c.args.name.now) (sym c.deref.ensures.value) ∙ sym c.open_at.ensures ∙ ap (λ (o : Option (Bor OpenRelation)). option_copied o) c.in-Some.is in (
+      describes m a.place.root sees.stands.slots sees.stands.kept c.args.name.now (view s) d (sees.seen.db ∙ sees.stands.db) sees.stands.keeps.tables
+          (is ∙ described m sees.stands.kept a.work.now.opened.items c.args.name.now c.in-Some.one.now sees.stands.opened at),
+      sees,
+    )) c.copied.ensures.found
+
+pub returns-in-Some-clause-free : goal.returns-in-Some-clause-free
+returns-in-Some-clause-free g c = IfErr-weaker c.copied.result _ _ (λ r is. ap (λ (x : Refusal). is_free x) is) c.copied.ensures.wants
+
+pub returns-in-Some-clause-undamaged : goal.returns-in-Some-clause-undamaged
+returns-in-Some-clause-undamaged g c = IfErr-weaker c.copied.result _ _ (λ r is s sees. ap (λ (x : Refusal). is_damage x) is) c.copied.ensures.wants
+
+pub returns-in-Some-clause-fails : goal.returns-in-Some-clause-fails
+returns-in-Some-clause-fails g c =
+    let a = c.args.self.now in
+    IfErr-weaker c.copied.result _ _ (λ r is.
+    subst (λ (x : Refusal). HasFailed g.S.PageSpace.leads g.S.PageSpace.fails x a a) (sym is) (wants g.S.PageSpace.leads g.S.PageSpace.fails a a (stays g.S.PageSpace.leads g.met.S.PageSpace.stays a))) c.copied.ensures.wants
+
+pub returns-in-Some-clause-leads : goal.returns-in-Some-clause-leads
+returns-in-Some-clause-leads g c = stays g.S.PageSpace.leads g.met.S.PageSpace.stays c.args.self.now
+
+pub returns-in-Some-clause-ready : goal.returns-in-Some-clause-ready
+returns-in-Some-clause-ready g c = c.requires.ready
