@@ -5,6 +5,7 @@ pub use Rattle.sb_tables.specs.Goings
 pub use Rattle.sb_tables.specs.OpenRelation
 pub use Rattle.sb_tables.specs.Opened
 pub use Rattle.sb_tables.specs.Opening
+pub use Rattle.sb_tables.specs.Refusals
 pub use Rattle.sb_tables.specs.Removal
 pub use Rattle.sb_tables.specs.Running
 pub use Rattle.sb_tables.specs.Wished

@@ -12,7 +12,7 @@ ghost use Rattle.sb_catalog.specs.Descriptors.{IsCountedRule, IsStorableAttached
 ghost use Rattle.sb_registry.specs.Live.{IsLiveRule};
 ghost use Rattle.sb_standing.specs.Tables.{db_of};
 ghost use Rattle.sb_tables.specs.Opened.{IsOpen, rule_of};
-ghost use Rattle.sb_tables.specs.Refusals.{HasRefusalCause, refusal_of};
+ghost use Rattle.sb_tables.specs.Refusals.{HasFaultCause, HasRefusalCause, refusal_of};
 ghost use Rattle.sb_tables.specs.Working.{Goes, IsServing, IsStoppedBy, StandsFor, extensions_in};
 ghost use Rattle.sb_tables.specs.Keeping.{Closes};
 ghost use Rattle.sb_building.specs.Attaching.{HasBegun, HasEnded, MayAdd, MayAttach, Stores};
@@ -60,6 +60,7 @@ pub fn attach<B: Boxes, S: Owners>(
     ensures refused { IfErr result (λ r. (g : Going) → StandsFor S.has B.meanings g running.old
         → MayAttach (B.meanings running.old.boxes.now) g.db relation.now name.now rule.now
         → StopsFrom (IsStoppedBy S.fails) (build (extensions_in B.meanings running.old) relation.now name.now rule.now) g r running.new) }
+    ensures fault { IfErr result (λ r. HasFaultCause S.fails r running.new.space.now) }
     ensures closes { Closes running.old running.new }
     ensures goes { Goes S.leads running.old running.new }
     ensures ready { IsServing S.is_ready B.meanings running.new }
@@ -103,6 +104,7 @@ fn attach_copy<S: Owners, B: Boxes>(
     ensures refused { IfErr result (λ e. (x : Site) → S.has x.want x.slots space.old → Stores (B.meanings boxes.now) place.root x relation.now
         → MayAdd (B.meanings boxes.now) (db_of x.kept) relation.now name.now rule.now
         → HasRefusalCause S.fails (refusal_of e) space.new) }
+    ensures fault { IfErr result (λ e. HasFaultCause S.fails (refusal_of e) space.new) }
     ensures leads { LeadsOn S.leads space.old space.new }
     ensures ready { S.is_ready space.new }
 {
@@ -133,6 +135,7 @@ fn attach_rule<S: Owners, B: Boxes>(
     ensures refused { IfErr result (λ e. (x : Site) → S.has x.want x.slots space.old → Stores (B.meanings boxes.now) place.root x relation.now
         → MayAdd (B.meanings boxes.now) (db_of x.kept) relation.now name.now rule
         → HasRefusalCause S.fails (refusal_of e) space.new) }
+    ensures fault { IfErr result (λ e. HasFaultCause S.fails (refusal_of e) space.new) }
     ensures leads { LeadsOn S.leads space.old space.new }
     ensures ready { S.is_ready space.new }
 {
@@ -178,6 +181,7 @@ fn attach_to<S: Owners, B: Boxes>(
         → x.one.descriptor ≡ one.descriptor
         → MayAdd (B.meanings boxes.now) (db_of x.kept) one.name label.now rule
         → HasRefusalCause S.fails (refusal_of e) space.new) }
+    ensures fault { IfErr result (λ e. HasFaultCause S.fails (refusal_of e) space.new) }
     ensures leads { LeadsOn S.leads space.old space.new }
     ensures ready { S.is_ready space.new }
 {
@@ -237,6 +241,7 @@ fn build_on<S: PageSpace, B: Boxes>(
         → HasBegun S.has (B.meanings boxes.now) place.root x inst.now attached.rule live.box space.old
         → has_long_row (db_of x.kept) one.name attached.rule ≡ false
         → HasRefusalCause S.fails (refusal_of e) space.new) }
+    ensures fault { IfErr result (λ e. HasFaultCause S.fails (refusal_of e) space.new) }
     ensures leads { LeadsOn S.leads space.old space.new }
     ensures ready { S.is_ready space.new }
 {

@@ -10,7 +10,7 @@ ghost use Rattle.sb_drive.specs.Spaces.{LeadsOn, Leaves};
 ghost use Rattle.sb_registry.specs.Live.{IsLive, IsLiveRule};
 ghost use Rattle.sb_standing.specs.Tables.{db_of, table_of};
 ghost use Rattle.sb_tables.specs.Opened.{IsDurable};
-ghost use Rattle.sb_tables.specs.Refusals.{HasRefusalCause, refusal_of};
+ghost use Rattle.sb_tables.specs.Refusals.{HasFaultCause, HasRefusalCause, refusal_of};
 ghost use Rattle.sb_building.specs.Building.{HasNoLong, HoldsBuilt, IsBuilt, IsBuiltOver, IsNext, is_done};
 ghost use Rattle.sb_building.specs.Instances.{HasNewPages, HoldsFirst, IsSite, Site};
 
@@ -44,6 +44,7 @@ pub(crate) fn prepare<S: PageSpace, B: Boxes>(
     ensures refused { IfErr result (λ e. (live : IsLiveRule (B.meanings boxes.now) inst.now) (x : Site) (rule : Policy)
         → IsSite S.has (B.meanings boxes.now) place.root x inst.now rule live.box space.old → HasNewPages x live.box inst.now
         → HasRefusalCause S.fails (refusal_of e) space.new) }
+    ensures fault { IfErr result (λ e. HasFaultCause S.fails (refusal_of e) space.new) }
     ensures leads { LeadsOn S.leads space.old space.new }
     ensures ready { S.is_ready space.new }
 {
@@ -85,6 +86,7 @@ pub(crate) fn build_rows<S: PageSpace, B: Boxes>(
         → IsSite S.has (B.meanings boxes.now) place.root x inst.now rule.now live.box space.old → table.now ≡ table_of IsDurable x.one
         → HoldsBuilt x live.box inst.now rule.now [] → HasNoLong x rule.now
         → HasRefusalCause S.fails (refusal_of e) space.new) }
+    ensures fault { IfErr result (λ e. HasFaultCause S.fails (refusal_of e) space.new) }
     ensures leads { LeadsOn S.leads space.old space.new }
     ensures ready { S.is_ready space.new }
 {
@@ -129,6 +131,7 @@ fn build_row<S: PageSpace, B: Boxes>(
     ensures refused { IfErr result (λ e. (live : IsLiveRule (B.meanings boxes.now) inst.now) (x : Site) (rule : Policy) (built : Rows)
         → IsSite S.has (B.meanings boxes.now) place.root x inst.now rule live.box space.old → HoldsBuilt x live.box inst.now rule built
         → HasRefusalCause S.fails (refusal_of e) space.new) }
+    ensures fault { IfErr result (λ e. HasFaultCause S.fails (refusal_of e) space.new) }
     ensures leads { LeadsOn S.leads space.old space.new }
     ensures ready { S.is_ready space.new }
 {

@@ -6,7 +6,7 @@ ghost use Rattle.sb_relation.specs.Db.{Attached as Standing, Db};
 ghost use Rattle.sb_fold.specs.Building as fold;
 ghost use Rattle.sb_fold.specs.Outcome.{Going};
 ghost use Rattle.sb_cascade.specs.Runs.{MadeFrom, StopsFrom, is_free};
-ghost use Rattle.sb_tables.specs.Refusals.{HasRefusalCause, refusal_of};
+ghost use Rattle.sb_tables.specs.Refusals.{HasFaultCause, HasRefusalCause, refusal_of};
 ghost use Rattle.sb_tables.specs.Working.{Goes, IsServing, IsStoppedBy, StandsFor, extensions_in};
 ghost use Rattle.sb_registry.specs.Runs.{Looks};
 ghost use Rattle.sb_tables.specs.Keeping.{Closes, KeepsDb, KeepsIn};
@@ -33,6 +33,7 @@ pub fn detach<B: Boxes, S: PageSpace>(
         → MadeFrom (StandsFor S.has B.meanings) (fold.detach (extensions_in B.meanings running.old) relation.now name.now) g tt running.new) }
     ensures refused { IfErr result (λ r. (g : Going) → StandsFor S.has B.meanings g running.old → MayDetach g.db relation.now name.now
         → StopsFrom (IsStoppedBy S.fails) (fold.detach (extensions_in B.meanings running.old) relation.now name.now) g r running.new) }
+    ensures fault { IfErr result (λ r. HasFaultCause S.fails r running.new.space.now) }
     ensures closes { Closes running.old running.new }
     ensures goes { Goes S.leads running.old running.new }
     ensures ready { IsServing S.is_ready B.meanings running.new }
@@ -64,6 +65,7 @@ fn detach_both<B: Boxes, S: PageSpace>(
     ensures detached { OnOk result ((db : Db) → KeepsIn S.has B.meanings db running.old
         → KeepsIn S.has B.meanings (without_both db relation.now name.now mirror) running.new) }
     ensures refused { IfErr result (λ r. (db : Db) → KeepsIn S.has B.meanings db running.old → HasRefusalCause S.fails r running.new.space.now) }
+    ensures fault { IfErr result (λ r. HasFaultCause S.fails r running.new.space.now) }
     ensures free { IfErr result (λ r. is_free r ≡ true) }
     ensures closes { Closes running.old running.new }
     ensures goes { Goes S.leads running.old running.new }

@@ -12,7 +12,7 @@ ghost use Rattle.sb_registry.specs.Runs.{IsSound, Looks};
 ghost use Rattle.sb_standing.specs.Standing.{StandsRule};
 ghost use Rattle.sb_standing.specs.Tables.{db_of};
 ghost use Rattle.sb_tables.specs.Opened.{OverTables, OwnsPages, rule_of};
-ghost use Rattle.sb_tables.specs.Refusals.{HasRefusalCause, refusal_of};
+ghost use Rattle.sb_tables.specs.Refusals.{HasFaultCause, HasRefusalCause, refusal_of};
 ghost use Rattle.sb_building.specs.Attaching.{HasBegun, IsEntered, IsEntryOf, IsStore, MayAdd};
 ghost use Rattle.sb_building.specs.Instances.{IsPlaced, Site};
 
@@ -55,6 +55,7 @@ pub(crate) fn begin<S: Owners, B: Boxes>(
         → IsStore S.has (B.meanings boxes.now) place.root x opened.now.name space.old → x.one.descriptor ≡ opened.now.descriptor
         → MayAdd (B.meanings boxes.now) (db_of x.kept) opened.now.name label.now rule
         → HasRefusalCause S.fails (refusal_of e) space.new) }
+    ensures fault { IfErr result (λ e. HasFaultCause S.fails (refusal_of e) space.new) }
     ensures leads { LeadsOn S.leads space.old space.new }
     ensures ready { S.is_ready space.new }
 {

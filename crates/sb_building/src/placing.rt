@@ -10,7 +10,7 @@ ghost use Rattle.sb_drive.specs.Spaces.{LeadsOn, Leaves};
 ghost use Rattle.sb_catalog.specs.Descriptors.{descriptor_spelling, IsStorableAttached, IsStorableDescriptor};
 ghost use Rattle.sb_standing.specs.Standing.{with_described};
 ghost use Rattle.sb_standing.specs.Tables.{entry_of};
-ghost use Rattle.sb_tables.specs.Refusals.{HasRefusalCause, refusal_of};
+ghost use Rattle.sb_tables.specs.Refusals.{HasFaultCause, HasRefusalCause, refusal_of};
 ghost use Rattle.sb_building.specs.Attaching.{IsRoomy};
 ghost use Rattle.sb_building.specs.Instances.{Site};
 
@@ -51,6 +51,7 @@ pub(crate) fn place_rule<S: PageSpace>(
     ensures refused { IfErr result (λ e. (x : Site) → S.has x.want x.slots space.old
         → map_in place.root (owned x.slots 2) ≡ Some (map entry_of x.kept)
         → IsRoomy name.now descriptor attached → HasRefusalCause S.fails (refusal_of e) space.new) }
+    ensures fault { IfErr result (λ e. HasFaultCause S.fails (refusal_of e) space.new) }
     ensures leads { LeadsOn S.leads space.old space.new }
     ensures ready { S.is_ready space.new }
 {

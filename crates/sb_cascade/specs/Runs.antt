@@ -28,6 +28,11 @@ IsQuiet (Damaged page) = ⊥
 IsQuiet Fault = ⊥
 IsQuiet _ = Unit {0}
 
+-- a fact of a fault, where that is the refusal
+abbrev pub OnFault : Refusal → Type 0 → Type 0
+OnFault Fault IsSo = IsSo
+OnFault r IsSo = Unit {0}
+
 -- it says that room is wanting
 abbrev pub is_room : Refusal → Bool
 is_room (Room room) = true

@@ -6,7 +6,7 @@ ghost use Rattle.sb_relation.specs.Fits.{relation_of};
 ghost use Rattle.sb_fold.specs.Fold.{act, act_all, change_each, change_within, key_after};
 ghost use Rattle.sb_fold.specs.Outcome.{Going};
 ghost use Rattle.sb_fold.specs.Wishes.{const_of};
-ghost use Rattle.sb_cascade.specs.Runs.{MadeFrom, StopsFrom};
+ghost use Rattle.sb_cascade.specs.Runs.{MadeFrom, OnFault, StopsFrom};
 ghost use Rattle.sb_cascade.specs.Steps.{ask_all, change_key};
 ghost use Rattle.sb_cascade.specs.Wishes.{wish_of};
 
@@ -34,6 +34,7 @@ pub fn change<L: Layer>(
         → MadeFrom L.stands (change_within (L.extensions layer.old) levels name.now (wish_of wish.now)) g key layer.new) }
     ensures refused { IfErr result (λ r. (g : Going) → L.stands g layer.old
         → StopsFrom L.stopped (change_within (L.extensions layer.old) levels name.now (wish_of wish.now)) g r layer.new) }
+    ensures fault { IfErr result (λ r. OnFault r (L.failed layer.new)) }
     ensures leads { L.leads layer.old layer.new }
     ensures ready { L.is_ready layer.new }
 {
@@ -60,6 +61,7 @@ pub fn act<L: Layer>(
         → MadeFrom L.stands (act (change_within (L.extensions layer.old) levels) action.now) g n layer.new) }
     ensures refused { IfErr result (λ r. (g : Going) → L.stands g layer.old
         → StopsFrom L.stopped (act (change_within (L.extensions layer.old) levels) action.now) g r layer.new) }
+    ensures fault { IfErr result (λ r. OnFault r (L.failed layer.new)) }
     ensures leads { L.leads layer.old layer.new }
     ensures ready { L.is_ready layer.new }
 {
@@ -92,6 +94,7 @@ fn ask_all<L: Layer>(
     ensures may { IfOk result (λ following. All (λ a. L.may_do a layer.new) following.items) }
     ensures refused { IfErr result (λ r. (g : Going) → L.asks name.now change.now 0 g layer.old
         → StopsFrom L.stopped (ask_all (L.extensions layer.old) name.now change.now) g r layer.new) }
+    ensures fault { IfErr result (λ r. OnFault r (L.failed layer.new)) }
     ensures leads { L.leads layer.old layer.new }
     ensures ready { L.is_ready layer.new }
 {
@@ -120,6 +123,7 @@ fn act_all<L: Layer>(
         → MadeFrom L.stands (act_all (change_within (L.extensions layer.old) levels) actions.now) g tt layer.new) }
     ensures refused { IfErr result (λ r. (g : Going) → L.stands g layer.old
         → StopsFrom L.stopped (act_all (change_within (L.extensions layer.old) levels) actions.now) g r layer.new) }
+    ensures fault { IfErr result (λ r. OnFault r (L.failed layer.new)) }
     ensures leads { L.leads layer.old layer.new }
     ensures ready { L.is_ready layer.new }
 {
@@ -144,6 +148,7 @@ fn change_each<L: Layer>(
         → MadeFrom L.stands (change_each (change_within (L.extensions layer.old) levels) action.now keys.now) g n layer.new) }
     ensures refused { IfErr result (λ r. (g : Going) → L.stands g layer.old
         → StopsFrom L.stopped (change_each (change_within (L.extensions layer.old) levels) action.now keys.now) g r layer.new) }
+    ensures fault { IfErr result (λ r. OnFault r (L.failed layer.new)) }
     ensures leads { L.leads layer.old layer.new }
     ensures ready { L.is_ready layer.new }
 {
@@ -170,6 +175,7 @@ fn change_key<L: Layer>(
         → MadeFrom L.stands (change_key (change_within (L.extensions layer.old) levels) action.now key.now) g n layer.new) }
     ensures refused { IfErr result (λ r. (g : Going) → L.stands g layer.old
         → StopsFrom L.stopped (change_key (change_within (L.extensions layer.old) levels) action.now key.now) g r layer.new) }
+    ensures fault { IfErr result (λ r. OnFault r (L.failed layer.new)) }
     ensures leads { L.leads layer.old layer.new }
     ensures ready { L.is_ready layer.new }
 {

@@ -4,7 +4,7 @@ ghost use Rattle.std.specs.Prelude.{◌≡◌, [], false, IfErr, IfOk, OnOk};
 ghost use Rattle.sb_fold.specs.Finish.{drain, finish};
 ghost use Rattle.sb_fold.specs.Fold.{act, first_change};
 ghost use Rattle.sb_fold.specs.Outcome.{Going};
-ghost use Rattle.sb_cascade.specs.Runs.{MadeFrom, StopsFrom, is_room};
+ghost use Rattle.sb_cascade.specs.Runs.{MadeFrom, OnFault, StopsFrom, is_room};
 
 use crate::changes::act;
 use crate::layer::Layer;
@@ -24,6 +24,7 @@ pub fn finish<L: Layer>(layer: &mut L, alloc: Global) -> Result<(), Refusal>
     ensures made { OnOk result ((g : Going) → L.stands g layer.old → MadeFrom L.stands (finish (L.extensions layer.old)) g tt layer.new) }
     ensures refused { IfErr result (λ r. (g : Going) → L.stands g layer.old
         → StopsFrom L.stopped (finish (L.extensions layer.old)) g r layer.new) }
+    ensures fault { IfErr result (λ r. OnFault r (L.failed layer.new)) }
     ensures leads { L.leads layer.old layer.new }
     ensures ready { L.is_ready layer.new }
 
@@ -43,6 +44,7 @@ fn drain<L: Layer>(layer: &mut L, alloc: Global, most: u32) -> Result<(), Refusa
     ensures made { OnOk result ((g : Going) → L.stands g layer.old → MadeFrom L.stands (drain (L.extensions layer.old) most) g tt layer.new) }
     ensures refused { IfErr result (λ r. (g : Going) → L.stands g layer.old
         → StopsFrom L.stopped (drain (L.extensions layer.old) most) g r layer.new) }
+    ensures fault { IfErr result (λ r. OnFault r (L.failed layer.new)) }
     ensures leads { L.leads layer.old layer.new }
     ensures ready { L.is_ready layer.new }
 
@@ -69,6 +71,7 @@ fn act_waiting<L: Layer>(layer: &mut L, alloc: Global, action: Action) -> Result
         → MadeFrom L.stands (act (first_change (L.extensions layer.old)) action) g n layer.new) }
     ensures refused { IfErr result (λ r. (g : Going) → L.stands g layer.old
         → StopsFrom L.stopped (act (first_change (L.extensions layer.old)) action) g r layer.new) }
+    ensures fault { IfErr result (λ r. OnFault r (L.failed layer.new)) }
     ensures leads { L.leads layer.old layer.new }
     ensures ready { L.is_ready layer.new }
 {

@@ -14,7 +14,7 @@ ghost use Rattle.sb_fold.specs.Finish.{first_failing};
 ghost use Rattle.sb_fold.specs.Fold.{matching};
 ghost use Rattle.sb_fold.specs.Outcome.{Going, Trail};
 ghost use Rattle.sb_fold.specs.Wishes.{Wish, Put, const_of};
-ghost use Rattle.sb_cascade.specs.Runs.{Asked, IsQuiet, LooksFrom, MadeFrom, NotAsked, StopsFrom, Unqueued, is_room, row_change};
+ghost use Rattle.sb_cascade.specs.Runs.{Asked, IsQuiet, LooksFrom, MadeFrom, NotAsked, OnFault, StopsFrom, Unqueued, is_room, row_change};
 ghost use Rattle.sb_cascade.specs.Steps.{wish_there};
 ghost use Rattle.sb_cascade.specs.Wishes.{wish_of};
 
@@ -42,6 +42,9 @@ pub trait Layer {
     /// It was stopped by this refusal when the work had this trail.
     ghost stopped: { Refusal → Trail → Self → Type 0 };
 
+    /// A call on the disk has failed.
+    ghost failed: { Self → Type 0 };
+
     /// The action is of a relation that is there, and its terms are values of its columns.
     ghost may_do: { Action → Self → Type 0 };
 
@@ -63,6 +66,7 @@ pub trait Layer {
         ensures may { IfOk result (λ c. may_ask name.now c self.new) }
         ensures refused { IfErr result (λ r. (g : Going) → stands g self.old
             → StopsFrom stopped (row_change (extensions self.old) name.now (wish_of wish.now)) g r self.new) }
+        ensures fault { IfErr result (λ r. OnFault r (failed self.new)) }
         ensures leads { leads self.old self.new }
         ensures ready { is_ready self.new };
 
@@ -83,6 +87,7 @@ pub trait Layer {
         ensures may { IfOk result (λ x. IfSome x (λ v. All (λ a. may_do a self.new) v.items)) }
         ensures refused { IfErr result (λ r. (g : Going) → asks name.now change.now i g self.old
             → NotAsked stopped (extensions self.old) name.now change.now i g r self.new) }
+        ensures fault { IfErr result (λ r. OnFault r (failed self.new)) }
         ensures leads { leads self.old self.new }
         ensures ready { is_ready self.new };
 
@@ -92,6 +97,7 @@ pub trait Layer {
         requires may { may_do action.now self.old }
         ensures keys { IfOk result (λ keys. (g : Going) → stands g self.old → (keys.items ≡ matching g.db action.now) × stands g self.new) }
         ensures refused { IfErr result (λ r. (g : Going) → stands g self.old → LooksFrom stopped g r self.new) }
+        ensures fault { IfErr result (λ r. OnFault r (failed self.new)) }
         ensures leads { leads self.old self.new }
         ensures ready { is_ready self.new };
 
@@ -108,6 +114,7 @@ pub trait Layer {
             → (option_map wish_of x ≡ wish_there g.db action.now key.now) × stands g self.new) }
         ensures may { IfOk result (λ x. IfSome x (λ wish. may_wish (relation_of action.now) (wish_of wish) self.new)) }
         ensures refused { IfErr result (λ r. (g : Going) → stands g self.old → LooksFrom stopped g r self.new) }
+        ensures fault { IfErr result (λ r. OnFault r (failed self.new)) }
         ensures leads { leads self.old self.new }
         ensures ready { is_ready self.new };
 
@@ -117,6 +124,7 @@ pub trait Layer {
         ensures taken { IfOk result (λ x. (g : Going) → stands g self.old → Unqueued stands g x self.new) }
         ensures may { IfOk result (λ x. IfSome x (λ a. may_do a self.new)) }
         ensures refused { IfErr result (λ r. (g : Going) → stands g self.old → LooksFrom stopped g r self.new) }
+        ensures fault { IfErr result (λ r. OnFault r (failed self.new)) }
         ensures room { IfErr result (λ r. is_room r ≡ false) }
         ensures leads { leads self.old self.new }
         ensures ready { is_ready self.new };
@@ -127,6 +135,7 @@ pub trait Layer {
         ensures found { IfOk result (λ x. (g : Going) → stands g self.old → g.queue.actions ≡ []
             → (x ≡ first_failing (extensions self.old) g.db g.db) × stands g self.new) }
         ensures refused { IfErr result (λ r. (g : Going) → stands g self.old → LooksFrom stopped g r self.new) }
+        ensures fault { IfErr result (λ r. OnFault r (failed self.new)) }
         ensures room { IfErr result (λ r. is_room r ≡ false) }
         ensures leads { leads self.old self.new }
         ensures ready { is_ready self.new };

@@ -8,10 +8,10 @@ use Rattle.sb_relation.specs.Db.{Name}
 use Rattle.sb_rule.specs.declared.change.Change.{Change}
 use Rattle.sb_fold.specs.Extensions.{Extensions}
 use Rattle.sb_fold.specs.Outcome.{Going, Trail}
-use Rattle.sb_cascade.specs.Runs.{IsVetoed, IsVetoedIf, NotAsked, is_free, is_room}
+use Rattle.sb_cascade.specs.Runs.{IsVetoed, IsVetoedIf, NotAsked, OnFault, is_free, is_room}
 use Rattle.sb_fold.specs.declared.refusal.Refusal.{Refusal}
 use Rattle.sb_fold.specs.declared.refusal.Refusal.TheVariants as refusal
-use Rattle.sb_engine.specs.Refusals.{HasRefusalCause, refusal_of}
+use Rattle.sb_engine.specs.Refusals.{HasFaultCause, HasRefusalCause, IsRefusedBy, refusal_of}
 
 -- it is none that a definition gives
 pub free_refusal : (e : SpaceFault) → is_free (refusal_of e) ≡ true
@@ -70,6 +70,36 @@ definite_cause Fails refusal.NoMemory now is = tt
 definite_cause Fails (refusal.Room room) now is = absurd (true≢false is)
 definite_cause Fails (refusal.Damaged page) now is = absurd (true≢false is)
 definite_cause Fails refusal.Fault now is = absurd (true≢false is)
+
+-- ---- faults, whatever the pages keep
+-- a refusal is a fault, or no fact of a fault is asked of it
+pub fault_or : (r : Refusal) (IsSo : Type 0) → (r ≡ refusal.Fault) ⊎ OnFault r IsSo
+fault_or refusal.Fault IsSo = inl refl
+fault_or r IsSo = inr tt
+
+-- a fact of a fault, by one that a refusal gives where it is one
+pub on_fault : (r : Refusal) (IsSo : Type 0) → (r ≡ refusal.Fault → IsSo) → OnFault r IsSo
+on_fault r IsSo gives = of (fault_or r IsSo)
+  where
+    of : (r ≡ refusal.Fault) ⊎ OnFault r IsSo → OnFault r IsSo
+    of (inl is) = subst (λ (x : Refusal). OnFault x IsSo) (sym is) (gives is)
+    of (inr so) = so
+
+-- and back
+pub of_fault : (r : Refusal) (IsSo : Type 0) → OnFault r IsSo → r ≡ refusal.Fault → IsSo
+of_fault r IsSo so is = subst (λ (x : Refusal). OnFault x IsSo) is so
+
+-- one whose cause the space has
+pub caused_fault : {S : Type 0} (Fails : SpaceFault → S → S → Type 0) (r : Refusal) (now : S) → HasRefusalCause Fails r now → HasFaultCause Fails r now
+caused_fault Fails r now cause =
+    on_fault r (IsRefusedBy Fails refusal.Fault now) (λ is. subst (λ (x : Refusal). HasRefusalCause Fails x now) is cause)
+
+-- that of a refused call of the space
+pub refused_fault : {S : Type 0} (Fails : SpaceFault → S → S → Type 0) (Same : Type 0) (old new : S) (e : SpaceFault) → IsRefused Same (Fails e old new) e
+    → HasFaultCause Fails (refusal_of e) new
+refused_fault Fails Same old new fault.Fault is = record { fault = fault.Fault; is = refl; before = old; fails = is }
+refused_fault Fails Same old new fault.Down is = record { fault = fault.Down; is = refl; before = old; fails = is }
+refused_fault Fails Same old new e is = tt
 
 -- ---- an attachment that was asked
 -- a refusal of the space is no veto

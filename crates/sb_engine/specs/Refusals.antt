@@ -4,7 +4,7 @@ use Rattle.sb_drive.specs.declared.space.SpaceFault.{SpaceFault}
 use Rattle.sb_drive.specs.declared.space.SpaceFault.TheVariants as fault
 use Rattle.sb_fold.specs.declared.refusal.Refusal.{Refusal}
 use Rattle.sb_fold.specs.declared.refusal.Refusal.TheVariants as refusal
-use Rattle.sb_cascade.specs.Runs.{IsQuiet}
+use Rattle.sb_cascade.specs.Runs.{IsQuiet, OnFault}
 use Rattle.sb_fold.specs.declared.refusal.Room.TheVariants.{Data, Temp, Log, Gates}
 
 abbrev pub refusal_of : SpaceFault → Refusal
@@ -30,6 +30,10 @@ HasRefusalCause Fails (refusal.Room room) now = IsRefusedBy Fails (refusal.Room 
 HasRefusalCause Fails refusal.Fault now = IsRefusedBy Fails refusal.Fault now
 HasRefusalCause Fails (refusal.Damaged page) now = ⊥
 HasRefusalCause Fails r now = Unit {0}
+
+-- Where the refusal is a fault, some call of the space was refused so, whatever its pages keep.
+abbrev pub HasFaultCause : {S : Type 0} → (SpaceFault → S → S → Type 0) → Refusal → S → Type 0
+HasFaultCause Fails r now = OnFault r (IsRefusedBy Fails refusal.Fault now)
 
 -- a refusal that says nothing of pages and of the disk wants no cause
 pub quiet_cause : {S : Type 0} (Fails : SpaceFault → S → S → Type 0) (r : Refusal) (now : S) → IsQuiet r → HasRefusalCause Fails r now

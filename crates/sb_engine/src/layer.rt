@@ -3,7 +3,7 @@
 ghost use Rattle.std.specs.Prelude.{◌≡◌, ◌⊎◌};
 ghost use Rattle.sb_fold.specs.declared.refusal.Refusal.TheVariants as refusal;
 ghost use Rattle.sb_engine.specs.Goings.{goes_on, puts_fit, same_extensions, stays, still_asked, still_done};
-ghost use Rattle.sb_engine.specs.Refusals.{quiet_cause};
+ghost use Rattle.sb_engine.specs.Refusals.{IsRefusedBy, quiet_cause};
 ghost use Rattle.sb_engine.specs.Working.{GoesOpen, MayAsk, MayDo, MayWish, IsServing, IsStoppedBy, StandsFor, StandsAsking, extensions_in};
 
 use crate::asking::put_left;
@@ -35,6 +35,8 @@ impl<B: Boxes, S: PageSpace> Layer for Running<'_, B, S> {
     ghost asks = { λ name c i g a. StandsAsking S.has (B.meanings a.boxes.now) a.place.root name c i g a.space.now a.work.now };
 
     ghost stopped = { λ r trail a. IsStoppedBy S.fails r trail a };
+
+    ghost failed = { λ a. IsRefusedBy S.fails refusal.Fault a.space.now };
 
     ghost may_do = { λ action a. MayDo a.work.now.opened.items action };
 

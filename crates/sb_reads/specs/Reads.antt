@@ -5,6 +5,9 @@ use Rattle.sb_relation.specs.Images.{Entry}
 use Rattle.sb_fold.specs.Building.{rule_at}
 use Rattle.sb_plain.specs.declared.command.Command.{Command}
 use Rattle.sb_plain.specs.declared.command.Command.TheVariants as command
+use Rattle.sb_plain.specs.declared.reply.Reply.{Reply}
+use Rattle.sb_plain.specs.declared.reply.Reply.TheVariants as reply
+use Rattle.sb_fold.specs.declared.refusal.Refusal.TheVariants.{NoRecord}
 use Rattle.sb_plain.specs.Refusing.{is_lookup, is_range}
 
 -- the relation whose rows or attachments a command reads
@@ -26,6 +29,14 @@ is_reading (command.Entries relation name) = true
 is_reading (command.Show relation) = true
 is_reading command.Tables = true
 is_reading _ = false
+
+-- a reply to a command that reads: rows, entries, lines, or that no row has the key
+abbrev pub IsAnswer : Reply → Type 0
+IsAnswer (reply.Rows rows) = Unit {0}
+IsAnswer (reply.Entries image) = Unit {0}
+IsAnswer (reply.Lines lines) = Unit {0}
+IsAnswer (reply.Refused (NoRecord relation)) = Unit {0}
+IsAnswer r = ⊥
 
 abbrev pub IsThere : Db → Name → Type 0
 IsThere db relation = is_some (relation_at db relation) ≡ true

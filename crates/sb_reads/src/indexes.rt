@@ -14,7 +14,7 @@ ghost use Rattle.sb_plain.specs.declared.reply.Reply.TheVariants.{Rows as Rowed,
 ghost use Rattle.std.specs.List.{cons_option};
 ghost use Rattle.sb_plain.specs.Reading.{image_at, index_columns, looked_up, rows_between};
 ghost use Rattle.sb_plain.specs.Refusing.{is_lookup, is_range};
-ghost use Rattle.sb_reads.specs.Reads.{row_of};
+ghost use Rattle.sb_reads.specs.Reads.{row_of, IsAnswer};
 ghost use Rattle.sb_reads.specs.Stores.{OnOpen, attachment_in, columns_of, instance_beside};
 
 use crate::entries::{entries_within, image_of};
@@ -48,6 +48,7 @@ pub(crate) fn lookup<S: PageSpace, B: Boxes>(
     ensures reply { IfOk result (λ x. OnOpen S.has (B.meanings boxes.now) place.root space.old opened.now (λ db r.
         is_lookup r.schema (attachment_in r name.now) values.now ≡ true
         → x ≡ Rowed (looked_up db opened.now.name (index_columns (attachment_in r name.now)) values.now))) }
+    ensures answer { IfOk result IsAnswer }
     ensures undamaged { IfErr result (λ e. OnOpen S.has (B.meanings boxes.now) place.root space.old opened.now (λ db r.
         is_lookup r.schema (attachment_in r name.now) values.now ≡ true → IsSound e)) }
     ensures looks { Looks S.has S.leads S.fails space.old space.new result }
@@ -77,6 +78,7 @@ pub(crate) fn range<S: PageSpace, B: Boxes>(
     ensures reply { IfOk result (λ x. OnOpen S.has (B.meanings boxes.now) place.root space.old opened.now (λ db r.
         is_range r.schema (attachment_in r name.now) low.now ≡ true
         → x ≡ Rowed (rows_between db opened.now.name (index_columns (attachment_in r name.now)) low.now high.now))) }
+    ensures answer { IfOk result IsAnswer }
     ensures undamaged { IfErr result (λ e. OnOpen S.has (B.meanings boxes.now) place.root space.old opened.now (λ db r.
         is_range r.schema (attachment_in r name.now) low.now ≡ true → IsSound e)) }
     ensures looks { Looks S.has S.leads S.fails space.old space.new result }
@@ -150,6 +152,7 @@ pub(crate) fn entries<S: PageSpace, B: Boxes>(
     ensures reply { IfOk result (λ x. OnOpen S.has (B.meanings boxes.now) place.root space.old opened.now (λ db r.
         (ext : Extensions) → ext.boxes ≡ boxes_of (B.meanings boxes.now) → is_some (attachment_in r name.now) ≡ true
         → x ≡ Listed (image_at ext db opened.now.name (attachment_in r name.now)))) }
+    ensures answer { IfOk result IsAnswer }
     ensures undamaged { IfErr result (λ e. OnOpen S.has (B.meanings boxes.now) place.root space.old opened.now (λ db r.
         is_some (attachment_in r name.now) ≡ true → IsSound e)) }
     ensures looks { Looks S.has S.leads S.fails space.old space.new result }

@@ -1,6 +1,6 @@
 //! What commands answer that only read. An open relation goes by a call of `drop`.
 
-ghost use Rattle.std.specs.Prelude.{◌≡◌, ℕ, List, None, Some, is_some, option_copied, IfOk, IfErr};
+ghost use Rattle.std.specs.Prelude.{◌≡◌, ℕ, List, None, Some, is_some, option_copied, IfOk, IfErr, IfSome};
 ghost use Rattle.sb_fold.specs.Extensions.{Extensions};
 ghost use Rattle.sb_drive.specs.Slots.{Slots};
 ghost use Rattle.sb_drive.specs.Spaces.{Wanted};
@@ -10,7 +10,7 @@ ghost use Rattle.sb_standing.specs.Standing.{Keeps};
 ghost use Rattle.sb_standing.specs.Tables.{Kept, db_of};
 ghost use Rattle.sb_asking.specs.Opened.{IsDurable, IsOpen};
 ghost use Rattle.sb_plain.specs.Reading.{read};
-ghost use Rattle.sb_reads.specs.Reads.{MayRead, is_reading, relation_read};
+ghost use Rattle.sb_reads.specs.Reads.{IsAnswer, MayRead, is_reading, relation_read};
 ghost use Rattle.sb_reads.specs.Stores.{OnOpen};
 
 use crate::indexes::{entries, lookup, range};
@@ -41,6 +41,7 @@ pub fn read<S: PageSpace, B: Boxes>(
         → ext.boxes ≡ boxes_of (B.meanings boxes.now) → MayRead (db_of kept) command.now
         → x ≡ read ext (db_of kept) command.now) }
     ensures reads { IfOk result (λ x. is_some x ≡ is_reading command.now) }
+    ensures answer { IfOk result (λ x. IfSome x IsAnswer) }
     ensures undamaged { IfErr result (λ e. (want : Wanted) (s : Slots) (gone : List ℕ) (kept : List Kept)
         → S.has want s space.old → Keeps (B.meanings boxes.now) IsDurable place.root s gone kept
         → MayRead (db_of kept) command.now → IsSound e) }
@@ -89,6 +90,7 @@ fn read_catalogue<S: PageSpace, B: Boxes>(
         → S.has want s space.old → Keeps (B.meanings boxes.now) IsDurable place.root s gone kept
         → MayRead (db_of kept) command.now → x ≡ read ext (db_of kept) command.now) }
     ensures reads { IfOk result (λ x. is_some x ≡ is_reading command.now) }
+    ensures answer { IfOk result (λ x. IfSome x IsAnswer) }
     ensures undamaged { IfErr result (λ e. (want : Wanted) (s : Slots) (gone : List ℕ) (kept : List Kept)
         → S.has want s space.old → Keeps (B.meanings boxes.now) IsDurable place.root s gone kept
         → MayRead (db_of kept) command.now → IsSound e) }
@@ -125,6 +127,7 @@ fn read_relation<S: PageSpace, B: Boxes>(
     ensures reply { IfOk result (λ x. OnOpen S.has (B.meanings boxes.now) place.root space.old opened.now (λ db r.
         (ext : Extensions) → ext.boxes ≡ boxes_of (B.meanings boxes.now) → MayRead db command.now
         → Some x ≡ read ext db command.now)) }
+    ensures answer { IfOk result IsAnswer }
     ensures undamaged { IfErr result (λ e. OnOpen S.has (B.meanings boxes.now) place.root space.old opened.now (λ db r.
         MayRead db command.now → IsSound e)) }
     ensures looks { Looks S.has S.leads S.fails space.old space.new result }

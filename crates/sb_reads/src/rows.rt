@@ -11,7 +11,7 @@ ghost use Rattle.sb_rows.specs.Live.{HasRows};
 ghost use Rattle.sb_asking.specs.Opened.{IsOpen};
 ghost use Rattle.sb_plain.specs.declared.reply.Reply.TheVariants.{Rows as Rowed};
 ghost use Rattle.sb_plain.specs.Reading.{at_most, row_reply, rows_after};
-ghost use Rattle.sb_reads.specs.Reads.{most_rows};
+ghost use Rattle.sb_reads.specs.Reads.{most_rows, IsAnswer};
 
 use sb_asking::{OpenRelation, ValueTest};
 use sb_ctx::Instance;
@@ -56,6 +56,7 @@ pub(crate) fn get<S: PageSpace, B: Boxes>(
 
     ensures reply { IfOk result (λ x. (want : Wanted) (s : Slots) (rows : Rows) → S.has want s space.old
         → HasRows (B.meanings boxes.now) s opened.now.table rows → x ≡ row_reply opened.now.name at.now (row_at rows at.now)) }
+    ensures answer { IfOk result IsAnswer }
     ensures undamaged { IfErr result (λ e. (want : Wanted) (s : Slots) (rows : Rows) → S.has want s space.old
         → HasRows (B.meanings boxes.now) s opened.now.table rows → IsSound e) }
     ensures looks { Looks S.has S.leads S.fails space.old space.new result }
@@ -72,7 +73,8 @@ fn row_reply(
     at: &RecKey,
     row: Option<Tuple>,
 ) -> Result<Reply, AllocError>
-    ensures { IfOk result (λ x. x ≡ row_reply relation.now at.now row) }
+    ensures reply { IfOk result (λ x. x ≡ row_reply relation.now at.now row) }
+    ensures answer { IfOk result IsAnswer }
 {
     match row {
         None => Ok(Reply::Refused(Refusal::NoRecord {
@@ -101,6 +103,7 @@ pub(crate) fn scan<S: PageSpace, B: Boxes>(
 
     ensures reply { IfOk result (λ x. (want : Wanted) (s : Slots) (rows : Rows) → S.has want s space.old
         → HasRows (B.meanings boxes.now) s table.now rows → x ≡ Rowed (at_most limit (rows_after after.now rows))) }
+    ensures answer { IfOk result IsAnswer }
     ensures undamaged { IfErr result (λ e. (want : Wanted) (s : Slots) (rows : Rows) → S.has want s space.old
         → HasRows (B.meanings boxes.now) s table.now rows → IsSound e) }
     ensures looks { Looks S.has S.leads S.fails space.old space.new result }
@@ -148,6 +151,7 @@ pub(crate) fn rows_with<S: PageSpace, B: Boxes>(
     ensures reply { IfOk result (λ x. (want : Wanted) (s : Slots) (rows : Rows) → S.has want s space.old
         → HasRows (B.meanings boxes.now) s table.now rows
         → x ≡ Rowed (filter (λ row. has_values table.now.schema columns.now values.now row.1) rows)) }
+    ensures answer { IfOk result IsAnswer }
     ensures undamaged { IfErr result (λ e. (want : Wanted) (s : Slots) (rows : Rows) → S.has want s space.old
         → HasRows (B.meanings boxes.now) s table.now rows → IsSound e) }
     ensures looks { Looks S.has S.leads S.fails space.old space.new result }

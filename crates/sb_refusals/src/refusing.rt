@@ -1,6 +1,6 @@
 //! The first refusal of a command.
 
-ghost use Rattle.std.specs.Prelude.{◌≡◌, true, false, IfOk, IfErr};
+ghost use Rattle.std.specs.Prelude.{◌≡◌, true, false, IfOk, IfErr, IfSome};
 ghost use Rattle.sb_plain.specs.State.{State, view};
 ghost use Rattle.sb_plain.specs.Refusing.{first_of, refused};
 ghost use Rattle.sb_refusals.specs.Catalogue.{is_damage, is_free};
@@ -32,7 +32,8 @@ fn copied(name: &Str) -> Result<Str, Refusal>
 }
 
 fn refuse_place<C: Catalogue>(catalogue: &C, command: &Command) -> Option<Refusal>
-    ensures { (s : State) → C.sees s catalogue.now → result ≡ first_of (place_tests s command.now) }
+    ensures refused { (s : State) → C.sees s catalogue.now → result ≡ first_of (place_tests s command.now) }
+    ensures tested { IfSome result (λ r. is_free r ≡ false) }
 {
     if catalogue.is_down() {
         return Some(Refusal::Down);
@@ -50,6 +51,7 @@ fn refuse_names<C: Catalogue>(
 ) -> Result<Option<Refusal>, Refusal>
     ensures refused { IfOk result (λ r. (s : State) → C.sees s catalogue.now → AreSeen (view s) command.now named.now
         → r ≡ first_of (name_tests s command.now)) }
+    ensures tested { IfOk result (λ r. IfSome r (λ x. is_free x ≡ false)) }
     ensures wants { IfErr result (λ r. r ≡ Refusal.NoMemory) }
 {
     if let Some(name) = first_missing(named, command) {
@@ -75,6 +77,7 @@ fn refuse_codes<C: Catalogue>(
     requires ready { C.is_ready catalogue.old }
     ensures refused { IfOk result (λ r. (s : State) → C.sees s catalogue.old
         → (r ≡ first_of (code_tests s command.now)) × C.sees s catalogue.new) }
+    ensures tested { IfOk result (λ r. IfSome r (λ x. is_free x ≡ false)) }
     ensures free { IfErr result (λ r. is_free r ≡ true) }
     ensures undamaged { IfErr result (λ r. (s : State) → C.sees s catalogue.old → is_damage r ≡ false) }
     ensures fails { IfErr result (λ r. C.fails r catalogue.old catalogue.new) }
@@ -91,8 +94,9 @@ fn refuse_codes<C: Catalogue>(
 }
 
 fn refuse_kinds<C: Catalogue>(catalogue: &C, named: &Named, command: &Command) -> Option<Refusal>
-    ensures { (s : State) → C.sees s catalogue.now → AreSeen (view s) command.now named.now
+    ensures refused { (s : State) → C.sees s catalogue.now → AreSeen (view s) command.now named.now
         → result ≡ first_of (kind_tests (C.extensions catalogue.now) s command.now) }
+    ensures tested { IfSome result (λ r. is_free r ≡ false) }
 {
     if !is_well_kinded(catalogue, named, command) {
         return Some(Refusal::Mistyped);
@@ -116,6 +120,7 @@ fn refuse_seen<C: Catalogue>(
     requires ready { C.is_ready catalogue.old }
     ensures refused { IfOk result (λ r. (s : State) → C.sees s catalogue.old → AreSeen (view s) command.now named.now
         → (r ≡ first_of (seen_tests (C.extensions catalogue.old) s command.now)) × C.sees s catalogue.new) }
+    ensures tested { IfOk result (λ r. IfSome r (λ x. is_free x ≡ false)) }
     ensures free { IfErr result (λ r. is_free r ≡ true) }
     ensures undamaged { IfErr result (λ r. (s : State) → C.sees s catalogue.old → is_damage r ≡ false) }
     ensures fails { IfErr result (λ r. C.fails r catalogue.old catalogue.new) }
@@ -140,6 +145,7 @@ pub fn refuse<C: Catalogue>(
     requires ready { C.is_ready catalogue.old }
     ensures refused { IfOk result (λ r. (s : State) → C.sees s catalogue.old
         → (r ≡ refused (C.extensions catalogue.old) s command.now) × C.sees s catalogue.new) }
+    ensures tested { IfOk result (λ r. IfSome r (λ x. is_free x ≡ false)) }
     ensures free { IfErr result (λ r. is_free r ≡ true) }
     ensures undamaged { IfErr result (λ r. (s : State) → C.sees s catalogue.old → is_damage r ≡ false) }
     ensures fails { IfErr result (λ r. C.fails r catalogue.old catalogue.new) }

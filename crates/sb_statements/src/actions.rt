@@ -4,6 +4,7 @@ ghost use Rattle.std.specs.Prelude.{IfOk, IfErr};
 ghost use Rattle.sb_plain.specs.declared.command.Command.TheVariants as command;
 ghost use Rattle.sb_building.specs.Working.{Goes, IsServing};
 ghost use Rattle.sb_statements.specs.Statements.{IsDone, IsStopped, answer_of};
+ghost use Rattle.sb_building.specs.Refusals.{HasFaultCause};
 
 use crate::answers::Answer;
 use crate::opening::open_action;
@@ -26,6 +27,7 @@ pub(crate) fn act_on<B: Boxes, S: PageSpace>(
 
     ensures done { IfOk result (λ x. IsDone S.has B.meanings (command.Act action.now) running.old (answer_of x) running.new) }
     ensures stopped { IfErr result (λ r. IsStopped S.has S.fails B.meanings (command.Act action.now) running.old r running.new) }
+    ensures fault { IfErr result (λ r. HasFaultCause S.fails r running.new.space.now) }
     ensures goes { Goes S.leads running.old running.new }
     ensures ready { IsServing S.is_ready B.meanings running.new }
 {

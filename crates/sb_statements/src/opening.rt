@@ -14,6 +14,7 @@ ghost use Rattle.sb_building.specs.Opened.{IsDurable, IsOpen};
 ghost use Rattle.sb_building.specs.Wished.{MayBeWished};
 ghost use Rattle.sb_building.specs.Opening.{IsKeeping};
 ghost use Rattle.sb_building.specs.Working.{AreOpened, GoesOpen, Grows, IsServing, IsStoppedBy, MayDo, MayWish, StandsFor};
+ghost use Rattle.sb_building.specs.Refusals.{HasFaultCause};
 
 use sb_building::{OpenRelation, Place, Running, open_at, open_named, prepare, refusal_of};
 use sb_cascade::Wish;
@@ -39,6 +40,7 @@ pub(crate) fn open_wish<B: Boxes, S: PageSpace>(
     ensures stands { OnOk result ((g : Going) → StandsFor S.has B.meanings g running.old → StandsFor S.has B.meanings g running.new) }
     ensures refused { IfErr result (λ r. (g : Going) → StandsFor S.has B.meanings g running.old → IsFittingWish g.db name.now (wish_of wish.now)
         → LooksFrom (IsStoppedBy S.fails) g r running.new) }
+    ensures fault { IfErr result (λ r. HasFaultCause S.fails r running.new.space.now) }
     ensures goes { GoesOpen S.leads running.old running.new }
     ensures ready { IsServing S.is_ready B.meanings running.new }
 {
@@ -68,6 +70,7 @@ pub(crate) fn open_action<B: Boxes, S: PageSpace>(
     ensures stands { OnOk result ((g : Going) → StandsFor S.has B.meanings g running.old → StandsFor S.has B.meanings g running.new) }
     ensures refused { IfErr result (λ r. (g : Going) → StandsFor S.has B.meanings g running.old → IsFitting g.db action.now
         → LooksFrom (IsStoppedBy S.fails) g r running.new) }
+    ensures fault { IfErr result (λ r. HasFaultCause S.fails r running.new.space.now) }
     ensures goes { GoesOpen S.leads running.old running.new }
     ensures ready { IsServing S.is_ready B.meanings running.new }
 {

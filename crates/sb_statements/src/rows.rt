@@ -10,6 +10,7 @@ ghost use Rattle.sb_cascade.specs.Runs.{MadeFrom, StopsFrom};
 ghost use Rattle.sb_cascade.specs.Wishes.{wish_of};
 ghost use Rattle.sb_building.specs.Working.{Goes, GoesOpen, IsServing, IsStoppedBy, StandsFor, extensions_in, open_at};
 ghost use Rattle.sb_statements.specs.Statements.{IsDone, IsStopped, answer_of};
+ghost use Rattle.sb_building.specs.Refusals.{HasFaultCause};
 
 use crate::answers::{Answer, row_answer};
 use crate::opening::open_wish;
@@ -34,6 +35,7 @@ pub(crate) fn insert<B: Boxes, S: PageSpace>(
 
     ensures done { IfOk result (λ x. IsDone S.has B.meanings (command.Insert relation.now values.now) running.old (answer_of x) running.new) }
     ensures stopped { IfErr result (λ r. IsStopped S.has S.fails B.meanings (command.Insert relation.now values.now) running.old r running.new) }
+    ensures fault { IfErr result (λ r. HasFaultCause S.fails r running.new.space.now) }
     ensures goes { Goes S.leads running.old running.new }
     ensures ready { IsServing S.is_ready B.meanings running.new }
 {
@@ -54,6 +56,7 @@ pub(crate) fn update<B: Boxes, S: PageSpace>(
 
     ensures done { IfOk result (λ x. IsDone S.has B.meanings (command.Update relation.now at.now values.now) running.old (answer_of x) running.new) }
     ensures stopped { IfErr result (λ r. IsStopped S.has S.fails B.meanings (command.Update relation.now at.now values.now) running.old r running.new) }
+    ensures fault { IfErr result (λ r. HasFaultCause S.fails r running.new.space.now) }
     ensures goes { Goes S.leads running.old running.new }
     ensures ready { IsServing S.is_ready B.meanings running.new }
 {
@@ -76,6 +79,7 @@ pub(crate) fn delete<B: Boxes, S: PageSpace>(
 
     ensures done { IfOk result (λ x. IsDone S.has B.meanings (command.Delete relation.now at.now) running.old (answer_of x) running.new) }
     ensures stopped { IfErr result (λ r. IsStopped S.has S.fails B.meanings (command.Delete relation.now at.now) running.old r running.new) }
+    ensures fault { IfErr result (λ r. HasFaultCause S.fails r running.new.space.now) }
     ensures goes { Goes S.leads running.old running.new }
     ensures ready { IsServing S.is_ready B.meanings running.new }
 {
@@ -100,6 +104,7 @@ fn change_keyed<B: Boxes, S: PageSpace>(
     ensures refused { IfErr result (λ r. (g : Going) → StandsFor S.has B.meanings g running.old → IsFittingWish g.db name.now (wish_of wish.now)
         → StopsFrom (IsStoppedBy S.fails) (with_key name.now (first_change (extensions_in B.meanings running.old) name.now (wish_of wish.now)))
         g r running.new) }
+    ensures fault { IfErr result (λ r. HasFaultCause S.fails r running.new.space.now) }
     ensures goes { Goes S.leads running.old running.new }
     ensures ready { IsServing S.is_ready B.meanings running.new }
 {
@@ -124,6 +129,7 @@ fn change_plainly<B: Boxes, S: PageSpace>(
     ensures refused { IfErr result (λ r. (g : Going) → StandsFor S.has B.meanings g running.old → IsFittingWish g.db name.now (wish_of wish.now)
         → StopsFrom (IsStoppedBy S.fails) (plainly (first_change (extensions_in B.meanings running.old) name.now (wish_of wish.now)))
         g r running.new) }
+    ensures fault { IfErr result (λ r. HasFaultCause S.fails r running.new.space.now) }
     ensures goes { Goes S.leads running.old running.new }
     ensures ready { IsServing S.is_ready B.meanings running.new }
 {
@@ -146,6 +152,7 @@ fn change_fitting<B: Boxes, S: PageSpace>(
         → MadeFrom (StandsFor S.has B.meanings) (first_change (extensions_in B.meanings running.old) name.now (wish_of wish.now)) g key running.new) }
     ensures refused { IfErr result (λ r. (g : Going) → StandsFor S.has B.meanings g running.old → IsFittingWish g.db name.now (wish_of wish.now)
         → StopsFrom (IsStoppedBy S.fails) (first_change (extensions_in B.meanings running.old) name.now (wish_of wish.now)) g r running.new) }
+    ensures fault { IfErr result (λ r. HasFaultCause S.fails r running.new.space.now) }
     ensures open { IfOk result (λ key. is_some (open_at running.new.work.now.opened.items name.now) ≡ true) }
     ensures goes { GoesOpen S.leads running.old running.new }
     ensures ready { IsServing S.is_ready B.meanings running.new }

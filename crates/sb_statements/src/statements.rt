@@ -3,6 +3,7 @@
 ghost use Rattle.std.specs.Prelude.{IfOk, IfErr};
 ghost use Rattle.sb_building.specs.Working.{Goes, IsServing};
 ghost use Rattle.sb_statements.specs.Statements.{IsDone, IsStopped, answer_of};
+ghost use Rattle.sb_building.specs.Refusals.{HasFaultCause};
 
 use crate::actions::act_on;
 use crate::answers::Answer;
@@ -25,6 +26,7 @@ pub fn work<B: Boxes, S: Owners>(
 
     ensures done { IfOk result (λ x. IsDone S.has B.meanings command.now running.old (answer_of x) running.new) }
     ensures stopped { IfErr result (λ r. IsStopped S.has S.fails B.meanings command.now running.old r running.new) }
+    ensures fault { IfErr result (λ r. HasFaultCause S.fails r running.new.space.now) }
     ensures goes { Goes S.leads running.old running.new }
     ensures ready { IsServing S.is_ready B.meanings running.new }
 {

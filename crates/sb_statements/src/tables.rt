@@ -4,6 +4,7 @@ ghost use Rattle.std.specs.Prelude.{IfOk, IfErr};
 ghost use Rattle.sb_plain.specs.declared.command.Command.TheVariants as command;
 ghost use Rattle.sb_building.specs.Working.{Goes, IsServing};
 ghost use Rattle.sb_statements.specs.Statements.{IsDone, IsStopped, answer_of};
+ghost use Rattle.sb_building.specs.Refusals.{HasFaultCause};
 
 use crate::answers::Answer;
 use sb_building::{Running, attach, create, detach, drop_relation};
@@ -27,6 +28,7 @@ pub(crate) fn create_relation<B: Boxes, S: Owners>(
 
     ensures done { IfOk result (λ x. IsDone S.has B.meanings (command.Create relation.now method schema.now key.now) running.old (answer_of x) running.new) }
     ensures stopped { IfErr result (λ r. IsStopped S.has S.fails B.meanings (command.Create relation.now method schema.now key.now) running.old r running.new) }
+    ensures fault { IfErr result (λ r. HasFaultCause S.fails r running.new.space.now) }
     ensures goes { Goes S.leads running.old running.new }
     ensures ready { IsServing S.is_ready B.meanings running.new }
 {
@@ -46,6 +48,7 @@ pub(crate) fn drop_named<B: Boxes, S: Owners>(
 
     ensures done { IfOk result (λ x. IsDone S.has B.meanings (command.Drop relation.now) running.old (answer_of x) running.new) }
     ensures stopped { IfErr result (λ r. IsStopped S.has S.fails B.meanings (command.Drop relation.now) running.old r running.new) }
+    ensures fault { IfErr result (λ r. HasFaultCause S.fails r running.new.space.now) }
     ensures goes { Goes S.leads running.old running.new }
     ensures ready { IsServing S.is_ready B.meanings running.new }
 {
@@ -67,6 +70,7 @@ pub(crate) fn attach_rule<B: Boxes, S: Owners>(
 
     ensures done { IfOk result (λ x. IsDone S.has B.meanings (command.Attach relation.now name.now rule.now) running.old (answer_of x) running.new) }
     ensures stopped { IfErr result (λ r. IsStopped S.has S.fails B.meanings (command.Attach relation.now name.now rule.now) running.old r running.new) }
+    ensures fault { IfErr result (λ r. HasFaultCause S.fails r running.new.space.now) }
     ensures goes { Goes S.leads running.old running.new }
     ensures ready { IsServing S.is_ready B.meanings running.new }
 {
@@ -87,6 +91,7 @@ pub(crate) fn detach_rule<B: Boxes, S: Owners>(
 
     ensures done { IfOk result (λ x. IsDone S.has B.meanings (command.Detach relation.now name.now) running.old (answer_of x) running.new) }
     ensures stopped { IfErr result (λ r. IsStopped S.has S.fails B.meanings (command.Detach relation.now name.now) running.old r running.new) }
+    ensures fault { IfErr result (λ r. HasFaultCause S.fails r running.new.space.now) }
     ensures goes { Goes S.leads running.old running.new }
     ensures ready { IsServing S.is_ready B.meanings running.new }
 {

@@ -10,7 +10,7 @@ ghost use Rattle.sb_drive.specs.Spaces.{LeadsOn, Wanted};
 ghost use Rattle.sb_registry.specs.Live.{IsLive};
 ghost use Rattle.sb_standing.specs.Live.{IsNewIn, LeavesRows};
 ghost use Rattle.sb_standing.specs.Instances.{table_instance};
-ghost use Rattle.sb_engine.specs.Refusals.{HasRefusalCause, refusal_of};
+ghost use Rattle.sb_engine.specs.Refusals.{HasFaultCause, HasRefusalCause, refusal_of};
 ghost use Rattle.sb_engine.specs.Working.{Goes, IsServing, IsStoppedBy, StandsFor, extensions_in};
 ghost use Rattle.sb_tables.specs.Creation.{MayCreate, new_descriptor, new_relation};
 ghost use Rattle.sb_tables.specs.Keeping.{Closes, KeepsDb};
@@ -44,6 +44,7 @@ pub fn create<B: Boxes, S: Owners>(
     ensures refused { IfErr result (λ r. (g : Going) → StandsFor S.has B.meanings g running.old
         → MayCreate (B.meanings running.old.boxes.now) g.db name.now method schema.now key.now
         → StopsFrom (IsStoppedBy S.fails) (fold.create (extensions_in B.meanings running.old) name.now method schema.now key.now) g r running.new) }
+    ensures fault { IfErr result (λ r. HasFaultCause S.fails r running.new.space.now) }
     ensures closes { Closes running.old running.new }
     ensures goes { Goes S.leads running.old running.new }
     ensures ready { IsServing S.is_ready B.meanings running.new }
@@ -83,6 +84,7 @@ fn create_kept<S: Owners, B: Boxes>(
         → KeepsDb S.has (B.meanings boxes.now) place.root gone (with_relation db name.now (new_relation method schema.now key.now)) space.new) }
     ensures refused { IfErr result (λ e. (gone : List ℕ) (db : Db) → KeepsDb S.has (B.meanings boxes.now) place.root gone db space.old
         → MayCreate (B.meanings boxes.now) db name.now method schema.now key.now → HasRefusalCause S.fails (refusal_of e) space.new) }
+    ensures fault { IfErr result (λ e. HasFaultCause S.fails (refusal_of e) space.new) }
     ensures leads { LeadsOn S.leads space.old space.new }
     ensures ready { S.is_ready space.new }
 {
@@ -132,6 +134,7 @@ fn prepare_table<S: PageSpace, B: Boxes>(
         → LeavesRows S.has (B.meanings boxes.now) (table_instance true name.now descriptor.now) want s space.new []) }
     ensures refused { IfErr result (λ e. (want : Wanted) (s : Slots) → S.has want s space.old → IsNewIn s (table_instance true name.now descriptor.now)
         → IsLive (B.meanings boxes.now) (table_instance true name.now descriptor.now) → HasRefusalCause S.fails (refusal_of e) space.new) }
+    ensures fault { IfErr result (λ e. HasFaultCause S.fails (refusal_of e) space.new) }
     ensures leads { LeadsOn S.leads space.old space.new }
     ensures ready { S.is_ready space.new }
 {

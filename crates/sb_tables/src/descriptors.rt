@@ -14,7 +14,7 @@ ghost use Rattle.sb_registry.specs.Runs.{IsSound};
 ghost use Rattle.sb_standing.specs.Instances.{owners_of};
 ghost use Rattle.sb_standing.specs.Standing.{owners_named, without_described};
 ghost use Rattle.sb_engine.specs.Opened.{IsOwnFault};
-ghost use Rattle.sb_engine.specs.Refusals.{HasRefusalCause, refusal_of};
+ghost use Rattle.sb_engine.specs.Refusals.{HasFaultCause, HasRefusalCause, refusal_of};
 ghost use Rattle.sb_tables.specs.Creation.{AreShort};
 
 use sb_catalog::{Attached, AttachedList, Descriptor, write_descriptor};
@@ -76,6 +76,7 @@ pub fn enter<S: PageSpace>(
     ensures storable { OnOk result (IsConsistent descriptor.now → IsStorableDescriptor descriptor.now) }
     ensures refused { IfErr result (λ e. (want : Wanted) (s : Slots) (es : List Entry) → S.has want s space.old → map_in place.root (owned s 2) ≡ Some es
         → IsSmall name.now (descriptor_spelling descriptor.now) → HasRefusalCause S.fails (refusal_of e) space.new) }
+    ensures fault { IfErr result (λ e. HasFaultCause S.fails (refusal_of e) space.new) }
     ensures leads { LeadsOn S.leads space.old space.new }
     ensures ready { S.is_ready space.new }
 {

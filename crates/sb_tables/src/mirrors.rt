@@ -9,7 +9,7 @@ ghost use Rattle.sb_cascade.specs.Runs.{is_free};
 ghost use Rattle.sb_drive.specs.Spaces.{LeadsOn};
 ghost use Rattle.sb_catalog.specs.Descriptors.{IsStorableDescriptor};
 ghost use Rattle.sb_standing.specs.Standing.{owners_named, without_described};
-ghost use Rattle.sb_engine.specs.Refusals.{HasRefusalCause, refusal_of};
+ghost use Rattle.sb_engine.specs.Refusals.{HasFaultCause, HasRefusalCause, refusal_of};
 ghost use Rattle.sb_engine.specs.Working.{Goes, IsServing};
 ghost use Rattle.sb_tables.specs.Keeping.{Closes, HasMore, KeepsDb, KeepsIn};
 ghost use Rattle.sb_tables.specs.Removal.{without_mirrors_of};
@@ -37,6 +37,7 @@ pub fn detach_named<B: Boxes, S: PageSpace>(
     ensures detached { OnOk result ((db : Db) → KeepsIn S.has B.meanings db running.old
         → KeepsIn S.has B.meanings (without_attached db relation.now label.now) running.new) }
     ensures refused { IfErr result (λ r. (db : Db) → KeepsIn S.has B.meanings db running.old → HasRefusalCause S.fails r running.new.space.now) }
+    ensures fault { IfErr result (λ r. HasFaultCause S.fails r running.new.space.now) }
     ensures free { IfErr result (λ r. is_free r ≡ true) }
     ensures closes { Closes running.old running.new }
     ensures goes { Goes S.leads running.old running.new }
@@ -74,6 +75,7 @@ fn detach_kept<S: PageSpace, B: Boxes>(
         → KeepsDb S.has (B.meanings boxes.now) place.root gone.new.items (without_attached db relation.now label.now) space.new) }
     ensures refused { IfErr result (λ e. (db : Db) → KeepsDb S.has (B.meanings boxes.now) place.root gone.old.items db space.old
         → HasRefusalCause S.fails (refusal_of e) space.new) }
+    ensures fault { IfErr result (λ e. HasFaultCause S.fails (refusal_of e) space.new) }
     ensures more { HasMore gone.old.items gone.new.items }
     ensures leads { LeadsOn S.leads space.old space.new }
     ensures ready { S.is_ready space.new }
@@ -142,6 +144,7 @@ pub(crate) fn detach_mirrors<S: PageSpace, B: Boxes>(
         → KeepsDb S.has (B.meanings boxes.now) place.root gone.new.items (without_mirrors name.now (attachments_at db name.now) db) space.new) }
     ensures refused { IfErr result (λ e. (db : Db) → KeepsDb S.has (B.meanings boxes.now) place.root gone.old.items db space.old
         → HasRefusalCause S.fails (refusal_of e) space.new) }
+    ensures fault { IfErr result (λ e. HasFaultCause S.fails (refusal_of e) space.new) }
     ensures more { HasMore gone.old.items gone.new.items }
     ensures leads { LeadsOn S.leads space.old space.new }
     ensures ready { S.is_ready space.new }
@@ -177,6 +180,7 @@ fn detach_mirrors_of<S: PageSpace, B: Boxes>(
         → KeepsDb S.has (B.meanings boxes.now) place.root gone.new.items (without_mirrors_of name.now attachments.now db) space.new) }
     ensures refused { IfErr result (λ e. (db : Db) → KeepsDb S.has (B.meanings boxes.now) place.root gone.old.items db space.old
         → HasRefusalCause S.fails (refusal_of e) space.new) }
+    ensures fault { IfErr result (λ e. HasFaultCause S.fails (refusal_of e) space.new) }
     ensures more { HasMore gone.old.items gone.new.items }
     ensures leads { LeadsOn S.leads space.old space.new }
     ensures ready { S.is_ready space.new }
@@ -205,6 +209,7 @@ fn detach_mirror<S: PageSpace, B: Boxes>(
         (without_mirror name.now attached.now.name (mirror_of name.now attached.now.rule) db) space.new) }
     ensures refused { IfErr result (λ e. (db : Db) → KeepsDb S.has (B.meanings boxes.now) place.root gone.old.items db space.old
         → HasRefusalCause S.fails (refusal_of e) space.new) }
+    ensures fault { IfErr result (λ e. HasFaultCause S.fails (refusal_of e) space.new) }
     ensures more { HasMore gone.old.items gone.new.items }
     ensures leads { LeadsOn S.leads space.old space.new }
     ensures ready { S.is_ready space.new }

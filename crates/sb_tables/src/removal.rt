@@ -7,7 +7,7 @@ ghost use Rattle.sb_fold.specs.Outcome.{Going, Queue};
 ghost use Rattle.sb_cascade.specs.Runs.{MadeFrom, StopsFrom};
 ghost use Rattle.sb_drive.specs.Spaces.{LeadsOn};
 ghost use Rattle.sb_deferred.specs.Complete.{AreMirrored};
-ghost use Rattle.sb_engine.specs.Refusals.{HasRefusalCause, refusal_of};
+ghost use Rattle.sb_engine.specs.Refusals.{HasFaultCause, HasRefusalCause, refusal_of};
 ghost use Rattle.sb_engine.specs.Working.{ArePaired, Goes, IsServing, IsStoppedBy, StandsFor, extensions_in};
 ghost use Rattle.sb_tables.specs.Keeping.{Closes, HasMore, KeepsDb};
 ghost use Rattle.sb_tables.specs.Removal.{IsUnnamedIn, MayDrop, without_name};
@@ -33,6 +33,7 @@ pub fn drop_relation<B: Boxes, S: PageSpace>(
         → MadeFrom (StandsFor S.has B.meanings) (fold.drop_relation (extensions_in B.meanings running.old) name.now) g tt running.new) }
     ensures refused { IfErr result (λ r. (g : Going) → StandsFor S.has B.meanings g running.old → MayDrop g.db g.queue name.now
         → StopsFrom (IsStoppedBy S.fails) (fold.drop_relation (extensions_in B.meanings running.old) name.now) g r running.new) }
+    ensures fault { IfErr result (λ r. HasFaultCause S.fails r running.new.space.now) }
     ensures closes { Closes running.old running.new }
     ensures goes { Goes S.leads running.old running.new }
     ensures ready { IsServing S.is_ready B.meanings running.new }
@@ -68,6 +69,7 @@ fn drop_kept<S: PageSpace, B: Boxes>(
         → KeepsDb S.has (B.meanings boxes.now) place.root gone.new.items (fold.without_relation db name.now) space.new) }
     ensures refused { IfErr result (λ e. (db : Db) → KeepsDb S.has (B.meanings boxes.now) place.root gone.old.items db space.old
         → HasRefusalCause S.fails (refusal_of e) space.new) }
+    ensures fault { IfErr result (λ e. HasFaultCause S.fails (refusal_of e) space.new) }
     ensures more { HasMore gone.old.items gone.new.items }
     ensures leads { LeadsOn S.leads space.old space.new }
     ensures ready { S.is_ready space.new }
@@ -93,6 +95,7 @@ fn drop_alone<S: PageSpace, B: Boxes>(
         → KeepsDb S.has (B.meanings boxes.now) place.root gone.new.items (without_name db name.now) space.new) }
     ensures refused { IfErr result (λ e. (db : Db) → KeepsDb S.has (B.meanings boxes.now) place.root gone.old.items db space.old
         → HasRefusalCause S.fails (refusal_of e) space.new) }
+    ensures fault { IfErr result (λ e. HasFaultCause S.fails (refusal_of e) space.new) }
     ensures more { HasMore gone.old.items gone.new.items }
     ensures leads { LeadsOn S.leads space.old space.new }
     ensures ready { S.is_ready space.new }

@@ -10,6 +10,7 @@ use Rattle.sb_relation.specs.Db.{Key, Relation}
 use Rattle.sb_relation.specs.Lawful.{IsRow, is_long_for}
 use Rattle.sb_fold.specs.declared.refusal.Refusal.{Refusal}
 use Rattle.sb_fold.specs.Outcome.{Going, Work, made, refuse, Leads}
+use Rattle.sb_cascade.specs.Runs.{IsQuiet}
 use Rattle.sb_ctx.specs.declared.instance.Instance.{Instance}
 use Rattle.sb_ctx.specs.declared.calls.MethodCall.{MethodCall}
 use Rattle.sb_ctx.specs.declared.calls.MethodCall.TheVariants as call
@@ -59,4 +60,4 @@ pub record MayBeMade (schema : List Column) (rules : List Attached) (c : Change)
 
 abbrev pub Meets : List Column → List Attached → Outcome → Type 0
 Meets schema rules (Made c) = MayBeMade schema rules c
-Meets schema rules (Refused e) = Unit {0}
+Meets schema rules (Refused e) = IsQuiet e

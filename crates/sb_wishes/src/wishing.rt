@@ -19,6 +19,7 @@ ghost use Rattle.sb_value.specs.Fits.{Fits};
 ghost use Rattle.sb_wishes.specs.Edits.{GivesEdit, IsEditOf, MayBeEdit, edit_in, edit_raised};
 ghost use Rattle.sb_wishes.specs.Outcomes.{Comes, Meets};
 ghost use Rattle.sb_wishes.specs.Wished.{IsTableOf, MayBeWished, NamesKey, key_in, row_wished};
+ghost use Rattle.sb_cascade.specs.Runs.{IsQuiet};
 
 use crate::raising::raised;
 use crate::settling::{Edit, Outcome, settle};
@@ -121,6 +122,7 @@ fn edit_of(
     ensures of { IfOk result (λ found. IfOk found (λ edit. (rows : Rows) → old ≡ row_wished rows (wish_of wish.now)
         → IsEditOf rows (edit_in edit))) }
     ensures may { IfOk result (λ found. IfOk found (λ edit. MayBeEdit table.now.schema (edit_in edit))) }
+    ensures quiet { IfOk result (λ found. IfErr found IsQuiet) }
 {
     match wish {
         Wish::Put(row) => Ok(Ok(Edit::Adds(row.copy()?))),
@@ -162,6 +164,7 @@ fn raise(
     ensures gives { IfOk result (GivesEdit (edit_raised table.now.relation table.now.schema key.now column.now by old)) }
     ensures of { IfOk result (λ found. IfOk found (λ edit. (rows : Rows) → row_at rows key.now ≡ Some old → IsEditOf rows (edit_in edit))) }
     ensures may { IfOk result (λ found. IfOk found (λ edit. MayBeEdit table.now.schema (edit_in edit))) }
+    ensures quiet { IfOk result (λ found. IfErr found IsQuiet) }
 {
     match raised(&table.schema, &old, column, by)? {
         Some(new) => Ok(Ok(Edit::Turns(key.copy()?, old, new))),

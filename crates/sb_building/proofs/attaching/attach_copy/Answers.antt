@@ -63,3 +63,10 @@ returns-clause-leads g c = c.attach_rule.ensures.leads
 
 pub returns-clause-ready : goal.returns-clause-ready
 returns-clause-ready g c = c.attach_rule.ensures.ready
+
+-- ---- a fault, whatever the pages keep
+pub returns-in_err-copy-clause-fault : goal.returns-in_err-copy-clause-fault
+returns-in_err-copy-clause-fault g c = IfErr-passed c.from_residual.result NoMemory _ c.from_residual.ensures.1 tt
+
+pub returns-clause-fault : goal.returns-clause-fault
+returns-clause-fault g c = c.attach_rule.ensures.fault

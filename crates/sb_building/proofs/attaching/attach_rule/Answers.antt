@@ -3,7 +3,7 @@ use Rattle.std.proofs.lemmas.Result.{IfOk-weaker, IfErr-weaker}
 use Rattle.sb_tables.specs.OpenRelation.{OpenRelation}
 use Rattle.sb_tables.specs.Opened.{IsOpen}
 use Rattle.sb_tables.specs.Refusals.{HasRefusalCause, refusal_of}
-use Rattle.sb_tables.proofs.RefusedLemmas.{refused_cause}
+use Rattle.sb_tables.proofs.RefusedLemmas.{refused_cause, refused_fault}
 use Rattle.sb_building.proofs.CallLemmas.{leads_later}
 use Rattle.sb_building.proofs.EndedLemmas.{store_of}
 use Rattle.sb_building.proofs.OpenLemmas.{caused_named, ended_named, opened_descriptor, opened_none}
@@ -96,3 +96,10 @@ attach_to-requires-clause-short g c = c.is_short_name.ensures.0 c.if-not-is_shor
 
 pub returns-in-Ok-Some-clause-ready : goal.returns-in-Ok-Some-clause-ready
 returns-in-Ok-Some-clause-ready g c = c.attach_to.ensures.ready
+
+-- ---- a fault, whatever the pages keep
+pub returns-in-Err-clause-fault : goal.returns-in-Err-clause-fault
+returns-in-Err-clause-fault g c = refused_fault g.S.PageSpace.fails _ c.args.space.now c.open_relation.new.space c.in-Err.fault c.in-Err.ensures.looks.refused
+
+pub returns-in-Ok-Some-clause-fault : goal.returns-in-Ok-Some-clause-fault
+returns-in-Ok-Some-clause-fault g c = c.attach_to.ensures.fault

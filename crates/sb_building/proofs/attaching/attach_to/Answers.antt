@@ -1,7 +1,7 @@
 use Rattle.std.proofs.Common.{◌∙◌}
 use Rattle.std.proofs.lemmas.Result.{IfOk-weaker, IfErr-weaker}
 use Rattle.sb_tables.specs.Refusals.{HasRefusalCause, refusal_of}
-use Rattle.sb_tables.proofs.RefusedLemmas.{refused_cause}
+use Rattle.sb_tables.proofs.RefusedLemmas.{refused_cause, refused_fault}
 use Rattle.sb_building.proofs.CallLemmas.{leads_later, leads_then}
 use Rattle.sb_building.proofs.EndedLemmas.{store_of}
 use Rattle.sb_building.proofs.OpenLemmas.{caused_entry, ended_entry, ended_long, long_found, long_sound}
@@ -120,3 +120,13 @@ returns-in-Err-begin-clause-ready g c = c.in-Err-begin.ensures.ready
 
 pub returns-in-Ok-clause-ready : goal.returns-in-Ok-clause-ready
 returns-in-Ok-clause-ready g c = c.build_on-built.ensures.ready
+
+-- ---- a fault, whatever the pages keep
+pub returns-in-Err-clause-fault : goal.returns-in-Err-clause-fault
+returns-in-Err-clause-fault g c = refused_fault g.S.PageSpace.fails _ c.args.space.now c.has_long_row.new.space c.in-Err.fault c.in-Err.ensures.looks.refused
+
+pub returns-in-Err-begin-clause-fault : goal.returns-in-Err-begin-clause-fault
+returns-in-Err-begin-clause-fault g c = c.in-Err-begin.ensures.fault
+
+pub returns-in-Ok-clause-fault : goal.returns-in-Ok-clause-fault
+returns-in-Ok-clause-fault g c = c.build_on-built.ensures.fault

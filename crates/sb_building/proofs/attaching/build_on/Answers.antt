@@ -119,3 +119,10 @@ returns-in-Err-placed-clause-ready g c = c.in-Err-placed.ensures.ready
 
 pub returns-in-Ok-clause-ready : goal.returns-in-Ok-clause-ready
 returns-in-Ok-clause-ready g c = c.in-Ok.ensures.ready
+
+-- ---- a fault, whatever the pages keep
+pub returns-in-Err-clause-fault : goal.returns-in-Err-clause-fault
+returns-in-Err-clause-fault g c = c.in-Err.ensures.fault
+
+pub returns-in-Err-placed-clause-fault : goal.returns-in-Err-placed-clause-fault
+returns-in-Err-placed-clause-fault g c = c.in-Err-placed.ensures.fault

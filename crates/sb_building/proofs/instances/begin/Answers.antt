@@ -1,5 +1,6 @@
 use Rattle.sb_drive.proofs.SpacesLemmas.{IfErr-passed}
-use Rattle.sb_tables.proofs.RefusedLemmas.{refused_cause}
+use Rattle.sb_tables.specs.Refusals.{refusal_of}
+use Rattle.sb_tables.proofs.RefusedLemmas.{caused_fault, refused_cause, refused_fault}
 use Rattle.sb_building.proofs.CallLemmas.{IfOk-failed, leads_then}
 use Rattle.sb_building.proofs.InstanceLemmas.{law_of-code, prepared_begun, prepared_refused, test_sound}
 use Rattle.sb_building.proofs.instances.begin.Goals as goal
@@ -119,3 +120,15 @@ returns-in-Ok-prepare-clause-live g c = c.in-Ok.ensures.live
 
 pub returns-in-Ok-prepare-clause-ready : goal.returns-in-Ok-prepare-clause-ready
 returns-in-Ok-prepare-clause-ready g c = c.in-Ok-prepare.ensures.ready
+
+-- ---- a fault, whatever the pages keep
+pub returns-in_err-attached-clause-fault : goal.returns-in_err-attached-clause-fault
+returns-in_err-attached-clause-fault g c =
+    let e = c.in_err-attached.field-0.0 in
+    IfErr-passed c.from_residual.result e _ c.from_residual.ensures.1 (caused_fault g.S.PageSpace.fails (refusal_of e) c.new_entry.new.space c.in_err-attached.ensures.refused)
+
+pub returns-in-Err-clause-fault : goal.returns-in-Err-clause-fault
+returns-in-Err-clause-fault g c = refused_fault g.S.PageSpace.fails _ c.new_entry.new.space c.test_entry.new.space c.in-Err.fault c.in-Err.ensures.looks.refused
+
+pub returns-in-Err-prepare-clause-fault : goal.returns-in-Err-prepare-clause-fault
+returns-in-Err-prepare-clause-fault g c = c.in-Err-prepare.ensures.fault

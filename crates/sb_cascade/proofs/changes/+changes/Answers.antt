@@ -129,6 +129,7 @@ act-returns-in_err-keys-in_default g t c =
       made = rw p.1 tt;
       refused = rw (p.1, p.2)
           (λ h stands. stops_looking layer.stopped (act (change_within ext levels) a) err.field-0.0 c.matching.new.self h (forward_act (change_within ext levels) (forward_within ext levels) a) (err.ensures.refused h stands));
+      fault = rw (p.1, p.2) err.ensures.fault;
       leads = err.ensures.leads;
       ready = err.ensures.ready;
     }
@@ -150,6 +151,7 @@ act-returns-in_ok-keys-in_default g t c =
           c.change_each.result new c.change_each.ensures.made;
       refused = not_all_changed layer.stands layer.stopped ext levels a old mid c.deref.result.now (layer.extensions mid) (λ name terms e. c.in_default.not-Insert name terms e) (laws.same old mid keys.leads) matched
           c.change_each.result new c.change_each.ensures.refused;
+      fault = c.change_each.ensures.fault;
       leads = laws.goes_on old mid new keys.leads c.change_each.ensures.leads;
       ready = c.change_each.ensures.ready;
     }

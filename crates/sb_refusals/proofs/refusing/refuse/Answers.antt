@@ -20,7 +20,7 @@ returns-clause-refused g c =
     (λ r h s sees.
     let seen = c.in_ok-named.ensures.seen s sees in
     let found = h s seen.1 seen.0 in (
-      behind_place (g.C.Catalogue.extensions c.args.catalogue.now) s c.args.command.now r (sym c.in_default.is ∙ c.refuse_place.ensures s sees)
+      behind_place (g.C.Catalogue.extensions c.args.catalogue.now) s c.args.command.now r (sym c.in_default.is ∙ c.refuse_place.ensures.refused s sees)
           (found.0 ∙ ap (λ (ext : Extensions). first_of (seen_tests ext s c.args.command.now)) same),
       found.1,
     ))

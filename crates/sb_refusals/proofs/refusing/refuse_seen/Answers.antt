@@ -23,6 +23,6 @@ returns-clause-refused g c s sees seen =
     let same = g.met.C.Catalogue.same c.args.catalogue.now c.refuse_codes.new.catalogue c.refuse_codes.ensures.leads in (
       by_kinds (g.C.Catalogue.extensions c.args.catalogue.now) s c.args.command.now c.in_ok-refusal.field-0 c.in_ok-refusal-2.field-0 c.refuse_kinds.result
           (c.in_ok-refusal.ensures.refused s sees seen) c.in_default.is codes.0 c.in_default-2.is
-          (c.refuse_kinds.ensures s codes.1 seen ∙ ap (λ (ext : Extensions). first_of (kind_tests ext s c.args.command.now)) same),
+          (c.refuse_kinds.ensures.refused s codes.1 seen ∙ ap (λ (ext : Extensions). first_of (kind_tests ext s c.args.command.now)) same),
       codes.1,
     )
