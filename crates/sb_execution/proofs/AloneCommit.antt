@@ -5,6 +5,8 @@ use Rattle.sb_disk.specs.Disk.{Story}
 use Rattle.sb_relation.specs.Db.{Db}
 use Rattle.sb_fold.specs.declared.refusal.Refusal.{Refusal}
 use Rattle.sb_fold.specs.declared.refusal.Refusal.TheVariants as refusal
+use Rattle.sb_cascade.specs.Runs.{OnFault}
+use Rattle.sb_engine.proofs.RefusedLemmas.{on_fault}
 use Rattle.sb_fold.specs.Outcome.{Going}
 use Rattle.sb_engine.specs.Working.{extensions_of}
 use Rattle.sb_engine.specs.declared.running.Work.{Work as EngineWork}
@@ -49,16 +51,16 @@ module _ {D : Type 0} (told : D → Option Story) (len faults : D → ℕ) (m : 
     pub EndsAlone-over : ((want : Wanted) (g : Going) → IsAt m place want tx g here w → LeavesOldOrFinished m place.root want g here between) → ((r ≡ refusal.Fault → ⊥) → LeavesWanted here between)
         → (v.book.down ≡ false → v.book.actives ≡ [])
         → (v.book.down ≡ false → (m : Meanings) (root : ℕ) (want : Wanted) (db : Db) → WasBegun m root want db tx here → Rests m root want db between)
-        → (r ≡ refusal.Fault → (want : Wanted) (g : Going) → IsAt m place want tx g here w → v.book.down ≡ true) → EndsAlone told len faults m place c d b s v (Err r)
+        → OnFault r (v.book.down ≡ true) → EndsAlone told len faults m place c d b s v (Err r)
     EndsAlone-over moments still none aborted faulted =
         EndsAlone-refused told len faults m place c d b s v up (λ x. may_want_memory-works x c has.works) r
-        (remains_alone told len faults m place d e s t tx has.comes w {T = Reply} {U = Reply} b v (Err r) (Err r) (λ is. is) (Remains-err told len faults {T = K} {U = Reply} e b t v r kept))
+        (remains_alone told len faults m place d e s t tx has.comes w {T = Reply} {U = Reply} b v (Err r) (Err r) (λ is. is) (Remains-err told len faults {T = K} {U = Reply} e b t v r kept)) faulted
         (λ not. leaves_alone told len faults m place d e s t tx has.comes {T = K} b v (Err r) kept
         (still (λ is. false≢true (sym (told_none c (Refused r) has.works has.changes not) ∙ ap (λ (q : Refusal). may_have_changed (Refused q)) is))))
         (fallen_commit told len faults m place c d e s t tx w answer has b v moments)
         none
         (λ off want x of. aborted off m place.root want (committed x) (has.comes.begun has.up want x of))
-        (refuses_commit told len faults m place c d e s t tx w answer has r stops v faulted)
+        (refuses_commit told len faults m place c d e s t tx w answer has r stops)
 
     -- and the transaction goes on, and is aborted then
     module _ (now : EngineWork) (stays : StaysOpen tx here between w now) (f : D) (u : StoreState) (leaves : LeavesWanted between (parts told len f u)) where
@@ -71,12 +73,13 @@ module _ {D : Type 0} (told : D → Option Story) (len faults : D → ℕ) (m : 
       EndsAlone-let_go wanting remains none last number rests =
           EndsAlone-refused told len faults m place c d f s u up (λ x. may_want_memory-works x c has.works) r
           (remains_abort told len faults m place c d e s t tx w answer has {K = K} b f v u now r stays kept {T = Unit {0}} (Ok tt) (Err r) (λ is. ok_err tt refusal.Fault is) remains)
+          (on_fault r (u.book.down ≡ true) (λ is. not_wanting r wanting is))
           (λ not. still) (λ want x of posed. inl (left_by told len faults m place c d f s u up still want x of))
           (λ off. none)
           (λ off want x of.
           rests_abort told len faults m place c d e s t tx w answer has {K = K} b f v u now r stays kept
           (λ m root want db was. rests m root want db (subst (λ (k : ℕ). WasBegun m root want db k between) (sym number) was)) has.up want x of)
-          (refuses_commit told len faults m place c d e s t tx w answer has r stops u (λ is want g at. not_wanting r wanting is))
+          (refuses_commit told len faults m place c d e s t tx w answer has r stops)
 
       -- and the disk failed in that
       pub EndsAlone-not_let_go : (q : Refusal) → Remains {T = Unit {0}} told len faults b f v u (Err q) → IsOnlyFault q u → EndsAlone told len faults m place c d f s u (Err q)

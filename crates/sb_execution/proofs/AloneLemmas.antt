@@ -13,8 +13,9 @@ use Rattle.sb_fold.specs.Extensions.{Extensions}
 use Rattle.sb_fold.specs.Finish.{finish}
 use Rattle.sb_fold.specs.Outcome.{Going, Trail, Work, made, refuse, Leads, ◌>>=◌}
 use Rattle.sb_fold.proofs.LeadsLemmas.{leads_next, leads_on, leads_refused}
-use Rattle.sb_cascade.specs.Runs.{EndsBy, is_free, is_room}
+use Rattle.sb_cascade.specs.Runs.{EndsBy, OnFault, is_free, is_room}
 use Rattle.sb_engine.specs.Refusals.{HasRefusalCause}
+use Rattle.sb_engine.proofs.RefusedLemmas.{of_fault}
 use Rattle.sb_engine.specs.Working.{extensions_of}
 use Rattle.sb_engine.specs.declared.running.Work.{Work as EngineWork}
 use Rattle.sb_plain.specs.declared.command.Command.{Command}
@@ -46,17 +47,16 @@ use Rattle.sb_session.proofs.RoomLemmas.{Lacks-there}
 use Rattle.sb_execution.specs.Endings.{AnswersCommand, ComesAlone, EndsAlone, HasAnswered, IsLeftSo, IsOf, going_alone}
 use Rattle.sb_execution.proofs.CallLemmas.{Remains-then, err_fault, has_failed, leaves_behind, not_both, ok_err, still_up}
 use Rattle.sb_execution.proofs.EndLemmas.{Ends-by, Ends-stepped, ends_given, may_want_room-works, none_committed, told_none}
-use Rattle.sb_execution.proofs.ReplyLemmas.{answered_given, is_free_reply, tells_answer}
+use Rattle.sb_execution.proofs.ReplyLemmas.{answered_given, given_no_fault, is_free_reply, tells_answer}
 use Rattle.sb_execution.proofs.StepsOf.{Steps-stopped_alone, Steps-worked_alone, with_open}
 
--- why a command is refused: as the definitions say, or for a cause, which a fault leaves the store down for; and for want of room only where it may be wanting, by the numbers of these sizes
-pub record Refuses {D : Type 0} (faults : D → ℕ) (m : Meanings) (c : Command) (x : State) (r : Refusal) (g : Geometry) (u : StoreState) : Type 0 where
+-- why a command is refused: as the definitions say, or for a cause; and for want of room only where it may be wanting, by the numbers of these sizes
+pub record Refuses {D : Type 0} (faults : D → ℕ) (m : Meanings) (c : Command) (x : State) (r : Refusal) (g : Geometry) : Type 0 where
   pub given : is_free r ≡ false → Steps (extensions_of m) x c (Refused r) (with_open x None)
   pub there : Mounted D
   pub cause : is_free r ≡ true → HasRefusalCause (FailsOn faults) r there
   pub sizes : is_room r ≡ true → there.store.pool.geometry ≡ g
   pub lacks : is_room r ≡ true → may_want_room x c ≡ true
-  pub failed : r ≡ refusal.Fault → u.book.down ≡ true
 
 module _ {D : Type 0} (told : D → Option Story) (len faults : D → ℕ) (m : Meanings) (place : Place) (c : Command)
     (d f : D) (s u : StoreState) (up : s.book.down ≡ false) where
@@ -113,14 +113,16 @@ module _ {D : Type 0} (told : D → Option Story) (len faults : D → ℕ) (m : 
         (λ page is. absurd (let e = only.is in cc));
     leaves = λ not. still;
     none = λ off. not_both u.book.down off only.down;
+    fault = λ is. only.down;
     remains = remains;
   }
 
   -- ---- it was refused, and the pages are as they were
-  module _ (may : (x : State) → may_want_memory x c ≡ true) (r : Refusal) (remains : Remains {T = Reply} told len faults d f s u (Err r)) (still : may_have_committed c false (Refused r) ≡ false → LeavesWanted p q) (fallen : Fallen)
+  module _ (may : (x : State) → may_want_memory x c ≡ true) (r : Refusal) (remains : Remains {T = Reply} told len faults d f s u (Err r)) (faulted : OnFault r (u.book.down ≡ true))
+      (still : may_have_committed c false (Refused r) ≡ false → LeavesWanted p q) (fallen : Fallen)
       (none : u.book.down ≡ false → u.book.actives ≡ [])
       (rests : u.book.down ≡ false → (want : Wanted) (x : State) → Of want x → Rests m place.root want (committed x) q)
-      (refuses : Each (λ want x. Refuses faults m c x r s.pool.geometry u)) where
+      (refuses : Each (λ want x. Refuses faults m c x r s.pool.geometry)) where
     stays_up : (r ≡ refusal.Fault → ⊥) → u.book.down ≡ false
     stays_up not = still_up told len faults {T = Reply} d f s u (Err r) remains (λ is. absurd (not (err_fault {T = Reply} r is)))
 
@@ -167,20 +169,22 @@ module _ {D : Type 0} (told : D → Option Story) (len faults : D → ℕ) (m : 
             stands = as_it_was want x of posed (ap is_end is);
           })
           (λ is. record { up = of.up; cause = may x; stands = as_it_was want x of posed (ap is_end is) })
-          (λ is. failed_so r remains is (why.failed is) want x of (fallen want x of posed))
+          (λ is. failed_so r remains is (of_fault r (u.book.down ≡ true) faulted is) want x of (fallen want x of posed))
           (λ page is. subst (λ (r : Refusal). HasRefusalCause (FailsOn faults) r why.there) is (why.cause (ap is_free is)));
       leaves = still;
       none = none;
+      fault = λ is. let same : r ≡ refusal.Fault = cc in of_fault r (u.book.down ≡ true) faulted same;
       remains = remains;
     }
 
   -- ---- it went through
-  pub EndsAlone-done : (r : Reply) → Remains told len faults d f s u (Ok r) → (may_have_committed c false r ≡ false → LeavesWanted p q) → (u.book.down ≡ false → u.book.actives ≡ [])
+  pub EndsAlone-done : (r : Reply) → (r ≡ Refused refusal.Fault → ⊥) → Remains told len faults d f s u (Ok r) → (may_have_committed c false r ≡ false → LeavesWanted p q) → (u.book.down ≡ false → u.book.actives ≡ [])
       → Each (λ want x. (is_free_reply r ≡ false) × IsStep (LeftBy want x r) ext x c r) → EndsAlone told len faults m place c d f s u (Ok r)
-  EndsAlone-done r remains leaves none steps = record {
+  EndsAlone-done r told_none remains leaves none steps = record {
     ends = λ want x of posed. let to = steps want x of posed in Ends-stepped (LeftBy want x r) (Lacks s.pool.geometry) (HasFailed faults d f) ext x c r to.0 to.1;
     leaves = leaves;
     none = none;
+    fault = λ is. absurd (told_none is);
     remains = remains;
   }
 
@@ -311,6 +315,7 @@ module _ {D : Type 0} (told : D → Option Story) (len faults : D → ℕ) (m : 
         → EndsAlone told len faults m place c d f s u (Ok (answered answer picks))
     EndsAlone-committed {K} held picks remains none done =
         EndsAlone-done told len faults m place c d f s u (was_up told len faults m place d e s t tx has.comes) (answered answer picks)
+        (given_no_fault (answered answer picks) (answered_given answer picks))
         (remains_alone told len faults m place d e s t tx has.comes w {T = K} {U = Reply} f u (Ok held) (Ok (answered answer picks)) (λ is. ok_err held refusal.Fault is) remains)
         (λ not. absurd (false≢true (sym (told_none c (answered answer picks) has.works has.changes not) ∙ tells_answer answer picks)))
         none
@@ -343,9 +348,8 @@ module _ {D : Type 0} (told : D → Option Story) (len faults : D → ℕ) (m : 
   abbrev Stopped : {D : Type 0} → (D → ℕ) → Refusal → Trail → Mounted D → Type 0
   Stopped faults refusal trail x = HasRefusalCause (FailsOn faults) refusal x
 
-  module _ (r : Refusal) (stops : (want : Wanted) (g : Going) → IsAt m place want tx g here w → StopsAt told len faults (extensions_of m) tx g r (record { disk = e; store = t })) (u : StoreState)
-      (failed : r ≡ refusal.Fault → (want : Wanted) (g : Going) → IsAt m place want tx g here w → u.book.down ≡ true) where
-    pub refuses_commit : (want : Wanted) (x : State) → Begun want x → IsPosedIn m x c → Refuses faults m c x r s.pool.geometry u
+  module _ (r : Refusal) (stops : (want : Wanted) (g : Going) → IsAt m place want tx g here w → StopsAt told len faults (extensions_of m) tx g r (record { disk = e; store = t })) where
+    pub refuses_commit : (want : Wanted) (x : State) → Begun want x → IsPosedIn m x c → Refuses faults m c x r s.pool.geometry
     refuses_commit want x of posed =
         let why = has.answers want x of posed in
         let stop = stops want why.run.after why.run.stands in
@@ -362,7 +366,6 @@ module _ {D : Type 0} (told : D → Option Story) (len faults : D → ℕ) (m : 
               broken.stopped;
           sizes = λ room. (stop.led (λ is. false≢true (sym (ap is_room is) ∙ room))).1.geometry ∙ same_size told len faults m place d e s t tx has.comes;
           lacks = λ room. may_want_room-works (extensions_of m) x c why.work why.is;
-          failed = λ is. failed is want why.run.after why.run.stands;
         }
 
   -- ---- the transaction went on, and was aborted then

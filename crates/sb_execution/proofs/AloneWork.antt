@@ -8,8 +8,9 @@ use Rattle.sb_relation.specs.Db.{Db}
 use Rattle.sb_fold.specs.declared.refusal.Refusal.{Refusal}
 use Rattle.sb_fold.specs.declared.refusal.Refusal.TheVariants as refusal
 use Rattle.sb_fold.specs.Outcome.{Going}
-use Rattle.sb_cascade.specs.Runs.{MadeFrom, is_free, is_room}
+use Rattle.sb_cascade.specs.Runs.{MadeFrom, OnFault, is_free, is_room}
 use Rattle.sb_engine.specs.Refusals.{HasRefusalCause}
+use Rattle.sb_engine.proofs.RefusedLemmas.{of_fault, on_fault}
 use Rattle.sb_engine.specs.Working.{extensions_of}
 use Rattle.sb_plain.specs.declared.command.Command.{Command}
 use Rattle.sb_plain.specs.declared.reply.Reply.{Reply}
@@ -30,9 +31,9 @@ use Rattle.sb_session.specs.Transaction.{Transaction}
 use Rattle.sb_session.specs.Calls.{IsOnlyFault, Remains}
 use Rattle.sb_session.specs.Commits.{FailsOn, IsLed}
 use Rattle.sb_session.specs.Transactions.{IsAt, IsFirst, IsUsable, Rests, WasBegun}
-use Rattle.sb_session.proofs.CallLemmas.{Fault-down, Remains-answered, up-earlier, up-later}
+use Rattle.sb_session.proofs.CallLemmas.{Remains-answered, up-earlier, up-later}
 use Rattle.sb_statements.specs.declared.answers.Answer as code
-use Rattle.sb_execution.specs.Serving.{IsPosedIn, IsSeenIn, IsServed, IsUnserved, is_managing}
+use Rattle.sb_execution.specs.Serving.{IsAnswered, IsPosedIn, IsSeenIn, IsServed, IsUnserved, is_managing}
 use Rattle.sb_statements.specs.Statements.{answer_of}
 use Rattle.sb_session.specs.declared.session.Savepoint.{Savepoint}
 use Rattle.sb_session.proofs.OpenLemmas.{Outside, outside_at}
@@ -43,7 +44,7 @@ use Rattle.sb_execution.specs.Endings.{ComesAlone, EndsAlone, HasAnswered, IsOf,
 use Rattle.sb_execution.proofs.AloneLemmas.{EndsAlone-done, EndsAlone-fault, EndsAlone-refused, leaves_alone, leaves_so_far, left_by, read_so, remains_alone, same_size}
 use Rattle.sb_execution.proofs.CallLemmas.{Remains-err, Remains-led, Remains-then, not_both, ok_err}
 use Rattle.sb_execution.proofs.EndLemmas.{at_some, free_room, may_want_memory-works, seen_alone, unserved_alone, unserved_cause, unserved_room, work_there}
-use Rattle.sb_execution.proofs.ReplyLemmas.{read_given, refused_given}
+use Rattle.sb_execution.proofs.ReplyLemmas.{answer_no_fault, read_given, refused_given}
 use Rattle.sb_execution.proofs.StepsOf.{Steps-read_alone, Steps-refused_alone, with_open}
 
 -- no transaction was begun
@@ -138,14 +139,15 @@ module _ {D : Type 0} (told : D → Option Story) (len faults : D → ℕ) (m : 
         seen want x of = seen_alone m place want x from ones listed of (out want x of).none
 
         -- behind a refusal, for a reason of the definitions or of the store
-        EndsAlone-behind : ((x : State) → may_want_memory x c ≡ true) → (r : Refusal)
+        EndsAlone-behind : ((x : State) → may_want_memory x c ≡ true) → (r : Refusal) → OnFault r (t.book.down ≡ true)
             → ((want : Wanted) (x : State) → IsOf m place want x from None → IsPosedIn m x c
             → (is_free r ≡ false → Steps (extensions_of m) x c (Refused r) (with_open x None)) × (is_free r ≡ true → HasRefusalCause (FailsOn faults) r (record { disk = e; store = t }))
             × (is_room r ≡ true → may_want_room x c ≡ true))
             → EndsAlone told len faults m place c d f s u (Err r)
-        EndsAlone-behind may r why =
+        EndsAlone-behind may r faulted why =
             EndsAlone-refused told len faults m place c d f s u up may r
             (remains_alone told len faults m place d e s t last comes y.work {T = Unit {0}} {U = Reply} f u (Ok tt) (Err r) (λ is. ok_err tt refusal.Fault is) remains)
+            (on_fault r (u.book.down ≡ true) (λ is. not_both t.book.down still (of_fault r (t.book.down ≡ true) faulted is)))
             (λ not. moments) (λ want x of posed. inl (moments_so want x of)) (λ off. none) (λ off want x of. rests_so want x of)
             (λ want x of posed.
             let both = why want x of posed in
@@ -155,18 +157,14 @@ module _ {D : Type 0} (told : D → Option Story) (len faults : D → ℕ) (m : 
               cause = both.1;
               sizes = λ room. same_size told len faults m place d e s t last comes;
               lacks = both.2;
-              failed = λ is. not_both t.book.down still (Fault-down faults (record { disk = e; store = t }) (fault_cause r is both.1));
             })
-          where
-            fault_cause : (r : Refusal) → r ≡ refusal.Fault → (is_free r ≡ true → HasRefusalCause (FailsOn faults) r (record { disk = e; store = t })) → HasRefusalCause (FailsOn faults) refusal.Fault (record { disk = e; store = t })
-            fault_cause r is cause = subst (λ (r : Refusal). HasRefusalCause (FailsOn faults) r (record { disk = e; store = t })) is (cause (ap is_free is))
 
         -- the command wasn't served
-        pub EndsAlone-back : is_managing c ≡ false → (r : Refusal)
+        pub EndsAlone-back : is_managing c ≡ false → (r : Refusal) → OnFault r (t.book.down ≡ true)
             → ((want : Wanted) (x : State) (g : Going) → IsAt m place want n g (parts told len b bs) a.work → IsSeenIn m false ones x g → IsPosedIn m x c
             → IsUnserved (FailsOn faults) m x c g r (record { disk = e; store = t })) → EndsAlone told len faults m place c d f s u (Err r)
-        EndsAlone-back works r unserved =
-            EndsAlone-behind (λ x. may_want_memory-works x c works) r
+        EndsAlone-back works r faulted unserved =
+            EndsAlone-behind (λ x. may_want_memory-works x c works) r faulted
             (λ want x of posed.
             let why = unserved want x (going_alone x) (at_command want x of) (seen want x of) posed in (
               λ given. unserved_alone (FailsOn faults) m x c works r (record { disk = e; store = t }) of.up given (out want x of).none why,
@@ -175,11 +173,11 @@ module _ {D : Type 0} (told : D → Option Story) (len faults : D → ℕ) (m : 
             ))
 
         -- a test refuses it
-        pub EndsAlone-tested : ((x : State) → may_want_memory x c ≡ true) → (r : Refusal)
+        pub EndsAlone-tested : ((x : State) → may_want_memory x c ≡ true) → (r : Refusal) → OnFault r ⊥
             → ((want : Wanted) (x : State) (g : Going) → IsAt m place want n g (parts told len b bs) a.work → IsSeenIn m false ones x g → Some r ≡ refused (extensions_of m) x c)
             → EndsAlone told len faults m place c d f s u (Err r)
-        EndsAlone-tested may r refuses =
-            EndsAlone-behind may r
+        EndsAlone-tested may r tested refuses =
+            EndsAlone-behind may r (on_fault r (t.book.down ≡ true) (λ is. absurd (of_fault r ⊥ tested is)))
             (λ want x of posed.
             let is : refused (extensions_of m) x c ≡ Some r = sym (refuses want x (going_alone x) (at_command want x of) (seen want x of)) in (
               λ given. Steps-refused_alone (extensions_of m) x c of.up (out want x of).none r is,
@@ -188,11 +186,11 @@ module _ {D : Type 0} (told : D → Option Story) (len faults : D → ℕ) (m : 
             ))
 
         -- a look of the tests was refused
-        pub EndsAlone-looked : ((x : State) → may_want_memory x c ≡ true) → (r : Refusal) → is_free r ≡ true → is_room r ≡ false
+        pub EndsAlone-looked : ((x : State) → may_want_memory x c ≡ true) → (r : Refusal) → OnFault r (t.book.down ≡ true) → is_free r ≡ true → is_room r ≡ false
             → ((want : Wanted) (x : State) (g : Going) → IsAt m place want n g (parts told len b bs) a.work → IsSeenIn m false ones x g → HasRefusalCause (FailsOn faults) r (record { disk = e; store = t }))
             → EndsAlone told len faults m place c d f s u (Err r)
-        EndsAlone-looked may r free none_lacks cause =
-            EndsAlone-behind may r
+        EndsAlone-looked may r faulted free none_lacks cause =
+            EndsAlone-behind may r faulted
             (λ want x of posed. (
               λ given. absurd (false≢true (sym given ∙ free)),
               λ also. cause want x (going_alone x) (at_command want x of) (seen want x of),
@@ -210,11 +208,12 @@ module _ {D : Type 0} (told : D → Option Story) (len faults : D → ℕ) (m : 
         }
 
         -- behind a reading
-        pub EndsAlone-reads : (r : Reply) (came : Served) → came ≡ served.Read r
+        pub EndsAlone-reads : (r : Reply) (came : Served) → came ≡ served.Read r → IsAnswered came
             → (t.book.down ≡ false → (want : Wanted) (x : State) (g : Going) → IsAt m place want n g (parts told len b bs) a.work → IsSeenIn m false ones x g → IsPosedIn m x c
             → IsServed (λ h p. IsAt m place want n h p y.work) m x c g came here) → EndsAlone told len faults m place c d f s u (Ok r)
-        EndsAlone-reads r came is serves_so =
+        EndsAlone-reads r came is answers serves_so =
             EndsAlone-done told len faults m place c d f s u up r
+            (answer_no_fault r (subst (λ (one : Served). IsAnswered one) is answers))
             (remains_alone told len faults m place d e s t last comes y.work {T = Unit {0}} {U = Reply} f u (Ok tt) (Ok r) (λ is. ok_err tt refusal.Fault is) remains)
             (λ not. moments) (λ off. none)
             (λ want x of posed.

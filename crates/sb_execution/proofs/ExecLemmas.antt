@@ -1,6 +1,7 @@
 -- What becomes of a session in any command.
 use Rattle.std.proofs.Common.{◌≡◌, ◌||◌, ℕ, Bool, true, false, List, Option, is_some, Result, Ok, Err, IfErr, OnOk, refl, sym, ap, ◌∙◌, subst, arith}
 use Rattle.std.proofs.lemmas.Bool.{false≢true}
+use Rattle.sb_disk.proofs.CauseLemmas.{Rose-later}
 use Rattle.sb_disk.specs.Disk.{Story}
 use Rattle.sb_engine.specs.Working.{extensions_of}
 use Rattle.sb_fold.specs.declared.refusal.Refusal.{Refusal}
@@ -88,5 +89,6 @@ KeepsSession-then len faults d e f x y z a b up same one two = record {
   geometry = two.geometry ∙ one.geometry;
   place = two.place ∙ one.place;
   down = two.down ∙ ap (λ (b' : Bool). b' || ends_with b) same;
+  fault = λ is. Rose-later (faults d) (faults e) (faults f) one.later (two.fault is);
   ended = λ on. absurd (false≢true (sym up ∙ on));
 }

@@ -4,11 +4,13 @@ use Rattle.std.proofs.lemmas.Bool.{false≢true}
 use Rattle.sb_disk.specs.Disk.{Story}
 use Rattle.sb_relation.specs.Db.{Key}
 use Rattle.sb_fold.specs.declared.refusal.Refusal.{Refusal}
+use Rattle.sb_fold.specs.declared.refusal.Refusal.TheVariants as refusal
 use Rattle.sb_fold.specs.Extensions.{Extensions}
 use Rattle.sb_fold.specs.Outcome.{Going}
-use Rattle.sb_cascade.specs.Runs.{MadeFrom, is_free, is_room}
+use Rattle.sb_cascade.specs.Runs.{MadeFrom, OnFault, is_free, is_room}
 use Rattle.sb_engine.specs.Refusals.{HasRefusalCause}
 use Rattle.sb_engine.specs.Working.{extensions_of}
+use Rattle.sb_engine.proofs.RefusedLemmas.{of_fault}
 use Rattle.sb_engine.specs.declared.running.Work.{Work as EngineWork}
 use Rattle.sb_plain.specs.declared.command.Command.{Command}
 use Rattle.sb_plain.specs.declared.reply.Reply.{Reply}
@@ -25,7 +27,6 @@ use Rattle.sb_txn.specs.State.{State as StoreState}
 use Rattle.sb_session.specs.Calls.{IsOnlyFault, Remains}
 use Rattle.sb_session.specs.Commits.{FailsOn, Mounted}
 use Rattle.sb_session.specs.Transactions.{IsAt, unused}
-use Rattle.sb_session.proofs.CallLemmas.{Fault-down}
 use Rattle.sb_execution.specs.Serving.{IsPosedIn, IsServed, IsUnserved, is_managing}
 use Rattle.sb_statements.specs.Statements.{answer_of}
 use Rattle.sb_session.specs.declared.session.Open.{Open}
@@ -110,6 +111,7 @@ module _ {D : Type 0} (told : D → Option Story) (len faults : D → ℕ) (m : 
         });
     leaves = leaves;
     goes = λ not. absurd (false≢true (sym not ∙ ap is_end only.is));
+    fault = λ is. only.down;
     remains = remains;
   }
 
@@ -122,10 +124,10 @@ module _ {D : Type 0} (told : D → Option Story) (len faults : D → ℕ) (m : 
     within want x of = inside_at m place want (committed x) p o x.transaction of.stands
 
     -- ---- it went through
-    pub EndsInside-done : (r : Reply) → Remains told len faults d f s u (Ok r)
+    pub EndsInside-done : (r : Reply) → (r ≡ Refused refusal.Fault → ⊥) → Remains told len faults d f s u (Ok r)
         → ((want : Wanted) (x : State) (of : IsOf m place want x p (Some o)) → IsPosedIn m x c → Reaches m place want tx c x (within want x of).of q now.transaction.work r)
         → EndsInside told len faults m place c d f s u o now (Ok r)
-    EndsInside-done r remains reaches = record {
+    EndsInside-done r told_none remains reaches = record {
       ends = λ want x of posed.
           let to = reaches want x of posed in
           let here = within want x of in
@@ -141,11 +143,13 @@ module _ {D : Type 0} (told : D → Option Story) (len faults : D → ℕ) (m : 
           });
       leaves = leaves;
       goes = λ not. CanGoOn-stays m place p q o now number listed stays goes;
+      fault = λ is. absurd (told_none is);
       remains = remains;
     }
 
     -- ---- it was refused, and the work is back
     module _ (r : Refusal) (remains : Remains {T = Reply} told len faults d f s u (Err r)) (there : Mounted D) (still : there.store.book.down ≡ false) (sizes : there.store.pool.geometry ≡ s.pool.geometry)
+        (faulted : OnFault r (there.store.book.down ≡ true))
         (back : (want : Wanted) (g : Going) → IsAt m place want tx g p o.transaction.work → IsAt m place want tx (unused g) q now.transaction.work)
         (stops : (want : Wanted) (x : State) (of : IsOf m place want x p (Some o)) → IsPosedIn m x c → IsUnserved (FailsOn faults) m x c (going_on (within want x of).of) r there) where
       stays_inside : (want : Wanted) (x : State) (of : IsOf m place want x p (Some o)) (n : ℕ) → IsInside m place want (committed x) q now (with_spent_in n (within want x of).of)
@@ -191,9 +195,10 @@ module _ {D : Type 0} (told : D → Option Story) (len faults : D → ℕ) (m : 
               stands = as_it_was want x of (ap is_end is);
             })
             (λ is. record { up = of.up; cause = may_want_memory-works x c works; stands = as_it_was want x of (ap is_end is) })
-            (λ is. not_both there.store.book.down still (Fault-down faults there (subst (λ (r : Refusal). HasRefusalCause (FailsOn faults) r there) is (cause want x of posed (ap is_free is)))))
+            (λ is. not_both there.store.book.down still (of_fault r (there.store.book.down ≡ true) faulted is))
             (λ page is. subst (λ (r : Refusal). HasRefusalCause (FailsOn faults) r there) is (cause want x of posed (ap is_free is)));
         leaves = leaves;
         goes = λ not. CanGoOn-stays m place p q o now number listed stays goes;
+        fault = λ is. let same : r ≡ refusal.Fault = cc in not_both there.store.book.down still (of_fault r (there.store.book.down ≡ true) faulted same);
         remains = remains;
       }

@@ -4,6 +4,7 @@ use Rattle.sb_disk.specs.Disk.{Story}
 use Rattle.sb_relation.specs.Db.{Db}
 use Rattle.sb_fold.specs.declared.refusal.Refusal.{Refusal}
 use Rattle.sb_fold.specs.declared.refusal.Refusal.TheVariants as refusal
+use Rattle.sb_cascade.specs.Runs.{OnFault}
 use Rattle.sb_fold.specs.Outcome.{Going}
 use Rattle.sb_engine.specs.declared.running.Work.{Work as EngineWork}
 use Rattle.sb_plain.specs.declared.command.Command.{Command}
@@ -23,7 +24,7 @@ use Rattle.sb_session.specs.Commits.{FailsOn, IsLed}
 use Rattle.sb_session.specs.Transactions.{IsAt, IsNotBehind, IsPointOf, IsTrimmed, IsUsable, WasBegun, WasSo, unused}
 use Rattle.sb_session.proofs.CallLemmas.{up-earlier, up-later}
 use Rattle.sb_session.proofs.EndLemmas.{Remains-behind, Remains-stopped}
-use Rattle.sb_execution.specs.Serving.{IsPosedIn, IsSeenIn, IsServed, IsUnserved, is_managing}
+use Rattle.sb_execution.specs.Serving.{IsAnswered, IsPosedIn, IsSeenIn, IsServed, IsUnserved, is_managing}
 use Rattle.sb_session.specs.declared.session.Open.{Open}
 use Rattle.sb_session.specs.declared.session.Savepoint.{Savepoint}
 use Rattle.sb_session.specs.Sessions.{CanGoOn, going_in}
@@ -34,6 +35,7 @@ use Rattle.sb_execution.specs.Endings.{EndsInside, IsOf, IsReplied}
 use Rattle.sb_execution.proofs.CallLemmas.{Remains-led, leaves_behind, not_both, ok_err}
 use Rattle.sb_execution.proofs.EndLemmas.{seen_inside}
 use Rattle.sb_execution.proofs.InsideLemmas.{EndsInside-done, EndsInside-fault, EndsInside-refused, Reaches, Stays-replied, reaches}
+use Rattle.sb_execution.proofs.ReplyLemmas.{replied_no_fault}
 use Rattle.sb_execution.proofs.StandingLemmas.{Stays, Stays-beside, Stays-then}
 
 module _ {D : Type 0} (told : D → Option Story) (len faults : D → ℕ) (m : Meanings) (place : Place) (c : Command) (works : is_managing c ≡ false)
@@ -97,7 +99,7 @@ module _ {D : Type 0} (told : D → Option Story) (len faults : D → ℕ) (m : 
     module _ (ones : List Savepoint) (listed : ones ≡ o.points.items) (sv : Served) (r : Reply) (now : Open) (still : t.book.down ≡ false)
         (served : t.book.down ≡ false → (want : Wanted) (a : State) (g : Going) → IsAt m place want n g from x.work → IsSeenIn m true ones a g → IsPosedIn m a c
         → IsServed (λ h p. IsAt m place want n h p y.work) m a c g sv here)
-        (replies : IsReplied sv y.work now.transaction.work r) (put : now.transaction.tx ≡ y.tx) (kept : now.points.items ≡ o.points.items) where
+        (replies : IsReplied sv y.work now.transaction.work r) (put : now.transaction.tx ≡ y.tx) (kept : now.points.items ≡ o.points.items) (answers : IsAnswered sv) where
       stays_served : Stays m place n from here x.work y.work
       stays_served = record { usable = serves; begun = λ want db is. begun still m place.root want db is; was = λ want g one so. points still m want g one so; stand = stand }
 
@@ -110,6 +112,7 @@ module _ {D : Type 0} (told : D → Option Story) (len faults : D → ℕ) (m : 
       pub EndsInside-served : EndsInside told len faults m place c d e s t o now (Ok r)
       EndsInside-served =
           EndsInside-done told len faults m place c works d e s t o now up leaves (ap (λ (a : Tx). a.store.number) (put ∙ tx ∙ same)) kept stays_replied goes r
+          (replied_no_fault sv y.work now.transaction.work r replies answers)
           (Remains-led told len faults n d e s t led (Ok r) up serves.ready.ready (λ on. not_both t.book.down still on))
           (λ want a of posed.
           let in_it = within want a of in
@@ -159,15 +162,15 @@ module _ {D : Type 0} (told : D → Option Story) (len faults : D → ℕ) (m : 
           stand = λ one of. at_first (λ k. IsPointOf k one there z.work) (back_stand one (latest up one of) (at_last (λ k. IsPointOf k one here y.work) (stand one of)));
         }
 
-        pub EndsInside-back : (now : Open) (ones : List Savepoint) → ones ≡ o.points.items → now.transaction ≡ z → now.points.items ≡ o.points.items → (r : Refusal)
+        pub EndsInside-back : (now : Open) (ones : List Savepoint) → ones ≡ o.points.items → now.transaction ≡ z → now.points.items ≡ o.points.items → (r : Refusal) → OnFault r (t.book.down ≡ true)
             → ((want : Wanted) (a : State) (g : Going) → IsAt m place want n g from x.work → IsSeenIn m true ones a g → IsPosedIn m a c → IsUnserved (FailsOn faults) m a c g r (record { disk = e; store = t }))
             → EndsInside told len faults m place c d f s u o now (Err r)
-        EndsInside-back now ones listed is kept r refused =
+        EndsInside-back now ones listed is kept r faulted refused =
             EndsInside-refused told len faults m place c works d f s u o now up (all_leaves (Ok tt) remains) (ap (λ (a : Transaction). a.tx.store.number) is ∙ ap (λ (a : Tx). a.store.number) (back_tx ∙ tx ∙ same)) kept
             (subst (λ (w : EngineWork). Stays m place first from there o.transaction.work w) (sym (ap (λ (a : Transaction). a.work) is))
             (Stays-then m place first from from there o.transaction.work x.work z.work stays_settled (subst (λ (k : ℕ). Stays m place k from there x.work z.work) number stays_back)))
             goes r (Remains-behind told len faults m place n d e f s t u y.work led (Ok tt) (Err r) (λ fault. ok_err tt refusal.Fault fault) remains)
-            (record { disk = e; store = t }) still led.1.geometry
+            (record { disk = e; store = t }) still led.1.geometry faulted
             (λ want g at. subst (λ (w : EngineWork). IsAt m place want first (unused g) there w) (sym (ap (λ (a : Transaction). a.work) is))
             (subst (λ (k : ℕ). IsAt m place want k (unused g) there z.work) number
             (at_first (λ k. IsAt m place want k (unused g) there z.work)

@@ -1,5 +1,6 @@
 -- What the tests and the replies of commands are.
-use Rattle.std.proofs.Common.{◌≡◌, Bool, true, false, List, [], ◌∷◌, Option, Some, None, IfSome, option_map, refl, subst}
+use Rattle.std.proofs.Common.{◌≡◌, Bool, true, false, List, [], ◌∷◌, Option, Some, None, IfSome, option_map, refl, sym, ap, ◌∙◌, subst}
+use Rattle.std.proofs.lemmas.Bool.{false≢true}
 use Rattle.sb_relation.specs.Db.{Name, Key, Row, Db, row_at, rows_at}
 use Rattle.sb_relation.specs.Fits.{first_missing}
 use Rattle.sb_fold.specs.declared.refusal.Refusal.{Refusal}
@@ -14,7 +15,13 @@ use Rattle.sb_plain.specs.Reading.{read, row_reply}
 use Rattle.sb_plain.specs.Refusing.{refused, first_of, refuse_where, is_misplaced, relations_of, first_existing, first_absent, missing_code, first_use, is_well_kinded, is_mixed, passes_limits}
 use Rattle.sb_plain.specs.State.{State, view}
 use Rattle.sb_plain.specs.Step.{Answer, Plain, Keyed, PickedKey, Counts, answered, reply_without}
-use Rattle.sb_execution.specs.Serving.{may_have_changed}
+use Rattle.sb_engine.specs.declared.running.Work.{Work as EngineWork}
+use Rattle.sb_reads.specs.Reads.{IsAnswer}
+use Rattle.sb_statements.specs.Statements.{answer_of}
+use Rattle.sb_execution.specs.declared.serving.Served.{Served}
+use Rattle.sb_execution.specs.declared.serving.Served.TheVariants as served
+use Rattle.sb_execution.specs.Endings.{IsReplied}
+use Rattle.sb_execution.specs.Serving.{IsAnswered, may_have_changed}
 use Rattle.std.specs.Prelude.{not}
 
 -- ---- refusals that definitions give
@@ -67,6 +74,18 @@ tells_answer Plain picks = refl
 tells_answer (Keyed key) picks = refl
 tells_answer (PickedKey key) picks = refl
 tells_answer (Counts n) picks = refl
+
+-- a reply that the definitions give tells no fault
+pub given_no_fault : (r : Reply) → is_free_reply r ≡ false → r ≡ reply.Refused refusal.Fault → ⊥
+given_no_fault r given is = false≢true (sym given ∙ ap (λ (x : Reply). is_free_reply x) is)
+
+pub answer_no_fault : (r : Reply) → IsAnswer r → r ≡ reply.Refused refusal.Fault → ⊥
+answer_no_fault r answer is = subst (λ (x : Reply). IsAnswer x) is answer
+
+pub replied_no_fault : (served : Served) (old new : EngineWork) (r : Reply) → IsReplied served old new r → IsAnswered served → r ≡ reply.Refused refusal.Fault → ⊥
+replied_no_fault (served.Read x) old new r replied answer is = answer_no_fault x answer (sym replied.0 ∙ is)
+replied_no_fault (served.Worked x) old new r replied answer is =
+    given_no_fault (answered (answer_of x) old.picks.items) (answered_given (answer_of x) old.picks.items) (sym replied.0 ∙ is)
 
 row_given : (relation : Name) (key : Key) (row : Option Row) → is_free_reply (row_reply relation key row) ≡ false
 row_given relation key None = refl

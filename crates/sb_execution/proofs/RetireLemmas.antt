@@ -22,7 +22,7 @@ use Rattle.sb_space.specs.declared.transactions.Space.{Space}
 use Rattle.sb_vectors.specs.Vectors.{AreSameBoxes}
 use Rattle.sb_session.specs.declared.session.Open.{Open}
 use Rattle.sb_session.specs.declared.session.Session.{Session}
-use Rattle.sb_session.specs.Ends.{Ends}
+use Rattle.sb_session.specs.Ends.{Ends, ends_with}
 use Rattle.sb_session.specs.Sessions.{CanRun, HasFailed, IsFor, IsOpenFor, KeepsSession, Lacks, StandsBehind, parts_of, sizes_of}
 use Rattle.sb_session.proofs.Carried.{CanRun-as, IsFor-as}
 use Rattle.sb_session.proofs.Commands.{outside_for}
@@ -73,6 +73,7 @@ module _ {B D : Type 0} (meanings : B → Meanings) (told : D → Option Story) 
     geometry = passes.remains.geometry;
     place = place;
     down = down ∙ sym (or-false x.down);
+    fault = λ is. absurd (false≢true (ap (λ (r : Reply). ends_with r) is));
     ended = λ on. absurd (false≢true (sym up ∙ on));
   }
 

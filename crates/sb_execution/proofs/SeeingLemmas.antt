@@ -1,19 +1,21 @@
 -- What comes of a look at an engine.
-use Rattle.std.proofs.Common.{◌≡◌, ℕ, true, false, Option, Result, Ok, Err, IfErr, IfOk, sym, subst}
+use Rattle.std.proofs.Common.{◌≡◌, ℕ, true, false, true≢false, Option, Some, None, Result, Ok, Err, IfErr, IfOk, IfSome, sym, subst}
 use Rattle.sb_fold.specs.declared.refusal.Refusal.{Refusal}
 use Rattle.sb_fold.specs.Outcome.{Going}
 use Rattle.sb_plain.specs.declared.command.Command.{Command}
 use Rattle.sb_plain.specs.Refusing.{refused}
 use Rattle.sb_plain.specs.State.{State}
-use Rattle.sb_cascade.specs.Runs.{is_free, is_room}
+use Rattle.sb_cascade.specs.Runs.{OnFault, is_free, is_room}
 use Rattle.sb_refusals.specs.Catalogue.{is_damage}
+use Rattle.sb_refusals.specs.Catalogue as test
 use Rattle.sb_registry.specs.Boxes.{Meanings}
 use Rattle.sb_drive.specs.declared.space.SpaceFault.{SpaceFault}
 use Rattle.sb_drive.specs.Slots.{Slots}
 use Rattle.sb_drive.specs.Spaces.{Wanted}
 use Rattle.sb_map.specs.declared.place.Place.{Place}
-use Rattle.sb_engine.specs.Refusals.{HasRefusalCause}
+use Rattle.sb_engine.specs.Refusals.{HasFaultCause, HasRefusalCause}
 use Rattle.sb_engine.specs.Working.{Stands, extensions_of}
+use Rattle.sb_engine.proofs.RefusedLemmas.{on_fault, refused_fault}
 use Rattle.sb_execution.specs.declared.seen.Seen.{Seen}
 use Rattle.sb_execution.specs.Seen.{HasFailed, LooksOn, Sees}
 use Rattle.sb_execution.specs.SeenLaws.{look_cause, look_free}
@@ -64,3 +66,16 @@ module _ {B S : Type 0} (Has : Wanted → Slots → S → Type 0) (Leads : ℕ �
       → IfErr r (λ e. (s : State) (g : Going) → StandsAt g x → IsOf s g → HasRefusalCause Fails e y)
   seen_cause (Ok o) failed undamaged = tt
   seen_cause (Err r) failed undamaged = λ s g stands seen. subst (λ (z : S). HasRefusalCause Fails r z) last (look_cause Leads Fails r a b failed (undamaged s (sees_at s g stands seen)))
+
+  pub seen_fault : (r : Result (Option Refusal) Refusal) → IfErr r (λ e. HasFailed Leads Fails e a b) → IfErr r (λ e. HasFaultCause Fails e y)
+  seen_fault (Ok o) failed = tt
+  seen_fault (Err r) failed =
+      subst (λ (z : S). HasFaultCause Fails r z) last
+      (subst (λ (x : Refusal). HasFaultCause Fails x b.space.now) failed.is
+      (refused_fault Fails (Leads 0 a.space.now b.space.now) a.space.now b.space.now failed.fault failed.refused))
+
+  -- what a test refuses is no fault
+  pub seen_tested : (r : Result (Option Refusal) Refusal) → IfOk r (λ o. IfSome o (λ e. test.is_free e ≡ false)) → IfOk r (λ o. IfSome o (λ e. OnFault e ⊥))
+  seen_tested (Ok None) tested = tt
+  seen_tested (Ok (Some e)) tested = on_fault e ⊥ (λ is. true≢false (subst (λ (x : Refusal). test.is_free x ≡ false) is tested))
+  seen_tested (Err r) tested = tt

@@ -1,11 +1,13 @@
 -- What becomes of a session in a command on relations.
-use Rattle.std.proofs.Common.{◌≡◌, ◌||◌, ℕ, Bool, false, Option, Some, None, Result, sym, ap, ◌∙◌, subst}
+use Rattle.std.proofs.Common.{◌≡◌, ◌||◌, ℕ, Bool, true, false, Option, Some, None, Result, sym, ap, ◌∙◌, subst}
 use Rattle.std.proofs.lemmas.Bool.{false≢true}
 use Rattle.sb_disk.specs.Disk.{Story}
 use Rattle.sb_fold.specs.declared.refusal.Refusal.{Refusal}
+use Rattle.sb_fold.specs.declared.refusal.Refusal.TheVariants.{Fault}
 use Rattle.sb_engine.specs.Working.{extensions_of}
 use Rattle.sb_plain.specs.declared.command.Command.{Command}
 use Rattle.sb_plain.specs.declared.reply.Reply.{Reply}
+use Rattle.sb_plain.specs.declared.reply.Reply.TheVariants.{Refused}
 use Rattle.sb_plain.specs.State.{State, committed}
 use Rattle.sb_registry.specs.Boxes.{Meanings}
 use Rattle.sb_drive.specs.Spaces.{Wanted}
@@ -20,7 +22,7 @@ use Rattle.sb_session.specs.Ends.{Ends, ends_with}
 use Rattle.sb_session.specs.Sessions.{CanRun, HasFailed, IsFor, IsOpenFor, KeepsSession, Lacks, LeavesOldOrNext, StandsBehind, parts_of, sizes_of}
 use Rattle.sb_session.proofs.Carried.{CanRun-as, IsFor-as, leaves-for}
 use Rattle.sb_execution.specs.Endings.{EndsAlone, EndsInside, IsLeft, IsLeftSo, IsOf, reply_by}
-use Rattle.sb_execution.proofs.CallLemmas.{still_up}
+use Rattle.sb_execution.proofs.CallLemmas.{has_failed, still_up}
 use Rattle.sb_execution.proofs.EndLemmas.{Ends-as}
 
 module _ {B D : Type 0} (meanings : B → Meanings) (told : D → Option Story) (len faults : D → ℕ) (c : Command) (d e : D) (x y : Session B)
@@ -63,13 +65,14 @@ module _ {B D : Type 0} (meanings : B → Meanings) (told : D → Option Story) 
         still_up told len faults d e x.space.store space.store result remains
         (λ fault. absurd (false≢true (sym on ∙ ends ∙ ap (λ (a : Result Reply Refusal). ends_with (reply_by a)) fault)))
 
-    pub keeps_session : KeepsSession len faults d e x y r
-    keeps_session = record {
+    pub keeps_session : (reply_by result ≡ Refused Fault → space.store.book.down ≡ true) → KeepsSession len faults d e x y r
+    keeps_session faulted = record {
       size = remains.size;
       later = remains.later;
       geometry = ap (λ (a : Space). a.store.pool.geometry) same ∙ remains.geometry;
       place = place;
       down = down;
+      fault = λ is. has_failed told len faults d e x.space.store space.store result remains (runs.up up) (faulted (sym replies ∙ is));
       ended = λ on. absurd (false≢true (sym up ∙ on));
     }
 

@@ -1,5 +1,5 @@
 -- A command's work on an engine that is lent a space and what is kept beside it.
-use Rattle.std.proofs.Common.{ℕ, ◌+◌, [], append-nil, Option, Some, None, Result, Ok, Err, IfErr, IfOk, sym, subst}
+use Rattle.std.proofs.Common.{◌≡◌, ℕ, ◌+◌, [], append-nil, Option, Some, None, Result, Ok, Err, IfErr, IfOk, sym, subst}
 use Rattle.std.specs.Prelude.{IfSome}
 use Rattle.sb_fold.specs.declared.refusal.Refusal.{Refusal}
 use Rattle.sb_fold.specs.Outcome.{Going}
@@ -15,7 +15,7 @@ use Rattle.sb_map.specs.declared.place.Place.{Place}
 use Rattle.sb_engine.specs.declared.running.Running.{Running}
 use Rattle.sb_engine.specs.declared.running.Work.{Work}
 use Rattle.sb_engine.specs.Goings.{front_none}
-use Rattle.sb_engine.specs.Refusals.{HasRefusalCause}
+use Rattle.sb_engine.specs.Refusals.{HasFaultCause, HasRefusalCause}
 use Rattle.sb_engine.specs.Working.{IsStoppedBy, Stands, StandsFor, extensions_of}
 use Rattle.sb_session.specs.Driven.{WorksOn}
 use Rattle.sb_session.proofs.FinishLemmas.{StopsFrom-map}
@@ -80,6 +80,11 @@ module _ {B S : Type 0} (Has : Wanted → Slots → S → Type 0) (Fails : Space
   works-stopped (Err r) stopped = work-stopped r stopped
 
 -- ---- a space that was only looked at
+-- a fault, of a space by another name
+pub fault-over : {S T : Type 0} (Fails : SpaceFault → S → S → Type 0) (a b : S) → a ≡ b → (r : Result T Refusal) → IfErr r (λ e. HasFaultCause Fails e a) → IfErr r (λ e. HasFaultCause Fails e b)
+fault-over Fails a b same (Ok x) cause = tt
+fault-over {S} Fails a b same (Err e) cause = subst (λ (z : S). HasFaultCause Fails e z) same cause
+
 pub looks_works : {S : Type 0} (Leads : ℕ → S → S → Type 0) (a b : S) (w : Work) → Leads 0 a b → WorksOn Leads a b w w
 looks_works Leads a b w leads = record { leads = (0, leads); queue = front_none w.queue; gone = ([], sym (append-nil w.gone.items)) }
 

@@ -1,7 +1,8 @@
 -- How commands on relations end, in an open transaction and in one of their own.
-use Rattle.std.specs.Prelude.{◌≡◌, ℕ, false, is_some, [], Option, Some, None, Result, Ok, Err}
+use Rattle.std.specs.Prelude.{◌≡◌, ℕ, false, is_some, [], Option, Some, None, Result, Ok, Err, true}
 use Rattle.sb_disk.specs.Disk.{Story}
 use Rattle.sb_fold.specs.declared.refusal.Refusal.{Refusal}
+use Rattle.sb_fold.specs.declared.refusal.Refusal.TheVariants.{Fault}
 use Rattle.sb_fold.specs.Outcome.{Going, Work, begun}
 use Rattle.sb_cascade.specs.Runs.{MadeFrom}
 use Rattle.sb_plain.specs.declared.command.Command.{Command}
@@ -74,7 +75,8 @@ pub record IsLeftSo (m : Meanings) (place : Place) (want : Wanted) (s : State) (
   pub leaves : LeavesOldOrNext m place.root want (extensions_of m) s c t p q
 
 -- ---- in an open transaction
--- A command in it ends well, with its pages as they were wanted, and the transaction can be worked in unless the session ends.
+-- A command in it ends well, with its pages as they were wanted, and the transaction can be worked in unless the session ends. Whatever the pages keep,
+-- a fault is answered only where the store is down.
 pub record EndsInside {D : Type 0} (told : D → Option Story) (len faults : D → ℕ) (m : Meanings) (place : Place) (c : Command)
     (d e : D) (s t : StoreState) (o now : Open) (result : Result Reply Refusal) : Type 0 where
   pub ends : (want : Wanted) (x : State) → IsOf m place want x (parts told len d s) (Some o) → IsPosedIn m x c
@@ -82,11 +84,12 @@ pub record EndsInside {D : Type 0} (told : D → Option Story) (len faults : D �
       (extensions_of m) x c (reply_by result)
   pub leaves : LeavesWanted (parts told len d s) (parts told len e t)
   pub goes : ends_with (reply_by result) ≡ false → CanGoOn m place (parts told len e t) (Some now)
+  pub fault : reply_by result ≡ Refused Fault → t.book.down ≡ true
   pub remains : Remains told len faults d e s t result
 
 -- ---- in a transaction of its own
 -- A command in it ends well, and the transaction is over then. What a crash left on the way is told with the state to which the command leads; where
--- no database can have been committed, it is what was wanted, whatever the pages stand for.
+-- no database can have been committed, it is what was wanted, whatever the pages stand for; and a fault is answered only where the store is down.
 pub record EndsAlone {D : Type 0} (told : D → Option Story) (len faults : D → ℕ) (m : Meanings) (place : Place) (c : Command)
     (d e : D) (s t : StoreState) (result : Result Reply Refusal) : Type 0 where
   pub ends : (want : Wanted) (x : State) → IsOf m place want x (parts told len d s) None → IsPosedIn m x c
@@ -94,6 +97,7 @@ pub record EndsAlone {D : Type 0} (told : D → Option Story) (len faults : D �
       (extensions_of m) x c (reply_by result)
   pub leaves : may_have_committed c false (reply_by result) ≡ false → LeavesWanted (parts told len d s) (parts told len e t)
   pub none : t.book.down ≡ false → t.book.actives ≡ []
+  pub fault : reply_by result ≡ Refused Fault → t.book.down ≡ true
   pub remains : Remains told len faults d e s t result
 
 -- its work begins at the committed database, once the transaction itself was paid for

@@ -18,7 +18,7 @@ use Rattle.sb_engine.specs.Refusals.{HasRefusalCause}
 use Rattle.sb_engine.specs.Working.{extensions_of}
 use Rattle.sb_vectors.specs.Vectors.{live_codes, spare_codes}
 use Rattle.sb_session.specs.declared.session.Savepoint.{Savepoint}
-use Rattle.sb_reads.specs.Reads.{is_reading}
+use Rattle.sb_reads.specs.Reads.{IsAnswer, is_reading}
 use Rattle.sb_statements.specs.Posed.{IsPosed, IsWhere}
 use Rattle.sb_statements.specs.Statements.{answer_of}
 use Rattle.sb_execution.specs.declared.serving.Served.{Served}
@@ -88,6 +88,11 @@ IsRefusedIn Fails m c g r new = IfSome (work_of (extensions_of m) c) (λ work. S
 abbrev pub is_read : Served → Bool
 is_read (served.Read reply) = true
 is_read (served.Worked answer) = false
+
+-- what was read is the reply of a reading
+abbrev pub IsAnswered : Served → Type 0
+IsAnswered (served.Read reply) = IsAnswer reply
+IsAnswered (served.Worked answer) = Unit {0}
 
 -- A command that no test refuses reads its reply, and the work stands as it was; or its work gives the answer.
 abbrev pub IsServed : {S : Type 0} → (Going → S → Type 0) → Meanings → State → Command → Going → Served → S → Type 0

@@ -1,11 +1,11 @@
 //! What is tested of a command before anything changes.
 
-ghost use Rattle.std.specs.Prelude.{◌≡◌, false, true, IfErr, IfOk};
+ghost use Rattle.std.specs.Prelude.{◌≡◌, false, true, IfErr, IfOk, IfSome};
 ghost use Rattle.sb_fold.specs.Outcome.{Going};
-ghost use Rattle.sb_engine.specs.Refusals.{HasRefusalCause};
+ghost use Rattle.sb_engine.specs.Refusals.{HasFaultCause, HasRefusalCause};
 ghost use Rattle.sb_engine.specs.Working.{extensions_of};
 ghost use Rattle.sb_engine.specs.Working as engine;
-ghost use Rattle.sb_cascade.specs.Runs.{is_free, is_room};
+ghost use Rattle.sb_cascade.specs.Runs.{OnFault, is_free, is_room};
 ghost use Rattle.sb_plain.specs.Refusing.{refused};
 ghost use Rattle.sb_plain.specs.State.{State};
 ghost use Rattle.sb_execution.specs.Serving.{IsSeenIn};
@@ -45,6 +45,8 @@ pub(crate) fn refusal_over<B: Vectors, S: Owners>(
     ensures room { IfErr result (λ r. is_room r ≡ false) }
     ensures cause { IfErr result (λ r. (s : State) (g : Going) → engine.Stands S.has (B.meanings boxes.now) place.root g space.old work.now
         → IsSeenIn (B.meanings boxes.now) inside points.now s g → HasRefusalCause S.fails r space.new) }
+    ensures tested { IfOk result (λ r. IfSome r (λ x. OnFault x ⊥)) }
+    ensures fault { IfErr result (λ r. HasFaultCause S.fails r space.new) }
     ensures leads { S.leads 0 space.old space.new }
     ensures ready { S.is_ready space.new }
 {

@@ -1,19 +1,19 @@
 //! A command on an engine: its refusals first, and then what it reads or works.
 
-ghost use Rattle.std.specs.Prelude.{◌≡◌, false, true, ℕ, IfErr, IfOk};
+ghost use Rattle.std.specs.Prelude.{◌≡◌, false, true, ℕ, IfErr, IfOk, IfSome};
 ghost use Rattle.sb_relation.specs.Db.{Db};
 ghost use Rattle.sb_registry.specs.Boxes.{Meanings};
 ghost use Rattle.sb_session.specs.Point.{Point};
 ghost use Rattle.sb_fold.specs.Outcome.{Going};
 ghost use Rattle.sb_drive.specs.Spaces.{Wanted};
-ghost use Rattle.sb_cascade.specs.Runs.{is_free, is_room};
-ghost use Rattle.sb_engine.specs.Refusals.{HasRefusalCause};
+ghost use Rattle.sb_cascade.specs.Runs.{OnFault, is_free, is_room};
+ghost use Rattle.sb_engine.specs.Refusals.{HasFaultCause, HasRefusalCause};
 ghost use Rattle.sb_engine.specs.Working.{extensions_of};
 ghost use Rattle.sb_engine.specs.Working as engine;
 ghost use Rattle.sb_plain.specs.Refusing.{refused};
 ghost use Rattle.sb_plain.specs.State.{State};
 ghost use Rattle.sb_reads.specs.Reads.{is_reading};
-ghost use Rattle.sb_execution.specs.Serving.{IsPosedIn, IsRefusedIn, IsSeenIn, IsServed, IsUnserved, Makes, MayServe, is_read};
+ghost use Rattle.sb_execution.specs.Serving.{IsAnswered, IsPosedIn, IsRefusedIn, IsSeenIn, IsServed, IsUnserved, Makes, MayServe, is_read};
 ghost use Rattle.sb_statements.specs.Statements.{MayWork, answer_of};
 ghost use Rattle.sb_session.specs.Driven.{WorksOn};
 ghost use Rattle.sb_txn.specs.Clauses.{LeavesWanted};
@@ -60,6 +60,7 @@ fn work_over<B: Boxes, S: Owners>(
         → Makes (λ h y. engine.Stands S.has (B.meanings boxes.now) place.root h y work.new) (B.meanings boxes.now) command.now g (answer_of x) space.new) }
     ensures refused { IfErr result (λ r. (g : Going) → engine.Stands S.has (B.meanings boxes.now) place.root g space.old work.old
         → MayWork (B.meanings boxes.now) g command.now → IsRefusedIn S.fails (B.meanings boxes.now) command.now g r space.new) }
+    ensures fault { IfErr result (λ r. HasFaultCause S.fails r space.new) }
     ensures works { WorksOn S.leads space.old space.new work.old work.new }
     ensures ready { engine.Serves S.is_ready (B.meanings boxes.now) place space.new work.new }
 {
@@ -83,8 +84,10 @@ fn carry_out<B: Boxes, S: Owners>(
         → MayServe (B.meanings boxes.now) s command.now g
         → IsServed (λ h y. engine.Stands S.has (B.meanings boxes.now) place.root h y work.new) (B.meanings boxes.now) s command.now g x space.new) }
     ensures reads { IfOk result (λ x. is_read x ≡ is_reading command.now) }
+    ensures answer { IfOk result IsAnswered }
     ensures refused { IfErr result (λ r. (s : State) (g : Going) → engine.Stands S.has (B.meanings boxes.now) place.root g space.old work.old
         → MayServe (B.meanings boxes.now) s command.now g → IsUnserved S.fails (B.meanings boxes.now) s command.now g r space.new) }
+    ensures fault { IfErr result (λ r. HasFaultCause S.fails r space.new) }
     ensures works { WorksOn S.leads space.old space.new work.old work.new }
     ensures ready { engine.Serves S.is_ready (B.meanings boxes.now) place space.new work.new }
 {
@@ -116,9 +119,11 @@ fn serve<B: Vectors, S: Owners>(
         → IsSeenIn (B.meanings boxes.now) inside points.now s g → IsPosedIn (B.meanings boxes.now) s command.now
         → IsServed (λ h y. engine.Stands S.has (B.meanings boxes.now) place.root h y work.new) (B.meanings boxes.now) s command.now g x space.new) }
     ensures reads { IfOk result (λ x. is_read x ≡ is_reading command.now) }
+    ensures answer { IfOk result IsAnswered }
     ensures refused { IfErr result (λ r. (s : State) (g : Going) → engine.Stands S.has (B.meanings boxes.now) place.root g space.old work.old
         → IsSeenIn (B.meanings boxes.now) inside points.now s g → IsPosedIn (B.meanings boxes.now) s command.now
         → IsUnserved S.fails (B.meanings boxes.now) s command.now g r space.new) }
+    ensures fault { IfErr result (λ r. HasFaultCause S.fails r space.new) }
     ensures works { WorksOn S.leads space.old space.new work.old work.new }
     ensures ready { engine.Serves S.is_ready (B.meanings boxes.now) place space.new work.new }
 {
@@ -150,10 +155,12 @@ pub(crate) fn serve_in<B: Vectors, D: Disk>(
         → IsServed (λ h p. IsAt (B.meanings boxes.now) place want transaction.old.tx.store.number h p transaction.new.work) (B.meanings boxes.now) s
         command.now g x (parts D.told D.len disk.new space.new.store)) }
     ensures reads { IfOk result (λ x. is_read x ≡ is_reading command.now) }
+    ensures answer { IfOk result IsAnswered }
     ensures refused { IfErr result (λ r. (want : Wanted) (s : State) (g : Going)
         → IsAt (B.meanings boxes.now) place want transaction.old.tx.store.number g (parts D.told D.len disk.old space.old.store) transaction.old.work
         → IsSeenIn (B.meanings boxes.now) inside points.now s g → IsPosedIn (B.meanings boxes.now) s command.now
         → IsUnserved (FailsOn D.faults) (B.meanings boxes.now) s command.now g r (record { disk = disk.new; store = space.new.store })) }
+    ensures fault { IfErr result (λ r. OnFault r (space.new.store.book.down ≡ true)) }
     ensures points { space.new.store.book.down ≡ false → (m : Meanings) (want : Wanted) (g : Going) (point : Point)
         → WasSo m place want transaction.old.tx.store.number g point (parts D.told D.len disk.old space.old.store) transaction.old.work
         → WasSo m place want transaction.old.tx.store.number g point (parts D.told D.len disk.new space.new.store) transaction.new.work }
@@ -209,6 +216,8 @@ pub(crate) fn test_in<B: Vectors, D: Disk>(
         → IsAt (B.meanings boxes.now) place want transaction.now.tx.store.number g (parts D.told D.len disk.old space.old.store) transaction.now.work
         → IsSeenIn (B.meanings boxes.now) inside points.now s g
         → HasRefusalCause (FailsOn D.faults) r (record { disk = disk.new; store = space.new.store })) }
+    ensures tested { IfOk result (λ r. IfSome r (λ x. OnFault x ⊥)) }
+    ensures fault { IfErr result (λ r. OnFault r (space.new.store.book.down ≡ true)) }
     ensures points { space.new.store.book.down ≡ false → (m : Meanings) (want : Wanted) (g : Going) (point : Point)
         → WasSo m place want transaction.now.tx.store.number g point (parts D.told D.len disk.old space.old.store) transaction.now.work
         → WasSo m place want transaction.now.tx.store.number g point (parts D.told D.len disk.new space.new.store) transaction.now.work }

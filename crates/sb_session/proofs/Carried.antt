@@ -233,6 +233,7 @@ module _ {B D : Type 0} (meanings : B → Meanings) (told : D → Option Story) 
         geometry = ap (λ (a : Space). a.store.pool.geometry) same.space;
         place = same.place;
         down = same.down ∙ sym (or-false x.down) ∙ ap (λ (b : Bool). x.down || b) (sym goes_on);
+        fault = λ is. absurd (false≢true (sym goes_on ∙ ap (λ (r : Reply). ends_with r) is));
         ended = λ down. (refl, ended down);
       };
       runs = CanRun-same meanings told len d x y same runs;
@@ -263,7 +264,7 @@ module _ {B D : Type 0} (meanings : B → Meanings) (told : D → Option Story) 
     Carried-fault result r q remains only down is = subst (λ (q : Refusal). Carried meanings told len faults c d e x y (Refused q)) (sym (is ∙ only.is)) (record {
       ends = λ want s for. record {
         up = sym for.down ∙ up;
-        cause = ⊎_elim (λ (was : x.space.store.book.down ≡ true). absurd (false≢true (sym (runs.up up) ∙ was))) (λ (rose : Rose (faults d) (faults e)). rose) (remains.fell only.down);
+        cause = failed;
         stands = IsFor-as meanings told len want s d e x y for want (downed s) y.open (parts_of told len e y) boxes place refl refl off refl refl (λ on. absurd (false≢true (sym on)));
       };
       keeps = record {
@@ -272,6 +273,7 @@ module _ {B D : Type 0} (meanings : B → Meanings) (told : D → Option Story) 
         geometry = ap (λ (a : Space). a.store.pool.geometry) same ∙ remains.geometry;
         place = place;
         down = down ∙ ap (λ (r : Refusal). x.down || is_end r) only.is;
+        fault = λ _. failed;
         ended = λ was. absurd (false≢true (sym up ∙ was));
       };
       runs = CanRun-as meanings told len d e x y y.open (parts told len e space.store) runs boxes place refl now remains.geometry remains.ready
@@ -280,6 +282,9 @@ module _ {B D : Type 0} (meanings : B → Meanings) (told : D → Option Story) 
       where
         off : y.down ≡ true
         off = down ∙ ap (λ (r : Refusal). x.down || is_end r) only.is ∙ ap (λ (b : Bool). b || true) up
+
+        failed : Rose (faults d) (faults e)
+        failed = ⊎_elim (λ (was : x.space.store.book.down ≡ true). absurd (false≢true (sym (runs.up up) ∙ was))) (λ (rose : Rose (faults d) (faults e)). rose) (remains.fell only.down)
 
     -- ---- it went through
     -- it was paid for, and there is the transaction of the state behind it
@@ -299,6 +304,7 @@ module _ {B D : Type 0} (meanings : B → Meanings) (told : D → Option Story) 
         geometry = ap (λ (a : Space). a.store.pool.geometry) same ∙ remains.geometry;
         place = place;
         down = down ∙ sym (or-false x.down);
+        fault = λ is. absurd (false≢true (ap (λ (r : Reply). ends_with r) is));
         ended = λ was. absurd (false≢true (sym up ∙ was));
       };
       runs = CanRun-as meanings told len d e x y opened (parts told len e space.store) runs boxes place is now remains.geometry remains.ready

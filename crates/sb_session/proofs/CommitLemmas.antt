@@ -14,7 +14,7 @@ use Rattle.sb_fold.specs.declared.refusal.Room.{Room}
 use Rattle.sb_fold.specs.Extensions.{Extensions}
 use Rattle.sb_fold.specs.Finish.{finish}
 use Rattle.sb_fold.specs.Outcome.{Going, Trail, Work}
-use Rattle.sb_cascade.specs.Runs.{EndsBy, RefusedFrom, StopsFrom, is_free, is_room}
+use Rattle.sb_cascade.specs.Runs.{EndsBy, OnFault, RefusedFrom, StopsFrom, is_free, is_room}
 use Rattle.sb_plain.specs.declared.command.Command.TheVariants as command
 use Rattle.sb_plain.specs.declared.reply.Reply.{Reply}
 use Rattle.sb_plain.specs.declared.reply.Reply.TheVariants as reply
@@ -39,6 +39,7 @@ use Rattle.sb_session.specs.declared.session.Open.{Open}
 use Rattle.sb_session.specs.declared.session.Session.{Session}
 use Rattle.sb_session.specs.Ends.{Ends, IsFree, IsStep, ends_with, is_end}
 use Rattle.sb_session.specs.Sessions.{AreSavepoints, CanGoOn, CanRun, HasFailed, IsFor, IsInside, IsOpenFor, KeepsSession, Lacks, LeavesNext, LeavesOldOrNext, StandsBehind, StandsFor, going_in, parts_of, sizes_of}
+use Rattle.sb_transactions.proofs.RefusedLemmas.{of_fault}
 use Rattle.sb_session.proofs.Behind.{Ends-behind_for}
 use Rattle.sb_session.proofs.Carried.{CanRun-as, Carried, Ends-given, IsFor-as, end_of_given}
 use Rattle.sb_session.proofs.Commands.{inside_for}
@@ -235,15 +236,19 @@ module _ {B D : Type 0} (meanings : B → Meanings) (told : D → Option Story) 
           leaves = run.stands.leaves;
         }
 
+    rose_then : (x.space.store.book.down ≡ true) ⊎ Rose (faults d) (faults e) → Rose (faults d) (faults e)
+    rose_then = ⊎_elim (λ (was : x.space.store.book.down ≡ true). absurd (false≢true (sym (runs.up up) ∙ was))) (λ (rose : Rose (faults d) (faults e)). rose)
+
     -- ---- what it keeps
     module _ {T : Type 0} (result : Result T Refusal) (remains : Remains told len faults d e x.space.store space.store result) where
-      KeepsSession-commit : (r : Reply) → y.down ≡ (x.down || ends_with r) → KeepsSession len faults d e x y r
-      KeepsSession-commit r down = record {
+      KeepsSession-commit : (r : Reply) → y.down ≡ (x.down || ends_with r) → (r ≡ reply.Refused refusal.Fault → space.store.book.down ≡ true) → KeepsSession len faults d e x y r
+      KeepsSession-commit r down faulted = record {
         size = remains.size;
         later = remains.later;
         geometry = ap (λ (a : Space). a.store.pool.geometry) same ∙ remains.geometry;
         place = place;
         down = down;
+        fault = λ is. rose_then (remains.fell (faulted is));
         ended = ended;
       }
 
@@ -257,7 +262,7 @@ module _ {B D : Type 0} (meanings : B → Meanings) (told : D → Option Story) 
         → Committed meanings told len faults d e x y (reply.Done None picks)
     Committed-ok value picks remains down none done out = record {
       ends = λ want s for. step want s for (done want (going_on (within want s for).of) (at_commit want s for));
-      keeps = KeepsSession-commit (Ok value) remains (reply.Done None picks) (down ∙ sym (or-false x.down));
+      keeps = KeepsSession-commit (Ok value) remains (reply.Done None picks) (down ∙ sym (or-false x.down)) (λ is. absurd (false≢true (ap (λ (r : Reply). ends_with r) is)));
       runs = runs-commit (Ok value) remains None none (λ on. still_up space.store.book.down refl) (λ on. out (still_up space.store.book.down refl));
     }
       where
@@ -308,7 +313,7 @@ module _ {B D : Type 0} (meanings : B → Meanings) (told : D → Option Story) 
 
       -- ---- and is over
       module _ (over : is_wanting r ≡ false) (none : y.open ≡ None)
-          (faulted : r ≡ refusal.Fault → (want : Wanted) (g : Going) → IsAt m x.place want tx g p w → space.store.book.down ≡ true)
+          (faulted : OnFault r (space.store.book.down ≡ true))
           (aborted : space.store.book.down ≡ false → (m : Meanings) (root : ℕ) (want : Wanted) (db : Db) → WasBegun m root want db tx p → Rests m root want db q)
           (out : space.store.book.down ≡ false → space.store.book.actives ≡ []) where
         given_step : is_free r ≡ false → (want : Wanted) (s : State) (for : IsFor meanings told len want s d x) → IsStep (Behind want s) ext s command.Commit (reply.Refused r)
@@ -331,8 +336,7 @@ module _ {B D : Type 0} (meanings : B → Meanings) (told : D → Option Story) 
             let off : y.down ≡ true = down ∙ ap (λ (b : Bool). b || is_end r) up ∙ ap is_end is in
             record {
               up = up_for want s for;
-              cause = ⊎_elim (λ (was : x.space.store.book.down ≡ true). absurd (false≢true (sym (runs.up up) ∙ was))) (λ (rose : Rose (faults d) (faults e)). rose)
-                  (remains.fell (faulted is want (going_on (within want s for).of) (at_commit want s for)));
+              cause = rose_then (remains.fell (of_fault r (space.store.book.down ≡ true) faulted is));
               stands = record {
                 stands = record {
                   want = want;
@@ -351,7 +355,7 @@ module _ {B D : Type 0} (meanings : B → Meanings) (told : D → Option Story) 
         pub Committed-over : Committed meanings told len faults d e x y (reply.Refused r)
         Committed-over = record {
           ends = over_ends;
-          keeps = KeepsSession-commit (Err r) remains (reply.Refused r) down;
+          keeps = KeepsSession-commit (Err r) remains (reply.Refused r) down (λ is. let same : r ≡ refusal.Fault = cc in of_fault r (space.store.book.down ≡ true) faulted same);
           runs = runs-commit (Err r) remains None none (stays_up space.store.book.down refl) (λ on. out (stays_up space.store.book.down refl on));
         }
 
@@ -430,7 +434,7 @@ module _ {B D : Type 0} (meanings : B → Meanings) (told : D → Option Story) 
         pub Committed-wanting : Committed meanings told len faults d e x y (reply.Refused r)
         Committed-wanting = record {
           ends = λ want s for. wanting_ends want s for (wanting_of r wanting);
-          keeps = KeepsSession-commit (Err r) remains (reply.Refused r) down;
+          keeps = KeepsSession-commit (Err r) remains (reply.Refused r) down (λ is. let same : r ≡ refusal.Fault = cc in fault_wanting r same wanting);
           runs = runs-commit (Err r) remains (Some new) is (stays_up space.store.book.down refl)
               (λ on. can_go (subst (λ (a : Option Open). CanGoOn m x.place p a) some (runs.goes up)));
         }

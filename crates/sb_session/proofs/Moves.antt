@@ -14,6 +14,7 @@ use Rattle.sb_fold.specs.Fold.{attachments_at}
 use Rattle.sb_fold.specs.declared.refusal.Refusal.TheVariants as refusal
 use Rattle.sb_plain.specs.declared.command.Command.{Command}
 use Rattle.sb_plain.specs.declared.command.Command.TheVariants as command
+use Rattle.sb_plain.specs.declared.reply.Reply.{Reply}
 use Rattle.sb_plain.specs.declared.reply.Reply.TheVariants.{Refused}
 use Rattle.sb_plain.specs.Licences.{may_want_memory}
 use Rattle.sb_plain.specs.Step.{Steps}
@@ -40,7 +41,7 @@ use Rattle.sb_vectors.proofs.LawLemmas.{registering_moves, registering_stays, re
 use Rattle.sb_session.specs.declared.session.Open.{Open}
 use Rattle.sb_session.specs.declared.session.Session.{Session}
 use Rattle.sb_session.specs.Sessions.{CanGoOn, CanRun, IsFor, IsOpenFor, KeepsSession, parts_of}
-use Rattle.sb_session.specs.Ends.{IsStep}
+use Rattle.sb_session.specs.Ends.{IsStep, ends_with}
 use Rattle.sb_session.proofs.Carried.{Carried, Carried-given, Carried-memory, IsSame, SameOpen-none}
 use Rattle.sb_session.proofs.Commands.{outside_for}
 use Rattle.sb_session.proofs.MoveBoxes.{SameRules, SameRules-same, StillLive, StillLive-registers, StillLive-retires_attachment, StillLive-retires_method, Keeps-still, unused_attachment, unused_method}
@@ -138,6 +139,7 @@ module _ {B D : Type 0} (meanings : B → Meanings) (told : D → Option Story) 
     geometry = ap (λ (a : Space). a.store.pool.geometry) space;
     place = place;
     down = down ∙ sym (or-false x.down);
+    fault = λ is. absurd (false≢true (ap (λ (r : Reply). ends_with r) is));
     ended = λ on. absurd (false≢true (sym up ∙ on));
   }
 

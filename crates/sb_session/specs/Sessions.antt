@@ -6,12 +6,14 @@ use Rattle.sb_disk.specs.Disk.{Story}
 use Rattle.sb_disk.specs.Moments.{LeavesOnly}
 use Rattle.sb_images.specs.Images.{IsOldOrNew, Restores}
 use Rattle.sb_log.specs.declared.geometry.Geometry.{Geometry}
+use Rattle.sb_fold.specs.declared.refusal.Refusal.TheVariants.{Fault}
 use Rattle.sb_fold.specs.declared.refusal.Room.{Room}
 use Rattle.sb_fold.specs.declared.refusal.Room.TheVariants.{Data, Temp, Log, Gates}
 use Rattle.sb_fold.specs.Extensions.{Extensions}
 use Rattle.sb_fold.specs.Outcome.{Going, begun}
 use Rattle.sb_plain.specs.declared.command.Command.{Command}
 use Rattle.sb_plain.specs.declared.reply.Reply.{Reply}
+use Rattle.sb_plain.specs.declared.reply.Reply.TheVariants.{Refused}
 use Rattle.sb_plain.specs.Step.{Steps}
 use Rattle.sb_plain.specs.State.{Point as PlainPoint, State, Transaction as PlainTransaction, committed}
 use Rattle.sb_relation.specs.Db.{Db}
@@ -114,13 +116,15 @@ HasWork None = ⊥
 HasWork (Some o) = HasNothingLeft o.transaction.work → ⊥
 
 -- ---- what each command keeps
--- The disk's length, the sizes and the place stay; a fault or damage, and they alone, end the session; a session that is down is left alone.
+-- The disk's length, the sizes and the place stay; a fault or damage, and they alone, end the session; a fault is answered only where the disk failed a
+-- call; a session that is down is left alone.
 pub record KeepsSession {B D : Type 0} (len faults : D → ℕ) (old new : D) (x y : Session B) (reply : Reply) : Type 0 where
   pub size : len new ≡ len old
   pub later : faults old ≤ faults new
   pub geometry : sizes_of y ≡ sizes_of x
   pub place : y.place ≡ x.place
   pub down : y.down ≡ (x.down || ends_with reply)
+  pub fault : reply ≡ Refused Fault → Rose (faults old) (faults new)
   pub ended : x.down ≡ true → (new ≡ old) × (y ≡ x)
 
 -- the disk failed a call

@@ -20,7 +20,7 @@ use Rattle.sb_deferred.specs.Complete.{IsComplete}
 use Rattle.sb_deferred.specs.Waiting.{nothing}
 use Rattle.sb_deferred.proofs.CommitLemmas.{nothing-fails-at-all}
 use Rattle.sb_relation.specs.Rules.{entry_fails}
-use Rattle.sb_cascade.specs.Runs.{is_free, is_room, MadeFrom, StopsFrom}
+use Rattle.sb_cascade.specs.Runs.{is_free, is_room, MadeFrom, OnFault, StopsFrom}
 use Rattle.sb_registry.specs.Boxes.{Meanings}
 use Rattle.sb_drive.specs.Spaces.{Wanted}
 use Rattle.sb_map.specs.declared.place.Place.{Place}
@@ -32,12 +32,12 @@ use Rattle.sb_tables.specs.Work.{Work}
 use Rattle.sb_tables.specs.Refusals.{HasRefusalCause}
 use Rattle.sb_tables.specs.Working.{extensions_of}
 use Rattle.sb_tables.specs.Tables.{db_of}
+use Rattle.sb_tables.proofs.RefusedLemmas.{of_fault, on_fault}
 use Rattle.sb_transactions.specs.Calls.{IsOnlyFault, Remains}
 use Rattle.sb_transactions.specs.declared.refusals.Uncommitted.{Uncommitted}
 use Rattle.sb_transactions.specs.Commits.{by_refusal, ComesTo, FailsOn, Finishes, IsFaulted, IsDone, IsLed, IsOrFaulted, IsEnded, LeavesEither, LeavesOldOrFinished, Mounted, StopsAt, ended}
 use Rattle.sb_transactions.specs.Transactions.{HasNothingLeft, IsAt, IsCommitted, IsFinished}
-use Rattle.sb_transactions.proofs.CallLemmas.{Fault-down}
-use Rattle.sb_transactions.proofs.FinishLemmas.{StopsFrom-behind, StopsFrom-else, StopsFrom-fault, finish-at_once, finish-map}
+use Rattle.sb_transactions.proofs.FinishLemmas.{StopsFrom-behind, StopsFrom-else, finish-at_once, finish-map}
 
 fault_free : (r : Refusal) → r ≡ Fault → is_free r ≡ true
 fault_free r is = ap is_free is
@@ -267,13 +267,13 @@ module _ {D : Type 0} (told : D → Option Story) (len faults : D → ℕ) (m : 
         (λ (failed : IsFaulted faults q (record { disk = f; store = u })). StopsAt-fault q failed.only failed.cause)
         is
 
-    -- a fault is answered only where the store is down
-    pub down-stopped : (q : Refusal) → answered q → Remains {T = Unit {0}} told len faults e f t u (Err q) → q ≡ Fault → u.book.down ≡ true
-    down-stopped q is remains fault =
-        ⊎_elim
-        (λ (same : q ≡ r).
-        let cause = StopsFrom-fault (λ refusal trail x. HasRefusalCause (FailsOn faults) refusal x) (finish (extensions_of m)) g r (record { disk = e; store = t }) (sym same ∙ fault) stops in
-        let on : t.book.down ≡ true = Fault-down faults (record { disk = e; store = t }) cause.1 in
-        ap (λ (x : State). x.book.down) (remains.down on).store ∙ on)
-        (λ (failed : IsFaulted faults q (record { disk = f; store = u })). failed.only.down)
-        is
+  -- a fault is answered only where the store is down
+  pub down-stopped : (r q : Refusal) → IsOrFaulted faults r q (record { disk = f; store = u }) → OnFault r (t.book.down ≡ true) → Remains {T = Unit {0}} told len faults e f t u (Err q)
+      → OnFault q (u.book.down ≡ true)
+  down-stopped r q is down remains = on_fault q (u.book.down ≡ true) (λ fault.
+      ⊎_elim
+      (λ (same : q ≡ r).
+      let on : t.book.down ≡ true = of_fault r (t.book.down ≡ true) down (sym same ∙ fault) in
+      ap (λ (x : State). x.book.down) (remains.down on).store ∙ on)
+      (λ (failed : IsFaulted faults q (record { disk = f; store = u })). failed.only.down)
+      is)

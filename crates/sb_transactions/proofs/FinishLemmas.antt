@@ -95,12 +95,6 @@ StopsFrom-else {A = A} P Q work g r q a b free is stops = subst (λ (t : Bool). 
       stopped = is refused.after.trail;
     }
 
--- a fault has its cause where the work stopped
-pub StopsFrom-fault : {S A : Type 0} (P : Refusal → Trail → S → Type 0) (work : Work A) (g : Going) (r : Refusal) (a : S) → r ≡ Fault → StopsFrom P work g r a → (trail : Trail) × P Fault trail a
-StopsFrom-fault P work g r a is stops =
-    let broken : EndsBy P true work g Fault a = subst (λ (q : Refusal). StopsFrom P work g q a) is stops in
-    (broken.trail, broken.stopped)
-
 -- ---- causes
 refused-map : {S T : Type 0} (P : SpaceFault → S → S → Type 0) (Q : SpaceFault → T → T → Type 0) (f : S → T) → ((e : SpaceFault) (a b : S) → P e a b → Q e (f a) (f b)) → (r : Refusal) (a : S) → IsRefusedBy P r a → IsRefusedBy Q r (f a)
 refused-map P Q f gives r a by = record { fault = by.fault; is = by.is; before = f by.before; fails = gives by.fault by.before a by.fails }

@@ -1,11 +1,12 @@
 -- A transaction that is finished over its store, which is lent.
-use Rattle.std.proofs.Common.{◌≡◌, ℕ, false, [], Option, Result, Ok, Err, IfErr, OnOk, sym, subst}
+use Rattle.std.proofs.Common.{◌≡◌, ℕ, true, false, [], Option, Result, Ok, Err, IfErr, OnOk, sym, subst}
 use Rattle.sb_disk.specs.Disk.{Story}
 use Rattle.sb_relation.specs.Db.{Db}
 use Rattle.sb_fold.specs.Finish.{finish}
 use Rattle.sb_fold.specs.Outcome.{Going}
 use Rattle.sb_fold.specs.declared.refusal.Refusal.{Refusal}
-use Rattle.sb_cascade.specs.Runs.{MadeFrom, StopsFrom, is_room}
+use Rattle.sb_fold.specs.declared.refusal.Refusal.TheVariants.{Fault}
+use Rattle.sb_cascade.specs.Runs.{MadeFrom, OnFault, StopsFrom, is_room}
 use Rattle.sb_registry.specs.Boxes.{Meanings}
 use Rattle.sb_drive.specs.Spaces.{LeadsOn, Wanted}
 use Rattle.sb_drive.specs.declared.space.SpaceFault.{SpaceFault}
@@ -17,13 +18,15 @@ use Rattle.sb_space.specs.Durable.{parts_in}
 use Rattle.sb_space.specs.View.{lent}
 use Rattle.sb_space.specs.Works.{Fails}
 use Rattle.sb_tables.specs.Work.{Work}
-use Rattle.sb_tables.specs.Refusals.{HasRefusalCause}
+use Rattle.sb_tables.specs.Refusals.{HasFaultCause, HasRefusalCause, IsRefusedBy}
 use Rattle.sb_tables.specs.Working.{IsNoneGone, extensions_of}
 use Rattle.sb_tables.specs.Working as engine
+use Rattle.sb_tables.proofs.RefusedLemmas.{of_fault, on_fault}
 use Rattle.sb_transactions.specs.Commits.{ComesTo, FailsOn, Finishes, Mounted}
 use Rattle.sb_transactions.specs.declared.transactions.Point.{Point}
 use Rattle.sb_transactions.specs.Driven.{HasLent, IsServed, LeadsLent, WorksOn}
 use Rattle.sb_transactions.specs.Transactions.{IsAt, IsPointOf, WasBegun, WasSo}
+use Rattle.sb_transactions.proofs.CallLemmas.{Fault-down}
 use Rattle.sb_transactions.proofs.DrivenLemmas.{Stands-at, driven-begun, driven-each, driven-points, driven-stands}
 use Rattle.sb_transactions.proofs.FinishLemmas.{HasCause-map, StopsFrom-map, finish-map}
 
@@ -79,6 +82,13 @@ module _ {D : Type 0} (told : D → Option Story) (len faults : D → ℕ) (m : 
       StopsFrom-map (λ refusal trail x. HasRefusalCause (FailsLent faults) refusal x) (λ refusal trail x. HasRefusalCause (FailsOn faults) refusal x) (finish (extensions_of m)) g r b (record { disk = e; store = b.store.now })
       (λ trail cause. subst (λ (d : D). HasRefusalCause (FailsOn faults) r (record { disk = d; store = b.store.now })) (sym same) (HasCause-map (FailsLent faults) (FailsOn faults) mount (λ fault x y fails. fails) r b cause))
       (stops g (stands_lent want g at))
+
+  -- a fault is answered only where the store is down
+  pub faulted-lent : {T : Type 0} (r : Result T Refusal) → IfErr r (λ q. HasFaultCause (FailsLent faults) q b) → IfErr r (λ q. OnFault q (b.store.now.book.down ≡ true))
+  faulted-lent (Ok x) cause = tt
+  faulted-lent (Err q) cause = on_fault q (b.store.now.book.down ≡ true) (λ is.
+      Fault-down faults (mount b) (HasCause-map (FailsLent faults) (FailsOn faults) mount (λ fault x y fails. fails) Fault b
+      (of_fault q (IsRefusedBy (FailsLent faults) Fault b) cause is)))
 
   pub roomless-lent : {T : Type 0} (r : Result T Refusal)
       → IfErr r (λ q. (g : Going) → engine.Stands (HasLent told len) m place.root g a v → g.queue.actions ≡ [] → IsNoneGone g.gone → is_room q ≡ false)

@@ -3,7 +3,7 @@
 ghost use Rattle.std.specs.Prelude.{◌≡◌, [], true, false, is_some, ℕ, Some, IfErr, IfOk, IfSome, OnOk};
 ghost use Rattle.sb_relation.specs.Db.{Db};
 ghost use Rattle.sb_fold.specs.Outcome.{Going};
-ghost use Rattle.sb_cascade.specs.Runs.{is_room};
+ghost use Rattle.sb_cascade.specs.Runs.{OnFault, is_room};
 ghost use Rattle.sb_registry.specs.Boxes.{Meanings};
 ghost use Rattle.sb_drive.specs.Spaces.{Wanted};
 ghost use Rattle.sb_map.specs.declared.place.Place.{Place};
@@ -51,9 +51,7 @@ pub fn commit<B: Boxes, D: Disk>(
         → IsAt (B.meanings boxes.now) place want transaction.tx.store.number g (parts D.told D.len disk.old space.old.store) transaction.work
         → StopsAt D.told D.len D.faults (extensions_of (B.meanings boxes.now)) transaction.tx.store.number g e.refusal
         (record { disk = disk.old; store = space.old.store })) }
-    ensures faulted { IfErr result (λ e. e.refusal ≡ Refusal.Fault → (want : Wanted) (g : Going)
-        → IsAt (B.meanings boxes.now) place want transaction.tx.store.number g (parts D.told D.len disk.old space.old.store) transaction.work
-        → space.new.store.book.down ≡ true) }
+    ensures fault { IfErr result (λ e. OnFault e.refusal (space.new.store.book.down ≡ true)) }
 
     // The transaction goes on exactly where room or memory is wanting.
     ensures wanting { IfErr result (λ e. is_some e.transaction ≡ is_wanting e.refusal) }

@@ -1,14 +1,14 @@
 //! What is done before the pages of a transaction are committed.
 
-ghost use Rattle.std.specs.Prelude.{◌≡◌, ◌↔◌, [], false, ℕ, IfErr, IsTrue, OnOk};
+ghost use Rattle.std.specs.Prelude.{◌≡◌, ◌↔◌, [], true, false, ℕ, IfErr, IsTrue, OnOk};
 ghost use Rattle.sb_relation.specs.Db.{Db};
 ghost use Rattle.sb_fold.specs.Finish.{finish};
 ghost use Rattle.sb_fold.specs.Outcome.{Going};
-ghost use Rattle.sb_cascade.specs.Runs.{MadeFrom, StopsFrom, is_room};
+ghost use Rattle.sb_cascade.specs.Runs.{MadeFrom, OnFault, StopsFrom, is_room};
 ghost use Rattle.sb_registry.specs.Boxes.{Meanings};
 ghost use Rattle.sb_drive.specs.Spaces.{LeadsOn, Wanted};
 ghost use Rattle.sb_txn.specs.Parts.{parts};
-ghost use Rattle.sb_tables.specs.Refusals.{HasRefusalCause};
+ghost use Rattle.sb_tables.specs.Refusals.{HasFaultCause, HasRefusalCause};
 ghost use Rattle.sb_tables.specs.Working.{IsNoneGone, extensions_of};
 ghost use Rattle.sb_tables.specs.Working as engine;
 ghost use Rattle.sb_map.specs.declared.place.Place.{Place};
@@ -60,6 +60,7 @@ pub(crate) fn finish_work<B: Boxes, D: Disk>(
         → IsAt (B.meanings boxes.now) place want transaction.old.tx.store.number g (parts D.told D.len disk.old space.old.store) transaction.old.work
         → StopsFrom (λ refusal trail x. HasRefusalCause (FailsOn D.faults) refusal x) (finish (extensions_of (B.meanings boxes.now))) g r
         (record { disk = disk.new; store = space.new.store })) }
+    ensures fault { IfErr result (λ r. OnFault r (space.new.store.book.down ≡ true)) }
     ensures room { IfErr result (λ r. (want : Wanted) (g : Going)
         → IsAt (B.meanings boxes.now) place want transaction.old.tx.store.number g (parts D.told D.len disk.old space.old.store) transaction.old.work
         → g.queue.actions ≡ [] → IsNoneGone g.gone → is_room r ≡ false) }
@@ -96,6 +97,7 @@ fn finish_over<B: Boxes, S: Owners>(
     ensures none { OnOk result (work.new.gone.items ≡ []) }
     ensures refused { IfErr result (λ r. (g : Going) → engine.Stands S.has (B.meanings boxes.now) place.root g space.old work.old
         → StopsFrom (λ refusal trail x. HasRefusalCause S.fails refusal x) (finish (extensions_of (B.meanings boxes.now))) g r space.new) }
+    ensures fault { IfErr result (λ r. HasFaultCause S.fails r space.new) }
     ensures room { IfErr result (λ r. (g : Going) → engine.Stands S.has (B.meanings boxes.now) place.root g space.old work.old
         → g.queue.actions ≡ [] → IsNoneGone g.gone → is_room r ≡ false) }
     ensures works { IfErr result (λ r. WorksOn S.leads space.old space.new work.old work.new) }

@@ -79,7 +79,7 @@ returns-in-Err g c =
     let none = is_some-none x.open (sym c.is_some.ensures ∙ c.if-is_some.false) in
     let still = did.current ∙ none in
     Executed-moved meanings told len faults k d e x y c.told.result (same-stays (meanings x.boxes) (meanings y.boxes) (ap meanings did.boxes))
-    (keeps_session meanings told len faults k d e x y c.requires.runs c.requires.up space did.space did.boxes did.place result c.told.result did.reply did.down ended.remains)
+    (keeps_session meanings told len faults k d e x y c.requires.runs c.requires.up space did.space did.boxes did.place result c.told.result did.reply did.down ended.remains ended.fault)
     (runs_alone meanings told len faults k d e x y c.requires.runs c.requires.up space did.space did.boxes did.place result c.told.result did.reply did.down ended.remains none still ended)
     (ends_alone meanings told len faults k d e x y c.requires.runs c.requires.up space did.space did.boxes did.place result c.told.result did.reply did.down ended.remains none still ended)
     (λ never. leaves_session meanings told len faults k d e x y c.requires.runs c.requires.up space did.space did.boxes did.place result c.told.result did.reply did.down c.test_outside-tested.ensures.leaves)

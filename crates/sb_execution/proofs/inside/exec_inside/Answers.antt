@@ -31,7 +31,7 @@ returns-clause-keeps g c =
     let x = c.args.session.now in
     keeps_session g.B.Boxes.meanings g.D.Disk.told g.D.Disk.len g.D.Disk.faults c.args.command.now c.args.disk.now c.work_inside-result.new.disk x c.told.new.session c.requires.runs c.requires.up
     c.work_inside-result.new.space c.told.ensures.space c.told.ensures.boxes c.told.ensures.place c.work_inside-result.result c.told.result c.told.ensures.reply c.told.ensures.down
-    c.work_inside-result.ensures.remains
+    c.work_inside-result.ensures.remains c.work_inside-result.ensures.fault
 
 pub returns-clause-runs : goal.returns-clause-runs
 returns-clause-runs g c =

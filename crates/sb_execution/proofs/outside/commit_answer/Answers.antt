@@ -100,4 +100,4 @@ returns-in-None g c =
     let vs = c.commit.new.space.store in
     λ k d s has.
     EndsAlone-over told len faults m place k d e v s t vs tx w (answer_of c.args.answer) has c.in-Err.uncommitted.refusal c.in-Err.ensures.remains c.in-Err.ensures.refused
-    c.in-Err.ensures.any_moment c.in-Err.ensures.kept (c.in-Err.ensures.none c.in-None.is) (c.in-Err.ensures.aborted c.in-None.is) c.in-Err.ensures.faulted
+    c.in-Err.ensures.any_moment c.in-Err.ensures.kept (c.in-Err.ensures.none c.in-None.is) (c.in-Err.ensures.aborted c.in-None.is) c.in-Err.ensures.fault

@@ -1,4 +1,6 @@
-use Rattle.std.proofs.Common.{[], Ok, Err, refl, sym, ◌∙◌}
+use Rattle.std.proofs.Common.{[], Option, IfSome, Ok, Err, refl, sym, subst, ◌∙◌}
+use Rattle.sb_fold.specs.declared.refusal.Refusal.{Refusal}
+use Rattle.sb_cascade.specs.Runs.{OnFault}
 use Rattle.sb_execution.proofs.AloneWork.{EndsAlone-failed, EndsAlone-looked, EndsAlone-not_begun, EndsAlone-tested, Passes-alone, leaves_aborted}
 use Rattle.sb_execution.proofs.outside.test_outside.Goals as goal
 
@@ -55,7 +57,7 @@ returns-in-Ok-Some-clause-refused g c =
     let ends = c.in-Ok-abort.ensures in
     EndsAlone-tested told len faults m place c.args.command.now d b e s bs t a a c.requires.up c.requires.owner begun.remains begun.any_moment begun.pages begun.begun begun.at
     refl tests.usable tests.led tests.begun f u ends.any_moment ends.remains ends.none ends.rests
-    [] refl c.requires.may c.in-Ok-Some.refusal (λ want x h at seen. sym c.in-Ok-Some.field-0-is ∙ c.in-Ok-Some.ensures.refused want x h at seen)
+    [] refl c.requires.may c.in-Ok-Some.refusal (subst (λ (o : Option Refusal). IfSome o (λ r. OnFault r ⊥)) c.in-Ok-Some.field-0-is c.in-Ok-Some.ensures.tested) (λ want x h at seen. sym c.in-Ok-Some.field-0-is ∙ c.in-Ok-Some.ensures.refused want x h at seen)
 
 pub returns-in-Err-tested-clause-refused : goal.returns-in-Err-tested-clause-refused
 returns-in-Err-tested-clause-refused g c =
@@ -78,7 +80,7 @@ returns-in-Err-tested-clause-refused g c =
     let ends = c.in-Ok-abort.ensures in
     EndsAlone-looked told len faults m place c.args.command.now d b e s bs t a a c.requires.up c.requires.owner begun.remains begun.any_moment begun.pages begun.begun begun.at
     refl tests.usable tests.led tests.begun f u ends.any_moment ends.remains ends.none ends.rests
-    [] refl c.requires.may c.in-Err-tested.refusal c.in-Err-tested.ensures.free c.in-Err-tested.ensures.room c.in-Err-tested.ensures.cause
+    [] refl c.requires.may c.in-Err-tested.refusal c.in-Err-tested.ensures.fault c.in-Err-tested.ensures.free c.in-Err-tested.ensures.room c.in-Err-tested.ensures.cause
 
 pub returns-in-Err-abort-clause-refused : goal.returns-in-Err-abort-clause-refused
 returns-in-Err-abort-clause-refused g c =

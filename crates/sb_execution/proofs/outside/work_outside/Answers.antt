@@ -55,7 +55,7 @@ returns-in-Ok-abort g c =
     let ends = c.in-Ok-abort.ensures in
     EndsAlone-reads told len faults m place c.args.command.now d b e s bs t a y c.requires.up c.requires.owner begun.remains begun.any_moment begun.pages begun.begun begun.at
     serves.tx serves.usable serves.led serves.begun f u ends.any_moment ends.remains ends.none ends.rests
-    [] refl c.in-Read.reply c.in-Ok-served.served c.in-Read.is c.in-Ok-served.ensures.served
+    [] refl c.in-Read.reply c.in-Ok-served.served c.in-Read.is c.in-Ok-served.ensures.answer c.in-Ok-served.ensures.served
 
 pub returns-in-Err-abort : goal.returns-in-Err-abort
 returns-in-Err-abort g c =
@@ -123,7 +123,7 @@ returns-in-Ok-abort-2 g c =
     let ends = c.in-Ok-abort-2.ensures in
     EndsAlone-back told len faults m place c.args.command.now d b e s bs t a y c.requires.up c.requires.owner begun.remains begun.any_moment begun.pages begun.begun begun.at
     serves.tx serves.usable serves.led serves.begun f u ends.any_moment ends.remains ends.none ends.rests
-    [] refl c.requires.works c.in-Err-served.refusal c.in-Err-served.ensures.refused
+    [] refl c.requires.works c.in-Err-served.refusal c.in-Err-served.ensures.fault c.in-Err-served.ensures.refused
 
 pub returns-in-Err-abort-2 : goal.returns-in-Err-abort-2
 returns-in-Err-abort-2 g c =

@@ -1,5 +1,5 @@
 use Rattle.std.proofs.Common.{refl, sym, subst}
-use Rattle.sb_execution.proofs.SeeingLemmas.{seen_cause, seen_free, seen_refused, seen_room, seen_stands}
+use Rattle.sb_execution.proofs.SeeingLemmas.{seen_cause, seen_fault, seen_free, seen_refused, seen_room, seen_stands, seen_tested}
 use Rattle.sb_execution.proofs.seeing.refusal_over.Goals as goal
 
 pub returns : goal.returns
@@ -18,6 +18,8 @@ returns g c =
       free = seen_free Has Leads Fails g.B.Boxes.meanings _ _ looks x _ refl end command result c.refuse.ensures.fails;
       room = seen_room Has Leads Fails g.B.Boxes.meanings _ _ looks x _ refl end command result c.refuse.ensures.fails;
       cause = seen_cause Has Leads Fails g.B.Boxes.meanings _ _ looks x _ refl end command result c.refuse.ensures.fails c.refuse.ensures.undamaged;
+      tested = seen_tested Has Leads Fails g.B.Boxes.meanings _ _ looks x _ refl end command result c.refuse.ensures.tested;
+      fault = seen_fault Has Leads Fails g.B.Boxes.meanings _ _ looks x _ refl end command result c.refuse.ensures.fails;
       leads = subst (λ z. Leads 0 x z) end looks.leads;
       ready = subst (λ z. g.S.PageSpace.is_ready z) end c.refuse.ensures.ready.ready;
     }

@@ -1,5 +1,7 @@
-use Rattle.std.proofs.Common.{◌∙◌, Option, is_some, sym, ap}
+use Rattle.std.proofs.Common.{◌∙◌, Option, IfSome, is_some, sym, ap, subst}
 use Rattle.sb_plain.specs.declared.reply.Reply.{Reply}
+use Rattle.sb_engine.proofs.RefusedLemmas.{refused_fault}
+use Rattle.sb_reads.specs.Reads.{IsAnswer}
 use Rattle.sb_execution.specs.Serving.{Worked}
 use Rattle.sb_execution.proofs.SeenLemmas.{stands-same}
 use Rattle.sb_execution.proofs.ServeLemmas.{look_refused, was_read, works_may}
@@ -84,3 +86,14 @@ returns-in-Ok-clause-ready g c = c.in-Ok.ensures.ready
 
 pub returns-in-Err-work_over-clause-ready : goal.returns-in-Err-work_over-clause-ready
 returns-in-Err-work_over-clause-ready g c = c.in-Err-work_over.ensures.ready
+
+-- ---- whatever the pages keep
+pub returns-in-Ok-Some-clause-answer : goal.returns-in-Ok-Some-clause-answer
+returns-in-Ok-Some-clause-answer g c = subst (λ (o : Option Reply). IfSome o IsAnswer) c.in-Ok-Some.field-0-is c.in-Ok-Some.ensures.answer
+
+pub returns-in-Err-work_over-clause-fault : goal.returns-in-Err-work_over-clause-fault
+returns-in-Err-work_over-clause-fault g c = c.in-Err-work_over.ensures.fault
+
+pub returns-in-Err-clause-fault : goal.returns-in-Err-clause-fault
+returns-in-Err-clause-fault g c =
+    rw c.refusal_of.ensures (refused_fault g.S.PageSpace.fails (g.S.PageSpace.leads 0 c.args.space.now c.read.new.space) c.args.space.now c.read.new.space c.in-Err.fault c.in-Err.ensures.looks.refused)

@@ -1,4 +1,7 @@
-use Rattle.std.proofs.Common.{◌∙◌, sym}
+use Rattle.std.proofs.Common.{◌∙◌, Option, IfSome, sym, subst}
+use Rattle.sb_fold.specs.declared.refusal.Refusal.{Refusal}
+use Rattle.sb_cascade.specs.Runs.{OnFault}
+use Rattle.sb_engine.proofs.RefusedLemmas.{of_fault, on_fault}
 use Rattle.sb_execution.specs.Serving.{Looked, Tested}
 use Rattle.sb_execution.proofs.ServeLemmas.{tested_served, tested_unserved}
 use Rattle.sb_execution.proofs.WorkLemmas.{looks_works, works_behind}
@@ -53,3 +56,18 @@ returns-in-Ok-Some-clause-ready g c = record { ready = c.in-Ok-Some.ensures.read
 
 pub returns-in-Err-clause-ready : goal.returns-in-Err-clause-ready
 returns-in-Err-clause-ready g c = record { ready = c.in-Err.ensures.ready; owner = c.requires.ready.owner; opened = c.requires.ready.opened; within = c.requires.ready.within }
+
+-- ---- whatever the pages keep
+pub returns-in-Ok-None-clause-answer : goal.returns-in-Ok-None-clause-answer
+returns-in-Ok-None-clause-answer g c = c.carry_out.ensures.answer
+
+pub returns-in-Ok-None-clause-fault : goal.returns-in-Ok-None-clause-fault
+returns-in-Ok-None-clause-fault g c = c.carry_out.ensures.fault
+
+pub returns-in-Ok-Some-clause-fault : goal.returns-in-Ok-Some-clause-fault
+returns-in-Ok-Some-clause-fault g c =
+    let tested = subst (λ (o : Option Refusal). IfSome o (λ r. OnFault r ⊥)) c.in-Ok-Some.field-0-is c.in-Ok-Some.ensures.tested in
+    on_fault c.in-Ok-Some.refusal _ (λ is. absurd (of_fault c.in-Ok-Some.refusal ⊥ tested is))
+
+pub returns-in-Err-clause-fault : goal.returns-in-Err-clause-fault
+returns-in-Err-clause-fault g c = c.in-Err.ensures.fault

@@ -1,6 +1,6 @@
 use Rattle.std.proofs.Common.{ap, sym, refl, ◌∙◌}
 use Rattle.sb_txn.specs.declared.store.Tx.{Tx}
-use Rattle.sb_session.proofs.LentLemmas.{IsStoreLent}
+use Rattle.sb_session.proofs.LentLemmas.{IsStoreLent, faulted-lent}
 use Rattle.sb_execution.proofs.LentLemmas.{begun-lent, leaves-lent, led-lent, points-lent, served-lent, serves-lent, stand-lent, unserved-lent, usable-lent}
 use Rattle.sb_execution.proofs.serving.serve_in.Goals as goal
 
@@ -26,7 +26,9 @@ returns g c =
     record {
       served = served-lent told len faults m place disk store tx a b v w is works ready _ same c.args.inside c.args.points.now c.args.command.now c.serve.result c.serve.ensures.served;
       refused = unserved-lent told len faults m place disk store tx a b v w is works ready _ same c.args.inside c.args.points.now c.args.command.now c.serve.result c.serve.ensures.refused;
+      fault = faulted-lent told len faults m place disk store tx a b v w is works.leads ready _ same c.serve.result c.serve.ensures.fault;
       reads = c.serve.ensures.reads;
+      answer = c.serve.ensures.answer;
       points = points-lent told len faults m place disk store tx a b v w is works ready _ same;
       stand = stand-lent told len faults m place disk store tx a b v w is works ready _ same;
       begun = begun-lent told len faults m place disk store tx a b v w is works ready _ same;

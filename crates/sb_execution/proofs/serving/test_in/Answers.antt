@@ -1,6 +1,6 @@
 use Rattle.std.proofs.Common.{ap, sym, ◌∙◌}
 use Rattle.sb_txn.specs.declared.store.Tx.{Tx}
-use Rattle.sb_session.proofs.LentLemmas.{IsStoreLent}
+use Rattle.sb_session.proofs.LentLemmas.{IsStoreLent, faulted-lent}
 use Rattle.sb_engine.specs.Working.{Serves}
 use Rattle.sb_session.specs.Driven.{IsServed, LeadsLent}
 use Rattle.sb_execution.proofs.LentLemmas.{begun-lent, leaves-lent, led-lent, points-lent, serves-lent, stand-lent, stays-lent, tested-lent, untested-lent, usable-lent}
@@ -33,6 +33,8 @@ returns g c =
       free = did.free;
       room = did.room;
       cause = untested-lent told len faults m place disk store tx a b v v is works ready _ same c.args.inside c.args.points.now c.args.command.now c.refusal_over.result did.cause;
+      tested = did.tested;
+      fault = faulted-lent told len faults m place disk store tx a b v v is works.leads ready _ same c.refusal_over.result did.fault;
       points = points-lent told len faults m place disk store tx a b v v is works ready _ same;
       stand = stand-lent told len faults m place disk store tx a b v v is works ready _ same;
       begun = begun-lent told len faults m place disk store tx a b v v is works ready _ same;

@@ -1,7 +1,7 @@
 use Rattle.std.proofs.Common.{sym, ◌∙◌}
 use Rattle.sb_session.proofs.RunLemmas.{IsLent, parts-from, parts-to, works_between}
 use Rattle.sb_engine.specs.Working.{Serves}
-use Rattle.sb_execution.proofs.WorkLemmas.{works-made, works-stopped}
+use Rattle.sb_execution.proofs.WorkLemmas.{fault-over, works-made, works-stopped}
 use Rattle.sb_execution.proofs.serving.work_over.Goals as goal
 
 pub returns : goal.returns
@@ -22,6 +22,7 @@ returns g c =
           (record { boxes_are = goes.boxes ∙ lent.boxes_are; place_is = goes.place ∙ lent.place_is; space_is = space; work_is = work }) c.args.command.now c.work.result c.work.ensures.done;
       refused = works-stopped g.S.PageSpace.has g.S.PageSpace.fails g.B.Boxes.meanings boxes place x _ v _ a b lent
           (record { boxes_are = goes.boxes ∙ lent.boxes_are; place_is = goes.place ∙ lent.place_is; space_is = space; work_is = work }) c.args.command.now c.work.result c.work.ensures.stopped;
+      fault = fault-over g.S.PageSpace.fails b.space.now _ space c.work.result c.work.ensures.fault;
       works = works_between g.S.PageSpace.leads x _ a.space.now b.space.now v _ a.work.now b.work.now lent.space_is space lent.work_is work goes.leads goes.queue goes.gone;
       ready = parts-from g.B.Boxes.meanings boxes place _ _ b
           (record { boxes_are = goes.boxes ∙ lent.boxes_are; place_is = goes.place ∙ lent.place_is; space_is = space; work_is = work })

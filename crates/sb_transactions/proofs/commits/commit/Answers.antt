@@ -1,8 +1,9 @@
-use Rattle.std.proofs.Common.{ℕ, sym, ap, subst, ◌∙◌}
+use Rattle.std.proofs.Common.{◌≡◌, ℕ, true, sym, ap, subst, ◌∙◌}
 use Rattle.std.proofs.lemmas.Bool.{false≢true}
 use Rattle.sb_cascade.specs.Runs.{is_room}
 use Rattle.sb_txn.specs.Parts.{parts}
 use Rattle.sb_space.specs.declared.transactions.Tx.{Tx}
+use Rattle.sb_tables.proofs.RefusedLemmas.{on_fault}
 use Rattle.sb_transactions.specs.Calls.{Remains}
 use Rattle.sb_transactions.specs.Commits.{is_wanting}
 use Rattle.sb_transactions.specs.Transactions.{IsPointOf, WasBegun}
@@ -43,8 +44,8 @@ returns-then-is_idle-clause-refused g c =
     let left = c.is_idle.ensures.0 c.if-is_idle.true in
     rw c.ended.ensures (stops-left told len faults m c.args.place tx (parts told len d s) v (record { disk = d; store = s }) (record { disk = f; store = u }) r left c.commit_pages.ensures.err c.commit_pages.ensures.cause)
 
-pub returns-then-is_idle-clause-faulted : goal.returns-then-is_idle-clause-faulted
-returns-then-is_idle-clause-faulted g c =
+pub returns-then-is_idle-clause-fault : goal.returns-then-is_idle-clause-fault
+returns-then-is_idle-clause-fault g c =
     let told = g.D.Disk.told in
     let len = g.D.Disk.len in
     let faults = g.D.Disk.faults in
@@ -57,7 +58,7 @@ returns-then-is_idle-clause-faulted g c =
     let u = c.commit_pages.new.space.store in
     let r = c.commit_pages.result in
     let left = c.is_idle.ensures.0 c.if-is_idle.true in
-    rw c.ended.ensures (only-ended r u _ (λ q only is want h at. only.down) c.commit_pages.ensures.err)
+    rw c.ended.ensures (only-ended r u _ (λ q only. on_fault q (u.book.down ≡ true) (λ is. only.down)) c.commit_pages.ensures.err)
 
 pub returns-then-is_idle-clause-wanting : goal.returns-then-is_idle-clause-wanting
 returns-then-is_idle-clause-wanting g c =
@@ -237,8 +238,8 @@ returns-in-Ok-clause-refused g c =
     let r = c.commit_pages-in-Ok.result in
     rw c.ended-in-Ok.ensures (stops-commit told len faults m c.args.place tx d e f s t u w led v c.in-Ok.ensures.finished c.in-Ok.ensures.none r c.commit_pages-in-Ok.ensures.err c.commit_pages-in-Ok.ensures.cause)
 
-pub returns-in-Ok-clause-faulted : goal.returns-in-Ok-clause-faulted
-returns-in-Ok-clause-faulted g c =
+pub returns-in-Ok-clause-fault : goal.returns-in-Ok-clause-fault
+returns-in-Ok-clause-fault g c =
     let told = g.D.Disk.told in
     let len = g.D.Disk.len in
     let faults = g.D.Disk.faults in
@@ -256,7 +257,7 @@ returns-in-Ok-clause-faulted g c =
     let f = c.commit_pages-in-Ok.new.disk in
     let u = c.commit_pages-in-Ok.new.space.store in
     let r = c.commit_pages-in-Ok.result in
-    rw c.ended-in-Ok.ensures (only-ended r u _ (λ q only is want h at. only.down) c.commit_pages-in-Ok.ensures.err)
+    rw c.ended-in-Ok.ensures (only-ended r u _ (λ q only. on_fault q (u.book.down ≡ true) (λ is. only.down)) c.commit_pages-in-Ok.ensures.err)
 
 pub returns-in-Ok-clause-wanting : goal.returns-in-Ok-clause-wanting
 returns-in-Ok-clause-wanting g c =
@@ -434,8 +435,8 @@ returns-in-Err-clause-refused g c =
     let q = c.stop.result.refusal in
     λ want h at. StopsAt-stopped told len faults m c.args.place tx d e f s t u w led h c.in-Err.refusal (c.in-Err.ensures.refused want h at) q c.stop.ensures.refused
 
-pub returns-in-Err-clause-faulted : goal.returns-in-Err-clause-faulted
-returns-in-Err-clause-faulted g c =
+pub returns-in-Err-clause-fault : goal.returns-in-Err-clause-fault
+returns-in-Err-clause-fault g c =
     let told = g.D.Disk.told in
     let len = g.D.Disk.len in
     let faults = g.D.Disk.faults in
@@ -453,7 +454,7 @@ returns-in-Err-clause-faulted g c =
     let f = c.stop.new.disk in
     let u = c.stop.new.space.store in
     let q = c.stop.result.refusal in
-    λ is want h at. down-stopped told len faults m c.args.place tx d e f s t u w led h c.in-Err.refusal (c.in-Err.ensures.refused want h at) q c.stop.ensures.refused c.stop.ensures.remains is
+    down-stopped told len faults m c.args.place tx d e f s t u w led c.in-Err.refusal q c.stop.ensures.refused c.in-Err.ensures.fault c.stop.ensures.remains
 
 pub returns-in-Err-clause-tx : goal.returns-in-Err-clause-tx
 returns-in-Err-clause-tx g c =

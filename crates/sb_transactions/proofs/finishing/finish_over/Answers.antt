@@ -1,7 +1,8 @@
 use Rattle.std.proofs.Common.{sym, subst, ◌∙◌, ◌+◌}
 use Rattle.sb_deferred.specs.Waiting.{IsFront}
 use Rattle.sb_fold.specs.Outcome.{Queue}
-use Rattle.sb_tables.specs.Refusals.{HasRefusalCause, IsRefusedBy}
+use Rattle.sb_tables.specs.Refusals.{HasFaultCause, HasRefusalCause, IsRefusedBy}
+use Rattle.sb_tables.proofs.RefusedLemmas.{caused_fault}
 use Rattle.sb_transactions.proofs.RunLemmas.{IsLent, finish-freed, finish-refused, finish-roomless, finish-stopped, freed-roomless, led_between, passed, works_between}
 use Rattle.sb_transactions.proofs.finishing.finish_over.Goals as goal
 
@@ -101,3 +102,19 @@ returns-in_err-free_gone-clause-room g c =
     passed c.from_residual-in_err-free_gone.result c.in_err-free_gone.field-0.0 _ c.from_residual-in_err-free_gone.ensures.1
     (freed-roomless g.S.PageSpace.has g.S.PageSpace.fails g.B.Boxes.meanings c.args.boxes.now c.args.place c.args.space.now c.args.space.now c.args.work.now c.args.work.now c.new-running.result c.finish.new.layer lent
     c.in_ok-finish.ensures.made c.in_err-free_gone.field-0.0 c.in_err-free_gone.ensures.idle)
+
+pub returns-in_err-finish-clause-fault : goal.returns-in_err-finish-clause-fault
+returns-in_err-finish-clause-fault g c =
+    let goes = c.finish.ensures.leads.goes in
+    let end = c.in_err-finish.space-1-own.given.1 (sym (goes.same_space ∙ c.new-running.ensures.same_space)) in
+    let r = c.in_err-finish.field-0.0 in
+    passed c.from_residual.result r _ c.from_residual.ensures.1 (subst (λ z. HasFaultCause g.S.PageSpace.fails r z) (sym end) c.in_err-finish.ensures.fault)
+
+pub returns-in_err-free_gone-clause-fault : goal.returns-in_err-free_gone-clause-fault
+returns-in_err-free_gone-clause-fault g c =
+    let goes = c.finish.ensures.leads.goes in
+    let frees = c.free_gone.ensures.frees in
+    let end = c.space-2-1.given.1 (sym (frees.same_space ∙ (goes.same_space ∙ c.new-running.ensures.same_space))) in
+    let r = c.in_err-free_gone.field-0.0 in
+    passed c.from_residual-in_err-free_gone.result r _ c.from_residual-in_err-free_gone.ensures.1
+    (caused_fault g.S.PageSpace.fails r _ (subst (λ z. HasRefusalCause g.S.PageSpace.fails r z) (sym end) c.in_err-free_gone.ensures.cause))

@@ -100,7 +100,7 @@ returns-in-None-clause-ends g c =
     subst (λ (r : Refusal). (want : Wanted) (s : State) → IsFor meanings told len want s d x
     → Ends (StandsBehind meanings told len want (extensions_of (meanings x.boxes)) s command.Commit d c.commit.new.disk x y) (Lacks (sizes_of x)) (HasFailed faults d c.commit.new.disk) (extensions_of (meanings x.boxes)) s command.Commit (Refused r)) (sym c.refused-in-None.ensures.same)
     (Committed-over meanings told len faults d c.commit.new.disk x y c.requires.runs c.if-self.false c.in-Some.current (sym c.take.ensures.value ∙ c.in-Some.is) c.commit.new.space c.refused-in-None.ensures.space (ap meanings c.refused-in-None.ensures.boxes) c.refused-in-None.ensures.place _ c.in-Err.uncommitted.refusal c.in-Err.ensures.remains c.refused-in-None.ensures.down c.in-Err.ensures.refused c.in-Err.ensures.kept c.in-Err.ensures.any_moment
-    (sym c.in-Err.ensures.wanting ∙ ap is_some c.in-None.is) (c.refused-in-None.ensures.open ∙ c.take.ensures.after) c.in-Err.ensures.faulted (c.in-Err.ensures.aborted c.in-None.is)
+    (sym c.in-Err.ensures.wanting ∙ ap is_some c.in-None.is) (c.refused-in-None.ensures.open ∙ c.take.ensures.after) c.in-Err.ensures.fault (c.in-Err.ensures.aborted c.in-None.is)
     (c.in-Err.ensures.none c.in-None.is)).ends
 
 pub returns-then-self-clause-kept : goal.returns-then-self-clause-kept
