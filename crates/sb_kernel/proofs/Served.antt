@@ -3,6 +3,7 @@ use Rattle.std.proofs.Common.{◌≡◌, ℕ, ◌+◌, ◌<◌, ◌≤◌, false
 use Rattle.std.proofs.lemmas.List.{append-nil, length-take-le, drop_all}
 use Rattle.std.proofs.lemmas.List.Elements.{All-nil}
 use Rattle.sb_disk.specs.Streams.{Taken, Took}
+use Rattle.sb_disk.proofs.CauseLemmas.{Rose-before}
 use Rattle.sb_disk.proofs.StreamLemmas.{Given-none, Taken-none, Taken-more, Taken-took}
 use Rattle.sb_plain.specs.declared.reply.Reply.{Reply}
 use Rattle.sb_lines.specs.Lines.{whole_lines, lines_of}
@@ -248,11 +249,11 @@ NeverFall-then a b c before later = record {
 pub NeverFall-closed : (a b : Counts) (disk : ℕ) → b.disk ≤ disk → NeverFall a b → NeverFall a (counted b.source b.sink disk)
 NeverFall-closed a b disk more before = record { source = before.source; sink = before.sink; disk = omega (arith, before.disk, more) }
 
-pub HasCause-closed : (ending : Ending) (a b : Counts) (disk : ℕ) → HasEndingCause ending a b → HasEndingCause ending a (counted b.source b.sink disk)
-HasCause-closed InputEnded a b disk cause = tt
-HasCause-closed SourceFailed a b disk cause = cause
-HasCause-closed MostTaken a b disk cause = tt
-HasCause-closed (Stopped SinkFailed) a b disk cause = cause
-HasCause-closed (Stopped NoMemory) a b disk cause = tt
-HasCause-closed (Stopped DiskFailed) a b disk cause = tt
-HasCause-closed (Stopped Damaged) a b disk cause = tt
+pub HasCause-closed : (ending : Ending) (a b : Counts) (disk : ℕ) → b.disk ≤ disk → HasEndingCause ending a b → HasEndingCause ending a (counted b.source b.sink disk)
+HasCause-closed InputEnded a b disk more cause = tt
+HasCause-closed SourceFailed a b disk more cause = cause
+HasCause-closed MostTaken a b disk more cause = tt
+HasCause-closed (Stopped SinkFailed) a b disk more cause = cause
+HasCause-closed (Stopped NoMemory) a b disk more cause = tt
+HasCause-closed (Stopped DiskFailed) a b disk more cause = Rose-before a.disk b.disk disk cause more
+HasCause-closed (Stopped Damaged) a b disk more cause = tt

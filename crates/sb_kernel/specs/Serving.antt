@@ -8,7 +8,7 @@ use Rattle.sb_plain.specs.declared.reply.Reply.{Reply}
 use Rattle.sb_grammar.specs.Columns.{Item}
 use Rattle.sb_lines.specs.Lines.{asking, whole_lines, lines_of, AreItems, AreFirstItems, Commands}
 use Rattle.sb_registry.specs.Boxes.{Meanings}
-use Rattle.sb_kernel.specs.declared.ending.Stop.TheVariants.{SinkFailed}
+use Rattle.sb_kernel.specs.declared.ending.Stop.TheVariants.{SinkFailed, DiskFailed}
 use Rattle.sb_kernel.specs.declared.ending.Ending.{Ending}
 use Rattle.sb_kernel.specs.declared.ending.Ending.TheVariants.{InputEnded, SourceFailed, MostTaken, Stopped}
 use Rattle.sb_kernel.specs.World.{World, At}
@@ -124,10 +124,11 @@ pub record NeverFall (before now : Counts) : Type 0 where
   pub sink : before.sink ≤ now.sink
   pub disk : before.disk ≤ now.disk
 
--- a failure of the source or the sink shows in its count
+-- a failure of the source, the sink or the disk shows in its count
 abbrev pub HasEndingCause : Ending → Counts → Counts → Type 0
 HasEndingCause SourceFailed before now = Rose before.source now.source
 HasEndingCause (Stopped SinkFailed) before now = Rose before.sink now.sink
+HasEndingCause (Stopped DiskFailed) before now = Rose before.disk now.disk
 HasEndingCause _ before now = Unit {0}
 
 abbrev pub BreaksWithCause : ControlFlow Ending ℕ → Counts → Counts → Type 0

@@ -1,11 +1,13 @@
 //! Lines as they come, each answered before the next.
 
-ghost use Rattle.std.specs.Prelude.{◌≡◌, ◌≤◌, ℕ, List, [], ◌∷◌, ◌++◌, false, OnOk};
+ghost use Rattle.std.specs.Prelude.{◌≡◌, ◌≤◌, ℕ, List, [], ◌∷◌, ◌++◌, false, Err, OnOk};
+ghost use Rattle.sb_disk.specs.Causes.{Rose};
 ghost use Rattle.sb_registry.specs.Boxes.{Meanings};
 ghost use Rattle.sb_lines.specs.Lines.{whole_lines, lines_of};
 ghost use Rattle.sb_opening.specs.Sessions.{CanRun};
 ghost use Rattle.sb_kernel.specs.World.{At, at, world};
 ghost use Rattle.sb_kernel.specs.Ending.{SinkCause};
+ghost use Rattle.sb_kernel.specs.declared.ending.Stop.TheVariants.{DiskFailed};
 ghost use Rattle.sb_kernel.specs.Answering.{Closes};
 ghost use Rattle.sb_kernel.specs.Runs.{HasAnswered, Stands, LinesLead, BytesLead};
 
@@ -68,6 +70,7 @@ impl<B: Vectors + Drop> Dialogue<B> {
             → LinesLead (world B.meanings D.told D.len D.clock D.faults) m result lines (lines ++ self.old.line ∷ []) first
             (at disk.new self.new.session (K.held sink.new) self.new.starts) }
         ensures cause { SinkCause (K.faults sink.old) (K.faults sink.new) result }
+        ensures failed { result ≡ Err DiskFailed → Rose (D.faults disk.old) (D.faults disk.new) }
         ensures runs { CanRun B.meanings D.told D.len disk.new self.new.session }
         ensures up { OnOk result (self.new.session.down ≡ false) }
         ensures later { D.faults disk.old ≤ D.faults disk.new }
@@ -100,6 +103,7 @@ impl<B: Vectors + Drop> Dialogue<B> {
             → BytesLead (world B.meanings D.told D.len D.clock D.faults) m result bytes (bytes ++ byte ∷ []) self.new.line first
             (at disk.new self.new.session (K.held sink.new) self.new.starts) }
         ensures cause { SinkCause (K.faults sink.old) (K.faults sink.new) result }
+        ensures failed { result ≡ Err DiskFailed → Rose (D.faults disk.old) (D.faults disk.new) }
         ensures runs { CanRun B.meanings D.told D.len disk.new self.new.session }
         ensures up { OnOk result (self.new.session.down ≡ false) }
         ensures later { D.faults disk.old ≤ D.faults disk.new }
@@ -133,6 +137,7 @@ impl<B: Vectors + Drop> Dialogue<B> {
             → BytesLead (world B.meanings D.told D.len D.clock D.faults) m result bytes (bytes ++ piece.now) self.new.line first
             (at disk.new self.new.session (K.held sink.new) self.new.starts) }
         ensures cause { SinkCause (K.faults sink.old) (K.faults sink.new) result }
+        ensures failed { result ≡ Err DiskFailed → Rose (D.faults disk.old) (D.faults disk.new) }
         ensures runs { CanRun B.meanings D.told D.len disk.new self.new.session }
         ensures up { OnOk result (self.new.session.down ≡ false) }
         ensures later { D.faults disk.old ≤ D.faults disk.new }
@@ -159,6 +164,7 @@ impl<B: Vectors + Drop> Dialogue<B> {
             → LinesLead (world B.meanings D.told D.len D.clock D.faults) m result (whole_lines bytes) (lines_of bytes) first
             (at disk.new self.new.session (K.held sink.new) self.new.starts) }
         ensures cause { SinkCause (K.faults sink.old) (K.faults sink.new) result }
+        ensures failed { result ≡ Err DiskFailed → Rose (D.faults disk.old) (D.faults disk.new) }
         ensures runs { CanRun B.meanings D.told D.len disk.new self.new.session }
         ensures later { D.faults disk.old ≤ D.faults disk.new }
     {

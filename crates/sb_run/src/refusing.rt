@@ -29,6 +29,7 @@ pub fn refuse_words<K: Sink>(alloc: Global, sink: &mut K) -> Report
 /// Writes why no store was opened. Where the disk failed a call, or memory was wanting, nothing is written.
 pub(crate) fn refuse_store<K: Sink>(alloc: Global, sink: &mut K, fault: &OpenFault) -> Report
     ensures refused { IsRefusedBy fault.now (K.held sink.old) (K.held sink.new) result }
+    ensures disk { result.status ≡ 3 → fault.now ≡ OpenFault.Fault }
     ensures cause { result.status ≡ 5 → Rose (K.faults sink.old) (K.faults sink.new) }
 {
     let mut line = Bytes::new(alloc);
@@ -47,7 +48,8 @@ pub(crate) fn refuse_store<K: Sink>(alloc: Global, sink: &mut K, fault: &OpenFau
 
 /// The status of a run that is refused so.
 fn status_of(fault: &OpenFault) -> u8
-    ensures { result ≡ status_by fault.now }
+    ensures status { result ≡ status_by fault.now }
+    ensures disk { result ≡ 3 → fault.now ≡ OpenFault.Fault }
 {
     match fault {
         OpenFault::Fault => 3,

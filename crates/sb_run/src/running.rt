@@ -1,6 +1,6 @@
 //! The top call: lines from a source are answered to a sink, over a store on a disk.
 
-ghost use Rattle.std.specs.Prelude.{◌≡◌, ◌≤◌, [], None, Some, IfErr, IfOk, false, true};
+ghost use Rattle.std.specs.Prelude.{◌≡◌, ◌≤◌, [], None, Some, IfErr, IfOk, IsErrOf, false, true};
 ghost use Rattle.sb_disk.specs.Causes.{Rose};
 ghost use Rattle.sb_images.specs.Layout.{need};
 ghost use Rattle.sb_registry.specs.Boxes.{Meanings, repeated_in};
@@ -36,6 +36,7 @@ fn start<B: Vectors + Drop, D: Disk>(
         disk.old disk.new) }
     ensures runs { IfOk result (λ session. CanRun B.meanings D.told D.len disk.new session) }
     ensures up { IfOk result (λ session. session.down ≡ false) }
+    ensures fault { IsErrOf result OpenFault.Fault → Rose (D.faults disk.old) (D.faults disk.new) }
     ensures later { D.faults disk.old ≤ D.faults disk.new }
 {
     if words.create {
@@ -60,6 +61,7 @@ fn run_mounted<B: Vectors + Drop, S: Source, K: Sink, D: Disk>(
 
     ensures run { RunsMounted (tells D.told D.len D.faults) (B.meanings boxes) words.now most (seen (S.left source.old) (K.held sink.old))
         (seen (S.left source.new) (K.held sink.new)) disk.old disk.new result }
+    ensures disk_failed { result.status ≡ 3 → Rose (D.faults disk.old) (D.faults disk.new) }
     ensures source_failed { result.status ≡ 4 → Rose (S.faults source.old) (S.faults source.new) }
     ensures sink_failed { result.status ≡ 5 → Rose (K.faults sink.old) (K.faults sink.new) }
 {
@@ -115,6 +117,7 @@ fn run_with<B: Vectors + Drop, S: Source, K: Sink, D: Disk>(
     ensures run { (m : Meanings) → AreTaken B.meanings boxes m
         → RunsOn (tells D.told D.len D.faults) m words.now most (seen (S.left source.old) (K.held sink.old))
         (seen (S.left source.new) (K.held sink.new)) disk.old disk.new result }
+    ensures disk_failed { result.status ≡ 3 → Rose (D.faults disk.old) (D.faults disk.new) }
     ensures source_failed { result.status ≡ 4 → Rose (S.faults source.old) (S.faults source.new) }
     ensures sink_failed { result.status ≡ 5 → Rose (K.faults sink.old) (K.faults sink.new) }
 {
@@ -148,6 +151,7 @@ pub fn run_boxes<B: Vectors + Drop, S: Source, K: Sink, D: Disk>(
         (seen (S.left source.new) (K.held sink.new)) disk.old disk.new result }
 
     // A failure is told only where the object has failed in this run.
+    ensures disk_failed { result.status ≡ 3 → Rose (D.faults disk.old) (D.faults disk.new) }
     ensures source_failed { result.status ≡ 4 → Rose (S.faults source.old) (S.faults source.new) }
     ensures sink_failed { result.status ≡ 5 → Rose (K.faults sink.old) (K.faults sink.new) }
 {

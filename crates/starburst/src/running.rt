@@ -25,6 +25,7 @@ pub fn run_to<S: Source, K: Sink, D: Disk>(
         (seen (S.left source.new) (K.held sink.new)) disk.old disk.new result }
 
     // A failure is told only where the object has failed in this run.
+    ensures disk_failed { result.status ≡ 3 → Rose (D.faults disk.old) (D.faults disk.new) }
     ensures source_failed { result.status ≡ 4 → Rose (S.faults source.old) (S.faults source.new) }
     ensures sink_failed { result.status ≡ 5 → Rose (K.faults sink.old) (K.faults sink.new) }
 {
@@ -47,6 +48,7 @@ pub fn run<S: Source, K: Sink, D: Disk>(
 ) -> Report
     ensures run { IsRun (tells D.told D.len D.faults) (⟦<Extensions as Meant>⟧.meant exts) words.now (2 ^ 32) (seen (S.left source.old) (K.held sink.old))
         (seen (S.left source.new) (K.held sink.new)) disk.old disk.new result }
+    ensures disk_failed { result.status ≡ 3 → Rose (D.faults disk.old) (D.faults disk.new) }
     ensures source_failed { result.status ≡ 4 → Rose (S.faults source.old) (S.faults source.new) }
     ensures sink_failed { result.status ≡ 5 → Rose (K.faults sink.old) (K.faults sink.new) }
 {

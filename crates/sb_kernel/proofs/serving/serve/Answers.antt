@@ -26,4 +26,4 @@ pub returns-clause-cause : goal.returns-clause-cause
 returns-clause-cause g c =
     let first = counted (g.S.Source.faults c.args.source.now) (g.K.Sink.faults c.args.sink.now) (g.D.Disk.faults c.args.disk.now) in
     let last = counted (g.S.Source.faults c.serve_input-ending.new.source) (g.K.Sink.faults c.serve_input-ending.new.sink) (g.D.Disk.faults c.serve_input-ending.new.disk) in
-    HasCause-closed c.serve_input-ending.result first last (g.D.Disk.faults c.close.new.disk) c.serve_input-ending.ensures.cause
+    HasCause-closed c.serve_input-ending.result first last (g.D.Disk.faults c.close.new.disk) c.close.ensures.closed.later c.serve_input-ending.ensures.cause
