@@ -1,8 +1,8 @@
 //! What no clause says: that calls succeed while memory lasts. A layer that answers from a script logs the relations whose rows
 //! are changed, in order.
 
-ghost use Rattle.std.specs.Prelude.{◌≡◌, ◌<◌, [], false, refl, IfErr, IfSome};
-ghost use Rattle.sb_cascade.specs.Runs.{is_room};
+ghost use Rattle.std.specs.Prelude.{◌≡◌, ◌<◌, [], false, refl, IfErr, IfOk, IfSome};
+ghost use Rattle.sb_cascade.specs.Runs.{OnFault, is_room};
 
 use sb_cascade::{Layer, Wish, act, change, finish};
 use sb_fold::Refusal;
@@ -56,6 +56,8 @@ impl Layer for Script {
 
     ghost stopped = { λ r trail s. Unit {0} };
 
+    ghost failed = { λ s. ⊥ };
+
     ghost may_do = { λ a s. Unit {0} };
 
     ghost may_wish = { λ name wish s. Unit {0} };
@@ -81,7 +83,10 @@ impl Layer for Script {
     ) -> Result<Option<Vec<Action>>, Refusal> {
         match follows(self.rules, name.as_str(), i) {
             None => Ok(None),
-            Some("!") => Err(kept(veto(alloc))?),
+            Some("!") => match veto(alloc) {
+                Ok(refusal) => Err(refusal),
+                Err(_) => Err(Refusal::NoMemory),
+            },
             Some(into) => Ok(Some(kept(one_insert(alloc, into))?)),
         }
     }
@@ -135,7 +140,8 @@ impl Layer for Script {
 }
 
 fn kept<T>(made: Result<T, AllocError>) -> Result<T, Refusal>
-    ensures { IfErr result (λ r. is_room r ≡ false) }
+    ensures fault { IfErr result (λ r. OnFault r ⊥) }
+    ensures room { IfErr result (λ r. is_room r ≡ false) }
 {
     match made {
         Ok(value) => Ok(value),
@@ -155,7 +161,9 @@ fn two_keys(alloc: Global) -> Result<Vec<RecKey>, AllocError> {
     Ok(vec![in alloc; key(alloc, b"gone")?, key(alloc, b"there")?]?)
 }
 
-fn veto(alloc: Global) -> Result<Refusal, AllocError> {
+fn veto(alloc: Global) -> Result<Refusal, AllocError>
+    ensures { IfOk result (λ r. OnFault r ⊥) }
+{
     Ok(Refusal::Veto {
         relation: text(alloc, "a")?,
         name: text(alloc, "check")?,
