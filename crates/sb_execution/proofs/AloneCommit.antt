@@ -18,10 +18,9 @@ use Rattle.sb_plain.specs.Step.{Answer}
 use Rattle.sb_registry.specs.Boxes.{Meanings}
 use Rattle.sb_drive.specs.Spaces.{Wanted}
 use Rattle.sb_map.specs.declared.place.Place.{Place}
-use Rattle.sb_txn.specs.Clauses.{LeavesWanted}
 use Rattle.sb_txn.specs.Parts.{Parts, parts}
 use Rattle.sb_txn.specs.State.{State as StoreState}
-use Rattle.sb_session.specs.Calls.{IsOnlyFault, Remains}
+use Rattle.sb_session.specs.Calls.{IsOnlyFault, KeepsWanted, Remains}
 use Rattle.sb_session.specs.Commits.{LeavesOldOrFinished, StaysOpen, StopsAt, is_wanting}
 use Rattle.sb_session.specs.Transactions.{IsAt, Rests, WasBegun}
 use Rattle.sb_execution.specs.Endings.{EndsAlone, HasAnswered}
@@ -48,7 +47,7 @@ module _ {D : Type 0} (told : D → Option Story) (len faults : D → ℕ) (m : 
   module _ {K : Type 0} (r : Refusal) (kept : Remains {T = K} told len faults e b t v (Err r))
       (stops : (want : Wanted) (g : Going) → IsAt m place want tx g here w → StopsAt told len faults (extensions_of m) tx g r (record { disk = e; store = t })) where
     -- and the transaction is over
-    pub EndsAlone-over : ((want : Wanted) (g : Going) → IsAt m place want tx g here w → LeavesOldOrFinished m place.root want g here between) → ((r ≡ refusal.Fault → ⊥) → LeavesWanted here between)
+    pub EndsAlone-over : ((want : Wanted) (g : Going) → IsAt m place want tx g here w → LeavesOldOrFinished m place.root want g here between) → ((r ≡ refusal.Fault → ⊥) → KeepsWanted here between)
         → (v.book.down ≡ false → v.book.actives ≡ [])
         → (v.book.down ≡ false → (m : Meanings) (root : ℕ) (want : Wanted) (db : Db) → WasBegun m root want db tx here → Rests m root want db between)
         → OnFault r (v.book.down ≡ true) → EndsAlone told len faults m place c d b s v (Err r)
@@ -63,8 +62,8 @@ module _ {D : Type 0} (told : D → Option Story) (len faults : D → ℕ) (m : 
         (refuses_commit told len faults m place c d e s t tx w answer has r stops)
 
     -- and the transaction goes on, and is aborted then
-    module _ (now : EngineWork) (stays : StaysOpen tx here between w now) (f : D) (u : StoreState) (leaves : LeavesWanted between (parts told len f u)) where
-      still : LeavesWanted (parts told len d s) (parts told len f u)
+    module _ (now : EngineWork) (stays : StaysOpen tx here between w now) (f : D) (u : StoreState) (leaves : KeepsWanted between (parts told len f u)) where
+      still : KeepsWanted (parts told len d s) (parts told len f u)
       still = moments_abort told len faults m place c d e s t tx w answer has {K = K} b f v u now r stays kept leaves
 
       pub EndsAlone-let_go : is_wanting r ≡ true → Remains {T = Unit {0}} told len faults b f v u (Ok tt) → u.book.actives ≡ [] → (last : ℕ) → last ≡ tx

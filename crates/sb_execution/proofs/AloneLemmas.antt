@@ -29,11 +29,9 @@ use Rattle.sb_plain.specs.Step.{Answer, answered, finished}
 use Rattle.sb_registry.specs.Boxes.{Meanings}
 use Rattle.sb_drive.specs.Spaces.{Wanted}
 use Rattle.sb_map.specs.declared.place.Place.{Place}
-use Rattle.sb_txn.specs.Clauses.{LeavesWanted}
-use Rattle.sb_txn.proofs.KeepsLemmas.{LeavesWanted-then}
 use Rattle.sb_txn.specs.Parts.{Parts, parts}
 use Rattle.sb_txn.specs.State.{State as StoreState}
-use Rattle.sb_session.specs.Calls.{IsOnlyFault, Remains}
+use Rattle.sb_session.specs.Calls.{IsOnlyFault, KeepsWanted, Remains}
 use Rattle.sb_session.specs.Commits.{FailsOn, Finishes, IsDone, LeavesEither, LeavesOldOrFinished, Mounted, StaysOpen, StopsAt}
 use Rattle.sb_session.specs.Transactions.{IsAt, IsCommitted, Rests, WasBegun}
 use Rattle.sb_session.proofs.EndLemmas.{Remains-behind}
@@ -45,7 +43,7 @@ use Rattle.sb_session.proofs.CommitSteps.{committed-push, with_committed}
 use Rattle.sb_session.proofs.OpenLemmas.{Outside, outside_at}
 use Rattle.sb_session.proofs.RoomLemmas.{Lacks-there}
 use Rattle.sb_execution.specs.Endings.{AnswersCommand, ComesAlone, EndsAlone, HasAnswered, IsLeftSo, IsOf, going_alone}
-use Rattle.sb_execution.proofs.CallLemmas.{Remains-then, err_fault, has_failed, leaves_behind, not_both, ok_err, still_up}
+use Rattle.sb_execution.proofs.CallLemmas.{KeepsWanted-then, KeepsWanted-works, Remains-then, err_fault, has_failed, leaves_behind, not_both, ok_err, still_up}
 use Rattle.sb_execution.proofs.EndLemmas.{Ends-by, Ends-stepped, ends_given, may_want_room-works, none_committed, told_none}
 use Rattle.sb_execution.proofs.ReplyLemmas.{answered_given, given_no_fault, is_free_reply, tells_answer}
 use Rattle.sb_execution.proofs.StepsOf.{Steps-stopped_alone, Steps-worked_alone, with_open}
@@ -87,8 +85,8 @@ module _ {D : Type 0} (told : D → Option Story) (len faults : D → ℕ) (m : 
   without want x of = outside_at m place want (committed x) p x.transaction of.stands
 
   -- a crash left what was wanted
-  pub left_by : LeavesWanted p q → (want : Wanted) (x : State) → Of want x → LeavesOnly p.told q.told (Restores p.store.pool.geometry want)
-  left_by still want x of = let out = without want x of in still.each want out.rests.has.now out.rests.has.stands.store
+  pub left_by : KeepsWanted p q → (want : Wanted) (x : State) → Of want x → LeavesOnly p.told q.told (Restores p.store.pool.geometry want)
+  left_by still want x of = let out = without want x of in still.leaves.each want out.rests.has.now out.rests.has.stands.store
 
   failed_so : (r : Refusal) → Remains {T = Reply} told len faults d f s u (Err r) → r ≡ refusal.Fault → u.book.down ≡ true → (want : Wanted) (x : State) → Of want x
       → LeavesOldOrNext m place.root want ext x c (downed x) p q → IsFree (LeftBy want x (Refused r)) (HasFailed faults d f) x (downed x)
@@ -103,7 +101,7 @@ module _ {D : Type 0} (told : D → Option Story) (len faults : D → ℕ) (m : 
   }
 
   -- ---- the disk failed
-  pub EndsAlone-fault : (r : Refusal) → Remains {T = Reply} told len faults d f s u (Err r) → IsOnlyFault r u → LeavesWanted p q → EndsAlone told len faults m place c d f s u (Err r)
+  pub EndsAlone-fault : (r : Refusal) → Remains {T = Reply} told len faults d f s u (Err r) → IsOnlyFault r u → KeepsWanted p q → EndsAlone told len faults m place c d f s u (Err r)
   EndsAlone-fault r remains only still = record {
     ends = λ want x of posed. Ends-by (LeftBy want x (Refused r)) (Lacks s.pool.geometry) (HasFailed faults d f) ext x c r
         (λ given. absurd (false≢true (sym given ∙ ap is_free only.is)))
@@ -119,7 +117,7 @@ module _ {D : Type 0} (told : D → Option Story) (len faults : D → ℕ) (m : 
 
   -- ---- it was refused, and the pages are as they were
   module _ (may : (x : State) → may_want_memory x c ≡ true) (r : Refusal) (remains : Remains {T = Reply} told len faults d f s u (Err r)) (faulted : OnFault r (u.book.down ≡ true))
-      (still : may_have_committed c false (Refused r) ≡ false → LeavesWanted p q) (fallen : Fallen)
+      (still : may_have_committed c false (Refused r) ≡ false → KeepsWanted p q) (fallen : Fallen)
       (none : u.book.down ≡ false → u.book.actives ≡ [])
       (rests : u.book.down ≡ false → (want : Wanted) (x : State) → Of want x → Rests m place.root want (committed x) q)
       (refuses : Each (λ want x. Refuses faults m c x r s.pool.geometry)) where
@@ -178,7 +176,7 @@ module _ {D : Type 0} (told : D → Option Story) (len faults : D → ℕ) (m : 
     }
 
   -- ---- it went through
-  pub EndsAlone-done : (r : Reply) → (r ≡ Refused refusal.Fault → ⊥) → Remains told len faults d f s u (Ok r) → (may_have_committed c false r ≡ false → LeavesWanted p q) → (u.book.down ≡ false → u.book.actives ≡ [])
+  pub EndsAlone-done : (r : Reply) → (r ≡ Refused refusal.Fault → ⊥) → Remains told len faults d f s u (Ok r) → (may_have_committed c false r ≡ false → KeepsWanted p q) → (u.book.down ≡ false → u.book.actives ≡ [])
       → Each (λ want x. (is_free_reply r ≡ false) × IsStep (LeftBy want x r) ext x c r) → EndsAlone told len faults m place c d f s u (Ok r)
   EndsAlone-done r told_none remains leaves none steps = record {
     ends = λ want x of posed. let to = steps want x of posed in Ends-stepped (LeftBy want x r) (Lacks s.pool.geometry) (HasFailed faults d f) ext x c r to.0 to.1;
@@ -214,15 +212,16 @@ module _ {D : Type 0} (told : D → Option Story) (len faults : D → ℕ) (m : 
   mid_up = still_up told len faults {T = Unit {0}} d comes.mid.disk s comes.mid.store (Ok tt) comes.first (λ is. ok_err tt refusal.Fault is)
 
   -- what a crash leaves until a call behind it
-  pub leaves_alone : {T : Type 0} (f : D) (u : StoreState) (r : Result T Refusal) → Remains told len faults e f t u r → LeavesWanted (parts told len e t) (parts told len f u)
-      → LeavesWanted (parts told len d s) (parts told len f u)
+  pub leaves_alone : {T : Type 0} (f : D) (u : StoreState) (r : Result T Refusal) → Remains told len faults e f t u r → KeepsWanted (parts told len e t) (parts told len f u)
+      → KeepsWanted (parts told len d s) (parts told len f u)
   leaves_alone f u r remains leaves =
-      LeavesWanted-then (parts told len d s) (parts told len comes.mid.disk comes.mid.store) (parts told len f u) (λ now. now) comes.first.geometry comes.pages comes.leaves
+      KeepsWanted-then (parts told len d s) (parts told len comes.mid.disk comes.mid.store) (parts told len f u) comes.first.geometry comes.pages comes.leaves
       (leaves_behind told len faults tx comes.mid.disk e comes.mid.store t comes.led f u r remains leaves)
 
-  pub leaves_so_far : LeavesWanted (parts told len d s) (parts told len e t)
+  pub leaves_so_far : KeepsWanted (parts told len d s) (parts told len e t)
   leaves_so_far =
-      LeavesWanted-then (parts told len d s) (parts told len comes.mid.disk comes.mid.store) (parts told len e t) (λ now. now) comes.first.geometry comes.pages comes.leaves comes.led.1.leaves
+      KeepsWanted-then (parts told len d s) (parts told len comes.mid.disk comes.mid.store) (parts told len e t) comes.first.geometry comes.pages comes.leaves
+      (KeepsWanted-works told len faults tx comes.led.0 comes.mid.disk e comes.mid.store t comes.led.1)
 
   pub same_size : t.pool.geometry ≡ s.pool.geometry
   same_size = comes.led.1.geometry ∙ comes.first.geometry
@@ -252,7 +251,7 @@ module _ {D : Type 0} (told : D → Option Story) (len faults : D → ℕ) (m : 
   left_so_far : (want : Wanted) (x : State) → Begun want x → LeavesOnly (told d) (told e) (Restores s.pool.geometry want)
   left_so_far want x of =
       let out = outside_at m place want (committed x) from x.transaction of.stands in
-      (leaves_so_far told len faults m place d e s t tx has.comes).each want out.rests.has.now out.rests.has.stands.store
+      (leaves_so_far told len faults m place d e s t tx has.comes).leaves.each want out.rests.has.now out.rests.has.stands.store
 
   -- work and the work that finishes it
   leads_whole_way : (work : Work Answer) (g h k : Going) (ps qs : List Key) → Leads work g ps (made answer) h → Leads (finish (extensions_of m)) h qs (made tt) k
@@ -373,16 +372,22 @@ module _ {D : Type 0} (told : D → Option Story) (len faults : D → ℕ) (m : 
     abbrev between : Parts
     between = parts told len g v
 
-    pub moments_abort : LeavesWanted between (parts told len f u) → LeavesWanted from (parts told len f u)
-    moments_abort leaves = record {
-      each = λ want now store.
+    pub moments_abort : KeepsWanted between (parts told len f u) → KeepsWanted from (parts told len f u)
+    moments_abort keeps = record {
+      leaves = record {
+        each = λ want now store.
+            let turns = (has.comes.led.1.makes has.up).pages want now (has.comes.pages want now store) in
+            let on = stays.wanted want turns.pages turns.store in
+            let size = same_size told len faults m place d e s t tx has.comes in
+            and_then (told d) (told e) (told f) (Restores s.pool.geometry want) ((leaves_so_far told len faults m place d e s t tx has.comes).leaves.each want now store)
+            (and_then (told e) (told g) (told f) (Restores s.pool.geometry want)
+            (subst (λ (a : Geometry). LeavesOnly (told e) (told g) (Restores a want)) size (stays.leaves.each want turns.pages turns.store))
+            (subst (λ (a : Geometry). LeavesOnly (told g) (told f) (Restores a want)) (kept.geometry ∙ size) (keeps.leaves.each want on.0 on.1)));
+      };
+      stays = λ up want now store.
           let turns = (has.comes.led.1.makes has.up).pages want now (has.comes.pages want now store) in
           let on = stays.wanted want turns.pages turns.store in
-          let size = same_size told len faults m place d e s t tx has.comes in
-          and_then (told d) (told e) (told f) (Restores s.pool.geometry want) ((leaves_so_far told len faults m place d e s t tx has.comes).each want now store)
-          (and_then (told e) (told g) (told f) (Restores s.pool.geometry want)
-          (subst (λ (a : Geometry). LeavesOnly (told e) (told g) (Restores a want)) size (stays.leaves.each want turns.pages turns.store))
-          (subst (λ (a : Geometry). LeavesOnly (told g) (told f) (Restores a want)) (kept.geometry ∙ size) (leaves.each want on.0 on.1)));
+          keeps.stays up want on.0 on.1;
     }
 
     pub remains_abort : {T : Type 0} (a : Result T Refusal) (b : Result Reply Refusal) → (IsErrOf a refusal.Fault → IsErrOf b refusal.Fault) → Remains told len faults g f v u a → Remains told len faults d f s u b

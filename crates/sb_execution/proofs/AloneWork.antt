@@ -23,12 +23,12 @@ use Rattle.sb_plain.specs.Step.{work_of}
 use Rattle.sb_registry.specs.Boxes.{Meanings}
 use Rattle.sb_drive.specs.Spaces.{Wanted}
 use Rattle.sb_map.specs.declared.place.Place.{Place}
-use Rattle.sb_txn.specs.Clauses.{Leads, LeavesWanted}
+use Rattle.sb_txn.specs.Clauses.{Leads}
 use Rattle.sb_txn.specs.Parts.{Parts, parts}
 use Rattle.sb_txn.specs.State.{State as StoreState}
 use Rattle.sb_space.specs.declared.transactions.Tx.{Tx}
 use Rattle.sb_session.specs.Transaction.{Transaction}
-use Rattle.sb_session.specs.Calls.{IsOnlyFault, Remains}
+use Rattle.sb_session.specs.Calls.{IsOnlyFault, KeepsWanted, Remains}
 use Rattle.sb_session.specs.Commits.{FailsOn, IsLed}
 use Rattle.sb_session.specs.Transactions.{IsAt, IsFirst, IsUsable, Rests, WasBegun}
 use Rattle.sb_session.proofs.CallLemmas.{Remains-answered, up-earlier, up-later}
@@ -49,14 +49,14 @@ use Rattle.sb_execution.proofs.StepsOf.{Steps-read_alone, Steps-refused_alone, w
 
 -- no transaction was begun
 pub EndsAlone-not_begun : {D : Type 0} (told : D → Option Story) (len faults : D → ℕ) (m : Meanings) (place : Place) (c : Command) (d e : D) (s t : StoreState) → s.book.down ≡ false → (r : Refusal)
-    → Remains {T = Transaction} told len faults d e s t (Err r) → IsOnlyFault r t → LeavesWanted (parts told len d s) (parts told len e t) → EndsAlone told len faults m place c d e s t (Err r)
+    → Remains {T = Transaction} told len faults d e s t (Err r) → IsOnlyFault r t → KeepsWanted (parts told len d s) (parts told len e t) → EndsAlone told len faults m place c d e s t (Err r)
 EndsAlone-not_begun told len faults m place c d e s t up r remains only leaves =
     EndsAlone-fault told len faults m place c d e s t up r (Remains-err told len faults {T = Transaction} {U = Reply} d e s t r remains) only leaves
 
 module _ {D : Type 0} (told : D → Option Story) (len faults : D → ℕ) (m : Meanings) (place : Place) (c : Command)
     (d b e : D) (s bs t : StoreState) (a y : Transaction) (up : s.book.down ≡ false) (owner : place.owner ≡ 2)
     -- the transaction was begun
-    (first : Remains told len faults d b s bs (Ok a)) (leaves_first : LeavesWanted (parts told len d s) (parts told len b bs))
+    (first : Remains told len faults d b s bs (Ok a)) (leaves_first : KeepsWanted (parts told len d s) (parts told len b bs))
     (pages_first : Leads (parts told len d s) (parts told len b bs) (λ now. now))
     (begun : (m : Meanings) (root : ℕ) (want : Wanted) (db : Db) → Rests m root want db (parts told len d s) → WasBegun m root want db a.tx.store.number (parts told len b bs))
     (at : (m : Meanings) (place : Place) (want : Wanted) (g : Going) → place.owner ≡ 2 → IsFirst g → Rests m place.root want g.db (parts told len d s) → IsAt m place want a.tx.store.number g (parts told len b bs) a.work)
@@ -105,12 +105,12 @@ module _ {D : Type 0} (told : D → Option Story) (len faults : D → ℕ) (m : 
       (leaves_so_far told len faults m place d e s t last comes)
 
   -- ---- the transaction was aborted
-  module _ (f : D) (u : StoreState) (leaves : LeavesWanted here (parts told len f u)) where
+  module _ (f : D) (u : StoreState) (leaves : KeepsWanted here (parts told len f u)) where
     abbrev there : Parts
     there = parts told len f u
 
     -- whatever that answered
-    pub leaves_aborted : {T : Type 0} (r : Result T Refusal) → Remains told len faults e f t u r → LeavesWanted from there
+    pub leaves_aborted : {T : Type 0} (r : Result T Refusal) → Remains told len faults e f t u r → KeepsWanted from there
     leaves_aborted r remains = leaves_alone told len faults m place d e s t last comes f u r remains leaves
 
     -- and the disk failed in that
@@ -128,7 +128,7 @@ module _ {D : Type 0} (told : D → Option Story) (len faults : D → ℕ) (m : 
       rests_so : (want : Wanted) (x : State) → IsOf m place want x from None → Rests m place.root want (committed x) there
       rests_so want x of = rests m place.root want (committed x) (comes.begun still want x of)
 
-      moments : LeavesWanted from there
+      moments : KeepsWanted from there
       moments = leaves_alone told len faults m place d e s t last comes {T = Unit {0}} f u (Ok tt) remains leaves
 
       moments_so : (want : Wanted) (x : State) → IsOf m place want x from None → LeavesOnly (told d) (told f) (Restores s.pool.geometry want)

@@ -10,12 +10,14 @@ use Rattle.sb_images.specs.Images.{Restores}
 use Rattle.sb_log.specs.declared.geometry.Geometry.{Geometry}
 use Rattle.sb_fold.specs.declared.refusal.Refusal.{Refusal}
 use Rattle.sb_fold.specs.declared.refusal.Refusal.TheVariants as refusal
-use Rattle.sb_txn.specs.Clauses.{IsReady, HoldsPages, LeavesWanted}
-use Rattle.sb_txn.specs.Parts.{parts}
+use Rattle.sb_txn.specs.Clauses.{HoldsPages, IsReady, Leads, LeavesWanted}
+use Rattle.sb_txn.specs.Parts.{Parts, parts}
 use Rattle.sb_txn.specs.State.{State}
+use Rattle.sb_txn.proofs.KeepsLemmas.{LeavesWanted-then}
 use Rattle.sb_space.specs.Works.{Works}
-use Rattle.sb_session.specs.Calls.{Remains}
+use Rattle.sb_session.specs.Calls.{KeepsWanted, Remains}
 use Rattle.sb_session.specs.Commits.{IsLed}
+use Rattle.sb_session.proofs.CallLemmas.{up-earlier}
 pub use Rattle.sb_value.proofs.Truths.{ok_err}
 
 pub err_fault : {T : Type 0} (r : Refusal) → IsErrOf {T = T} (Err r) refusal.Fault → r ≡ refusal.Fault
@@ -92,9 +94,14 @@ module _ {D : Type 0} (told : D → Option Story) (len faults : D → ℕ) where
         by true on = not_both t.book.down up (ap (λ (x : State). x.book.down) (works.down on).1 ∙ on)
 
     -- a call behind them
-    pub leaves_behind : {T : Type 0} (f : D) (u : State) (r : Result T Refusal) → Remains told len faults e f t u r → LeavesWanted (parts told len e t) (parts told len f u)
-        → LeavesWanted (parts told len d s) (parts told len f u)
-    leaves_behind f u r remains leaves = record { each = λ want now store. by want now store t.book.down refl }
+    pub leaves_behind : {T : Type 0} (f : D) (u : State) (r : Result T Refusal) → Remains told len faults e f t u r → KeepsWanted (parts told len e t) (parts told len f u)
+        → KeepsWanted (parts told len d s) (parts told len f u)
+    leaves_behind f u r remains keeps = record {
+      leaves = record { each = λ want now store. by want now store t.book.down refl };
+      stays = λ up want now store.
+          let turns = (works.makes (up-earlier told len faults e f t u r remains up)).pages want now store in
+          keeps.stays up want turns.pages turns.store;
+    }
       where
         by : (want now : ℕ → List ℕ) (store : HoldsPages want now (parts told len d s)) (b : Bool) → t.book.down ≡ b → LeavesOnly (told d) (told f) (Restores s.pool.geometry want)
         by want now store true on =
@@ -102,4 +109,18 @@ module _ {D : Type 0} (told : D → Option Story) (len faults : D → ℕ) where
         by want now store false off =
             let turns = (works.makes off).pages want now store in
             and_then (told d) (told e) (told f) (Restores s.pool.geometry want) (works.leaves.each want now store)
-            (subst (λ (x : Geometry). LeavesOnly (told e) (told f) (Restores x want)) works.geometry (leaves.each want turns.pages turns.store))
+            (subst (λ (x : Geometry). LeavesOnly (told e) (told f) (Restores x want)) works.geometry (keeps.leaves.each want turns.pages turns.store))
+
+-- ---- what keeps what is wanted
+pub KeepsWanted-works : {D : Type 0} (told : D → Option Story) (len faults : D → ℕ) (tx k : ℕ) (d e : D) (s t : State) → Works told len faults tx k d e s t
+    → KeepsWanted (parts told len d s) (parts told len e t)
+KeepsWanted-works told len faults tx k d e s t works = record {
+  leaves = works.leaves;
+  stays = λ up want now store. let turns = (works.makes up).pages want now store in (turns.pages, turns.store);
+}
+
+pub KeepsWanted-then : (p q r : Parts) → q.store.pool.geometry ≡ p.store.pool.geometry → Leads p q (λ now. now) → KeepsWanted p q → KeepsWanted q r → KeepsWanted p r
+KeepsWanted-then p q r size pages one two = record {
+  leaves = LeavesWanted-then p q r (λ now. now) size pages one.leaves two.leaves;
+  stays = λ up want now store. two.stays up want now (pages want now store);
+}

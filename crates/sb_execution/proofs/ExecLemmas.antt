@@ -14,9 +14,8 @@ use Rattle.sb_plain.specs.State.{State}
 use Rattle.sb_plain.specs.Step.{ok}
 use Rattle.sb_registry.specs.Boxes.{Meanings}
 use Rattle.sb_drive.specs.Spaces.{Wanted}
-use Rattle.sb_txn.specs.Clauses.{LeavesWanted}
+use Rattle.sb_session.specs.Calls.{KeepsWanted}
 use Rattle.sb_txn.specs.Parts.{parts}
-use Rattle.sb_txn.proofs.KeepsLemmas.{LeavesWanted-none}
 use Rattle.sb_space.specs.declared.transactions.Space.{Space}
 use Rattle.sb_vectors.specs.Vectors.{AreSameBoxes}
 use Rattle.sb_execution.specs.Serving.{IsPosedIn, may_have_changed, may_have_committed}
@@ -26,6 +25,7 @@ use Rattle.sb_session.specs.Sessions.{CanRun, HasFailed, IsFor, KeepsSession, La
 use Rattle.sb_session.proofs.Behind.{Ends-behind_for}
 use Rattle.sb_session.proofs.Commands.{Carried-down}
 use Rattle.sb_session.proofs.SameBoxes.{same-boxes}
+use Rattle.sb_session.proofs.WantLemmas.{KeepsWanted-none}
 use Rattle.sb_execution.specs.Endings.{Executed}
 
 module _ {B D : Type 0} (meanings : B → Meanings) (told : D → Option Story) (len faults : D → ℕ) (c : Command) (d e : D) (x y : Session B) where
@@ -33,9 +33,9 @@ module _ {B D : Type 0} (meanings : B → Meanings) (told : D → Option Story) 
     -- whatever pages were wanted, they still are
     pub Executed-kept : ((want : Wanted) (s : State) → IsFor meanings told len want s d x → IsPosedIn (meanings x.boxes) s c
         → Ends (λ t. IsFor meanings told len want t e y) (Lacks (sizes_of x)) (HasFailed faults d e) (extensions_of (meanings x.boxes)) s c r)
-        → LeavesWanted (parts_of told len d x) (parts_of told len e y) → Executed meanings told len faults c d e x y r
+        → KeepsWanted (parts_of told len d x) (parts_of told len e y) → Executed meanings told len faults c d e x y r
     Executed-kept ends leaves = record {
-      ends = λ want s for posed. Ends-behind_for meanings told len c d e x y leaves want s for faults r (ends want s for posed);
+      ends = λ want s for posed. Ends-behind_for meanings told len c d e x y leaves.leaves want s for faults r (ends want s for posed);
       leaves = λ not. leaves;
       same = same;
       keeps = keeps;
@@ -53,10 +53,10 @@ emptied (Ok done) r is makes went = makes
 emptied (Err e) r is makes went = absurd (let both : Refused e ≡ ok = sym is ∙ went in cc)
 
 -- neither the disk nor the store was touched
-pub leaves_still : {B D : Type 0} (told : D → Option Story) (len : D → ℕ) (d e : D) (x y : Session B) → e ≡ d → y.space ≡ x.space → LeavesWanted (parts_of told len d x) (parts_of told len e y)
+pub leaves_still : {B D : Type 0} (told : D → Option Story) (len : D → ℕ) (d e : D) (x y : Session B) → e ≡ d → y.space ≡ x.space → KeepsWanted (parts_of told len d x) (parts_of told len e y)
 leaves_still {D = D} told len d e x y disk space =
-    subst (λ (f : D). LeavesWanted (parts_of told len d x) (parts_of told len f y)) (sym disk)
-    (subst (λ (a : Space). LeavesWanted (parts_of told len d x) (parts told len d a.store)) (sym space) (LeavesWanted-none (parts_of told len d x)))
+    subst (λ (f : D). KeepsWanted (parts_of told len d x) (parts_of told len f y)) (sym disk)
+    (subst (λ (a : Space). KeepsWanted (parts_of told len d x) (parts told len d a.store)) (sym space) (KeepsWanted-none (parts_of told len d x)))
 
 -- a session that is down
 pub Executed-down : {B D : Type 0} (meanings : B → Meanings) (told : D → Option Story) (len faults : D → ℕ) (c : Command) (d : D) (x : Session B) → CanRun meanings told len d x → x.down ≡ true
@@ -71,7 +71,7 @@ module _ {B D : Type 0} (meanings : B → Meanings) (told : D → Option Story) 
   -- other pages may be wanted then
   pub Executed-moved : ((want : Wanted) (s : State) → IsFor meanings told len want s d x → IsPosedIn (meanings x.boxes) s c
       → Ends (StandsBehind meanings told len want (extensions_of (meanings x.boxes)) s c d e x y) (Lacks (sizes_of x)) (HasFailed faults d e) (extensions_of (meanings x.boxes)) s c r)
-      → (may_have_committed c (is_some x.open) r ≡ false → LeavesWanted (parts_of told len d x) (parts_of told len e y)) → Executed meanings told len faults c d e x y r
+      → (may_have_committed c (is_some x.open) r ≡ false → KeepsWanted (parts_of told len d x) (parts_of told len e y)) → Executed meanings told len faults c d e x y r
   Executed-moved ends leaves = record {
     ends = λ want s for posed. ends want s for posed;
     leaves = leaves;

@@ -21,10 +21,9 @@ use Rattle.sb_plain.specs.Step.{answered, work_of}
 use Rattle.sb_registry.specs.Boxes.{Meanings}
 use Rattle.sb_drive.specs.Spaces.{Wanted}
 use Rattle.sb_map.specs.declared.place.Place.{Place}
-use Rattle.sb_txn.specs.Clauses.{LeavesWanted}
 use Rattle.sb_txn.specs.Parts.{Parts, parts}
 use Rattle.sb_txn.specs.State.{State as StoreState}
-use Rattle.sb_session.specs.Calls.{IsOnlyFault, Remains}
+use Rattle.sb_session.specs.Calls.{IsOnlyFault, KeepsWanted, Remains}
 use Rattle.sb_session.specs.Commits.{FailsOn, Mounted}
 use Rattle.sb_session.specs.Transactions.{IsAt, unused}
 use Rattle.sb_execution.specs.Serving.{IsPosedIn, IsServed, IsUnserved, is_managing}
@@ -90,7 +89,7 @@ Stays-replied m place tx p q u v w r (served.Worked answer) replies stays =
     Stays-then m place tx p q q u v w stays (Stays-beside m place tx q v w replies.1.queue replies.1.gone (IsUsable-taken m place tx q v w replies.1 stays.usable))
 
 module _ {D : Type 0} (told : D → Option Story) (len faults : D → ℕ) (m : Meanings) (place : Place) (c : Command) (works : is_managing c ≡ false)
-    (d f : D) (s u : StoreState) (o now : Open) (up : s.book.down ≡ false) (leaves : LeavesWanted (parts told len d s) (parts told len f u)) where
+    (d f : D) (s u : StoreState) (o now : Open) (up : s.book.down ≡ false) (leaves : KeepsWanted (parts told len d s) (parts told len f u)) where
   abbrev p : Parts
   p = parts told len d s
 

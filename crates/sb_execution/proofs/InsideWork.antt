@@ -13,13 +13,12 @@ use Rattle.sb_plain.specs.State.{State, committed}
 use Rattle.sb_registry.specs.Boxes.{Meanings}
 use Rattle.sb_drive.specs.Spaces.{Wanted}
 use Rattle.sb_map.specs.declared.place.Place.{Place}
-use Rattle.sb_txn.specs.Clauses.{LeavesWanted}
 use Rattle.sb_txn.specs.Parts.{Parts, parts}
 use Rattle.sb_txn.specs.State.{State as StoreState}
 use Rattle.sb_space.specs.declared.transactions.Tx.{Tx}
 use Rattle.sb_session.specs.Point.{Point}
 use Rattle.sb_session.specs.Transaction.{Transaction}
-use Rattle.sb_session.specs.Calls.{IsOnlyFault, Remains}
+use Rattle.sb_session.specs.Calls.{IsOnlyFault, KeepsWanted, Remains}
 use Rattle.sb_session.specs.Commits.{FailsOn, IsLed}
 use Rattle.sb_session.specs.Transactions.{IsAt, IsNotBehind, IsPointOf, IsTrimmed, IsUsable, WasBegun, WasSo, unused}
 use Rattle.sb_session.proofs.CallLemmas.{up-earlier, up-later}
@@ -47,7 +46,7 @@ module _ {D : Type 0} (told : D → Option Story) (len faults : D → ℕ) (m : 
     (usable : (m : Meanings) (place : Place) (p : Parts) → IsUsable m place o.transaction.tx.store.number p o.transaction.work → IsUsable m place o.transaction.tx.store.number p x.work)
     -- the command was served
     (tx : y.tx ≡ x.tx) (serves : IsUsable m place x.tx.store.number (parts told len e t) y.work)
-    (led : IsLed told len faults x.tx.store.number (record { disk = d; store = s }) (record { disk = e; store = t })) (leaves : LeavesWanted (parts told len d s) (parts told len e t)) where
+    (led : IsLed told len faults x.tx.store.number (record { disk = d; store = s }) (record { disk = e; store = t })) (leaves : KeepsWanted (parts told len d s) (parts told len e t)) where
   abbrev from : Parts
   from = parts told len d s
 
@@ -124,11 +123,11 @@ module _ {D : Type 0} (told : D → Option Story) (len faults : D → ℕ) (m : 
     module _ (point : Point) (f : D) (u : StoreState) (z : Transaction)
         (latest : s.book.down ≡ false → (one : Point) → IsPointOf n one from x.work → IsNotBehind one point)
         (marked : (m : Meanings) (place : Place) (want : Wanted) (g : Going) → IsAt m place want n g from x.work → WasSo m place want n g point from x.work)
-        (after : LeavesWanted here (parts told len f u)) where
+        (after : KeepsWanted here (parts told len f u)) where
       abbrev there : Parts
       there = parts told len f u
 
-      all_leaves : {T : Type 0} (a : Result T Refusal) → Remains told len faults e f t u a → LeavesWanted from there
+      all_leaves : {T : Type 0} (a : Result T Refusal) → Remains told len faults e f t u a → KeepsWanted from there
       all_leaves a remains = leaves_behind told len faults n d e s t led f u a remains after
 
       -- the disk failed on the way back

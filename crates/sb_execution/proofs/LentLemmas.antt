@@ -10,7 +10,7 @@ use Rattle.sb_plain.specs.State.{State}
 use Rattle.sb_registry.specs.Boxes.{Meanings}
 use Rattle.sb_drive.specs.Spaces.{Wanted}
 use Rattle.sb_map.specs.declared.place.Place.{Place}
-use Rattle.sb_txn.specs.Clauses.{LeavesWanted}
+use Rattle.sb_session.specs.Calls.{KeepsWanted}
 use Rattle.sb_txn.specs.Parts.{Parts, parts}
 use Rattle.sb_txn.specs.State.{State as Stored}
 use Rattle.sb_space.specs.declared.durable.Durable.{Durable}
@@ -25,6 +25,7 @@ use Rattle.sb_engine.specs.Working as engine
 use Rattle.sb_session.specs.Point.{Point}
 use Rattle.sb_session.specs.Commits.{FailsOn, IsLed, Mounted}
 use Rattle.sb_session.specs.Driven.{HasLent, IsServed as IsReadyLent, LeadsLent, WorksOn}
+use Rattle.sb_execution.proofs.CallLemmas.{KeepsWanted-works}
 use Rattle.sb_session.specs.Transactions.{IsAt, IsPointOf, IsUsable, WasBegun, WasSo}
 use Rattle.sb_session.proofs.DrivenLemmas.{Stands-at, driven-begun, driven-each, driven-points, driven-stands}
 use Rattle.sb_session.proofs.FinishLemmas.{HasCause-map}
@@ -146,8 +147,8 @@ module _ {D : Type 0} (told : D → Option Story) (len faults : D → ℕ) (m : 
             (subst (λ (d : D). Works told len faults (lent a).tx k a.disk.now d a.store.now b.store.now) (sym same) works.leads.1.works))),
       )
 
-  pub leaves-lent : LeavesWanted start end
-  leaves-lent = led-lent.1.leaves
+  pub leaves-lent : KeepsWanted start end
+  leaves-lent = KeepsWanted-works told len faults tx led-lent.0 disk e store b.store.now led-lent.1
 
   pub usable-lent : IsUsable m place tx end w
   usable-lent = to_end (λ n p. IsUsable m place n p w) (record {

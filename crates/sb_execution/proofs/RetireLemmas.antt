@@ -16,7 +16,7 @@ use Rattle.sb_plain.specs.State.{State, Transaction as PlainTransaction, committ
 use Rattle.sb_plain.specs.Step.{ok}
 use Rattle.sb_registry.specs.Boxes.{Meanings}
 use Rattle.sb_drive.specs.Spaces.{Wanted}
-use Rattle.sb_txn.specs.Clauses.{LeavesWanted}
+use Rattle.sb_session.specs.Calls.{KeepsWanted}
 use Rattle.sb_txn.specs.Parts.{Parts, parts}
 use Rattle.sb_space.specs.declared.transactions.Space.{Space}
 use Rattle.sb_vectors.specs.Vectors.{AreSameBoxes}
@@ -34,7 +34,7 @@ use Rattle.sb_execution.proofs.ExecLemmas.{KeepsSession-then}
 module _ {B D : Type 0} (meanings : B → Meanings) (told : D → Option Story) (len faults : D → ℕ) (c : Command) (d e : D) (x y : Session B)
     (runs : CanRun meanings told len d x) (up : x.down ≡ false) (none : x.open ≡ None)
     (boxes : y.boxes ≡ x.boxes) (place : y.place ≡ x.place) (down : y.down ≡ x.down) (opened : y.open ≡ x.open)
-    (passes : Passes told len faults (meanings x.boxes) x.place c d e x.space.store y.space.store) (leaves : LeavesWanted (parts_of told len d x) (parts_of told len e y)) where
+    (passes : Passes told len faults (meanings x.boxes) x.place c d e x.space.store y.space.store) (leaves : KeepsWanted (parts_of told len d x) (parts_of told len e y)) where
   abbrev m : Meanings
   m = meanings x.boxes
 
@@ -80,7 +80,7 @@ module _ {B D : Type 0} (meanings : B → Meanings) (told : D → Option Story) 
   left_tested : (want : Wanted) (s : State) → IsFor meanings told len want s d x → LeavesOnly (told d) (told e) (Restores x.space.store.pool.geometry want)
   left_tested want s for =
       let rests = (outside_for meanings told len faults d x runs up none want s for).rests in
-      leaves.each want rests.has.now rests.has.stands.store
+      leaves.leaves.each want rests.has.now rests.has.stands.store
 
   -- and the command goes on, and asks nothing of the disk
   pub Executed-tested : (f : D) (z : Session B) (r : Reply) → f ≡ e → z.space ≡ y.space → AreSameBoxes (meanings y.boxes) (meanings z.boxes) → KeepsSession len faults e f y z r → CanRun meanings told len f z
@@ -99,7 +99,7 @@ module _ {B D : Type 0} (meanings : B → Meanings) (told : D → Option Story) 
         (subst (λ (g : Geometry). Ends (λ t. IsFor meanings told len want t f z) (Lacks g) (HasFailed faults e f) (extensions_of m) s c r) passes.remains.geometry
         (subst (λ (b : B). Ends (λ t. IsFor meanings told len want t f z) (Lacks (sizes_of y)) (HasFailed faults e f) (extensions_of (meanings b)) s c r) boxes
         (ends want s (IsFor-tested want s for) (passes.passed want s (of_state want s for))))));
-    leaves = λ not. subst (λ (a : Space). LeavesWanted p (parts told len f a.store)) (sym space) (subst (λ (g : D). LeavesWanted p (parts told len g y.space.store)) (sym disk) leaves);
+    leaves = λ not. subst (λ (a : Space). KeepsWanted p (parts told len f a.store)) (sym space) (subst (λ (g : D). KeepsWanted p (parts told len g y.space.store)) (sym disk) leaves);
     same = subst (λ (b : B). AreSameBoxes (meanings b) (meanings z.boxes)) boxes same;
     keeps = KeepsSession-then len faults d e f x y z ok r up down keeps_tested keeps;
     runs = runs_on;

@@ -11,16 +11,15 @@ use Rattle.sb_plain.specs.declared.reply.Reply.TheVariants.{Refused}
 use Rattle.sb_plain.specs.State.{State, committed}
 use Rattle.sb_registry.specs.Boxes.{Meanings}
 use Rattle.sb_drive.specs.Spaces.{Wanted}
-use Rattle.sb_txn.specs.Clauses.{LeavesWanted}
 use Rattle.sb_txn.specs.Parts.{Parts, parts}
 use Rattle.sb_space.specs.declared.transactions.Space.{Space}
-use Rattle.sb_session.specs.Calls.{Remains}
+use Rattle.sb_session.specs.Calls.{KeepsWanted, Remains}
 use Rattle.sb_execution.specs.Serving.{IsPosedIn}
 use Rattle.sb_session.specs.declared.session.Open.{Open}
 use Rattle.sb_session.specs.declared.session.Session.{Session}
 use Rattle.sb_session.specs.Ends.{Ends, ends_with}
 use Rattle.sb_session.specs.Sessions.{CanRun, HasFailed, IsFor, IsOpenFor, KeepsSession, Lacks, LeavesOldOrNext, StandsBehind, parts_of, sizes_of}
-use Rattle.sb_session.proofs.Carried.{CanRun-as, IsFor-as, leaves-for}
+use Rattle.sb_session.proofs.Carried.{CanRun-as, IsFor-as, keeps-for}
 use Rattle.sb_execution.specs.Endings.{EndsAlone, EndsInside, IsLeft, IsLeftSo, IsOf, reply_by}
 use Rattle.sb_execution.proofs.CallLemmas.{has_failed, still_up}
 use Rattle.sb_execution.proofs.EndLemmas.{Ends-as}
@@ -56,8 +55,8 @@ module _ {B D : Type 0} (meanings : B → Meanings) (told : D → Option Story) 
         stands = subst (λ (o : Option Open). IsOpenFor m x.place want (committed s) p o s.transaction) is (for.stands up_state);
       }
 
-  pub leaves_session : LeavesWanted p q → LeavesWanted p (parts_of told len e y)
-  leaves_session leaves = leaves-for meanings told len d e x y space same leaves
+  pub leaves_session : KeepsWanted p q → KeepsWanted p (parts_of told len e y)
+  leaves_session leaves = keeps-for meanings told len d e x y space same leaves
 
   module _ (remains : Remains told len faults d e x.space.store space.store result) where
     stays_up : y.down ≡ false → space.store.book.down ≡ false

@@ -14,12 +14,12 @@ use Rattle.sb_plain.specs.Step.{Answer, answered, work_of}
 use Rattle.sb_registry.specs.Boxes.{Meanings}
 use Rattle.sb_drive.specs.Spaces.{Wanted}
 use Rattle.sb_map.specs.declared.place.Place.{Place}
-use Rattle.sb_txn.specs.Clauses.{Leads, LeavesWanted}
+use Rattle.sb_txn.specs.Clauses.{Leads}
 use Rattle.sb_txn.specs.Parts.{Parts, parts}
 use Rattle.sb_txn.specs.State.{State as StoreState}
 use Rattle.sb_engine.specs.declared.running.Work.{Work as EngineWork}
 use Rattle.sb_engine.specs.Working.{extensions_of}
-use Rattle.sb_session.specs.Calls.{Remains}
+use Rattle.sb_session.specs.Calls.{KeepsWanted, Remains}
 use Rattle.sb_session.specs.Commits.{IsLed, Mounted}
 use Rattle.sb_session.specs.Transactions.{IsAt, Rests, WasBegun}
 use Rattle.sb_vectors.specs.Vectors.{AreSameBoxes, live_codes, spare_codes}
@@ -82,7 +82,7 @@ pub record EndsInside {D : Type 0} (told : D → Option Story) (len faults : D �
   pub ends : (want : Wanted) (x : State) → IsOf m place want x (parts told len d s) (Some o) → IsPosedIn m x c
       → Ends (IsLeft m place want x (parts told len e t) (Some now) (reply_by result)) (Lacks s.pool.geometry) (HasFailed faults d e)
       (extensions_of m) x c (reply_by result)
-  pub leaves : LeavesWanted (parts told len d s) (parts told len e t)
+  pub leaves : KeepsWanted (parts told len d s) (parts told len e t)
   pub goes : ends_with (reply_by result) ≡ false → CanGoOn m place (parts told len e t) (Some now)
   pub fault : reply_by result ≡ Refused Fault → t.book.down ≡ true
   pub remains : Remains told len faults d e s t result
@@ -95,7 +95,7 @@ pub record EndsAlone {D : Type 0} (told : D → Option Story) (len faults : D �
   pub ends : (want : Wanted) (x : State) → IsOf m place want x (parts told len d s) None → IsPosedIn m x c
       → Ends (IsLeftSo m place want x c (parts told len d s) (parts told len e t) None (reply_by result)) (Lacks s.pool.geometry) (HasFailed faults d e)
       (extensions_of m) x c (reply_by result)
-  pub leaves : may_have_committed c false (reply_by result) ≡ false → LeavesWanted (parts told len d s) (parts told len e t)
+  pub leaves : may_have_committed c false (reply_by result) ≡ false → KeepsWanted (parts told len d s) (parts told len e t)
   pub none : t.book.down ≡ false → t.book.actives ≡ []
   pub fault : reply_by result ≡ Refused Fault → t.book.down ≡ true
   pub remains : Remains told len faults d e s t result
@@ -109,7 +109,7 @@ pub record ComesAlone {D : Type 0} (told : D → Option Story) (len faults : D �
     (d e : D) (s t : StoreState) (tx : ℕ) : Type 0 where
   pub mid : Mounted D
   pub first : Remains {T = Unit {0}} told len faults d mid.disk s mid.store (Ok tt)
-  pub leaves : LeavesWanted (parts told len d s) (parts told len mid.disk mid.store)
+  pub leaves : KeepsWanted (parts told len d s) (parts told len mid.disk mid.store)
   pub led : IsLed told len faults tx mid (record { disk = e; store = t })
   pub pages : Leads (parts told len d s) (parts told len mid.disk mid.store) (λ now. now)
   pub begun : t.book.down ≡ false → (want : Wanted) (x : State) → IsOf m place want x (parts told len d s) None
@@ -151,7 +151,7 @@ pub record Executed {B D : Type 0} (meanings : B → Meanings) (told : D → Opt
   pub ends : (want : Wanted) (s : State) → IsFor meanings told len want s d x → IsPosedIn (meanings x.boxes) s c
       → Ends (StandsBehind meanings told len want (extensions_of (meanings x.boxes)) s c d e x y) (Lacks (sizes_of x)) (HasFailed faults d e)
       (extensions_of (meanings x.boxes)) s c r
-  pub leaves : may_have_committed c (is_some x.open) r ≡ false → LeavesWanted (parts_of told len d x) (parts_of told len e y)
+  pub leaves : may_have_committed c (is_some x.open) r ≡ false → KeepsWanted (parts_of told len d x) (parts_of told len e y)
   pub same : AreSameBoxes (meanings x.boxes) (meanings y.boxes)
   pub keeps : KeepsSession len faults d e x y r
   pub runs : CanRun meanings told len e y

@@ -9,10 +9,10 @@ ghost use Rattle.sb_plain.specs.Step.{ok};
 ghost use Rattle.sb_plain.specs.declared.command.Command.TheVariants as plain;
 ghost use Rattle.sb_execution.specs.Serving.{IsPosedIn, may_have_committed};
 ghost use Rattle.sb_execution.specs.Endings.{Executed};
-ghost use Rattle.sb_session.specs.Ends.{Ends};
+ghost use Rattle.sb_session.specs.Ends.{Ends, is_open_behind};
 ghost use Rattle.sb_session.specs.Ends as answers;
 ghost use Rattle.sb_session.specs.Sessions.{CanRun, HasFailed, IsFor, KeepsSession, Lacks, StandsBehind, parts_of, sizes_of};
-ghost use Rattle.sb_txn.specs.Clauses.{LeavesWanted};
+ghost use Rattle.sb_session.specs.Calls.{KeepsWanted};
 ghost use Rattle.sb_vectors.specs.Vectors.{AreSameBoxes};
 
 use crate::inside::exec_inside;
@@ -41,7 +41,8 @@ pub fn exec<B: Vectors, D: Disk>(
         → Ends (StandsBehind B.meanings D.told D.len want (extensions_of (B.meanings session.old.boxes)) s command.now disk.old disk.new session.old session.new)
         (Lacks (sizes_of session.old)) (HasFailed D.faults disk.old disk.new) (extensions_of (B.meanings session.old.boxes)) s command.now result }
     ensures leaves { may_have_committed command.now (is_some session.old.open) result ≡ false
-        → LeavesWanted (parts_of D.told D.len disk.old session.old) (parts_of D.told D.len disk.new session.new) }
+        → KeepsWanted (parts_of D.told D.len disk.old session.old) (parts_of D.told D.len disk.new session.new) }
+    ensures open { session.new.down ≡ false → is_some session.new.open ≡ is_open_behind command.now (is_some session.old.open) result }
     ensures empties { command.now ≡ plain.Checkpoint → result ≡ ok → used_of session.new.space.store.journal ≡ 0 }
     ensures same { AreSameBoxes (B.meanings session.old.boxes) (B.meanings session.new.boxes) }
     ensures keeps { KeepsSession D.len D.faults disk.old disk.new session.old session.new result }
@@ -59,6 +60,7 @@ fn run<B: Vectors, D: Disk>(
 ) -> Reply
     requires runs { CanRun B.meanings D.told D.len disk.old session.old }
     ensures ended { Executed B.meanings D.told D.len D.faults command.now disk.old disk.new session.old session.new result }
+    ensures open { session.new.down ≡ false → is_some session.new.open ≡ is_open_behind command.now (is_some session.old.open) result }
     ensures empties { command.now ≡ plain.Checkpoint → result ≡ ok → used_of session.new.space.store.journal ≡ 0 }
 {
     if session.down {
@@ -98,7 +100,8 @@ fn retire<B: Vectors, D: Disk>(
     requires runs { CanRun B.meanings D.told D.len disk.old session.old }
     requires up { session.old.down ≡ false }
     requires retires { command.now ≡ plain.Retire method code }
-    ensures { Executed B.meanings D.told D.len D.faults command.now disk.old disk.new session.old session.new result }
+    ensures open { session.new.open ≡ session.old.open }
+    ensures ended { Executed B.meanings D.told D.len D.faults command.now disk.old disk.new session.old session.new result }
 {
     if session.open.is_some() {
         return Reply::Refused(Refusal::State);

@@ -6,7 +6,7 @@ ghost use Rattle.sb_engine.specs.Working.{extensions_of};
 ghost use Rattle.sb_plain.specs.State.{State};
 ghost use Rattle.sb_execution.specs.Serving.{IsPosedIn, is_managing};
 ghost use Rattle.sb_execution.specs.Endings.{EndsInside};
-ghost use Rattle.sb_txn.specs.Clauses.{LeavesWanted};
+ghost use Rattle.sb_session.specs.Calls.{KeepsWanted};
 ghost use Rattle.sb_txn.specs.Parts.{parts};
 ghost use Rattle.sb_session.specs.Ends.{Ends};
 ghost use Rattle.sb_session.specs.Sessions.{CanGoOn, CanRun, HasFailed, IsFor, KeepsSession, Lacks, parts_of, sizes_of};
@@ -37,7 +37,8 @@ pub(crate) fn exec_inside<B: Vectors, D: Disk>(
     ensures ends { (want : Wanted) (s : State) → IsFor B.meanings D.told D.len want s disk.old session.old → IsPosedIn (B.meanings session.old.boxes) s command.now
         → Ends (λ t. IsFor B.meanings D.told D.len want t disk.new session.new) (Lacks (sizes_of session.old)) (HasFailed D.faults disk.old disk.new)
         (extensions_of (B.meanings session.old.boxes)) s command.now result }
-    ensures any_moment { LeavesWanted (parts_of D.told D.len disk.old session.old) (parts_of D.told D.len disk.new session.new) }
+    ensures any_moment { KeepsWanted (parts_of D.told D.len disk.old session.old) (parts_of D.told D.len disk.new session.new) }
+    ensures open { is_some session.new.open ≡ true }
     ensures boxes { session.new.boxes ≡ session.old.boxes }
     ensures keeps { KeepsSession D.len D.faults disk.old disk.new session.old session.new result }
     ensures runs { CanRun B.meanings D.told D.len disk.new session.new }

@@ -12,7 +12,8 @@ ghost use Rattle.sb_execution.specs.Endings.{EndsAlone, HasAnswered, Passes};
 ghost use Rattle.sb_session.specs.Ends.{Ends};
 ghost use Rattle.sb_session.specs.Sessions.{CanRun, HasFailed, IsFor, KeepsSession, Lacks, StandsBehind, parts_of, sizes_of};
 ghost use Rattle.sb_session.specs.Transactions.{IsUsable};
-ghost use Rattle.sb_txn.specs.Clauses.{IsReady, LeavesWanted};
+ghost use Rattle.sb_txn.specs.Clauses.{IsReady};
+ghost use Rattle.sb_session.specs.Calls.{KeepsWanted};
 ghost use Rattle.sb_txn.specs.Parts.{parts};
 ghost use Rattle.sb_txn.specs.State.{State as StoreState};
 
@@ -43,7 +44,8 @@ pub(crate) fn exec_outside<B: Vectors, D: Disk>(
     ensures ends { (want : Wanted) (s : State) → IsFor B.meanings D.told D.len want s disk.old session.old → IsPosedIn (B.meanings session.old.boxes) s command.now
         → Ends (StandsBehind B.meanings D.told D.len want (extensions_of (B.meanings session.old.boxes)) s command.now disk.old disk.new session.old session.new)
         (Lacks (sizes_of session.old)) (HasFailed D.faults disk.old disk.new) (extensions_of (B.meanings session.old.boxes)) s command.now result }
-    ensures leaves { may_have_committed command.now false result ≡ false → LeavesWanted (parts_of D.told D.len disk.old session.old) (parts_of D.told D.len disk.new session.new) }
+    ensures leaves { may_have_committed command.now false result ≡ false → KeepsWanted (parts_of D.told D.len disk.old session.old) (parts_of D.told D.len disk.new session.new) }
+    ensures open { session.new.open ≡ session.old.open }
     ensures boxes { session.new.boxes ≡ session.old.boxes }
     ensures keeps { KeepsSession D.len D.faults disk.old disk.new session.old session.new result }
     ensures runs { CanRun B.meanings D.told D.len disk.new session.new }
@@ -137,7 +139,7 @@ pub(crate) fn test_outside<B: Vectors, D: Disk>(
     requires up { space.old.store.book.down ≡ false }
     requires may { (s : State) → may_want_memory s command.now ≡ true }
 
-    ensures leaves { LeavesWanted (parts D.told D.len disk.old space.old.store) (parts D.told D.len disk.new space.new.store) }
+    ensures leaves { KeepsWanted (parts D.told D.len disk.old space.old.store) (parts D.told D.len disk.new space.new.store) }
     ensures passes { OnOk result (Passes D.told D.len D.faults (B.meanings boxes.now) place command.now disk.old disk.new space.old.store space.new.store) }
     ensures refused { IfErr result (λ r. EndsAlone D.told D.len D.faults (B.meanings boxes.now) place command.now disk.old disk.new space.old.store space.new.store
         (Err r)) }

@@ -16,7 +16,7 @@ ghost use Rattle.sb_reads.specs.Reads.{is_reading};
 ghost use Rattle.sb_execution.specs.Serving.{IsAnswered, IsPosedIn, IsRefusedIn, IsSeenIn, IsServed, IsUnserved, Makes, MayServe, is_read};
 ghost use Rattle.sb_statements.specs.Statements.{MayWork, answer_of};
 ghost use Rattle.sb_session.specs.Driven.{WorksOn};
-ghost use Rattle.sb_txn.specs.Clauses.{LeavesWanted};
+ghost use Rattle.sb_session.specs.Calls.{KeepsWanted};
 ghost use Rattle.sb_txn.specs.Parts.{parts};
 ghost use Rattle.sb_session.specs.Commits.{FailsOn, IsLed};
 ghost use Rattle.sb_session.specs.Transactions.{IsAt, IsPointOf, IsUsable, WasBegun, WasSo};
@@ -169,7 +169,7 @@ pub(crate) fn serve_in<B: Vectors, D: Disk>(
     ensures begun { space.new.store.book.down ≡ false → (m : Meanings) (root : ℕ) (want : Wanted) (db : Db)
         → WasBegun m root want db transaction.old.tx.store.number (parts D.told D.len disk.old space.old.store)
         → WasBegun m root want db transaction.old.tx.store.number (parts D.told D.len disk.new space.new.store) }
-    ensures any_moment { LeavesWanted (parts D.told D.len disk.old space.old.store) (parts D.told D.len disk.new space.new.store) }
+    ensures any_moment { KeepsWanted (parts D.told D.len disk.old space.old.store) (parts D.told D.len disk.new space.new.store) }
     ensures led { IsLed D.told D.len D.faults transaction.old.tx.store.number (record { disk = disk.old; store = space.old.store })
         (record { disk = disk.new; store = space.new.store }) }
     ensures usable { IsUsable (B.meanings boxes.now) place transaction.old.tx.store.number (parts D.told D.len disk.new space.new.store) transaction.new.work }
@@ -226,7 +226,7 @@ pub(crate) fn test_in<B: Vectors, D: Disk>(
     ensures begun { space.new.store.book.down ≡ false → (m : Meanings) (root : ℕ) (want : Wanted) (db : Db)
         → WasBegun m root want db transaction.now.tx.store.number (parts D.told D.len disk.old space.old.store)
         → WasBegun m root want db transaction.now.tx.store.number (parts D.told D.len disk.new space.new.store) }
-    ensures any_moment { LeavesWanted (parts D.told D.len disk.old space.old.store) (parts D.told D.len disk.new space.new.store) }
+    ensures any_moment { KeepsWanted (parts D.told D.len disk.old space.old.store) (parts D.told D.len disk.new space.new.store) }
     ensures led { IsLed D.told D.len D.faults transaction.now.tx.store.number (record { disk = disk.old; store = space.old.store })
         (record { disk = disk.new; store = space.new.store }) }
     ensures usable { IsUsable (B.meanings boxes.now) place transaction.now.tx.store.number (parts D.told D.len disk.new space.new.store) transaction.now.work }

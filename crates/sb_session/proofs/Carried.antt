@@ -31,6 +31,7 @@ use Rattle.sb_transactions.specs.Calls.{IsOnlyFault, Remains}
 use Rattle.sb_transactions.specs.Transactions.{IsPointOf, IsUsable}
 use Rattle.sb_transactions.specs.Working.{extensions_of}
 use Rattle.sb_vectors.specs.Vectors.{live_codes, spare_codes}
+use Rattle.sb_transactions.specs.Calls.{KeepsWanted}
 use Rattle.sb_session.specs.declared.session.Open.{Open}
 use Rattle.sb_session.specs.declared.session.Savepoint.{Savepoint}
 use Rattle.sb_session.specs.declared.session.Session.{Session}
@@ -206,9 +207,9 @@ module _ {B D : Type 0} (meanings : B → Meanings) (told : D → Option Story) 
   pub leaves-same : (d : D) (x y : Session B) → IsSame meanings x y → LeavesWanted (parts_of told len d x) (parts_of told len d y)
   leaves-same d x y same = subst (λ (p : Parts). LeavesWanted (parts_of told len d x) p) (sym (same_parts d x y same)) (LeavesWanted-none (parts_of told len d x))
 
-  pub leaves-for : (d e : D) (x y : Session B) (space : Space) → y.space ≡ space → LeavesWanted (parts_of told len d x) (parts told len e space.store)
-      → LeavesWanted (parts_of told len d x) (parts_of told len e y)
-  leaves-for d e x y space same = subst (λ (a : Space). LeavesWanted (parts_of told len d x) (parts told len e a.store)) (sym same)
+  pub keeps-for : (d e : D) (x y : Session B) (space : Space) → y.space ≡ space → KeepsWanted (parts_of told len d x) (parts told len e space.store)
+      → KeepsWanted (parts_of told len d x) (parts_of told len e y)
+  keeps-for d e x y space same = subst (λ (a : Space). KeepsWanted (parts_of told len d x) (parts told len e a.store)) (sym same)
 
 -- ---- what a command leaves
 -- all that is said of it

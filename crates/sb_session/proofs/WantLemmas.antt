@@ -1,4 +1,4 @@
--- To which commits memory or room may be wanting.
+-- To which commits memory or room may be wanting, and what keeps what is wanted.
 use Rattle.std.proofs.Common.{◌≡◌, ℕ, Bool, true, false, not, ◌&&◌, List, [], ◌∷◌, Some, refl, ap, ◌∙◌}
 use Rattle.sb_rule.specs.declared.action.Action.{Action}
 use Rattle.sb_fold.specs.Outcome.{Entry}
@@ -6,6 +6,9 @@ use Rattle.sb_deferred.specs.Waiting.{nothing}
 use Rattle.sb_plain.specs.declared.command.Command.TheVariants as command
 use Rattle.sb_plain.specs.Licences.{is_none_gone, may_want_memory, may_want_room}
 use Rattle.sb_plain.specs.State.{State, Transaction}
+use Rattle.sb_txn.specs.Parts.{Parts}
+use Rattle.sb_txn.proofs.KeepsLemmas.{LeavesWanted-none}
+use Rattle.sb_transactions.specs.Calls.{KeepsWanted}
 use Rattle.sb_transactions.specs.Working.{IsNoneGone}
 
 -- whether something waits or is gone
@@ -55,3 +58,7 @@ may_want_memory-commit s t inside never =
   where
     within : s ≡ record s { transaction = Some t }
     within = λ i. record s { transaction = inside i }
+
+-- ---- what keeps what is wanted
+pub KeepsWanted-none : (p : Parts) → KeepsWanted p p
+KeepsWanted-none p = record { leaves = LeavesWanted-none p; stays = λ up want now holds. (now, holds) }

@@ -1,11 +1,12 @@
 -- How a command ends.
-use Rattle.std.specs.Prelude.{◌≡◌, Bool, true, false, List, None, Result, Ok, Err}
+use Rattle.std.specs.Prelude.{◌≡◌, ◌&&◌, Bool, true, false, List, None, Result, Ok, Err}
 use Rattle.sb_relation.specs.Db.{Key}
 use Rattle.sb_fold.specs.declared.refusal.Room.{Room}
 use Rattle.sb_fold.specs.declared.refusal.Refusal.{Refusal}
 use Rattle.sb_fold.specs.declared.refusal.Refusal.TheVariants as refusal
 use Rattle.sb_fold.specs.Extensions.{Extensions}
 use Rattle.sb_plain.specs.declared.command.Command.{Command}
+use Rattle.sb_plain.specs.declared.command.Command.TheVariants as command
 use Rattle.sb_plain.specs.declared.reply.Reply.{Reply}
 use Rattle.sb_plain.specs.declared.reply.Reply.TheVariants.{Done, Refused}
 use Rattle.sb_plain.specs.Licences.{may_want_memory, may_want_room}
@@ -13,6 +14,7 @@ use Rattle.sb_plain.specs.State.{downed}
 use Rattle.sb_plain.specs.Step.{Steps}
 use Rattle.sb_plain.specs.State.{State}
 use Rattle.sb_plain.specs.Step.{ok}
+use Rattle.sb_transactions.specs.Commits.{is_wanting}
 
 -- a fault or damage ends a session
 abbrev pub is_end : Refusal → Bool
@@ -54,3 +56,11 @@ picked_reply (Err r) = Refused r
 abbrev pub reply_of : Result (Unit {0}) Refusal → Reply
 reply_of (Ok x) = ok
 reply_of (Err r) = Refused r
+
+-- whether a transaction is open behind a command with this reply, where the session isn't down then
+abbrev pub is_open_behind : Command → (inside : Bool) → Reply → Bool
+is_open_behind command.Begin inside (Done key picks) = true
+is_open_behind command.Commit inside (Refused r) = inside && is_wanting r
+is_open_behind command.Commit inside reply = false
+is_open_behind command.Abort inside reply = false
+is_open_behind c inside reply = inside

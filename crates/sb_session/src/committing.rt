@@ -1,12 +1,12 @@
 //! The commit of the open transaction.
 
-ghost use Rattle.std.specs.Prelude.{◌≡◌, IfErr, IsErrOf};
+ghost use Rattle.std.specs.Prelude.{◌≡◌, false, is_some, IfErr, IsErrOf};
 ghost use Rattle.sb_drive.specs.Spaces.{Wanted};
 ghost use Rattle.sb_transactions.specs.Working.{extensions_of};
 ghost use Rattle.sb_plain.specs.State.{State};
 ghost use Rattle.sb_plain.specs.declared.command.Command.TheVariants as command;
-ghost use Rattle.sb_txn.specs.Clauses.{LeavesWanted};
-ghost use Rattle.sb_session.specs.Ends.{Ends, picked_reply};
+ghost use Rattle.sb_transactions.specs.Calls.{KeepsWanted};
+ghost use Rattle.sb_session.specs.Ends.{Ends, is_open_behind, picked_reply};
 ghost use Rattle.sb_session.specs.Sessions.{CanRun, HasFailed, HasWork, IsFor, KeepsSession, Lacks, StandsBehind, parts_of, sizes_of};
 
 use crate::session::{Open, Session};
@@ -26,7 +26,8 @@ impl<B: Vectors> Session<B> {
             → Ends (StandsBehind B.meanings D.told D.len want (extensions_of (B.meanings self.old.boxes)) s command.Commit disk.old disk.new self.old self.new)
             (Lacks (sizes_of self.old)) (HasFailed D.faults disk.old disk.new) (extensions_of (B.meanings self.old.boxes)) s command.Commit (picked_reply result) }
         ensures memory { IsErrOf result Refusal.NoMemory → HasWork self.old.open }
-        ensures kept { IfErr result (λ r. (r ≡ Refusal.Fault → ⊥) → LeavesWanted (parts_of D.told D.len disk.old self.old) (parts_of D.told D.len disk.new self.new)) }
+        ensures kept { IfErr result (λ r. (r ≡ Refusal.Fault → ⊥) → KeepsWanted (parts_of D.told D.len disk.old self.old) (parts_of D.told D.len disk.new self.new)) }
+        ensures open { self.new.down ≡ false → is_some self.new.open ≡ is_open_behind command.Commit (is_some self.old.open) (picked_reply result) }
         ensures boxes { self.new.boxes ≡ self.old.boxes }
         ensures keeps { KeepsSession D.len D.faults disk.old disk.new self.old self.new (picked_reply result) }
         ensures runs { CanRun B.meanings D.told D.len disk.new self.new }

@@ -30,6 +30,7 @@ impl<B: Vectors> Session<B> {
             (extensions_of (B.meanings self.old.boxes)) s (command.Register method code) (reply_of result) }
         ensures disk { disk.new ≡ disk.old }
         ensures space { self.new.space ≡ self.old.space }
+        ensures open { self.new.open ≡ self.old.open }
         ensures same { AreSameBoxes (B.meanings self.old.boxes) (B.meanings self.new.boxes) }
         ensures keeps { KeepsSession D.len D.faults disk.old disk.new self.old self.new (reply_of result) }
         ensures runs { CanRun B.meanings D.told D.len disk.new self.new }
@@ -57,6 +58,7 @@ impl<B: Vectors> Session<B> {
             (extensions_of (B.meanings self.old.boxes)) s (command.Retire method code) (reply_of result) }
         ensures disk { disk.new ≡ disk.old }
         ensures space { self.new.space ≡ self.old.space }
+        ensures open { self.new.open ≡ self.old.open }
         ensures same { AreSameBoxes (B.meanings self.old.boxes) (B.meanings self.new.boxes) }
         ensures keeps { KeepsSession D.len D.faults disk.old disk.new self.old self.new (reply_of result) }
         ensures runs { CanRun B.meanings D.told D.len disk.new self.new }

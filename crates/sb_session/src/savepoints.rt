@@ -1,12 +1,12 @@
 //! Savepoints.
 
-ghost use Rattle.std.specs.Prelude.{◌≡◌, ◌≤◌, true, false, length, position, List, IfErr, OnErr, OnOk};
+ghost use Rattle.std.specs.Prelude.{◌≡◌, ◌≤◌, true, false, is_some, length, position, List, IfErr, OnErr, OnOk};
 ghost use Rattle.std.specs.List.{list_any};
 ghost use Rattle.sb_drive.specs.Spaces.{Wanted};
 ghost use Rattle.sb_transactions.specs.Working.{extensions_of};
 ghost use Rattle.sb_plain.specs.State.{State};
 ghost use Rattle.sb_plain.specs.declared.command.Command.TheVariants as command;
-ghost use Rattle.sb_txn.specs.Clauses.{LeavesWanted};
+ghost use Rattle.sb_transactions.specs.Calls.{KeepsWanted};
 ghost use Rattle.sb_session.specs.declared.session.Savepoint.{Savepoint};
 ghost use Rattle.sb_session.specs.Ends.{Ends, reply_of};
 ghost use Rattle.sb_session.specs.Points.{IsSaved, NotSaved, NotThere, is_named};
@@ -32,6 +32,7 @@ impl<B: Vectors> Session<B> {
             (extensions_of (B.meanings self.old.boxes)) s (command.Savepoint name.now) (reply_of result) }
         ensures disk { disk.new ≡ disk.old }
         ensures space { self.new.space ≡ self.old.space }
+        ensures open { is_some self.new.open ≡ is_some self.old.open }
         ensures boxes { self.new.boxes ≡ self.old.boxes }
         ensures keeps { KeepsSession D.len D.faults disk.old disk.new self.old self.new (reply_of result) }
         ensures runs { CanRun B.meanings D.told D.len disk.new self.new }
@@ -54,7 +55,8 @@ impl<B: Vectors> Session<B> {
         ensures ends { (want : Wanted) (s : State) → IsFor B.meanings D.told D.len want s disk.old self.old
             → Ends (λ t. IsFor B.meanings D.told D.len want t disk.new self.new) (Lacks (sizes_of self.old)) (HasFailed D.faults disk.old disk.new)
             (extensions_of (B.meanings self.old.boxes)) s (command.Rollback name.now) (reply_of result) }
-        ensures any_moment { LeavesWanted (parts_of D.told D.len disk.old self.old) (parts_of D.told D.len disk.new self.new) }
+        ensures any_moment { KeepsWanted (parts_of D.told D.len disk.old self.old) (parts_of D.told D.len disk.new self.new) }
+        ensures open { self.new.down ≡ false → is_some self.new.open ≡ is_some self.old.open }
         ensures boxes { self.new.boxes ≡ self.old.boxes }
         ensures keeps { KeepsSession D.len D.faults disk.old disk.new self.old self.new (reply_of result) }
         ensures runs { CanRun B.meanings D.told D.len disk.new self.new }

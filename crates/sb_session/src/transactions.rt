@@ -1,13 +1,13 @@
 //! The begin and the end of transactions, and checkpoints.
 
-ghost use Rattle.std.specs.Prelude.{◌≡◌, IsErrOf, OnOk};
+ghost use Rattle.std.specs.Prelude.{◌≡◌, false, is_some, IsErrOf, OnOk};
 ghost use Rattle.sb_journal.specs.State.{used_of};
 ghost use Rattle.sb_drive.specs.Spaces.{Wanted};
 ghost use Rattle.sb_transactions.specs.Working.{extensions_of};
 ghost use Rattle.sb_plain.specs.State.{State};
 ghost use Rattle.sb_plain.specs.declared.command.Command.TheVariants as command;
-ghost use Rattle.sb_txn.specs.Clauses.{LeavesWanted};
-ghost use Rattle.sb_session.specs.Ends.{Ends, reply_of};
+ghost use Rattle.sb_transactions.specs.Calls.{KeepsWanted};
+ghost use Rattle.sb_session.specs.Ends.{Ends, is_open_behind, reply_of};
 ghost use Rattle.sb_session.specs.Sessions.{CanRun, HasFailed, IsFor, KeepsSession, Lacks, parts_of, sizes_of};
 
 use crate::session::{Open, Session};
@@ -26,7 +26,8 @@ impl<B: Vectors> Session<B> {
             → Ends (λ t. IsFor B.meanings D.told D.len want t disk.new self.new) (Lacks (sizes_of self.old)) (HasFailed D.faults disk.old disk.new)
             (extensions_of (B.meanings self.old.boxes)) s command.Begin (reply_of result) }
         ensures memory { IsErrOf result Refusal.NoMemory → ⊥ }
-        ensures any_moment { LeavesWanted (parts_of D.told D.len disk.old self.old) (parts_of D.told D.len disk.new self.new) }
+        ensures any_moment { KeepsWanted (parts_of D.told D.len disk.old self.old) (parts_of D.told D.len disk.new self.new) }
+        ensures open { self.new.down ≡ false → is_some self.new.open ≡ is_open_behind command.Begin (is_some self.old.open) (reply_of result) }
         ensures boxes { self.new.boxes ≡ self.old.boxes }
         ensures keeps { KeepsSession D.len D.faults disk.old disk.new self.old self.new (reply_of result) }
         ensures runs { CanRun B.meanings D.told D.len disk.new self.new }
@@ -56,7 +57,8 @@ impl<B: Vectors> Session<B> {
         ensures ends { (want : Wanted) (s : State) → IsFor B.meanings D.told D.len want s disk.old self.old
             → Ends (λ t. IsFor B.meanings D.told D.len want t disk.new self.new) (Lacks (sizes_of self.old)) (HasFailed D.faults disk.old disk.new)
             (extensions_of (B.meanings self.old.boxes)) s command.Abort (reply_of result) }
-        ensures any_moment { LeavesWanted (parts_of D.told D.len disk.old self.old) (parts_of D.told D.len disk.new self.new) }
+        ensures any_moment { KeepsWanted (parts_of D.told D.len disk.old self.old) (parts_of D.told D.len disk.new self.new) }
+        ensures open { self.new.down ≡ false → is_some self.new.open ≡ is_open_behind command.Abort (is_some self.old.open) (reply_of result) }
         ensures boxes { self.new.boxes ≡ self.old.boxes }
         ensures keeps { KeepsSession D.len D.faults disk.old disk.new self.old self.new (reply_of result) }
         ensures runs { CanRun B.meanings D.told D.len disk.new self.new }
@@ -81,7 +83,8 @@ impl<B: Vectors> Session<B> {
             → Ends (λ t. IsFor B.meanings D.told D.len want t disk.new self.new) (Lacks (sizes_of self.old)) (HasFailed D.faults disk.old disk.new)
             (extensions_of (B.meanings self.old.boxes)) s command.Checkpoint (reply_of result) }
         ensures memory { IsErrOf result Refusal.NoMemory → ⊥ }
-        ensures any_moment { LeavesWanted (parts_of D.told D.len disk.old self.old) (parts_of D.told D.len disk.new self.new) }
+        ensures any_moment { KeepsWanted (parts_of D.told D.len disk.old self.old) (parts_of D.told D.len disk.new self.new) }
+        ensures open { self.new.down ≡ false → is_some self.new.open ≡ is_open_behind command.Checkpoint (is_some self.old.open) (reply_of result) }
         ensures empties { OnOk result (used_of self.new.space.store.journal ≡ 0) }
         ensures boxes { self.new.boxes ≡ self.old.boxes }
         ensures keeps { KeepsSession D.len D.faults disk.old disk.new self.old self.new (reply_of result) }

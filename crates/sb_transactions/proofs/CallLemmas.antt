@@ -6,11 +6,13 @@ use Rattle.sb_fold.specs.declared.refusal.Refusal.{Refusal}
 use Rattle.sb_fold.specs.declared.refusal.Refusal.TheVariants as refusal
 use Rattle.sb_drive.specs.declared.space.SpaceFault.{SpaceFault}
 use Rattle.sb_drive.specs.declared.space.SpaceFault.TheVariants.{Fault, DataFull, TempFull, LogFull, GatesFull, Damaged, Down, NoMemory}
+use Rattle.sb_txn.specs.Clauses.{LeavesWanted}
+use Rattle.sb_txn.specs.Parts.{Parts}
 use Rattle.sb_txn.specs.State.{State}
 use Rattle.sb_space.specs.Transactions.{KeepsSpace}
 use Rattle.sb_space.specs.Works.{Fails, MeansDown}
 use Rattle.sb_tables.specs.Refusals.{HasRefusalCause, refusal_of}
-use Rattle.sb_transactions.specs.Calls.{IsOnlyFault, Remains}
+use Rattle.sb_transactions.specs.Calls.{IsOnlyFault, KeepsWanted, Remains}
 use Rattle.sb_transactions.specs.Commits.{FailsOn, Mounted}
 use Rattle.sb_value.proofs.Truths.{ok_err}
 
@@ -131,3 +133,7 @@ down_by faults NoMemory old new is fails = absurd (cc)
 
 pub Fault-down : {D : Type 0} (faults : D → ℕ) (x : Mounted D) → HasRefusalCause (FailsOn faults) refusal.Fault x → x.store.book.down ≡ true
 Fault-down faults x cause = down_by faults cause.fault cause.before x cause.is cause.fails
+
+-- a call that fails only by a fault keeps what was wanted
+pub KeepsWanted-fault : (r : Refusal) (p q : Parts) → IsOnlyFault r q.store → LeavesWanted p q → KeepsWanted p q
+KeepsWanted-fault r p q only leaves = record { leaves = leaves; stays = λ up. absurd (false≢true (sym up ∙ only.down)) }

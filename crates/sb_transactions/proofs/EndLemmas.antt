@@ -33,10 +33,11 @@ use Rattle.sb_tables.specs.Refusals.{HasRefusalCause}
 use Rattle.sb_tables.specs.Working.{extensions_of}
 use Rattle.sb_tables.specs.Tables.{db_of}
 use Rattle.sb_tables.proofs.RefusedLemmas.{of_fault, on_fault}
-use Rattle.sb_transactions.specs.Calls.{IsOnlyFault, Remains}
+use Rattle.sb_transactions.specs.Calls.{IsOnlyFault, KeepsWanted, Remains}
 use Rattle.sb_transactions.specs.declared.refusals.Uncommitted.{Uncommitted}
 use Rattle.sb_transactions.specs.Commits.{by_refusal, ComesTo, FailsOn, Finishes, IsFaulted, IsDone, IsLed, IsOrFaulted, IsEnded, LeavesEither, LeavesOldOrFinished, Mounted, StopsAt, ended}
 use Rattle.sb_transactions.specs.Transactions.{HasNothingLeft, IsAt, IsCommitted, IsFinished}
+use Rattle.sb_transactions.proofs.CallLemmas.{up-earlier}
 use Rattle.sb_transactions.proofs.FinishLemmas.{StopsFrom-behind, StopsFrom-else, finish-at_once, finish-map}
 
 fault_free : (r : Refusal) → r ≡ Fault → is_free r ≡ true
@@ -160,7 +161,7 @@ module _ {D : Type 0} (told : D → Option Story) (len faults : D → ℕ) (m : 
   still_down r remains on want leaves = subst (λ (x : D). LeavesOnly (told d) (told x) (Restores s.pool.geometry want)) (sym (remains.down on).disk) leaves
 
   -- where the work was refused, and the transaction was stopped, a crash left what was wanted
-  pub LeavesWanted-stopped : {T : Type 0} (r : Result T Refusal) → Remains told len faults e f t u r → LeavesWanted mid new → LeavesWanted old new
+  LeavesWanted-stopped : {T : Type 0} (r : Result T Refusal) → Remains told len faults e f t u r → LeavesWanted mid new → LeavesWanted old new
   LeavesWanted-stopped r remains leaves = by t.book.down refl
     where
       by : (b : Bool) → t.book.down ≡ b → LeavesWanted old new
@@ -171,6 +172,14 @@ module _ {D : Type 0} (told : D → Option Story) (len faults : D → ℕ) (m : 
             and_then (told d) (told e) (told f) (Restores s.pool.geometry want) (works.leaves.each want now store)
             (subst (λ (x : Geometry). LeavesOnly (told e) (told f) (Restores x want)) works.geometry (leaves.each want turns.pages turns.store));
       }
+
+  pub KeepsWanted-stopped : {T : Type 0} (r : Result T Refusal) → Remains told len faults e f t u r → KeepsWanted mid new → KeepsWanted old new
+  KeepsWanted-stopped r remains keeps = record {
+    leaves = LeavesWanted-stopped r remains keeps.leaves;
+    stays = λ up want now store.
+        let turns = (works.makes (up-earlier told len faults e f t u r remains up)).pages want now store in
+        keeps.stays up want turns.pages turns.store;
+  }
 
   -- ---- a commit
   module _ (want : Wanted) (g : Going) (at : (v : Work) × IsAt m place want tx g old v) (finished : Finishes m g (ComesTo m place want tx w) mid) (none : w.gone.items ≡ []) where

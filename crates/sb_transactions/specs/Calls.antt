@@ -1,12 +1,13 @@
 -- What the calls of a transaction leave of a store and its disk, whatever they answer.
-use Rattle.std.specs.Prelude.{◌≡◌, ◌⊎◌, ℕ, ◌≤◌, true, Option, Result, IsErrOf}
+use Rattle.std.specs.Prelude.{◌≡◌, ◌⊎◌, ℕ, ◌≤◌, true, false, Option, Result, IsErrOf}
 use Rattle.sb_disk.specs.Causes.{Rose}
 use Rattle.sb_disk.specs.Disk.{Story}
 use Rattle.sb_fold.specs.declared.refusal.Refusal.{Refusal}
 use Rattle.sb_fold.specs.declared.refusal.Refusal.TheVariants.{Fault}
-use Rattle.sb_txn.specs.Clauses.{IsReady}
-use Rattle.sb_txn.specs.Parts.{parts}
+use Rattle.sb_txn.specs.Clauses.{IsReady, LeavesWanted}
+use Rattle.sb_txn.specs.Parts.{Parts, parts}
 use Rattle.sb_txn.specs.State.{State}
+use Rattle.sb_space.specs.Works.{StaysWanted}
 
 -- the call of a store that is down answers Fault, and nothing has changed
 pub record WasDown {D T : Type 0} (old new : D) (s t : State) (result : Result T Refusal) : Type 0 where
@@ -28,3 +29,8 @@ pub record Remains {D T : Type 0} (told : D → Option Story) (len faults : D �
 pub record IsOnlyFault (r : Refusal) (t : State) : Type 0 where
   pub is : r ≡ Fault
   pub down : t.book.down ≡ true
+
+-- At each moment a crash leaves what was wanted, and unless the store is down then, it stays wanted.
+pub record KeepsWanted (old new : Parts) : Type 0 where
+  pub leaves : LeavesWanted old new
+  pub stays : new.store.book.down ≡ false → StaysWanted old new

@@ -8,12 +8,12 @@ ghost use Rattle.sb_registry.specs.Boxes.{Meanings};
 ghost use Rattle.sb_drive.specs.Spaces.{Wanted};
 ghost use Rattle.sb_map.specs.declared.place.Place.{Place};
 ghost use Rattle.sb_txn.specs.Book.{ActiveTransaction, transaction_with};
-ghost use Rattle.sb_txn.specs.Clauses.{CommitAsksNothing, LeavesWanted};
+ghost use Rattle.sb_txn.specs.Clauses.{CommitAsksNothing};
 ghost use Rattle.sb_txn.specs.Parts.{parts};
 ghost use Rattle.sb_space.specs.Works.{Serves};
 ghost use Rattle.sb_tables.specs.Refusals.{HasRefusalCause};
 ghost use Rattle.sb_tables.specs.Working.{IsNoneGone, extensions_of};
-ghost use Rattle.sb_transactions.specs.Calls.{IsOnlyFault, Remains};
+ghost use Rattle.sb_transactions.specs.Calls.{IsOnlyFault, KeepsWanted, Remains};
 ghost use Rattle.sb_transactions.specs.Commits.{by_refusal, FailsOn, Finishes, IsDone, IsEnded, LeavesEither, LeavesOldOrFinished, StaysOpen, StopsAt, is_wanting};
 ghost use Rattle.sb_transactions.specs.Transactions.{HasNothingLeft, IsAt, IsFinished, IsUsable, Rests, WasBegun};
 
@@ -67,7 +67,7 @@ pub fn commit<B: Boxes, D: Disk>(
         → IsAt (B.meanings boxes.now) place want transaction.tx.store.number g (parts D.told D.len disk.old space.old.store) transaction.work
         → LeavesOldOrFinished (B.meanings boxes.now) place.root want g (parts D.told D.len disk.old space.old.store) (parts D.told D.len disk.new space.new.store) }
     ensures kept { IfErr result (λ e. (e.refusal ≡ Refusal.Fault → ⊥)
-        → LeavesWanted (parts D.told D.len disk.old space.old.store) (parts D.told D.len disk.new space.new.store)) }
+        → KeepsWanted (parts D.told D.len disk.old space.old.store) (parts D.told D.len disk.new space.new.store)) }
 
     // Where no action waits and nothing is gone no room is wanting.
     ensures room { IfErr result (λ e. (want : Wanted) (g : Going)

@@ -8,12 +8,12 @@ ghost use Rattle.sb_deferred.specs.Waiting.{IsWithin};
 ghost use Rattle.sb_registry.specs.Boxes.{Meanings};
 ghost use Rattle.sb_drive.specs.Spaces.{Wanted};
 ghost use Rattle.sb_map.specs.declared.place.Place.{Place};
-ghost use Rattle.sb_txn.specs.Clauses.{Grows, LeavesWanted};
+ghost use Rattle.sb_txn.specs.Clauses.{Grows};
 ghost use Rattle.sb_txn.specs.Parts.{parts};
-ghost use Rattle.sb_space.specs.Works.{Serves, StaysWanted};
+ghost use Rattle.sb_space.specs.Works.{Serves};
 ghost use Rattle.sb_tables.specs.Refusals.{HasRefusalCause};
 ghost use Rattle.sb_transactions.specs.declared.transactions.Point.{Point};
-ghost use Rattle.sb_transactions.specs.Calls.{IsOnlyFault, Remains};
+ghost use Rattle.sb_transactions.specs.Calls.{IsOnlyFault, KeepsWanted, Remains};
 ghost use Rattle.sb_transactions.specs.Commits.{FailsOn};
 ghost use Rattle.sb_transactions.specs.Transactions.{IsAt, IsCutTo, IsNotBehind, IsPointOf, IsUsable, WasBegun, WasSo, unused};
 
@@ -73,9 +73,8 @@ pub fn back_to<D: Disk>(
     ensures same { IfErr result (λ r. transaction.new.work ≡ transaction.old.work) }
     ensures tx { transaction.new.tx ≡ transaction.old.tx }
     ensures serves { Serves transaction.old.tx.store.number (parts D.told D.len disk.new space.new.store) }
-    ensures wanted { OnOk result (StaysWanted (parts D.told D.len disk.old space.old.store) (parts D.told D.len disk.new space.new.store)) }
     ensures grows { OnOk result (Grows space.old.store space.new.store 0 0) }
-    ensures any_moment { LeavesWanted (parts D.told D.len disk.old space.old.store) (parts D.told D.len disk.new space.new.store) }
+    ensures any_moment { KeepsWanted (parts D.told D.len disk.old space.old.store) (parts D.told D.len disk.new space.new.store) }
     ensures err { IfErr result (λ r. IsOnlyFault r space.new.store) }
     ensures cause { IfErr result (λ r. HasRefusalCause (FailsOn D.faults) r (record { disk = disk.new; store = space.new.store })) }
     ensures remains { Remains D.told D.len D.faults disk.old disk.new space.old.store space.new.store result }

@@ -4,10 +4,9 @@ ghost use Rattle.std.specs.Prelude.{◌≡◌, [], false, is_some, ℕ, IfSome};
 ghost use Rattle.sb_relation.specs.Db.{Db};
 ghost use Rattle.sb_registry.specs.Boxes.{Meanings};
 ghost use Rattle.sb_drive.specs.Spaces.{Wanted};
-ghost use Rattle.sb_txn.specs.Clauses.{LeavesWanted};
 ghost use Rattle.sb_txn.specs.Parts.{parts};
 ghost use Rattle.sb_space.specs.Works.{Serves};
-ghost use Rattle.sb_transactions.specs.Calls.{Remains};
+ghost use Rattle.sb_transactions.specs.Calls.{KeepsWanted, Remains};
 ghost use Rattle.sb_transactions.specs.Commits.{IsOrFaulted, ended, is_wanting};
 ghost use Rattle.sb_transactions.specs.Transactions.{IsBack, IsPointOf, Rests, WasBegun};
 
@@ -65,7 +64,7 @@ pub(crate) fn stop<D: Disk>(
         → WasBegun m root want db transaction.tx.store.number (parts D.told D.len disk.old space.old.store)
         → Rests m root want db (parts D.told D.len disk.new space.new.store) }
     ensures none { result.transaction ≡ None → space.new.store.book.down ≡ false → space.new.store.book.actives ≡ [] }
-    ensures any_moment { LeavesWanted (parts D.told D.len disk.old space.old.store) (parts D.told D.len disk.new space.new.store) }
+    ensures any_moment { KeepsWanted (parts D.told D.len disk.old space.old.store) (parts D.told D.len disk.new space.new.store) }
     ensures remains { Remains {T = Unit {0}} D.told D.len D.faults disk.old disk.new space.old.store space.new.store (Err result.refusal) }
 {
     if is_wanting(&refusal) {

@@ -7,11 +7,11 @@ ghost use Rattle.sb_deferred.specs.Waiting.{nothing};
 ghost use Rattle.sb_registry.specs.Boxes.{Meanings};
 ghost use Rattle.sb_drive.specs.Spaces.{Wanted};
 ghost use Rattle.sb_map.specs.declared.place.Place.{Place};
-ghost use Rattle.sb_txn.specs.Clauses.{AsksNothing, Grows, IsReady, Leads, LeavesWanted};
+ghost use Rattle.sb_txn.specs.Clauses.{AsksNothing, Grows, IsReady, Leads};
 ghost use Rattle.sb_txn.specs.Parts.{parts, Parts};
 ghost use Rattle.sb_space.specs.Works.{Serves};
 ghost use Rattle.sb_tables.specs.Refusals.{HasRefusalCause};
-ghost use Rattle.sb_transactions.specs.Calls.{IsOnlyFault, Remains};
+ghost use Rattle.sb_transactions.specs.Calls.{IsOnlyFault, KeepsWanted, Remains};
 ghost use Rattle.sb_transactions.specs.Commits.{FailsOn};
 ghost use Rattle.sb_transactions.specs.Transactions.{IsAt, IsFirst, IsTrimmed, IsUsable, Rests, WasBegun, unused};
 
@@ -60,7 +60,7 @@ pub fn begin<D: Disk>(
         → IsAt m place want t.tx.store.number g (parts D.told D.len disk.new space.new.store) t.work) }
     ensures pages { IfOk result (λ t. Leads (parts D.told D.len disk.old space.old.store) (parts D.told D.len disk.new space.new.store) (λ now. now)) }
     ensures quiet { AsksNothing disk.old disk.new space.old.store }
-    ensures any_moment { LeavesWanted (parts D.told D.len disk.old space.old.store) (parts D.told D.len disk.new space.new.store) }
+    ensures any_moment { KeepsWanted (parts D.told D.len disk.old space.old.store) (parts D.told D.len disk.new space.new.store) }
     ensures err { IfErr result (λ r. IsOnlyFault r space.new.store) }
     ensures remains { Remains D.told D.len D.faults disk.old disk.new space.old.store space.new.store result }
 {
@@ -121,7 +121,7 @@ pub fn abort<D: Disk>(
         → Rests m root want db (parts D.told D.len disk.new space.new.store)) }
     ensures none { OnOk result (space.new.store.book.actives ≡ []) }
     ensures grows { OnOk result (Grows space.old.store space.new.store 0 0) }
-    ensures any_moment { LeavesWanted (parts D.told D.len disk.old space.old.store) (parts D.told D.len disk.new space.new.store) }
+    ensures any_moment { KeepsWanted (parts D.told D.len disk.old space.old.store) (parts D.told D.len disk.new space.new.store) }
     ensures up { OnOk result (space.old.store.book.down ≡ false) }
     ensures err { IfErr result (λ r. IsOnlyFault r space.new.store) }
     ensures cause { IfErr result (λ r. HasRefusalCause (FailsOn D.faults) r (record { disk = disk.new; store = space.new.store })) }

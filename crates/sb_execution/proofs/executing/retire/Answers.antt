@@ -21,8 +21,8 @@ use Rattle.sb_execution.proofs.SessionLemmas.{ends_alone, keeps_session, leaves_
 use Rattle.sb_execution.proofs.executing.retire.Goals as goal
 
 -- in a transaction it has no place
-pub returns-then-is_some : goal.returns-then-is_some
-returns-then-is_some g c =
+pub returns-then-is_some-clause-ended : goal.returns-then-is_some-clause-ended
+returns-then-is_some-clause-ended g c =
     let meanings = g.B.Boxes.meanings in
     let told = g.D.Disk.told in
     let len = g.D.Disk.len in
@@ -35,8 +35,8 @@ returns-then-is_some g c =
     Executed-kept meanings told len faults k d d x x (Refused refusal.State) (same-boxes (meanings x.boxes)) did.keeps did.runs (λ want s for posed. did.ends want s for) (leaves_still told len d d x x refl refl)
 
 -- no test refuses it
-pub returns-in-Ok : goal.returns-in-Ok
-returns-in-Ok g c =
+pub returns-in-Ok-clause-ended : goal.returns-in-Ok-clause-ended
+returns-in-Ok-clause-ended g c =
     let meanings = g.B.Boxes.meanings in
     let told = g.D.Disk.told in
     let len = g.D.Disk.len in
@@ -61,8 +61,8 @@ returns-in-Ok g c =
     (sym (ap (λ (k : Command). refused (extensions_of (meanings x.boxes)) s k) c.requires.retires) ∙ none)).unused)))
 
 -- a test refuses it, or a fault or want of memory
-pub returns-in-Err : goal.returns-in-Err
-returns-in-Err g c =
+pub returns-in-Err-clause-ended : goal.returns-in-Err-clause-ended
+returns-in-Err-clause-ended g c =
     let meanings = g.B.Boxes.meanings in
     let told = g.D.Disk.told in
     let len = g.D.Disk.len in

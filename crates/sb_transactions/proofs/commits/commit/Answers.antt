@@ -8,7 +8,7 @@ use Rattle.sb_transactions.specs.Calls.{Remains}
 use Rattle.sb_transactions.specs.Commits.{is_wanting}
 use Rattle.sb_transactions.specs.Transactions.{IsPointOf, WasBegun}
 use Rattle.sb_transactions.proofs.CallLemmas.{up-earlier}
-use Rattle.sb_transactions.proofs.EndLemmas.{LeavesOldOrFinished-abort, LeavesOldOrFinished-commit, LeavesWanted-stopped, Remains-behind, Remains-stopped, StopsAt-stopped, done-commit, done-left, down-stopped, leaves-left, none-ended, only-ended, remains-ended, roomless-stopped, stops-commit, stops-left}
+use Rattle.sb_transactions.proofs.EndLemmas.{KeepsWanted-stopped, LeavesOldOrFinished-abort, LeavesOldOrFinished-commit, Remains-behind, Remains-stopped, StopsAt-stopped, done-commit, done-left, down-stopped, leaves-left, none-ended, only-ended, remains-ended, roomless-stopped, stops-commit, stops-left}
 use Rattle.sb_transactions.proofs.OpenLemmas.{same-open, stays-open}
 use Rattle.sb_transactions.proofs.commits.commit.Goals as goal
 
@@ -16,7 +16,6 @@ pub returns-then-is_idle-clause-done : goal.returns-then-is_idle-clause-done
 returns-then-is_idle-clause-done g c =
     let told = g.D.Disk.told in
     let len = g.D.Disk.len in
-    let faults = g.D.Disk.faults in
     let m = g.B.Boxes.meanings c.args.boxes.now in
     let tx = c.args.transaction.tx.store.number in
     let v = c.args.transaction.work in
@@ -46,105 +45,44 @@ returns-then-is_idle-clause-refused g c =
 
 pub returns-then-is_idle-clause-fault : goal.returns-then-is_idle-clause-fault
 returns-then-is_idle-clause-fault g c =
-    let told = g.D.Disk.told in
-    let len = g.D.Disk.len in
-    let faults = g.D.Disk.faults in
-    let m = g.B.Boxes.meanings c.args.boxes.now in
-    let tx = c.args.transaction.tx.store.number in
-    let v = c.args.transaction.work in
-    let d = c.args.disk.now in
-    let s = c.args.space.now.store in
-    let f = c.commit_pages.new.disk in
     let u = c.commit_pages.new.space.store in
     let r = c.commit_pages.result in
-    let left = c.is_idle.ensures.0 c.if-is_idle.true in
     rw c.ended.ensures (only-ended r u _ (λ q only. on_fault q (u.book.down ≡ true) (λ is. only.down)) c.commit_pages.ensures.err)
 
 pub returns-then-is_idle-clause-wanting : goal.returns-then-is_idle-clause-wanting
 returns-then-is_idle-clause-wanting g c =
-    let told = g.D.Disk.told in
-    let len = g.D.Disk.len in
-    let faults = g.D.Disk.faults in
-    let m = g.B.Boxes.meanings c.args.boxes.now in
-    let tx = c.args.transaction.tx.store.number in
-    let v = c.args.transaction.work in
-    let d = c.args.disk.now in
-    let s = c.args.space.now.store in
-    let f = c.commit_pages.new.disk in
     let u = c.commit_pages.new.space.store in
     let r = c.commit_pages.result in
-    let left = c.is_idle.ensures.0 c.if-is_idle.true in
     rw c.ended.ensures (only-ended r u _ (λ q only. sym (ap is_wanting only.is)) c.commit_pages.ensures.err)
 
 pub returns-then-is_idle-clause-tx : goal.returns-then-is_idle-clause-tx
 returns-then-is_idle-clause-tx g c =
-    let told = g.D.Disk.told in
-    let len = g.D.Disk.len in
-    let faults = g.D.Disk.faults in
-    let m = g.B.Boxes.meanings c.args.boxes.now in
-    let tx = c.args.transaction.tx.store.number in
-    let v = c.args.transaction.work in
-    let d = c.args.disk.now in
-    let s = c.args.space.now.store in
-    let f = c.commit_pages.new.disk in
     let u = c.commit_pages.new.space.store in
     let r = c.commit_pages.result in
-    let left = c.is_idle.ensures.0 c.if-is_idle.true in
     rw c.ended.ensures (only-ended r u _ (λ q only. tt) c.commit_pages.ensures.err)
 
 pub returns-then-is_idle-clause-stays : goal.returns-then-is_idle-clause-stays
 returns-then-is_idle-clause-stays g c =
-    let told = g.D.Disk.told in
-    let len = g.D.Disk.len in
-    let faults = g.D.Disk.faults in
-    let m = g.B.Boxes.meanings c.args.boxes.now in
-    let tx = c.args.transaction.tx.store.number in
-    let v = c.args.transaction.work in
-    let d = c.args.disk.now in
-    let s = c.args.space.now.store in
-    let f = c.commit_pages.new.disk in
     let u = c.commit_pages.new.space.store in
     let r = c.commit_pages.result in
-    let left = c.is_idle.ensures.0 c.if-is_idle.true in
     rw c.ended.ensures (only-ended r u _ (λ q only. tt) c.commit_pages.ensures.err)
 
 pub returns-then-is_idle-clause-aborted : goal.returns-then-is_idle-clause-aborted
 returns-then-is_idle-clause-aborted g c =
-    let told = g.D.Disk.told in
-    let len = g.D.Disk.len in
-    let faults = g.D.Disk.faults in
-    let m = g.B.Boxes.meanings c.args.boxes.now in
-    let tx = c.args.transaction.tx.store.number in
-    let v = c.args.transaction.work in
-    let d = c.args.disk.now in
-    let s = c.args.space.now.store in
-    let f = c.commit_pages.new.disk in
     let u = c.commit_pages.new.space.store in
     let r = c.commit_pages.result in
-    let left = c.is_idle.ensures.0 c.if-is_idle.true in
     rw c.ended.ensures (only-ended r u _ (λ q only none up. absurd (false≢true (sym up ∙ only.down))) c.commit_pages.ensures.err)
 
 pub returns-then-is_idle-clause-none : goal.returns-then-is_idle-clause-none
 returns-then-is_idle-clause-none g c =
-    let told = g.D.Disk.told in
-    let len = g.D.Disk.len in
-    let faults = g.D.Disk.faults in
-    let m = g.B.Boxes.meanings c.args.boxes.now in
-    let tx = c.args.transaction.tx.store.number in
-    let v = c.args.transaction.work in
-    let d = c.args.disk.now in
-    let s = c.args.space.now.store in
-    let f = c.commit_pages.new.disk in
     let u = c.commit_pages.new.space.store in
     let r = c.commit_pages.result in
-    let left = c.is_idle.ensures.0 c.if-is_idle.true in
     rw c.ended.ensures (none-ended r u c.commit_pages.ensures.none c.commit_pages.ensures.err)
 
 pub returns-then-is_idle-clause-any_moment : goal.returns-then-is_idle-clause-any_moment
 returns-then-is_idle-clause-any_moment g c =
     let told = g.D.Disk.told in
     let len = g.D.Disk.len in
-    let faults = g.D.Disk.faults in
     let m = g.B.Boxes.meanings c.args.boxes.now in
     let tx = c.args.transaction.tx.store.number in
     let v = c.args.transaction.work in
@@ -152,7 +90,6 @@ returns-then-is_idle-clause-any_moment g c =
     let s = c.args.space.now.store in
     let f = c.commit_pages.new.disk in
     let u = c.commit_pages.new.space.store in
-    let r = c.commit_pages.result in
     let left = c.is_idle.ensures.0 c.if-is_idle.true in
     leaves-left m c.args.place tx (parts told len d s) (parts told len f u) v left c.commit_pages.ensures.any_moment
 
@@ -166,18 +103,8 @@ returns-then-is_idle-clause-room g c =
 
 pub returns-then-is_idle-clause-quiet : goal.returns-then-is_idle-clause-quiet
 returns-then-is_idle-clause-quiet g c =
-    let told = g.D.Disk.told in
-    let len = g.D.Disk.len in
-    let faults = g.D.Disk.faults in
-    let m = g.B.Boxes.meanings c.args.boxes.now in
-    let tx = c.args.transaction.tx.store.number in
-    let v = c.args.transaction.work in
-    let d = c.args.disk.now in
-    let s = c.args.space.now.store in
-    let f = c.commit_pages.new.disk in
     let u = c.commit_pages.new.space.store in
     let r = c.commit_pages.result in
-    let left = c.is_idle.ensures.0 c.if-is_idle.true in
     rw c.ended.ensures (λ _. only-ended r u _ (λ q only. only) c.commit_pages.ensures.err)
 
 pub returns-then-is_idle-clause-remains : goal.returns-then-is_idle-clause-remains
@@ -185,15 +112,11 @@ returns-then-is_idle-clause-remains g c =
     let told = g.D.Disk.told in
     let len = g.D.Disk.len in
     let faults = g.D.Disk.faults in
-    let m = g.B.Boxes.meanings c.args.boxes.now in
-    let tx = c.args.transaction.tx.store.number in
-    let v = c.args.transaction.work in
     let d = c.args.disk.now in
     let s = c.args.space.now.store in
     let f = c.commit_pages.new.disk in
     let u = c.commit_pages.new.space.store in
     let r = c.commit_pages.result in
-    let left = c.is_idle.ensures.0 c.if-is_idle.true in
     rw c.ended.ensures (remains-ended (λ q. Remains told len faults d f s u q) r c.commit_pages.ensures.remains)
 
 pub returns-in-Ok-clause-done : goal.returns-in-Ok-clause-done
@@ -230,8 +153,6 @@ returns-in-Ok-clause-refused g c =
     let e = c.finish_work.new.disk in
     let t = c.finish_work.new.space.store in
     let w = c.finish_work.new.transaction.work in
-    let next = c.finish_work.new.transaction.tx.store.number in
-    let same = ap (λ (x : Tx). x.store.number) c.finish_work.ensures.tx in
     let led = c.finish_work.ensures.led in
     let f = c.commit_pages-in-Ok.new.disk in
     let u = c.commit_pages-in-Ok.new.space.store in
@@ -240,126 +161,36 @@ returns-in-Ok-clause-refused g c =
 
 pub returns-in-Ok-clause-fault : goal.returns-in-Ok-clause-fault
 returns-in-Ok-clause-fault g c =
-    let told = g.D.Disk.told in
-    let len = g.D.Disk.len in
-    let faults = g.D.Disk.faults in
-    let m = g.B.Boxes.meanings c.args.boxes.now in
-    let tx = c.args.transaction.tx.store.number in
-    let v = c.args.transaction.work in
-    let d = c.args.disk.now in
-    let s = c.args.space.now.store in
-    let e = c.finish_work.new.disk in
-    let t = c.finish_work.new.space.store in
-    let w = c.finish_work.new.transaction.work in
-    let next = c.finish_work.new.transaction.tx.store.number in
-    let same = ap (λ (x : Tx). x.store.number) c.finish_work.ensures.tx in
-    let led = c.finish_work.ensures.led in
-    let f = c.commit_pages-in-Ok.new.disk in
     let u = c.commit_pages-in-Ok.new.space.store in
     let r = c.commit_pages-in-Ok.result in
     rw c.ended-in-Ok.ensures (only-ended r u _ (λ q only. on_fault q (u.book.down ≡ true) (λ is. only.down)) c.commit_pages-in-Ok.ensures.err)
 
 pub returns-in-Ok-clause-wanting : goal.returns-in-Ok-clause-wanting
 returns-in-Ok-clause-wanting g c =
-    let told = g.D.Disk.told in
-    let len = g.D.Disk.len in
-    let faults = g.D.Disk.faults in
-    let m = g.B.Boxes.meanings c.args.boxes.now in
-    let tx = c.args.transaction.tx.store.number in
-    let v = c.args.transaction.work in
-    let d = c.args.disk.now in
-    let s = c.args.space.now.store in
-    let e = c.finish_work.new.disk in
-    let t = c.finish_work.new.space.store in
-    let w = c.finish_work.new.transaction.work in
-    let next = c.finish_work.new.transaction.tx.store.number in
-    let same = ap (λ (x : Tx). x.store.number) c.finish_work.ensures.tx in
-    let led = c.finish_work.ensures.led in
-    let f = c.commit_pages-in-Ok.new.disk in
     let u = c.commit_pages-in-Ok.new.space.store in
     let r = c.commit_pages-in-Ok.result in
     rw c.ended-in-Ok.ensures (only-ended r u _ (λ q only. sym (ap is_wanting only.is)) c.commit_pages-in-Ok.ensures.err)
 
 pub returns-in-Ok-clause-tx : goal.returns-in-Ok-clause-tx
 returns-in-Ok-clause-tx g c =
-    let told = g.D.Disk.told in
-    let len = g.D.Disk.len in
-    let faults = g.D.Disk.faults in
-    let m = g.B.Boxes.meanings c.args.boxes.now in
-    let tx = c.args.transaction.tx.store.number in
-    let v = c.args.transaction.work in
-    let d = c.args.disk.now in
-    let s = c.args.space.now.store in
-    let e = c.finish_work.new.disk in
-    let t = c.finish_work.new.space.store in
-    let w = c.finish_work.new.transaction.work in
-    let next = c.finish_work.new.transaction.tx.store.number in
-    let same = ap (λ (x : Tx). x.store.number) c.finish_work.ensures.tx in
-    let led = c.finish_work.ensures.led in
-    let f = c.commit_pages-in-Ok.new.disk in
     let u = c.commit_pages-in-Ok.new.space.store in
     let r = c.commit_pages-in-Ok.result in
     rw c.ended-in-Ok.ensures (only-ended r u _ (λ q only. tt) c.commit_pages-in-Ok.ensures.err)
 
 pub returns-in-Ok-clause-stays : goal.returns-in-Ok-clause-stays
 returns-in-Ok-clause-stays g c =
-    let told = g.D.Disk.told in
-    let len = g.D.Disk.len in
-    let faults = g.D.Disk.faults in
-    let m = g.B.Boxes.meanings c.args.boxes.now in
-    let tx = c.args.transaction.tx.store.number in
-    let v = c.args.transaction.work in
-    let d = c.args.disk.now in
-    let s = c.args.space.now.store in
-    let e = c.finish_work.new.disk in
-    let t = c.finish_work.new.space.store in
-    let w = c.finish_work.new.transaction.work in
-    let next = c.finish_work.new.transaction.tx.store.number in
-    let same = ap (λ (x : Tx). x.store.number) c.finish_work.ensures.tx in
-    let led = c.finish_work.ensures.led in
-    let f = c.commit_pages-in-Ok.new.disk in
     let u = c.commit_pages-in-Ok.new.space.store in
     let r = c.commit_pages-in-Ok.result in
     rw c.ended-in-Ok.ensures (only-ended r u _ (λ q only. tt) c.commit_pages-in-Ok.ensures.err)
 
 pub returns-in-Ok-clause-aborted : goal.returns-in-Ok-clause-aborted
 returns-in-Ok-clause-aborted g c =
-    let told = g.D.Disk.told in
-    let len = g.D.Disk.len in
-    let faults = g.D.Disk.faults in
-    let m = g.B.Boxes.meanings c.args.boxes.now in
-    let tx = c.args.transaction.tx.store.number in
-    let v = c.args.transaction.work in
-    let d = c.args.disk.now in
-    let s = c.args.space.now.store in
-    let e = c.finish_work.new.disk in
-    let t = c.finish_work.new.space.store in
-    let w = c.finish_work.new.transaction.work in
-    let next = c.finish_work.new.transaction.tx.store.number in
-    let same = ap (λ (x : Tx). x.store.number) c.finish_work.ensures.tx in
-    let led = c.finish_work.ensures.led in
-    let f = c.commit_pages-in-Ok.new.disk in
     let u = c.commit_pages-in-Ok.new.space.store in
     let r = c.commit_pages-in-Ok.result in
     rw c.ended-in-Ok.ensures (only-ended r u _ (λ q only none up. absurd (false≢true (sym up ∙ only.down))) c.commit_pages-in-Ok.ensures.err)
 
 pub returns-in-Ok-clause-none : goal.returns-in-Ok-clause-none
 returns-in-Ok-clause-none g c =
-    let told = g.D.Disk.told in
-    let len = g.D.Disk.len in
-    let faults = g.D.Disk.faults in
-    let m = g.B.Boxes.meanings c.args.boxes.now in
-    let tx = c.args.transaction.tx.store.number in
-    let v = c.args.transaction.work in
-    let d = c.args.disk.now in
-    let s = c.args.space.now.store in
-    let e = c.finish_work.new.disk in
-    let t = c.finish_work.new.space.store in
-    let w = c.finish_work.new.transaction.work in
-    let next = c.finish_work.new.transaction.tx.store.number in
-    let same = ap (λ (x : Tx). x.store.number) c.finish_work.ensures.tx in
-    let led = c.finish_work.ensures.led in
-    let f = c.commit_pages-in-Ok.new.disk in
     let u = c.commit_pages-in-Ok.new.space.store in
     let r = c.commit_pages-in-Ok.result in
     rw c.ended-in-Ok.ensures (none-ended r u c.commit_pages-in-Ok.ensures.none c.commit_pages-in-Ok.ensures.err)
@@ -400,14 +231,11 @@ returns-in-Ok-clause-remains g c =
     let faults = g.D.Disk.faults in
     let m = g.B.Boxes.meanings c.args.boxes.now in
     let tx = c.args.transaction.tx.store.number in
-    let v = c.args.transaction.work in
     let d = c.args.disk.now in
     let s = c.args.space.now.store in
     let e = c.finish_work.new.disk in
     let t = c.finish_work.new.space.store in
     let w = c.finish_work.new.transaction.work in
-    let next = c.finish_work.new.transaction.tx.store.number in
-    let same = ap (λ (x : Tx). x.store.number) c.finish_work.ensures.tx in
     let led = c.finish_work.ensures.led in
     let f = c.commit_pages-in-Ok.new.disk in
     let u = c.commit_pages-in-Ok.new.space.store in
@@ -421,14 +249,11 @@ returns-in-Err-clause-refused g c =
     let faults = g.D.Disk.faults in
     let m = g.B.Boxes.meanings c.args.boxes.now in
     let tx = c.args.transaction.tx.store.number in
-    let v = c.args.transaction.work in
     let d = c.args.disk.now in
     let s = c.args.space.now.store in
     let e = c.finish_work.new.disk in
     let t = c.finish_work.new.space.store in
     let w = c.finish_work.new.transaction.work in
-    let next = c.finish_work.new.transaction.tx.store.number in
-    let same = ap (λ (x : Tx). x.store.number) c.finish_work.ensures.tx in
     let led = c.finish_work.ensures.led in
     let f = c.stop.new.disk in
     let u = c.stop.new.space.store in
@@ -442,14 +267,11 @@ returns-in-Err-clause-fault g c =
     let faults = g.D.Disk.faults in
     let m = g.B.Boxes.meanings c.args.boxes.now in
     let tx = c.args.transaction.tx.store.number in
-    let v = c.args.transaction.work in
     let d = c.args.disk.now in
     let s = c.args.space.now.store in
     let e = c.finish_work.new.disk in
     let t = c.finish_work.new.space.store in
     let w = c.finish_work.new.transaction.work in
-    let next = c.finish_work.new.transaction.tx.store.number in
-    let same = ap (λ (x : Tx). x.store.number) c.finish_work.ensures.tx in
     let led = c.finish_work.ensures.led in
     let f = c.stop.new.disk in
     let u = c.stop.new.space.store in
@@ -458,23 +280,7 @@ returns-in-Err-clause-fault g c =
 
 pub returns-in-Err-clause-tx : goal.returns-in-Err-clause-tx
 returns-in-Err-clause-tx g c =
-    let told = g.D.Disk.told in
-    let len = g.D.Disk.len in
-    let faults = g.D.Disk.faults in
-    let m = g.B.Boxes.meanings c.args.boxes.now in
     let tx = c.args.transaction.tx.store.number in
-    let v = c.args.transaction.work in
-    let d = c.args.disk.now in
-    let s = c.args.space.now.store in
-    let e = c.finish_work.new.disk in
-    let t = c.finish_work.new.space.store in
-    let w = c.finish_work.new.transaction.work in
-    let next = c.finish_work.new.transaction.tx.store.number in
-    let same = ap (λ (x : Tx). x.store.number) c.finish_work.ensures.tx in
-    let led = c.finish_work.ensures.led in
-    let f = c.stop.new.disk in
-    let u = c.stop.new.space.store in
-    let q = c.stop.result.refusal in
     same-open c.stop.result.transaction c.args.transaction c.finish_work.new.transaction c.finish_work.ensures.tx c.stop.ensures.tx
 
 pub returns-in-Err-clause-stays : goal.returns-in-Err-clause-stays
@@ -482,7 +288,6 @@ returns-in-Err-clause-stays g c =
     let told = g.D.Disk.told in
     let len = g.D.Disk.len in
     let faults = g.D.Disk.faults in
-    let m = g.B.Boxes.meanings c.args.boxes.now in
     let tx = c.args.transaction.tx.store.number in
     let v = c.args.transaction.work in
     let d = c.args.disk.now in
@@ -498,27 +303,19 @@ returns-in-Err-clause-stays g c =
     let q = c.stop.result.refusal in
     stays-open told len faults tx d e f s t u v w c.mark-point.result led c.finish_work.ensures.begun c.in-Err.ensures.points c.in-Err.ensures.was
     (λ up one of. c.mark-point.ensures.latest up one (told d) (len d) of) (λ k place want h at. c.mark-point.ensures.was k place want h (told d) (len d) at)
-    c.stop.result.transaction q next same c.stop.ensures.remains c.stop.ensures.any_moment c.stop.ensures.back
+    c.stop.result.transaction q next same c.stop.ensures.remains c.stop.ensures.any_moment.leaves c.stop.ensures.back
 
 pub returns-in-Err-clause-aborted : goal.returns-in-Err-clause-aborted
 returns-in-Err-clause-aborted g c =
     let told = g.D.Disk.told in
     let len = g.D.Disk.len in
     let faults = g.D.Disk.faults in
-    let m = g.B.Boxes.meanings c.args.boxes.now in
     let tx = c.args.transaction.tx.store.number in
-    let v = c.args.transaction.work in
-    let d = c.args.disk.now in
-    let s = c.args.space.now.store in
     let e = c.finish_work.new.disk in
     let t = c.finish_work.new.space.store in
-    let w = c.finish_work.new.transaction.work in
-    let next = c.finish_work.new.transaction.tx.store.number in
     let same = ap (λ (x : Tx). x.store.number) c.finish_work.ensures.tx in
-    let led = c.finish_work.ensures.led in
     let f = c.stop.new.disk in
     let u = c.stop.new.space.store in
-    let q = c.stop.result.refusal in
     λ none up k root want db begun.
     c.stop.ensures.aborted none up k root want db (subst (λ (n : ℕ). WasBegun k root want db n (parts told len e t)) (sym same)
     (c.finish_work.ensures.begun (up-earlier told len faults e f t u _ c.stop.ensures.remains up) k root want db begun))
@@ -536,13 +333,10 @@ returns-in-Err-clause-any_moment g c =
     let e = c.finish_work.new.disk in
     let t = c.finish_work.new.space.store in
     let w = c.finish_work.new.transaction.work in
-    let next = c.finish_work.new.transaction.tx.store.number in
-    let same = ap (λ (x : Tx). x.store.number) c.finish_work.ensures.tx in
     let led = c.finish_work.ensures.led in
     let f = c.stop.new.disk in
     let u = c.stop.new.space.store in
-    let q = c.stop.result.refusal in
-    λ want h at. LeavesOldOrFinished-abort told len faults m c.args.place tx d e f s t u w led want h (v, at) _ c.stop.ensures.remains c.stop.ensures.any_moment
+    λ want h at. LeavesOldOrFinished-abort told len faults m c.args.place tx d e f s t u w led want h (v, at) _ c.stop.ensures.remains c.stop.ensures.any_moment.leaves
 
 pub returns-in-Err-clause-kept : goal.returns-in-Err-clause-kept
 returns-in-Err-clause-kept g c =
@@ -559,7 +353,7 @@ returns-in-Err-clause-kept g c =
     let led = c.finish_work.ensures.led in
     let f = c.stop.new.disk in
     let u = c.stop.new.space.store in
-    λ not. LeavesWanted-stopped told len faults m c.args.place tx d e f s t u w led _ c.stop.ensures.remains c.stop.ensures.any_moment
+    λ not. KeepsWanted-stopped told len faults m c.args.place tx d e f s t u w led _ c.stop.ensures.remains c.stop.ensures.any_moment
 
 pub returns-in-Err-clause-room : goal.returns-in-Err-clause-room
 returns-in-Err-clause-room g c = λ want h at none idle.
@@ -573,14 +367,11 @@ returns-in-Err-clause-remains g c =
     let faults = g.D.Disk.faults in
     let m = g.B.Boxes.meanings c.args.boxes.now in
     let tx = c.args.transaction.tx.store.number in
-    let v = c.args.transaction.work in
     let d = c.args.disk.now in
     let s = c.args.space.now.store in
     let e = c.finish_work.new.disk in
     let t = c.finish_work.new.space.store in
     let w = c.finish_work.new.transaction.work in
-    let next = c.finish_work.new.transaction.tx.store.number in
-    let same = ap (λ (x : Tx). x.store.number) c.finish_work.ensures.tx in
     let led = c.finish_work.ensures.led in
     let f = c.stop.new.disk in
     let u = c.stop.new.space.store in
@@ -591,16 +382,10 @@ pub stop-requires-clause-point : goal.stop-requires-clause-point
 stop-requires-clause-point g c =
     let told = g.D.Disk.told in
     let len = g.D.Disk.len in
-    let faults = g.D.Disk.faults in
-    let m = g.B.Boxes.meanings c.args.boxes.now in
     let tx = c.args.transaction.tx.store.number in
-    let v = c.args.transaction.work in
     let d = c.args.disk.now in
-    let s = c.args.space.now.store in
     let e = c.finish_work.new.disk in
     let t = c.finish_work.new.space.store in
     let w = c.finish_work.new.transaction.work in
-    let next = c.finish_work.new.transaction.tx.store.number in
     let same = ap (λ (x : Tx). x.store.number) c.finish_work.ensures.tx in
-    let led = c.finish_work.ensures.led in
     subst (λ (n : ℕ). IsPointOf n c.mark-point.result (parts told len e t) w) (sym same) (c.in-Err.ensures.points c.mark-point.result (c.mark-point.ensures.of (told d) (len d)))

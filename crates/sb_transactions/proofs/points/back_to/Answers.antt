@@ -1,5 +1,6 @@
+use Rattle.sb_tables.specs.Refusals.{refusal_of}
 use Rattle.sb_txn.specs.Parts.{parts}
-use Rattle.sb_transactions.proofs.CallLemmas.{HasCause-of}
+use Rattle.sb_transactions.proofs.CallLemmas.{HasCause-of, IsOnlyFault-of, KeepsWanted-fault}
 use Rattle.sb_transactions.proofs.PointLemmas.{IsAt-back, WasSo-back}
 use Rattle.sb_transactions.proofs.points.back_to.Goals as goal
 
@@ -22,3 +23,10 @@ pub returns-in-Err-clause-cause : goal.returns-in-Err-clause-cause
 returns-in-Err-clause-cause g c =
     rw c.refusal_of.ensures
     (HasCause-of g.D.Disk.told g.D.Disk.len g.D.Disk.faults c.args.disk.now c.back_to.new.disk c.args.space.now.store c.back_to.new.self.store c.in-Err.fault c.in-Err.ensures.err c.in-Err.ensures.keeps.fails)
+
+pub returns-in-Ok-clause-any_moment : goal.returns-in-Ok-clause-any_moment
+returns-in-Ok-clause-any_moment g c = record { leaves = c.in-Ok.ensures.any_moment; stays = λ up. c.in-Ok.ensures.wanted }
+
+pub returns-in-Err-clause-any_moment : goal.returns-in-Err-clause-any_moment
+returns-in-Err-clause-any_moment g c =
+    KeepsWanted-fault (refusal_of c.in-Err.fault) (parts g.D.Disk.told g.D.Disk.len c.args.disk.now c.args.space.now.store) (parts g.D.Disk.told g.D.Disk.len c.back_to.new.disk c.back_to.new.self.store) (IsOnlyFault-of g.D.Disk.told g.D.Disk.len g.D.Disk.faults c.args.disk.now c.back_to.new.disk c.args.space.now.store c.back_to.new.self.store c.in-Err.fault c.in-Err.ensures.err c.in-Err.ensures.keeps) c.in-Err.ensures.any_moment

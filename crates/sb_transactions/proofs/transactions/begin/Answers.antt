@@ -1,4 +1,6 @@
+use Rattle.sb_tables.specs.Refusals.{refusal_of}
 use Rattle.sb_txn.specs.Parts.{parts}
+use Rattle.sb_transactions.proofs.CallLemmas.{IsOnlyFault-of, KeepsWanted-fault}
 use Rattle.sb_transactions.proofs.PointLemmas.{IsAt-first, Rests-stays, WasBegun-first}
 use Rattle.sb_transactions.proofs.transactions.begin.Goals as goal
 
@@ -20,3 +22,10 @@ returns-in-Ok-clause-at g c = λ m place want h owner first rests.
 
 pub returns-in-Ok-clause-pages : goal.returns-in-Ok-clause-pages
 returns-in-Ok-clause-pages g c = c.in-Ok.ensures.begins.pages
+
+pub returns-in-Ok-clause-any_moment : goal.returns-in-Ok-clause-any_moment
+returns-in-Ok-clause-any_moment g c = record { leaves = c.in-Ok.ensures.any_moment; stays = λ up want now store. (now, c.in-Ok.ensures.begins.pages want now store) }
+
+pub returns-in-Err-clause-any_moment : goal.returns-in-Err-clause-any_moment
+returns-in-Err-clause-any_moment g c =
+    KeepsWanted-fault (refusal_of c.in-Err.fault) (parts g.D.Disk.told g.D.Disk.len c.args.disk.now c.args.space.now.store) (parts g.D.Disk.told g.D.Disk.len c.begin.new.disk c.begin.new.self.store) (IsOnlyFault-of g.D.Disk.told g.D.Disk.len g.D.Disk.faults c.args.disk.now c.begin.new.disk c.args.space.now.store c.begin.new.self.store c.in-Err.fault c.in-Err.ensures.err c.in-Err.ensures.keeps) c.in-Err.ensures.any_moment

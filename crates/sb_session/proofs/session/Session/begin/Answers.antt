@@ -2,15 +2,15 @@ use Rattle.std.proofs.Common.{Some, refl, sym, ◌∙◌}
 use Rattle.sb_value.proofs.Truths.{is_some-none}
 use Rattle.sb_plain.specs.declared.command.Command.TheVariants as command
 use Rattle.sb_txn.specs.Parts.{parts}
-use Rattle.sb_txn.proofs.KeepsLemmas.{LeavesWanted-none}
 use Rattle.sb_session.specs.declared.session.Session.{Session}
 use Rattle.sb_session.proofs.Carried.{IsSame-itself}
 use Rattle.sb_session.proofs.Commands.{Carried-begin, Carried-misplaced}
+use Rattle.sb_session.proofs.WantLemmas.{KeepsWanted-none}
 use Rattle.sb_session.proofs.session.Session.begin.Goals as goal
 
 pub returns-then-self-clause-any_moment : goal.returns-then-self-clause-any_moment
 returns-then-self-clause-any_moment g c =
-    LeavesWanted-none (parts g.D.Disk.told g.D.Disk.len c.args.disk.now c.args.self.now.space.store)
+    KeepsWanted-none (parts g.D.Disk.told g.D.Disk.len c.args.disk.now c.args.self.now.space.store)
 
 pub returns-then-is_some-clause-ends : goal.returns-then-is_some-clause-ends
 returns-then-is_some-clause-ends g c =
@@ -24,7 +24,7 @@ returns-then-is_some-clause-ends g c =
 
 pub returns-then-is_some-clause-any_moment : goal.returns-then-is_some-clause-any_moment
 returns-then-is_some-clause-any_moment g c =
-    LeavesWanted-none (parts g.D.Disk.told g.D.Disk.len c.args.disk.now c.args.self.now.space.store)
+    KeepsWanted-none (parts g.D.Disk.told g.D.Disk.len c.args.disk.now c.args.self.now.space.store)
 
 pub returns-in-Ok-clause-ends : goal.returns-in-Ok-clause-ends
 returns-in-Ok-clause-ends g c =

@@ -1,14 +1,14 @@
 use Rattle.std.proofs.Common.{sym, ◌∙◌}
 use Rattle.sb_plain.specs.declared.command.Command.TheVariants as command
 use Rattle.sb_txn.specs.Parts.{parts}
-use Rattle.sb_txn.proofs.KeepsLemmas.{LeavesWanted-none}
 use Rattle.sb_session.proofs.Carried.{IsSame-itself}
 use Rattle.sb_session.proofs.Commands.{Carried-misplaced}
+use Rattle.sb_session.proofs.WantLemmas.{KeepsWanted-none}
 use Rattle.sb_session.proofs.session.Session.checkpoint.Goals as goal
 
 pub returns-then-self-clause-any_moment : goal.returns-then-self-clause-any_moment
 returns-then-self-clause-any_moment g c =
-    LeavesWanted-none (parts g.D.Disk.told g.D.Disk.len c.args.disk.now c.args.self.now.space.store)
+    KeepsWanted-none (parts g.D.Disk.told g.D.Disk.len c.args.disk.now c.args.self.now.space.store)
 
 pub returns-then-is_some-clause-ends : goal.returns-then-is_some-clause-ends
 returns-then-is_some-clause-ends g c =
@@ -22,4 +22,4 @@ returns-then-is_some-clause-ends g c =
 
 pub returns-then-is_some-clause-any_moment : goal.returns-then-is_some-clause-any_moment
 returns-then-is_some-clause-any_moment g c =
-    LeavesWanted-none (parts g.D.Disk.told g.D.Disk.len c.args.disk.now c.args.self.now.space.store)
+    KeepsWanted-none (parts g.D.Disk.told g.D.Disk.len c.args.disk.now c.args.self.now.space.store)

@@ -14,9 +14,10 @@ use Rattle.sb_transactions.specs.declared.transactions.Transaction.{Transaction}
 use Rattle.sb_transactions.specs.Commits.{StaysOpen}
 use Rattle.sb_session.specs.Ends.{Ends, IsStep}
 use Rattle.sb_session.specs.Sessions.{HasFailed, IsFor, Lacks, StandsBehind, sizes_of}
-use Rattle.sb_session.proofs.Carried.{IsSame, SameOpen-none, leaves-for}
+use Rattle.sb_session.proofs.Carried.{IsSame, SameOpen-none, keeps-for}
 use Rattle.sb_session.proofs.Commands.{Carried-down, Carried-misplaced}
 use Rattle.sb_session.proofs.CommitLemmas.{Committed-carried, Committed-ok, Committed-over, Committed-wanting}
+use Rattle.sb_session.proofs.WantLemmas.{KeepsWanted-none}
 use Rattle.sb_session.proofs.session.Session.commit.Goals as goal
 
 pub returns-then-self-clause-ends : goal.returns-then-self-clause-ends
@@ -67,7 +68,7 @@ returns-in-Some-transaction-clause-ends g c =
     let y = c.refused.new.self in
     subst (λ (r : Refusal). (want : Wanted) (s : State) → IsFor meanings told len want s d x
     → Ends (StandsBehind meanings told len want (extensions_of (meanings x.boxes)) s command.Commit d c.commit.new.disk x y) (Lacks (sizes_of x)) (HasFailed faults d c.commit.new.disk) (extensions_of (meanings x.boxes)) s command.Commit (Refused r)) (sym c.refused.ensures.same)
-    (Committed-wanting meanings told len faults d c.commit.new.disk x y c.requires.runs c.if-self.false c.in-Some.current (sym c.take.ensures.value ∙ c.in-Some.is) c.commit.new.space c.refused.ensures.space (ap meanings c.refused.ensures.boxes) c.refused.ensures.place _ c.in-Err.uncommitted.refusal c.in-Err.ensures.remains c.refused.ensures.down c.in-Err.ensures.refused c.in-Err.ensures.kept c.in-Err.ensures.any_moment
+    (Committed-wanting meanings told len faults d c.commit.new.disk x y c.requires.runs c.if-self.false c.in-Some.current (sym c.take.ensures.value ∙ c.in-Some.is) c.commit.new.space c.refused.ensures.space (ap meanings c.refused.ensures.boxes) c.refused.ensures.place _ c.in-Err.uncommitted.refusal c.in-Err.ensures.remains c.refused.ensures.down c.in-Err.ensures.refused (λ not. (c.in-Err.ensures.kept not).leaves) c.in-Err.ensures.any_moment
     (sym c.in-Err.ensures.wanting ∙ ap is_some c.in-Some-transaction.is) c.in-Some-transaction.transaction c.refused.ensures.open
     (subst (λ (o : Option Transaction). IfSome o (λ t. t.tx ≡ c.in-Some.current.transaction.tx)) c.in-Some-transaction.is c.in-Err.ensures.tx)
     (subst (λ (o : Option Transaction). IfSome o (λ t. StaysOpen c.in-Some.current.transaction.tx.store.number (parts told len d x.space.store) (parts told len c.commit.new.disk c.commit.new.space.store)
@@ -82,7 +83,7 @@ returns-in-Some-transaction-clause-runs g c =
     let x = c.args.self.now in
     let d = c.args.disk.now in
     let y = c.refused.new.self in
-    (Committed-wanting meanings told len faults d c.commit.new.disk x y c.requires.runs c.if-self.false c.in-Some.current (sym c.take.ensures.value ∙ c.in-Some.is) c.commit.new.space c.refused.ensures.space (ap meanings c.refused.ensures.boxes) c.refused.ensures.place _ c.in-Err.uncommitted.refusal c.in-Err.ensures.remains c.refused.ensures.down c.in-Err.ensures.refused c.in-Err.ensures.kept c.in-Err.ensures.any_moment
+    (Committed-wanting meanings told len faults d c.commit.new.disk x y c.requires.runs c.if-self.false c.in-Some.current (sym c.take.ensures.value ∙ c.in-Some.is) c.commit.new.space c.refused.ensures.space (ap meanings c.refused.ensures.boxes) c.refused.ensures.place _ c.in-Err.uncommitted.refusal c.in-Err.ensures.remains c.refused.ensures.down c.in-Err.ensures.refused (λ not. (c.in-Err.ensures.kept not).leaves) c.in-Err.ensures.any_moment
     (sym c.in-Err.ensures.wanting ∙ ap is_some c.in-Some-transaction.is) c.in-Some-transaction.transaction c.refused.ensures.open
     (subst (λ (o : Option Transaction). IfSome o (λ t. t.tx ≡ c.in-Some.current.transaction.tx)) c.in-Some-transaction.is c.in-Err.ensures.tx)
     (subst (λ (o : Option Transaction). IfSome o (λ t. StaysOpen c.in-Some.current.transaction.tx.store.number (parts told len d x.space.store) (parts told len c.commit.new.disk c.commit.new.space.store)
@@ -99,22 +100,22 @@ returns-in-None-clause-ends g c =
     let y = c.refused-in-None.new.self in
     subst (λ (r : Refusal). (want : Wanted) (s : State) → IsFor meanings told len want s d x
     → Ends (StandsBehind meanings told len want (extensions_of (meanings x.boxes)) s command.Commit d c.commit.new.disk x y) (Lacks (sizes_of x)) (HasFailed faults d c.commit.new.disk) (extensions_of (meanings x.boxes)) s command.Commit (Refused r)) (sym c.refused-in-None.ensures.same)
-    (Committed-over meanings told len faults d c.commit.new.disk x y c.requires.runs c.if-self.false c.in-Some.current (sym c.take.ensures.value ∙ c.in-Some.is) c.commit.new.space c.refused-in-None.ensures.space (ap meanings c.refused-in-None.ensures.boxes) c.refused-in-None.ensures.place _ c.in-Err.uncommitted.refusal c.in-Err.ensures.remains c.refused-in-None.ensures.down c.in-Err.ensures.refused c.in-Err.ensures.kept c.in-Err.ensures.any_moment
+    (Committed-over meanings told len faults d c.commit.new.disk x y c.requires.runs c.if-self.false c.in-Some.current (sym c.take.ensures.value ∙ c.in-Some.is) c.commit.new.space c.refused-in-None.ensures.space (ap meanings c.refused-in-None.ensures.boxes) c.refused-in-None.ensures.place _ c.in-Err.uncommitted.refusal c.in-Err.ensures.remains c.refused-in-None.ensures.down c.in-Err.ensures.refused (λ not. (c.in-Err.ensures.kept not).leaves) c.in-Err.ensures.any_moment
     (sym c.in-Err.ensures.wanting ∙ ap is_some c.in-None.is) (c.refused-in-None.ensures.open ∙ c.take.ensures.after) c.in-Err.ensures.fault (c.in-Err.ensures.aborted c.in-None.is)
     (c.in-Err.ensures.none c.in-None.is)).ends
 
 pub returns-then-self-clause-kept : goal.returns-then-self-clause-kept
-returns-then-self-clause-kept g c = λ not. LeavesWanted-none (parts g.D.Disk.told g.D.Disk.len c.args.disk.now c.args.self.now.space.store)
+returns-then-self-clause-kept g c = λ not. KeepsWanted-none (parts g.D.Disk.told g.D.Disk.len c.args.disk.now c.args.self.now.space.store)
 
 pub returns-in_default-clause-kept : goal.returns-in_default-clause-kept
-returns-in_default-clause-kept g c = λ not. LeavesWanted-none (parts g.D.Disk.told g.D.Disk.len c.args.disk.now c.args.self.now.space.store)
+returns-in_default-clause-kept g c = λ not. KeepsWanted-none (parts g.D.Disk.told g.D.Disk.len c.args.disk.now c.args.self.now.space.store)
 
 pub returns-in-Some-transaction-clause-kept : goal.returns-in-Some-transaction-clause-kept
 returns-in-Some-transaction-clause-kept g c = λ not.
-    leaves-for g.B.Boxes.meanings g.D.Disk.told g.D.Disk.len c.args.disk.now c.commit.new.disk c.args.self.now c.refused.new.self c.commit.new.space c.refused.ensures.space
+    keeps-for g.B.Boxes.meanings g.D.Disk.told g.D.Disk.len c.args.disk.now c.commit.new.disk c.args.self.now c.refused.new.self c.commit.new.space c.refused.ensures.space
     (c.in-Err.ensures.kept (λ fault. not (c.refused.ensures.same ∙ fault)))
 
 pub returns-in-None-clause-kept : goal.returns-in-None-clause-kept
 returns-in-None-clause-kept g c = λ not.
-    leaves-for g.B.Boxes.meanings g.D.Disk.told g.D.Disk.len c.args.disk.now c.commit.new.disk c.args.self.now c.refused-in-None.new.self c.commit.new.space c.refused-in-None.ensures.space
+    keeps-for g.B.Boxes.meanings g.D.Disk.told g.D.Disk.len c.args.disk.now c.commit.new.disk c.args.self.now c.refused-in-None.new.self c.commit.new.space c.refused-in-None.ensures.space
     (c.in-Err.ensures.kept (λ fault. not (c.refused-in-None.ensures.same ∙ fault)))
