@@ -20,6 +20,8 @@ use Rattle.sb_opening.specs.Ends.{ends_with}
 use Rattle.sb_kernel.specs.Writing.{GivenFront}
 use Rattle.sb_kernel.specs.Answering.{HasReplied}
 use Rattle.sb_kernel.specs.Runs.{PlaysOn, HasAnswered, HasStopped, LinesLead}
+use Rattle.sb_kernel.specs.Keeping.{Keeps}
+use Rattle.sb_kernel.proofs.KeepingLemmas.{Keeps-then}
 use Rattle.sb_kernel.proofs.PlayedLemmas.{PlaysOn-more}
 use Rattle.sb_kernel.proofs.Replied.{text_of-push, all_replied, more_replies, more_written}
 
@@ -39,21 +41,26 @@ passes_over w m lines line first now passed answered = record {
   writes = answered.writes;
   later = answered.later;
   plays = answered.plays;
+  keeps = answered.keeps;
 }
 
 -- the line asks for a reply and was given this one, between these two moments
 pub record IsAnswered {B D : Type 0} (w : World B D) (line : List ℕ) (reply : Reply) (old now : At B D) : Type 0 where
   pub said : asks (without_return line) ≡ true
+  pub up : old.session.down ≡ false
+  pub book : old.session.space.store.book.down ≡ false
   pub starts : now.starts ≡ old.starts ++ w.clock old.disk ∷ []
   pub later : w.faults old.disk ≤ w.faults now.disk
   pub replied : HasReplied w (without_return line) old.disk now.disk old.session now.session reply
 
 pub is_answered : {B D : Type 0} (w : World B D) (line bytes content : List ℕ) (said : Bool) (reply : Reply) (old now : At B D) → bytes ≡ line → content ≡ without_return bytes → said ≡ asks content → said ≡ true →
-    now.starts ≡ old.starts ++ w.clock old.disk ∷ [] → w.faults old.disk ≤ w.faults now.disk → HasReplied w content old.disk now.disk old.session now.session reply → IsAnswered w line reply old now
-is_answered w line bytes content said reply old now same is asked so starts later replied =
+    old.session.down ≡ false → old.session.space.store.book.down ≡ false → now.starts ≡ old.starts ++ w.clock old.disk ∷ [] → w.faults old.disk ≤ w.faults now.disk → HasReplied w content old.disk now.disk old.session now.session reply → IsAnswered w line reply old now
+is_answered w line bytes content said reply old now same is asked so up book starts later replied =
     let content_is : content ≡ without_return line = is ∙ ap without_return same in
     record {
       said = ap asks (sym content_is) ∙ sym asked ∙ so;
+      up = up;
+      book = book;
       starts = starts;
       later = later;
       replied = subst (λ (l : List ℕ). HasReplied w l old.disk now.disk old.session now.session reply) content_is replied;
@@ -94,6 +101,7 @@ record HasBegun {B D : Type 0} (w : World B D) (m : Meanings) (lines : List (Lis
   are_answered : AreAnswered items replies
   later : w.faults first.disk ≤ w.faults now.disk
   plays : PlaysOn w m items replies first now
+  keeps : Keeps w items replies first.disk now.disk first.session now.session
 
 still_later : (a b c : ℕ) → a ≤ b → b ≤ c → a ≤ c
 still_later a b c before later = omega (arith, before, later)
@@ -115,6 +123,8 @@ begins w fits m lines line reply first old now one answered = record {
   later = still_later (w.faults first.disk) (w.faults old.disk) (w.faults now.disk) answered.later one.later;
   plays = subst (λ (starts : List ℕ). PlaysOn w m (answered.items ++ one.replied.item ∷ []) (answered.replies ++ reply ∷ []) first (at now.disk now.session now.held starts)) (sym one.starts)
       (PlaysOn-more w fits m answered.items answered.replies first old.disk now.disk old.session now.session old.held now.held old.starts (without_return line) reply answered.later one.later answered.plays one.replied);
+  keeps = Keeps-then w answered.items (one.replied.item ∷ []) answered.replies (reply ∷ []) first.disk old.disk now.disk first.session old.session now.session
+      answered.each one.up one.book answered.keeps one.replied.keeps;
 }
 
 -- a line that was answered
@@ -135,6 +145,7 @@ answers w fits m lines line reply first old now on one given answered =
       writes = ap (λ (text : List ℕ). text ++ reply_text reply) answered.writes ∙ sym (text_of-push answered.replies reply);
       later = h.later;
       plays = h.plays;
+      keeps = h.keeps;
     }
 
 -- a line whose reply the sink didn't take
@@ -156,6 +167,7 @@ stops_at_sink w fits m lines line reply first old now one given answered =
       writes = record { written = answered.replies; last = reply; part = given.written; are = refl; breaks_off = given.front; is_text = ap (λ (text : List ℕ). text ++ given.written) answered.writes };
       later = h.later;
       plays = h.plays;
+      keeps = h.keeps;
     }
 
 -- a line whose reply couldn't be printed
@@ -177,6 +189,7 @@ stops_unprinted w fits m lines line reply first old now one same answered =
       writes = inr (record { written = answered.replies; last = reply; are = refl; is_text = answered.writes });
       later = h.later;
       plays = h.plays;
+      keeps = h.keeps;
     }
 
 -- a line whose reply, which was written in full, says why the run stops
@@ -205,6 +218,7 @@ stops_behind w fits m lines line reply stop first old now why one given answered
       writes = says_last stop answered.replies reply (answered.written ++ reply_text reply) why all;
       later = h.later;
       plays = h.plays;
+      keeps = h.keeps;
     }
 
 -- a line whose reply was written in full
@@ -229,6 +243,7 @@ stops_between w m lines others first now answered = record {
   writes = inl (answered.on, answered.writes);
   later = answered.later;
   plays = answered.plays;
+  keeps = answered.keeps;
 }
 
 -- the same where nothing was begun
@@ -256,6 +271,7 @@ HasAnswered-as w m lines same first now say answered = record {
   writes = answered.writes;
   later = answered.later;
   plays = answered.plays;
+  keeps = answered.keeps;
 }
 
 pub HasStopped-as : {B D : Type 0} (w : World B D) (m : Meanings) (stop : Stop) (early lines same : List (List ℕ)) (first now : At B D) → ((items : List Item) → AreFirstItems (asking lines) items → AreFirstItems (asking same) items) →
@@ -274,4 +290,5 @@ HasStopped-as w m stop early lines same first now say stopped = record {
   writes = stopped.writes;
   later = stopped.later;
   plays = stopped.plays;
+  keeps = stopped.keeps;
 }

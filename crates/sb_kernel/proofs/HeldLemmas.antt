@@ -15,6 +15,7 @@ use Rattle.sb_opening.specs.Place.{Place}
 use Rattle.sb_txn.specs.Clauses.{HoldsPages, LeavesWanted}
 use Rattle.sb_txn.specs.Parts.{Parts}
 use Rattle.sb_txn.proofs.KeepsLemmas.{LeavesWanted-none}
+use Rattle.sb_opening.specs.Calls.{KeepsWanted}
 use Rattle.sb_opening.specs.Table.{table_len}
 use Rattle.sb_opening.specs.Transactions.{IsCommitted}
 use Rattle.sb_vectors.specs.Vectors.{AreSameBoxes}
@@ -85,10 +86,11 @@ rests-held w m disk x s image now up left = at_end (w.told disk) (w.told disk) (
 
 -- an abort leaves what was wanted
 pub Closes-wanted : {B D : Type 0} (w : World B D) (old new : D) (x y : Session B) (reply : Reply) → KeepsSession w.len w.faults old new x y reply
-    → LeavesWanted (parts_of w.told w.len old x) (parts_of w.told w.len new y) → Closes w old new x
-Closes-wanted w old new x y reply keeps leaves = record {
+    → KeepsWanted (parts_of w.told w.len old x) (parts_of w.told w.len new y) → Closes w old new x
+Closes-wanted w old new x y reply keeps wanted = record {
   later = keeps.later;
-  leaves = λ m s now up. leaves-last w m old x s now up (parts_of w.told w.len new y) leaves;
+  leaves = λ m s now up. leaves-last w m old x s now up (parts_of w.told w.len new y) wanted.leaves;
+  wanted = record { each = wanted.leaves.each };
   ended = λ down. (keeps.ended down).0;
 }
 

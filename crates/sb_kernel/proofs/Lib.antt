@@ -1,6 +1,7 @@
 pub use Rattle.sb_opening.proofs.MoveBoxes
 pub use Rattle.sb_opening.proofs.NewLemmas
 pub mod PlayLemmas
+pub mod KeepingLemmas
 pub mod CrashLemmas
 pub mod PlayedLemmas
 pub mod HeldLemmas

@@ -1,5 +1,5 @@
 -- The reply to a line, and the state to which it leads.
-use Rattle.std.proofs.Common.{◌≡◌, ℕ, ◌==◌, Bool, false, inl, inr, ⊎_elim, is_some, Option, Some, None, List, ◌++◌, refl, sym, ap, ◌∙◌}
+use Rattle.std.proofs.Common.{◌≡◌, ℕ, ◌==◌, Bool, false, inl, inr, ⊎_elim, is_some, Option, Some, None, List, [], ◌∷◌, ◌++◌, refl, sym, ap, ◌∙◌}
 use Rattle.std.specs.List.{find}
 use Rattle.std.proofs.lemmas.Bool.{true≢false}
 use Rattle.sb_disk.specs.Moments.{LeavesOnly}
@@ -34,6 +34,8 @@ use Rattle.sb_kernel.specs.Plays.{AreBoxesOf}
 use Rattle.sb_kernel.specs.Crashes.{IsLeft, IsMade}
 use Rattle.sb_kernel.specs.Answering.{HasMoved, HasReplied}
 use Rattle.sb_kernel.proofs.PlayLemmas.{Comes, Ends-comes}
+use Rattle.sb_kernel.specs.Keeping.{Keeps}
+use Rattle.sb_kernel.proofs.KeepingLemmas.{Keeps-bad}
 use Rattle.sb_kernel.proofs.HeldLemmas.{Holds-last, Holds-restored, leaves-still}
 
 -- ---- boxes of which some are live
@@ -61,7 +63,7 @@ HasReplied-bad w line column d x up is = record {
   item = Bad column;
   is_item = is;
   bad = refl;
-  sizes = refl;
+  keeps = Keeps-bad w column (Refused (Syntax column)) d x;
   moves = λ m s now single. record {
     state = s;
     moves = record {
@@ -78,7 +80,8 @@ HasReplied-bad w line column d x up is = record {
 module _ {B D : Type 0} (w : World B D) (c : Command) (old new : D) (x y : Session B) (reply : Reply) (up : x.down ≡ false)
     (ends : (want : Wanted) (s : State) → IsFor w.meanings w.told w.len want s old x → IsPosedIn (w.meanings x.boxes) s c
     → Ends (StandsBehind w.meanings w.told w.len want (extensions_of (w.meanings x.boxes)) s c old new x y) (Lacks (sizes_of x)) (HasFailed w.faults old new) (extensions_of (w.meanings x.boxes)) s c reply)
-    (same : AreSameBoxes (w.meanings x.boxes) (w.meanings y.boxes)) (keeps : KeepsSession w.len w.faults old new x y reply) where
+    (same : AreSameBoxes (w.meanings x.boxes) (w.meanings y.boxes)) (keeps : KeepsSession w.len w.faults old new x y reply)
+    (kept : Keeps w (Says c ∷ []) (reply ∷ []) old new x y) where
   abbrev n : Meanings
   n = w.meanings x.boxes
 
@@ -134,4 +137,4 @@ module _ {B D : Type 0} (w : World B D) (c : Command) (old new : D) (x y : Sessi
       }
 
   pub HasReplied-command : (line : List ℕ) → IsItem line (Says c) → HasReplied w line old new x y reply
-  HasReplied-command line item = record { item = Says c; is_item = item; bad = tt; sizes = keeps.geometry; moves = moved line item }
+  HasReplied-command line item = record { item = Says c; is_item = item; bad = tt; keeps = kept; moves = moved line item }

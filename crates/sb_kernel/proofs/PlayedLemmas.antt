@@ -52,7 +52,7 @@ PlaysOn-more w fits m items replies first disk new x y held held' starts line re
     let HasFailed : Type 0 = Rose (w.faults first.disk) (w.faults new) in
     record {
       states = played.states ++ moved.state ∷ [];
-      sizes = r.sizes ∙ played.sizes;
+      sizes = r.keeps.sizes ∙ played.sizes;
       plays = Plays-more m (Lacks g) HasFailed s items replies played.states r.item reply moved.state
           (Plays-since m (Lacks g) (Rose (w.faults first.disk) (w.faults disk)) HasFailed
           (λ rose. Rose-before (w.faults first.disk) (w.faults disk) (w.faults new) rose later) s items replies played.states played.plays)

@@ -19,6 +19,7 @@ use Rattle.sb_kernel.specs.World.{World, At, at}
 use Rattle.sb_kernel.specs.Answering.{Closes}
 use Rattle.sb_kernel.specs.Runs.{PlaysOut, HasAnswered, HasStopped, Stands}
 use Rattle.sb_kernel.specs.Serving.{Counts, counted, NeverFall, HasEndingCause, HasNoneLeft, Serves, ServesMore, HasEnded, HasServed}
+use Rattle.sb_kernel.proofs.KeepingLemmas.{Keeps-none, KeepsOut-closed}
 use Rattle.sb_kernel.proofs.PlayedLemmas.{HasPlayed-none, PlaysOut-closed}
 
 more_room : (n room : ℕ) → n ≤ n + room
@@ -43,6 +44,7 @@ stands_first w m line disk x held empty = record {
     writes = refl;
     later = omega arith;
     plays = λ s now single. HasPlayed-none w m disk x s held now;
+    keeps = Keeps-none w disk x;
   };
   line = empty;
 }
@@ -86,7 +88,7 @@ ends_with_input w m bytes left old new line first now last room count buffer ask
   within = below_room (length bytes) room asked;
   writes = a.writes;
   in_time = tt;
-  known = a.plays;
+  known = (a.plays, a.keeps);
 }
 
 pub stops_at_last_line : {B D : Type 0} (w : World B D) (m : Meanings) (stop : Stop) (bytes : List ℕ) (left old new : Option (List ℕ)) (line : List ℕ) (first now last : At B D) (room count : ℕ) (buffer : List ℕ) →
@@ -107,7 +109,7 @@ stops_at_last_line w m stop bytes left old new line first now last room count bu
   within = more_room (length bytes) room;
   writes = h.writes;
   in_time = record { before = bytes; piece = []; is = sym (append-nil bytes); short = omega arith; replied = h.replied };
-  known = h.plays;
+  known = (h.plays, h.keeps);
 }
 
 -- ---- a source that fails
@@ -131,7 +133,7 @@ ends_with_fault w m bytes left old new line first now room asked same serves =
       within = below_room (length bytes) room asked;
       writes = a.writes;
       in_time = tt;
-      known = a.plays;
+      known = (a.plays, a.keeps);
     }
 
 -- ---- a piece
@@ -171,7 +173,7 @@ stops_in_piece w m stop bytes left old new line first now last room count buffer
   within = piece_fits bytes buffer count room few fits;
   writes = h.writes;
   in_time = record { before = bytes; piece = take count buffer; is = refl; short = piece_short buffer count few short; replied = h.replied };
-  known = h.plays;
+  known = (h.plays, h.keeps);
 }
 
 -- ---- all pieces
@@ -212,14 +214,14 @@ ends_with_most w m taken most left left_now line first now is some =
       within = some.count_is ∙ is;
       writes = a.writes;
       in_time = tt;
-      known = a.plays;
+      known = (a.plays, a.keeps);
     }
 
 -- ---- the end
 -- the session is closed then
 pub HasServed-closed : {B D : Type 0} (w : World B D) (m : Meanings) (most : ℕ) (left left_now : Option (List ℕ)) (ending : Ending) (first : At B D) (disk new : D) (x y : Session B) (held : Option (List ℕ)) (starts now : List ℕ) →
-    Closes w disk new x → now ≡ starts → HasEnded w m most left left_now ending first (at disk x held starts) → HasServed w m most left left_now ending first (at new y held now)
-HasServed-closed w m most left left_now ending first disk new x y held starts now closed same ended = record {
+    (x.down ≡ false → x.space.store.book.down ≡ false) → Closes w disk new x → now ≡ starts → HasEnded w m most left left_now ending first (at disk x held starts) → HasServed w m most left left_now ending first (at new y held now)
+HasServed-closed w m most left left_now ending first disk new x y held starts now ready closed same ended = record {
   taken = ended.taken;
   written = ended.written;
   items = ended.items;
@@ -235,7 +237,11 @@ HasServed-closed w m most left left_now ending first disk new x y held starts no
   within = ended.within;
   writes = ended.writes;
   in_time = ended.in_time;
-  known = subst (λ (l : List ℕ). PlaysOut w m ended.items ended.replies first (at new y held l)) (sym same) (PlaysOut-closed w m ended.items ended.replies first disk new x y held held starts ended.known closed);
+  known = (
+    subst (λ (l : List ℕ). PlaysOut w m ended.items ended.replies first (at new y held l)) (sym same)
+        (PlaysOut-closed w m ended.items ended.replies first disk new x y held held starts ended.known.0 closed),
+    KeepsOut-closed w ended.items ended.replies first (at disk x held starts) new ready ended.known.1 closed,
+  );
 }
 
 pub NeverFall-then : (a b c : Counts) → NeverFall a b → NeverFall b c → NeverFall a c

@@ -86,6 +86,7 @@ HasStopped-grow w m stop early some bytes more first now stopped = record {
   writes = stopped.writes;
   later = stopped.later;
   plays = stopped.plays;
+  keeps = stopped.keeps;
 }
 
 -- ---- the bytes of a piece, one by one

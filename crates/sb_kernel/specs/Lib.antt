@@ -1,4 +1,5 @@
 pub use Rattle.sb_execution.specs.Working
+pub use Rattle.sb_opening.specs.Calls
 pub use Rattle.sb_opening.specs.Creating
 pub use Rattle.sb_opening.specs.Ends
 pub use Rattle.sb_opening.specs.Naming
@@ -10,6 +11,7 @@ pub use Rattle.sb_opening.specs.Table
 pub use Rattle.sb_opening.specs.declared.codes.Named
 pub use Rattle.sb_posing.specs.Posing
 pub mod World
+pub mod Keeping
 pub mod Plays
 pub mod Crashes
 pub mod Ending

@@ -16,6 +16,7 @@ use Rattle.sb_log.specs.declared.geometry.Geometry.{Geometry}
 use Rattle.sb_opening.specs.Sessions.{Lacks, sizes_of}
 use Rattle.sb_kernel.specs.declared.ending.Stop.{Stop}
 use Rattle.sb_kernel.specs.World.{World, At, IsNow}
+use Rattle.sb_kernel.specs.Keeping.{Keeps}
 use Rattle.sb_kernel.specs.Plays.{Plays, last_state}
 use Rattle.sb_kernel.specs.Crashes.{HoldsDatabase, LeavesAlong, next_start}
 use Rattle.sb_kernel.specs.Ending.{AreAnswered, AreReplied, GoOn, GoOnButLast, WritesAtStop}
@@ -88,6 +89,7 @@ pub record HasAnswered {B D : Type 0} (w : World B D) (m : Meanings) (lines : Li
   pub writes : written ≡ text_of replies
   pub later : w.faults first.disk ≤ w.faults now.disk
   pub plays : PlaysOn w m items replies first now
+  pub keeps : Keeps w items replies first.disk now.disk first.session now.session
 
 -- The first asking lines were answered, all early lines among them, and then the run stopped.
 pub record HasStopped {B D : Type 0} (w : World B D) (m : Meanings) (stop : Stop) (early lines : List (List ℕ)) (first now : At B D) : Type 0 where
@@ -104,6 +106,7 @@ pub record HasStopped {B D : Type 0} (w : World B D) (m : Meanings) (stop : Stop
   pub writes : WritesAtStop stop replies written
   pub later : w.faults first.disk ≤ w.faults now.disk
   pub plays : PlaysOn w m items replies first now
+  pub keeps : Keeps w items replies first.disk now.disk first.session now.session
 
 -- All whole lines of the bytes were answered, and of the line that has begun is held what tells what it says.
 pub record Stands {B D : Type 0} (w : World B D) (m : Meanings) (bytes held : List ℕ) (first now : At B D) : Type 0 where

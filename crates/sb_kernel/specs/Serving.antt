@@ -13,6 +13,7 @@ use Rattle.sb_kernel.specs.declared.ending.Ending.{Ending}
 use Rattle.sb_kernel.specs.declared.ending.Ending.TheVariants.{InputEnded, SourceFailed, MostTaken, Stopped}
 use Rattle.sb_kernel.specs.World.{World, At}
 use Rattle.sb_kernel.specs.Ending.{AreAnswered, AreReplied, EndsOnce, WritesAtEnd}
+use Rattle.sb_kernel.specs.Keeping.{Keeps, KeepsOut}
 use Rattle.sb_kernel.specs.Runs.{PlaysOn, PlaysOut, Stands}
 
 -- ---- how a run ends
@@ -77,15 +78,17 @@ pub record HasEndedSo (most : ℕ) (left left_now held held_now : Option (List �
   pub in_time : WritesInTime ending taken replies written
   pub known : IsKnown items replies
 
--- the items were played
+-- the items were played, and this is what they keep
 abbrev pub HasEnded : {B D : Type 0} → World B D → Meanings → ℕ → Option (List ℕ) → Option (List ℕ) → Ending → At B D → At B D → Type 0
 HasEnded w m most left left_now ending first now =
-    HasEndedSo most left left_now first.held now.held ending now.starts (λ items replies. PlaysOn w m items replies first now)
+    HasEndedSo most left left_now first.held now.held ending now.starts (λ items replies. PlaysOn w m items replies first now
+    × Keeps w items replies first.disk now.disk first.session now.session)
 
 -- the items were played, and then the session was closed
 abbrev pub HasServed : {B D : Type 0} → World B D → Meanings → ℕ → Option (List ℕ) → Option (List ℕ) → Ending → At B D → At B D → Type 0
 HasServed w m most left left_now ending first now =
-    HasEndedSo most left left_now first.held now.held ending now.starts (λ items replies. PlaysOut w m items replies first now)
+    HasEndedSo most left left_now first.held now.held ending now.starts (λ items replies. PlaysOut w m items replies first now
+    × KeepsOut w items replies first now.disk)
 
 -- ---- one piece
 -- These bytes were taken, and all of their whole lines were answered.

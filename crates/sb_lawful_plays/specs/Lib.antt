@@ -4,6 +4,7 @@ pub use Rattle.sb_kernel.specs.Ending
 pub use Rattle.sb_kernel.specs.Ends
 pub use Rattle.sb_kernel.specs.Geometry
 pub use Rattle.sb_kernel.specs.Named
+pub use Rattle.sb_kernel.specs.Keeping
 pub use Rattle.sb_kernel.specs.Naming
 pub use Rattle.sb_kernel.specs.Opening
 pub use Rattle.sb_kernel.specs.Plays

@@ -38,7 +38,7 @@ use Rattle.sb_session.specs.Sessions.{CanRun, IsFor}
 use Rattle.sb_opening.specs.declared.codes.Named.{Named}
 use Rattle.sb_opening.specs.Looking.{IsLook, IsLookErr, OverCatalogue, RestsStill}
 use Rattle.sb_opening.specs.Naming.{HasLive, IsAbsent, all_live, first_absent, named_in}
-use Rattle.sb_opening.specs.Opening.{IsCatalogued, IsStored, MayRefuse, NamesEntry, NamesMissing, NamesTable, OpeningErr, WasLookedAt, opened}
+use Rattle.sb_opening.specs.Opening.{IsCatalogued, IsStored, MayRefuse, NamesEntry, NamesMissing, NamesTable, OpeningErr, Wants, WasLookedAt, opened}
 use Rattle.sb_opening.specs.Owners.{HasNoStray, TellsStray}
 use Rattle.sb_opening.proofs.CommittedLemmas.{committed-live}
 use Rattle.sb_opening.proofs.OwnerLemmas.{none-stray}
@@ -157,6 +157,10 @@ module _ {D : Type 0} (told : D → Option Story) (len faults : D → ℕ) (d e 
 
   store_of : (want : ℕ → List ℕ) (g : Geometry) → IsMounted want (told d) g → HoldsPages want want mid
   store_of want g mounted = ([], [], was.pages want g mounted)
+
+  -- behind a look too
+  pub wanted-opened : (q : Parts) → RestsStill mid q → (want : ℕ → List ℕ) (g : Geometry) → IsMounted want (told d) g → Wants want q
+  wanted-opened q still want g mounted = still.wanted want want (store_of want g mounted)
 
   -- ---- a disk whose contents have a catalogue
   module _ (g : Geometry) (want : Wanted) (kept : List Kept) (of : IsCatalogued (told d) g want kept) where

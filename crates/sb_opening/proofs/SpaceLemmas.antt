@@ -20,7 +20,7 @@ use Rattle.sb_txn.specs.State.{State}
 use Rattle.sb_txn.proofs.KeepsLemmas.{LeavesWanted-then}
 use Rattle.sb_space.specs.Table.{slots_in}
 use Rattle.sb_space.specs.Transactions.{AreFormed, KeepsSpace}
-use Rattle.sb_space.specs.Works.{Fails, HasPages, MeansDown, Works}
+use Rattle.sb_space.specs.Works.{Fails, HasPages, MeansDown, StaysWanted, Works}
 use Rattle.sb_opening.specs.Looking.{IsLook, IsLookErr, OverCatalogue, RestsStill, fault_of, found_at_end}
 use Rattle.sb_opening.specs.Owners.{TellsStray}
 use Rattle.sb_opening.proofs.OwnerLemmas.{TellsStray-down, means_reads}
@@ -136,6 +136,14 @@ module _ {D : Type 0} (told : D → Option Story) (len faults : D → ℕ) where
         by kept false off = off
         by kept true on = ⊎_elim (λ (was : u.book.down ≡ true). ok_err done Down (kept.down was).answer) (λ (err : IsErrOf (Ok done) Fault). ok_err done Fault err) (kept.up on)
 
+    up_before : (z : Result (Unit {0}) SpaceFault) → r ≡ z → OnOk z (u.book.down ≡ false)
+    up_before (Err y) is = tt
+    up_before (Ok done) is = by (subst (λ (z : Result (Unit {0}) SpaceFault). KeepsSpace told len faults f h u v z) is last) u.book.down refl
+      where
+        by : KeepsSpace told len faults f h u v (Ok done) → (b : Bool) → u.book.down ≡ b → u.book.down ≡ false
+        by kept false off = off
+        by kept true on = ok_err done Down (kept.down on).answer
+
     abbrev StaysInBegin : Type 0
     StaysInBegin = (want : Wanted) (slots : Slots) → HasPages want slots (parts told len d s) → HasPages want slots (parts told len e t)
 
@@ -145,8 +153,8 @@ module _ {D : Type 0} (told : D → Option Story) (len faults : D → ℕ) where
     abbrev StaysInAbort : Type 0
     StaysInAbort = (want : Wanted) (slots : Slots) → HasPages want slots (parts told len f u) → AreFormed u.pool.geometry.pages want → HasPages want (slots_in u.pool.geometry.pages want) (parts told len h v)
 
-    rests : v.book.down ≡ false → v.book.actives ≡ [] → StaysInBegin → StaysInLook → StaysInAbort → RestsStill (parts told len d s) (parts told len h v)
-    rests up none one two three = record {
+    rests : v.book.down ≡ false → u.book.down ≡ false → v.book.actives ≡ [] → StaysInBegin → StaysInLook → StaysInAbort → StaysWanted (parts told len f u) (parts told len h v) → RestsStill (parts told len d s) (parts told len h v)
+    rests up before none one two three kept = record {
       ready = last.ready;
       up = up;
       none = none;
@@ -154,14 +162,16 @@ module _ {D : Type 0} (told : D → Option Story) (len faults : D → ℕ) where
           let same : u.pool.geometry ≡ s.pool.geometry = works.geometry ∙ first.geometry in
           subst (λ (g : Geometry). HasPages want (slots_in g.pages want) (parts told len h v)) (sym last.geometry)
           (three want slots (two want slots (one want slots has)) (subst (λ (g : Geometry). AreFormed g.pages want) (sym same) formed));
+      wanted = λ want now store. let turns = (works.makes before).pages want now (begins.pages want now store) in kept want turns.pages turns.store;
     }
 
     pub RestsStill-ended : {T : Type 0} (q : Result T SpaceFault) (z : Result (Unit {0}) SpaceFault) → r ≡ z → OnOk z (v.book.actives ≡ []) → StaysInBegin → OnOk q StaysInLook → OnOk z StaysInAbort
+        → OnOk z (StaysWanted (parts told len f u) (parts told len h v))
         → OnOk (found_at_end q z) (RestsStill (parts told len d s) (parts told len h v))
-    RestsStill-ended (Ok y) (Ok done) is none one two three = rests (up_ended (Ok done) is) none one two three
-    RestsStill-ended (Err y) (Ok done) is none one two three = tt
-    RestsStill-ended (Ok y) (Err w) is none one two three = tt
-    RestsStill-ended (Err y) (Err w) is none one two three = tt
+    RestsStill-ended (Ok y) (Ok done) is none one two three kept = rests (up_ended (Ok done) is) (up_before (Ok done) is) none one two three kept
+    RestsStill-ended (Err y) (Ok done) is none one two three kept = tt
+    RestsStill-ended (Ok y) (Err w) is none one two three kept = tt
+    RestsStill-ended (Err y) (Err w) is none one two three kept = tt
 
 -- ---- what was found
 module _ {T : Type 0} (root : ℕ) (p q : Parts) (stays : (want : Wanted) (slots : Slots) → HasPages want slots p → HasPages want slots q) where

@@ -1,4 +1,5 @@
 pub use Rattle.sb_map.specs.declared.place.Place
+pub use Rattle.sb_session.specs.Calls
 pub use Rattle.sb_session.specs.Ends
 pub use Rattle.sb_session.specs.Sessions
 pub use Rattle.sb_session.specs.Transactions

@@ -16,7 +16,7 @@ use Rattle.sb_txn.specs.Parts.{Parts, parts}
 use Rattle.sb_txn.specs.State.{State}
 use Rattle.sb_space.specs.Table.{slots_in}
 use Rattle.sb_space.specs.Transactions.{AreFormed}
-use Rattle.sb_space.specs.Works.{HasPages}
+use Rattle.sb_space.specs.Works.{HasPages, StaysWanted}
 
 -- what a look at pages refuses, as an opening says it; the other refusals never come of one
 abbrev pub fault_of : SpaceFault → OpenFault
@@ -49,10 +49,11 @@ pub record IsLook {D : Type 0} (told : D → Option Story) (len faults : D → �
   pub geometry : t.pool.geometry ≡ s.pool.geometry
   pub leaves : LeavesWanted (parts told len old s) (parts told len new t)
 
--- The store is ready behind it, and no transaction is out. Pages wanted that are formed are the pages now, if they were.
+-- The store is ready behind it, and no transaction is out. Pages wanted that are formed are the pages now, if they were; whatever is wanted stays so.
 pub record RestsStill (p q : Parts) : Type 0 where
   pub ready : IsReady q
   pub up : q.store.book.down ≡ false
   pub none : q.store.book.actives ≡ []
   pub has : (want : Wanted) (s : Slots) → AreFormed p.store.pool.geometry.pages want → HasPages want s p
       → HasPages want (slots_in q.store.pool.geometry.pages want) q
+  pub wanted : StaysWanted p q

@@ -12,7 +12,9 @@ use Rattle.sb_relation.specs.Db.{Db}
 use Rattle.sb_plain.specs.State.{State}
 use Rattle.sb_registry.specs.Boxes.{Meanings}
 use Rattle.sb_drive.specs.Spaces.{Wanted}
+use Rattle.sb_txn.specs.Clauses.{HoldsPages}
 use Rattle.sb_txn.specs.Opened.{WasRestarted}
+use Rattle.sb_txn.specs.Parts.{Parts}
 use Rattle.sb_space.specs.Opening.{IsFirstDamaged, SpaceErr}
 use Rattle.sb_space.specs.Table.{AreWhole, IsTable, slots_in, table_len}
 use Rattle.sb_standing.specs.Standing.{owners_in}
@@ -37,6 +39,10 @@ pub record IsCatalogued (told : Option Story) (g : Geometry) (want : Wanted) (ke
   pub whole : AreWhole g.pages want
   pub boxes : Meanings
   pub tables : Tables boxes IsDurable (table_len g.pages) (slots_in g.pages want) kept
+
+-- these pages are wanted of a store, with some that are its pages now
+abbrev pub Wants : (ℕ → List ℕ) → Parts → Type 0
+Wants want p = (now : ℕ → List ℕ) × HoldsPages want now p
 
 -- where they have a catalogue, there is a box for each code that it names
 abbrev pub HasBoxes : Meanings → Option Story → Type 0

@@ -9,12 +9,12 @@ ghost use Rattle.sb_log.specs.declared.geometry.Geometry.{Geometry};
 ghost use Rattle.sb_relation.specs.Db.{Db};
 ghost use Rattle.sb_registry.specs.Boxes.{Meanings, repeated_in};
 ghost use Rattle.sb_drive.specs.Spaces.{Wanted};
-ghost use Rattle.sb_session.specs.Sessions.{CanRun, IsFor, sizes_of};
+ghost use Rattle.sb_session.specs.Sessions.{CanRun, IsFor, parts_of, sizes_of};
 ghost use Rattle.sb_space.specs.Table.{slots_in, table_len};
 ghost use Rattle.sb_standing.specs.Standing.{AreKnown, owners_in};
 ghost use Rattle.sb_standing.specs.Tables.{Kept};
 ghost use Rattle.sb_opening.specs.Naming.{HasLive, named_in};
-ghost use Rattle.sb_opening.specs.Opening.{HasBoxes, IsCatalogued, IsStored, MayRefuse, NamesEntry, NamesMissing, NamesTable, OpeningErr, opened};
+ghost use Rattle.sb_opening.specs.Opening.{HasBoxes, IsCatalogued, IsStored, MayRefuse, NamesEntry, NamesMissing, NamesTable, OpeningErr, Wants, opened};
 ghost use Rattle.sb_opening.specs.Owners.{HasNoStray};
 
 use crate::looking::named_codes;
@@ -52,6 +52,9 @@ pub fn open<B: Vectors + Drop, D: Disk>(
         → IfTold (D.told disk.old) (sizes_of session ≡ g)) }
     ensures place { IfOk result (λ session. session.place ≡ record { owner = 2; root = table_len session.space.store.pool.geometry.pages }) }
     ensures up { IfOk result (λ session. session.down ≡ false) }
+    ensures outside { IfOk result (λ session. session.«open» ≡ None) }
+    ensures wanted { IfOk result (λ session. (want : ℕ → List ℕ) (g : Geometry) → IsMounted want (D.told disk.old) g
+        → Wants want (parts_of D.told D.len disk.new session)) }
 
     // A store of which a box is missing isn't opened.
     ensures present { OnOk result (HasBoxes (B.meanings boxes) (D.told disk.old)) }

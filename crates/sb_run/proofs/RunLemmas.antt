@@ -1,7 +1,11 @@
 -- A run over a session that was opened.
-use Rattle.std.proofs.Common.{◌≡◌, ◌≤◌, inr, ℕ, arith, Bool, true, false, Option, None, List, [], subst}
-use Rattle.sb_disk.specs.Disk.{Mounted}
+use Rattle.std.proofs.Common.{◌≡◌, ◌≤◌, inr, ℕ, arith, Bool, true, false, is_some, Option, Some, None, List, [], refl, sym, ap, subst, ◌∙◌}
+use Rattle.std.proofs.lemmas.Bool.{false≢true}
+use Rattle.sb_disk.specs.Disk.{Mounted, Story}
 use Rattle.sb_disk.specs.Moments.{LeavesOnly}
+use Rattle.sb_disk.proofs.MomentLemmas.{and_then}
+use Rattle.sb_images.specs.Images.{Restores}
+use Rattle.sb_images.specs.Store.{IfTold}
 use Rattle.sb_images.specs.Layout.{geometry_of}
 use Rattle.sb_log.specs.declared.geometry.Geometry.{Geometry}
 use Rattle.sb_relation.specs.Db.{Db}
@@ -14,7 +18,9 @@ use Rattle.sb_sound_plays.specs.DeclaredEnding.{Ending}
 use Rattle.sb_sound_plays.specs.Crashes.{HoldsDatabase}
 use Rattle.sb_sound_plays.specs.Ending.{status_of}
 use Rattle.sb_sound_plays.specs.Runs.{HasPlayedOut, PlaysOut}
+use Rattle.sb_sound_plays.specs.Keeping.{KeepsOut, commit_none}
 use Rattle.sb_sound_plays.specs.Serving.{AnswersItems, HasEndedSo, HasServed}
+use Rattle.sb_sound_plays.specs.Sessions.{sizes_of}
 use Rattle.sb_sound_plays.specs.World.{At, World, at}
 use Rattle.sb_sound_plays.proofs.LawfulPlaysDatabases.{nothing-over as nothing-lawful}
 use Rattle.sb_sound_plays.proofs.LawfulPlaysPlaying.{runs-lawful}
@@ -22,7 +28,7 @@ use Rattle.sb_sound_plays.proofs.Databases.{nothing-over as nothing-sound}
 use Rattle.sb_sound_plays.proofs.Playing.{runs-sound}
 use Rattle.sb_words.specs.declared.words.Words.{Words}
 use Rattle.sb_run.specs.declared.report.Report.{Report}
-use Rattle.sb_run.specs.Run.{HasPlayedFrom, HoldsNew, OnMounted, PlaysFrom, Run, RunsMounted, RunsOn, Seen, Tells, seen, tells}
+use Rattle.sb_run.specs.Run.{HasPlayedFrom, HoldsNew, KeepsPages, OnMounted, PlaysFrom, Run, RunsMounted, RunsOn, Seen, Tells, seen, tells}
 use Rattle.sb_run.specs.Starting.{HasStarted}
 use Rattle.sb_run.proofs.EarlyLemmas.{early-along, holds-opened}
 
@@ -72,6 +78,31 @@ plays-from w m words true mounted ending taken items replies first now answers s
       ),
 )
 
+-- ---- what is kept
+told_none : (a b : Option Story) (P Q : List ℕ → Type 0) → a ≡ None → LeavesOnly a b P → LeavesOnly a b Q
+told_none a None P Q none run = record { tells = run.tells; later = run.later; before = run.before; since = λ t image late left. absurd left }
+told_none a (Some s) P Q none run = absurd (false≢true (ap is_some (sym none) ∙ run.tells))
+
+keeps-pages : {B D : Type 0} (w : World B D) (m : Meanings) (words : Words) (create : Bool) (mounted : D) (items : List Item) (replies : List Reply) (first : At B D) (now : D)
+    → HasStarted w m words create mounted first.disk first.session → KeepsOut w items replies first now → KeepsPages (tells w.told w.len w.faults) create mounted now items replies
+keeps-pages w m words true mounted items replies first now started keeps = tt
+keeps-pages w m words false mounted items replies first now started keeps = λ none want g is.
+    let stored = started.2 in
+    let wanted = stored.wanted want g is in
+    let left = (keeps (ap (λ (b : Bool). commit_none b items replies) (ap is_some stored.outside) ∙ none)).each want wanted.0 wanted.1 in
+    and_then (w.told mounted) (w.told first.disk) (w.told now) (Restores g want) (stored.leaves want g is) (by (w.told mounted) refl want g (stored.leaves want g is) (stored.sizes want g is) left)
+  where
+    none_of : (o : Option Story) → is_some o ≡ false → o ≡ None
+    none_of None is = refl
+    none_of (Some s) is = absurd (false≢true (sym is))
+
+    by : (told : Option Story) → w.told mounted ≡ told → (want : ℕ → List ℕ) (g : Geometry) → LeavesOnly (w.told mounted) (w.told first.disk) (Restores g want)
+        → IfTold (w.told mounted) (sizes_of first.session ≡ g) → LeavesOnly (w.told first.disk) (w.told now) (Restores (sizes_of first.session) want)
+        → LeavesOnly (w.told first.disk) (w.told now) (Restores g want)
+    by None is want g early sizes left = told_none (w.told first.disk) (w.told now) _ _ (none_of (w.told first.disk) (sym early.tells ∙ ap is_some is)) left
+    by (Some s) is want g early sizes left =
+        subst (λ (h : Geometry). LeavesOnly (w.told first.disk) (w.told now) (Restores h want)) (subst (λ (o : Option Story). IfTold o (sizes_of first.session ≡ g)) is sizes) left
+
 -- what is known of the items and their replies, by what was known
 known-by : (most : ℕ) (left left_now held held_now : Option (List ℕ)) (ending : Ending) (starts : List ℕ)
     (IsKnown Follows : List Item → List Reply → Type 0)
@@ -107,9 +138,12 @@ runs_mounted w m words most left left_now held held_now mounted first now x endi
   status = status;
   later = omega (arith, before, later);
   ended = known-by most left left_now held held_now ending report.starts _
-      (PlaysFrom (tells w.told w.len w.faults) m words words.create mounted now report.starts)
-      (λ taken items replies answers plays.
-      plays-from w m words words.create mounted ending taken items replies (at first x held []) (at now x held_now report.starts) answers started plays)
+      (λ items replies. PlaysFrom (tells w.told w.len w.faults) m words words.create mounted now report.starts items replies
+      × KeepsPages (tells w.told w.len w.faults) words.create mounted now items replies)
+      (λ taken items replies answers known. (
+        plays-from w m words words.create mounted ending taken items replies (at first x held []) (at now x held_now report.starts) answers started known.0,
+        keeps-pages w m words words.create mounted items replies (at first x held []) now started known.1,
+      ))
       served;
 })
 

@@ -21,10 +21,10 @@ use Rattle.sb_registry.specs.Boxes.{Meanings}
 use Rattle.sb_drive.specs.Spaces.{Wanted}
 use Rattle.sb_sound_plays.specs.Table.{table_len}
 use Rattle.sb_sound_plays.specs.Session.{Session}
-use Rattle.sb_sound_plays.specs.Sessions.{IsFor, sizes_of}
+use Rattle.sb_sound_plays.specs.Sessions.{IsFor, parts_of, sizes_of}
 use Rattle.sb_sound_plays.specs.Creating.{CreateErr}
 use Rattle.sb_sound_plays.specs.Naming.{HasLive, all_live, named_in}
-use Rattle.sb_sound_plays.specs.Opening.{HasBoxes, IsStored, opened}
+use Rattle.sb_sound_plays.specs.Opening.{HasBoxes, IsStored, Wants, opened}
 use Rattle.sb_sound_plays.proofs.NewLemmas.{committed-new}
 use Rattle.sb_sound_plays.specs.Crashes.{HoldsDatabase}
 use Rattle.sb_sound_plays.specs.World.{World}
@@ -58,9 +58,11 @@ module _ {B D E : Type 0} (w : World B D) (m : Meanings) (words : Words) (create
       → IfOk r IsPlaced
       → IfOk r (λ x. (want : ℕ → List ℕ) (g : Geometry) → IsMounted want (w.told mounted) g → IfTold (w.told mounted) (sizes_of x ≡ g))
       → ((want : ℕ → List ℕ) (g : Geometry) → IsMounted want (w.told mounted) g → LeavesOnly (w.told mounted) (w.told here) (Restores g want))
+      → IfOk r (λ x. x.«open» ≡ None)
+      → IfOk r (λ x. (want : ℕ → List ℕ) (g : Geometry) → IsMounted want (w.told mounted) g → Wants want (parts_of w.told w.len here x))
       → IfOk r (λ x. HasStarted w m words create mounted here x)
-  opens (Err e) asked present stands live place sizes leaves = tt
-  opens (Ok x) asked present stands live place sizes leaves =
+  opens (Err e) asked present stands live place sizes leaves outside wanted = tt
+  opens (Ok x) asked present stands live place sizes leaves outside wanted =
       subst (λ (create : Bool). HasStarted w m words create mounted here x) (sym asked) (
         present,
         λ g want db stored. record {
@@ -76,6 +78,7 @@ module _ {B D E : Type 0} (w : World B D) (m : Meanings) (words : Words) (create
               (λ image restores. record { geometry = g; want = want; restores = restores; committed = stored.committed })
               (leaves want g stored.mounted);
         },
+        record { outside = outside; leaves = leaves; sizes = sizes; wanted = wanted },
       )
 
   pub makes : (r : Result (Session B) E) → create ≡ true

@@ -18,6 +18,7 @@ use Rattle.sb_grammar.specs.Columns.{Item}
 use Rattle.sb_sound_plays.specs.Posing.{AreSingle}
 use Rattle.sb_registry.specs.Boxes.{Meanings, repeated_in}
 use Rattle.sb_drive.specs.Spaces.{Wanted}
+use Rattle.sb_sound_plays.specs.Keeping.{commit_none}
 use Rattle.sb_sound_plays.specs.Named.{Named}
 use Rattle.sb_sound_plays.specs.Creating.{CreateErr}
 use Rattle.sb_sound_plays.specs.Naming.{HasLive, all_live, named_in}
@@ -100,12 +101,19 @@ PlaysFrom d m words true mounted now starts items replies =
     × (AreSingle (all_live m) → (from : HasPlayedFrom d m begun.boxes (geometry_of words.pages words.log) (HoldsNew m) [] mounted begun.first now items replies starts)
     × KeepsRules d m begun.boxes (geometry_of words.pages words.log) (HoldsNew m) mounted begun.first now items replies starts from))
 
+-- Where no item can have committed a database, a crash leaves what the contents' store restored at the mount, whatever that stands for.
+abbrev pub KeepsPages : {D : Type 0} → Tells D → (create : Bool) → (mounted now : D) → List Item → List Reply → Type 0
+KeepsPages d false mounted now items replies = commit_none false items replies ≡ true
+    → (want : ℕ → List ℕ) (g : Geometry) → IsMounted want (d.told mounted) g → LeavesOnly (d.told mounted) (d.told now) (Restores g want)
+KeepsPages d true mounted now items replies = Unit {0}
+
 -- a store was opened, or made and opened, and items were answered until the run ended
 pub record HasRun {D : Type 0} (d : Tells D) (m : Meanings) (words : Words) (most : ℕ) (old new : Seen) (mounted now : D) (report : Report) : Type 0 where
   pub ending : Ending
   pub status : report.status ≡ status_of ending
   pub later : d.faults mounted ≤ d.faults now
-  pub ended : HasEndedSo most old.left new.left old.held new.held ending report.starts (PlaysFrom d m words words.create mounted now report.starts)
+  pub ended : HasEndedSo most old.left new.left old.held new.held ending report.starts
+      (λ items replies. PlaysFrom d m words words.create mounted now report.starts items replies × KeepsPages d words.create mounted now items replies)
 
 -- ---- runs that don't begin
 -- the disk failed a call, where the refusal says so

@@ -4,6 +4,7 @@ pub use Rattle.sb_lawful_plays.specs.DeclaredEnding
 pub use Rattle.sb_lawful_plays.specs.Ending
 pub use Rattle.sb_lawful_plays.specs.Laws as LawfulPlaysLaws
 pub use Rattle.sb_lawful_plays.specs.Named
+pub use Rattle.sb_lawful_plays.specs.Keeping
 pub use Rattle.sb_lawful_plays.specs.Naming
 pub use Rattle.sb_lawful_plays.specs.Opening
 pub use Rattle.sb_lawful_plays.specs.Plays

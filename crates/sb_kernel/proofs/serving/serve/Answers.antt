@@ -14,7 +14,7 @@ returns-clause-served g c = λ m.
     let new = c.serve_input-ending.new in
     let fresh = serves_first w m left d.line c.args.disk.now c.args.session d.session held d.starts c.new-dialogue.ensures.session c.new-dialogue.ensures.line c.new-dialogue.ensures.starts in
     HasServed-closed w m c.args.most left (g.S.Source.left new.source) c.serve_input-ending.result first new.disk c.close.new.disk new.dialogue.session c.args.session (g.K.Sink.held new.sink) new.dialogue.starts c.into_starts.result
-    c.close.ensures.closed (c.into_starts.ensures ∙ c.close.ensures.starts) (c.serve_input-ending.ensures.ended m left first fresh)
+    c.serve_input-ending.ensures.runs.up c.close.ensures.closed (c.into_starts.ensures ∙ c.close.ensures.starts) (c.serve_input-ending.ensures.ended m left first fresh)
 
 pub returns-clause-counts : goal.returns-clause-counts
 returns-clause-counts g c =

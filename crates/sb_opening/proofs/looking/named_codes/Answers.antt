@@ -44,7 +44,7 @@ returns-clause-rests g c =
     rw c.found_at_end.ensures
     (RestsStill-ended g.D.Disk.told g.D.Disk.len g.D.Disk.faults c.args.disk.now c.begin.new.disk c.codes_within-found.new.disk c.abort-ended.new.disk c.args.space.now.store c.begin.new.self.store c.codes_within-found.new.space.store c.abort-ended.new.self.store
     c.in-Ok.tx.store.number c.in-Ok.ensures.begins c.in-Ok.ensures.any_moment c.in-Ok.tx c.in-Ok.ensures.keeps c.codes_within-found.ensures.looks.works c.abort-ended.result c.abort-ended.ensures.keeps c.abort-ended.ensures.any_moment
-    c.codes_within-found.result c.abort-ended.result refl c.abort-ended.ensures.none c.in-Ok.ensures.pages c.codes_within-found.ensures.looks.same c.abort-ended.ensures.alone)
+    c.codes_within-found.result c.abort-ended.result refl c.abort-ended.ensures.none c.in-Ok.ensures.pages c.codes_within-found.ensures.looks.same c.abort-ended.ensures.alone c.abort-ended.ensures.wanted)
 
 pub returns-clause-err : goal.returns-clause-err
 returns-clause-err g c =

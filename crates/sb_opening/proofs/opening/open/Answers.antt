@@ -1,11 +1,12 @@
 use Rattle.std.proofs.Common.{◌≡◌, ◌∙◌, ℕ, Err, List, sym, ap, subst}
+use Rattle.sb_txn.specs.Parts.{parts}
 use Rattle.sb_txn.proofs.ResultLemmas.{IfErr-from}
 use Rattle.sb_opening.specs.declared.codes.Named.{Named}
 use Rattle.sb_standing.specs.Standing.{owners_in}
 use Rattle.sb_space.specs.Table.{slots_in}
 use Rattle.sb_opening.specs.Naming.{HasLive, first_absent, named_in}
 use Rattle.sb_opening.specs.Owners.{HasNoStray, TellsStray}
-use Rattle.sb_opening.proofs.OpenLemmas.{CanRun-opened, IsFor-opened, MayRefuse-absent, MayRefuse-looked, MayRefuse-space, NamesEntry-space, NamesMissing-absent, NamesMissing-looked, NamesMissing-space, NamesTable-opened, NamesTable-space, OpeningErr-absent, OpeningErr-looked, OpeningErr-space, TellsStray-absent, fault-absent, fault-looked, fault-space, leaves-looked, over-catalogued, over-stored, sizes-opened, up-opened}
+use Rattle.sb_opening.proofs.OpenLemmas.{CanRun-opened, IsFor-opened, MayRefuse-absent, MayRefuse-looked, MayRefuse-space, NamesEntry-space, NamesMissing-absent, NamesMissing-looked, NamesMissing-space, NamesTable-opened, NamesTable-space, OpeningErr-absent, OpeningErr-looked, OpeningErr-space, TellsStray-absent, fault-absent, fault-looked, fault-space, leaves-looked, over-catalogued, over-stored, sizes-opened, up-opened, wanted-opened}
 use Rattle.sb_opening.proofs.OwnerLemmas.{AreKnown-all}
 use Rattle.sb_opening.proofs.opening.open.Goals as goal
 
@@ -176,6 +177,11 @@ returns-clause-runs g c =
     CanRun-opened g.D.Disk.told g.D.Disk.len g.D.Disk.faults c.args.disk.now c.open_store.new.disk c.in_ok-store.store c.in_ok-store.ensures.opened c.in_ok-store.ensures.space
     g.B.Boxes.meanings c.make_live.new.boxes c.named_codes.new.disk c.named_codes.new.space.store _ c.in_ok-named.ensures.look.geometry c.in_ok-named.ensures.rests
     (ap (λ (r : ℕ × ℕ). r.0) c.catalogue-owner.ensures) (g.B.Boxes.meanings c.args.boxes) c.as_slice.result.now c.in_ok-make_live.ensures.live
+
+pub returns-clause-wanted : goal.returns-clause-wanted
+returns-clause-wanted g c =
+    wanted-opened g.D.Disk.told g.D.Disk.len g.D.Disk.faults c.args.disk.now c.open_store.new.disk c.in_ok-store.store c.in_ok-store.ensures.opened c.in_ok-store.ensures.space
+    (parts g.D.Disk.told g.D.Disk.len c.named_codes.new.disk c.named_codes.new.space.store) c.in_ok-named.ensures.rests
 
 pub returns-clause-present : goal.returns-clause-present
 returns-clause-present g c = λ h want kept of.

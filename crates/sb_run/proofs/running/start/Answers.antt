@@ -13,7 +13,7 @@ pub returns-else-words-clause-started : goal.returns-else-words-clause-started
 returns-else-words-clause-started g c =
     opens (world g.B.Boxes.meanings g.D.Disk.told g.D.Disk.len g.D.Disk.clock g.D.Disk.faults) (g.B.Boxes.meanings c.args.boxes) c.args.words.now c.args.words.now.create
     c.args.disk.now c.open.new.disk c.open.ensures.later c.open.result c.if-words.false c.open.ensures.present
-    c.open.ensures.stands c.open.ensures.live c.open.ensures.place c.open.ensures.sizes c.open.ensures.any_moment
+    c.open.ensures.stands c.open.ensures.live c.open.ensures.place c.open.ensures.sizes c.open.ensures.any_moment c.open.ensures.outside c.open.ensures.wanted
 
 pub returns-then-words-clause-refused : goal.returns-then-words-clause-refused
 returns-then-words-clause-refused g c =

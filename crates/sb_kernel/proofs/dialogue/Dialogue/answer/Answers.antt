@@ -21,7 +21,7 @@ returns-in_err-print_reply-clause-leads g c = λ m lines first answered.
     let old = at c.args.disk.now c.args.self.now.session (g.K.Sink.held c.args.sink.now) c.args.self.now.starts in
     let now = at c.answer_line.new.disk c.answer_line.new.session (g.K.Sink.held c.args.sink.now) c.answer_line.new.starts in
     let one : IsAnswered w line reply old now =
-    is_answered w line c.as_slice.result.now c.content-line.result.now c.asks.result reply old now c.as_slice.ensures c.content-line.ensures c.asks.ensures c.if-not-asks.false c.in_ok-reply.ensures.begun c.in_ok-reply.ensures.keeps.later c.in_ok-reply.ensures.replied in
+    is_answered w line c.as_slice.result.now c.content-line.result.now c.asks.result reply old now c.as_slice.ensures c.content-line.ensures c.asks.ensures c.if-not-asks.false c.requires.up (c.requires.runs.up c.requires.up) c.in_ok-reply.ensures.begun c.in_ok-reply.ensures.keeps.later c.in_ok-reply.ensures.replied in
     rw (p.1, p.2) (stops_unprinted w g.met.D.Disk.fits m lines line reply first old now one refl answered)
 
 pub returns-in_err-write_all-clause-leads : goal.returns-in_err-write_all-clause-leads
@@ -33,7 +33,7 @@ returns-in_err-write_all-clause-leads g c = λ m lines first answered.
     let old = at c.args.disk.now c.args.self.now.session (g.K.Sink.held c.args.sink.now) c.args.self.now.starts in
     let now = at c.answer_line.new.disk c.answer_line.new.session (g.K.Sink.held c.write_all.new.sink) c.answer_line.new.starts in
     let one : IsAnswered w line reply old now =
-    is_answered w line c.as_slice.result.now c.content-line.result.now c.asks.result reply old now c.as_slice.ensures c.content-line.ensures c.asks.ensures c.if-not-asks.false c.in_ok-reply.ensures.begun c.in_ok-reply.ensures.keeps.later c.in_ok-reply.ensures.replied in
+    is_answered w line c.as_slice.result.now c.content-line.result.now c.asks.result reply old now c.as_slice.ensures c.content-line.ensures c.asks.ensures c.if-not-asks.false c.requires.up (c.requires.runs.up c.requires.up) c.in_ok-reply.ensures.begun c.in_ok-reply.ensures.keeps.later c.in_ok-reply.ensures.replied in
     let given = GivenFront-alone old.held now.held c.as_slice-2.result.now c.print_reply.new.out c.truncate.new.self (reply_text reply) c.as_slice-2.ensures c.in_ok-print_reply.ensures.ok c.truncate.ensures c.in_err-write_all.ensures.wrote in
     rw (p.1, p.2) (stops_at_sink w g.met.D.Disk.fits m lines line reply first old now one given answered)
 
@@ -45,6 +45,6 @@ returns-clause-leads g c = λ m lines first answered.
     let old = at c.args.disk.now c.args.self.now.session (g.K.Sink.held c.args.sink.now) c.args.self.now.starts in
     let now = at c.answer_line.new.disk c.answer_line.new.session (g.K.Sink.held c.write_all.new.sink) c.answer_line.new.starts in
     let one : IsAnswered w line reply old now =
-    is_answered w line c.as_slice.result.now c.content-line.result.now c.asks.result reply old now c.as_slice.ensures c.content-line.ensures c.asks.ensures c.if-not-asks.false c.in_ok-reply.ensures.begun c.in_ok-reply.ensures.keeps.later c.in_ok-reply.ensures.replied in
+    is_answered w line c.as_slice.result.now c.content-line.result.now c.asks.result reply old now c.as_slice.ensures c.content-line.ensures c.asks.ensures c.if-not-asks.false c.requires.up (c.requires.runs.up c.requires.up) c.in_ok-reply.ensures.begun c.in_ok-reply.ensures.keeps.later c.in_ok-reply.ensures.replied in
     let given = Given-alone old.held now.held c.as_slice-2.result.now c.print_reply.new.out c.truncate.new.self (reply_text reply) c.as_slice-2.ensures c.in_ok-print_reply.ensures.ok c.truncate.ensures c.in_ok-write_all.ensures.wrote in
     leads_on w g.met.D.Disk.fits m lines line reply c.goes_on.result first old now c.goes_on.ensures one given answered
