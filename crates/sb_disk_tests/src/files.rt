@@ -1,17 +1,16 @@
 //! What no clause says of a disk over files: what files and streams hold, and that what fails there fails here.
 
-ghost use Rattle.std.specs.Prelude.{◌≡◌, ◌+◌, ◌≤◌, IfOk};
-
-use sb_disk::{Disk, Failed, Sink, Source};
+use super::streams::{gives, takes};
+use sb_disk::Source;
 use sb_filedisk::{FileDisk, ReadSource, WriteSink};
 use slow::{Plan, Slow};
-use std::fs;
-use std::io::{self, Read, Seek, SeekFrom};
-use std::rt::Files;
-use std::test::Fail;
+use std::test::*;
+use std::{fs, io};
+use steps::{Step, is_played};
 use unsure::Unsure;
 
 mod slow;
+mod steps;
 mod unsure;
 
 /// Makes an empty folder of this name.
@@ -22,346 +21,274 @@ fn make_folder(rt: &HostRuntime, folder: &str) -> io::Result<()> {
     fs::create_dir(rt, folder)
 }
 
-/// Whether a file holds just these bytes.
-fn holds(rt: &HostRuntime, name: &str, bytes: &[u8]) -> io::Result<bool> {
-    Ok(fs::read(rt, name)?.as_slice() == bytes)
-}
-
-/// The length of a disk, its clock and its failures.
-fn counts<D: Disk>(disk: &D) -> (u64, u64, u64) {
-    (disk.len(), disk.clock(), disk.faults())
-}
-
-/// A file as a disk of so many bytes at least.
-fn mounted<R: Files + Drop>(rt: R, name: &[u8], size: u64) -> Result<FileDisk<R>, Failed>
-    ensures { IfOk result (λ disk. size ≤ ⟦<FileDisk<R> as Disk>⟧.len disk) }
-{
-    let mut disk = FileDisk::new(rt);
-    disk.mount(name, Some(size))?;
-    Ok(disk)
-}
-
-/// Whether the disk reads these bytes from a place on.
-fn reads<D: Disk>(disk: &mut D, at: u64, bytes: [u8; 4]) -> bool
-    requires { at + 4 ≤ D.len disk.old }
-    ensures { D.len disk.new ≡ D.len disk.old }
-{
-    let mut found = [9; 4];
-    disk.read_at(at, &mut found).is_ok() && found == bytes
-}
-
-fn is_kept(rt: &HostRuntime) -> Result<bool, Failed> {
-    let mut disk = mounted(rt, b"sb_filedisk_kept/disk", 8)?;
-    disk.write_at(3, b"abc")?;
-    disk.sync()?;
-    Ok(reads(&mut disk, 2, *b"\0abc") && counts(&disk) == (8, 2, 0))
-}
-
-fn is_found(rt: &HostRuntime) -> Result<bool, Failed> {
-    let mut disk = mounted(rt, b"sb_filedisk_kept/disk", 8)?;
-    Ok(reads(&mut disk, 4, *b"bc\0\0") && counts(&disk) == (8, 0, 0))
-}
-
-#[test]
-fn a_file_is_found_as_it_was(rt: HostRuntime) -> Result<(), Fail> {
-    make_folder(&rt, "sb_filedisk_kept")?;
-    assert!(rt; is_kept(&rt)?);
-    assert!(rt; is_found(&rt)?);
-    fs::remove_dir_all(&rt, "sb_filedisk_kept")?;
-    Ok(())
-}
-
-/// What a file holds, with what size it is mounted, and what it holds then.
-#[derive(Drop)]
+/// What disks do one behind the other in one folder, which is empty before the first.
 struct Row {
-    stored: Option<&'static [u8]>,
-    size: Option<u64>,
-    found: &'static [u8],
+    says: &'static str,
+    /// Whether the disks are over slow files, of which 99 calls succeed.
+    is_slow: bool,
+    disks: &'static [&'static [Step]],
 }
 
-const ROWS: [Row; 4] = [
+/// The file of the rows, as a disk takes its name, and as the system does.
+const NAME: &'static [u8] = b"sb_filedisk_rows/disk";
+
+const FILE: &'static str = "sb_filedisk_rows/disk";
+
+static ROWS: [Row; 13] = [
     Row {
-        stored: None,
-        size: Some(2),
-        found: b"\0\0",
+        says: "a file is found as it was",
+        is_slow: false,
+        disks: &[
+            &[
+                Step::Mount(NAME, Some(8), true),
+                Step::Write(3, b"abc", true),
+                Step::Sync(true),
+                Step::Read(2, Some(*b"\0abc")),
+                Step::Counts([8, 2, 0]),
+            ],
+            &[
+                Step::Mount(NAME, Some(8), true),
+                Step::Read(4, Some(*b"bc\0\0")),
+                Step::Counts([8, 0, 0]),
+            ],
+        ],
     },
     Row {
-        stored: Some(b"abcd"),
-        size: None,
-        found: b"abcd",
+        says: "a file that isn't there is made",
+        is_slow: false,
+        disks: &[&[
+            Step::Mount(NAME, Some(2), true),
+            Step::Counts([2, 0, 0]),
+            Step::Holds(FILE, b"\0\0"),
+        ]],
     },
     Row {
-        stored: Some(b"abcd"),
-        size: Some(6),
-        found: b"abcd\0\0",
+        says: "a file is as long as it was",
+        is_slow: false,
+        disks: &[&[
+            Step::Store(FILE, b"abcd"),
+            Step::Mount(NAME, None, true),
+            Step::Counts([4, 0, 0]),
+            Step::Holds(FILE, b"abcd"),
+        ]],
     },
     Row {
-        stored: Some(b"abcd"),
-        size: Some(2),
-        found: b"abcd",
+        says: "a shorter file grows",
+        is_slow: false,
+        disks: &[&[
+            Step::Store(FILE, b"abcd"),
+            Step::Mount(NAME, Some(6), true),
+            Step::Counts([6, 0, 0]),
+            Step::Holds(FILE, b"abcd\0\0"),
+        ]],
+    },
+    Row {
+        says: "a longer file stays",
+        is_slow: false,
+        disks: &[&[
+            Step::Store(FILE, b"abcd"),
+            Step::Mount(NAME, Some(2), true),
+            Step::Counts([4, 0, 0]),
+            Step::Holds(FILE, b"abcd"),
+        ]],
+    },
+    Row {
+        says: "a name that cannot be opened fails and counts",
+        is_slow: false,
+        disks: &[
+            &[
+                Step::Mount(b"sb_filedisk_none", None, false),
+                Step::Counts([0, 0, 1]),
+                Step::Mount(b"sb_filedisk_none/disk", Some(8), false),
+                Step::Counts([0, 0, 2]),
+                Step::Mount(b"sb_filedisk_\xff", Some(8), false),
+                Step::Counts([0, 0, 3]),
+                Step::Mount(b"sb_filedisk_\0", Some(8), false),
+                Step::Counts([0, 0, 4]),
+                Step::Mount(b"", Some(8), false),
+                Step::Counts([0, 0, 5]),
+            ],
+            &[Step::Sync(false), Step::Counts([0, 1, 1])],
+        ],
+    },
+    Row {
+        says: "a mounted file stays",
+        is_slow: false,
+        disks: &[&[
+            Step::Store("sb_filedisk_rows/other", b"abcdef"),
+            Step::Mount(NAME, Some(4), true),
+            Step::Mount(b"sb_filedisk_rows/other", None, false),
+            Step::Mount(b"sb_filedisk_rows/none", Some(8), false),
+            Step::Mount(NAME, Some(6), true),
+            Step::Counts([6, 0, 2]),
+            Step::Absent("sb_filedisk_rows/none"),
+        ]],
+    },
+    Row {
+        says: "a file cut short is refused",
+        is_slow: false,
+        disks: &[&[
+            Step::Mount(NAME, Some(6), true),
+            Step::Store(FILE, b"abc"),
+            Step::Read(0, None),
+            Step::Mount(NAME, None, false),
+            Step::Counts([6, 0, 2]),
+        ]],
+    },
+    Row {
+        says: "a slow file is read and written whole",
+        is_slow: true,
+        disks: &[
+            &[
+                Step::Mount(NAME, Some(4), true),
+                Step::Interrupt(1),
+                Step::Write(1, b"abc", true),
+                Step::Interrupt(1),
+                Step::Read(0, Some(*b"\0abc")),
+                Step::Interrupts(0),
+            ],
+            &[Step::Allow(0), Step::Mount(NAME, Some(4), false)],
+        ],
+    },
+    // A mount that may make the file syncs it and its folder, another one the file; a sync is one of the bytes.
+    Row {
+        says: "a mount syncs what it makes",
+        is_slow: true,
+        disks: &[
+            &[
+                Step::Mount(NAME, Some(4), true),
+                Step::Syncs([2, 0]),
+                Step::Sync(true),
+                Step::Syncs([3, 1]),
+            ],
+            &[
+                Step::Mount(NAME, None, true),
+                Step::Syncs([1, 0]),
+                Step::Sync(true),
+                Step::Syncs([2, 1]),
+            ],
+        ],
+    },
+    Row {
+        says: "after a failed sync the file is left alone",
+        is_slow: true,
+        disks: &[&[
+            Step::Mount(NAME, Some(4), true),
+            Step::Allow(4),
+            Step::Write(0, b"abc", true),
+            Step::Sync(true),
+            Step::Syncs([3, 1]),
+            Step::Sync(false),
+            Step::Syncs([4, 2]),
+            Step::Allow(99),
+            Step::Write(1, b"xyz", false),
+            Step::Sync(false),
+            Step::Syncs([4, 2]),
+            Step::Read(0, Some(*b"abc\0")),
+            Step::Counts([4, 5, 3]),
+            Step::Holds(FILE, b"abc\0"),
+        ]],
+    },
+    Row {
+        says: "after a failed write the file is left alone",
+        is_slow: true,
+        disks: &[&[
+            Step::Mount(NAME, Some(4), true),
+            Step::Syncs([2, 0]),
+            Step::Allow(1),
+            Step::Write(0, b"abc", false),
+            Step::Allow(99),
+            Step::Write(1, b"xyz", false),
+            Step::Sync(false),
+            Step::Syncs([2, 0]),
+            Step::Counts([4, 3, 3]),
+            Step::Holds(FILE, b"a\0\0\0"),
+        ]],
+    },
+    Row {
+        says: "a place behind four gigabytes is kept",
+        is_slow: false,
+        disks: &[&[
+            Step::Mount(NAME, Some(4_294_967_304), true),
+            Step::Write(4_294_967_297, b"abc", true),
+            Step::Read(4_294_967_296, Some(*b"\0abc")),
+            Step::HoldsAt(FILE, 4_294_967_297, *b"abc"),
+        ]],
     },
 ];
 
-/// Whether the file is mounted as its row says.
-fn is_mounted(rt: &HostRuntime, row: &Row) -> Result<bool, Fail> {
-    let name = "sb_filedisk_sizes/disk";
-    make_folder(rt, "sb_filedisk_sizes")?;
-    if let Some(stored) = row.stored {
-        fs::write(rt, name, stored)?;
-    }
-    let mut disk = FileDisk::new(rt);
-    disk.mount(name.as_bytes(), row.size)?;
-    Ok(disk.len() == row.found.len() as u64 && holds(rt, name, row.found)?)
+/// Whether a disk over the system's own files, which heed no plan, does as the steps say.
+fn is_usual(rt: &HostRuntime, steps: &[Step]) -> bool {
+    let plan = Plan::new(0);
+    is_played(rt, &plan, &mut FileDisk::new(rt), steps)
 }
 
-/// The number of the first row of which that isn't so.
-fn first_other(rt: &HostRuntime) -> Result<usize, Fail> {
-    for (number, row) in ROWS.iter().enumerate() {
-        if !is_mounted(rt, row)? {
-            return Ok(number);
-        }
-    }
-    Ok(ROWS.len())
-}
-
-#[test]
-fn a_shorter_file_grows_and_a_longer_one_stays(rt: HostRuntime) -> Result<(), Fail> {
-    assert_eq!(rt; first_other(&rt)?, 4);
-    fs::remove_dir_all(&rt, "sb_filedisk_sizes")?;
-    Ok(())
-}
-
-const NO_NAMES: [(&[u8], Option<u64>); 5] = [
-    (b"sb_filedisk_none", None),
-    (b"sb_filedisk_none/disk", Some(8)),
-    (b"sb_filedisk_\xff", Some(8)),
-    (b"sb_filedisk_\0", Some(8)),
-    (b"", Some(8)),
-];
-
-/// The number of the first name that is opened.
-fn first_opened(rt: &HostRuntime) -> usize {
-    let mut disk = FileDisk::new(rt);
-    for (number, (name, size)) in NO_NAMES.iter().enumerate() {
-        if disk.mount(name, *size).is_ok() || disk.faults() != number as u64 + 1 {
-            return number;
-        }
-    }
-    NO_NAMES.len()
-}
-
-#[test]
-fn a_name_that_cannot_be_opened_fails_and_counts(rt: HostRuntime) {
-    assert_eq!(rt; first_opened(&rt), 5);
-    let mut disk = FileDisk::new(&rt);
-    assert!(rt; disk.sync().is_err());
-    assert_eq!(rt; counts(&disk), (0, 1, 1));
-}
-
-fn stays_mounted(rt: &HostRuntime) -> Result<bool, Failed> {
-    let mut disk = mounted(rt, b"sb_filedisk_stays/disk", 4)?;
-    let other = disk.mount(b"sb_filedisk_stays/other", None);
-    let none = disk.mount(b"sb_filedisk_stays/none", Some(8));
-    disk.mount(b"sb_filedisk_stays/disk", Some(6))?;
-    Ok(other.is_err() && none.is_err() && counts(&disk) == (6, 0, 2))
-}
-
-#[test]
-fn a_mounted_file_stays(rt: HostRuntime) -> Result<(), Fail> {
-    make_folder(&rt, "sb_filedisk_stays")?;
-    fs::write(&rt, "sb_filedisk_stays/other", b"abcdef".as_slice())?;
-    assert!(rt; stays_mounted(&rt)?);
-    assert!(rt; !fs::exists(&rt, "sb_filedisk_stays/none")?);
-    fs::remove_dir_all(&rt, "sb_filedisk_stays")?;
-    Ok(())
-}
-
-/// Whether a file that has become shorter fails to be read, and to be mounted.
-fn is_too_short(rt: &HostRuntime) -> Result<bool, Fail> {
-    let mut disk = mounted(rt, b"sb_filedisk_short/disk", 6)?;
-    fs::write(rt, "sb_filedisk_short/disk", b"abc".as_slice())?;
-    let read = reads(&mut disk, 0, *b"abc\0");
-    let again = disk.mount(b"sb_filedisk_short/disk", None);
-    Ok(!read && again.is_err() && counts(&disk) == (6, 0, 2))
-}
-
-#[test]
-fn a_file_cut_short_is_refused(rt: HostRuntime) -> Result<(), Fail> {
-    make_folder(&rt, "sb_filedisk_short")?;
-    assert!(rt; is_too_short(&rt)?);
-    fs::remove_dir_all(&rt, "sb_filedisk_short")?;
-    Ok(())
-}
-
-fn is_moved_whole(rt: &HostRuntime) -> Result<bool, Failed> {
-    let plan = Plan::new(99);
-    let mut disk = mounted(Slow { rt, plan: &plan }, b"sb_filedisk_slow/disk", 4)?;
-    plan.interrupts.set(1);
-    disk.write_at(1, b"abc")?;
-    plan.interrupts.set(1);
-    let read = reads(&mut disk, 0, *b"\0abc");
-    Ok(read && plan.interrupts.get() == 0)
-}
-
-#[test]
-fn a_slow_file_is_read_and_written_whole(rt: HostRuntime) -> Result<(), Fail> {
-    make_folder(&rt, "sb_filedisk_slow")?;
-    assert!(rt; is_moved_whole(&rt)?);
-    let none = Plan::new(0);
-    let unsynced = Slow {
-        rt: &rt,
-        plan: &none,
-    };
-    assert!(rt; mounted(unsynced, b"sb_filedisk_slow/disk", 4).is_err());
-    fs::remove_dir_all(&rt, "sb_filedisk_slow")?;
-    Ok(())
-}
-
-/// How many syncs a mount makes, how many of them are of the bytes alone, and how many such there are behind a sync.
-fn count_syncs(rt: &HostRuntime, size: Option<u64>) -> Result<[u32; 3], Failed> {
+/// Whether a disk over slow files does as the steps say.
+fn is_slow(rt: &HostRuntime, steps: &[Step]) -> bool {
     let plan = Plan::new(99);
     let mut disk = FileDisk::new(Slow { rt, plan: &plan });
-    disk.mount(b"sb_filedisk_syncs/disk", size)?;
-    let mounting = plan.syncs.get();
-    let of_bytes = plan.data_syncs.get();
-    disk.sync()?;
-    Ok([mounting, of_bytes, plan.data_syncs.get()])
+    is_played(rt, &plan, &mut disk, steps)
 }
 
-/// A mount that may make the file syncs it and its folder, another one the file; a sync is one of the bytes.
-#[test]
-fn a_mount_syncs_what_it_makes(rt: HostRuntime) -> Result<(), Fail> {
-    make_folder(&rt, "sb_filedisk_syncs")?;
-    assert_eq!(rt; count_syncs(&rt, Some(4))?, [2, 0, 1]);
-    assert_eq!(rt; count_syncs(&rt, None)?, [1, 0, 1]);
-    fs::remove_dir_all(&rt, "sb_filedisk_syncs")?;
-    Ok(())
+/// Whether each disk of the row does as its steps say.
+fn is_row(rt: &HostRuntime, row: &Row) -> bool {
+    if make_folder(rt, "sb_filedisk_rows").is_err() {
+        return false;
+    }
+    for steps in row.disks {
+        let done = match row.is_slow {
+            true => is_slow(rt, steps),
+            false => is_usual(rt, steps),
+        };
+        if !done {
+            return false;
+        }
+    }
+    true
 }
 
-/// Whether a write and a sync fail, and the file is left alone, by the count of its syncs.
-fn is_left_alone<D: Disk>(disk: &mut D, plan: &Plan) -> bool
-    requires { 4 ≤ D.len disk.old }
-    ensures { D.len disk.new ≡ D.len disk.old }
-{
-    let syncs = plan.syncs.get();
-    plan.left.set(99);
-    let late = disk.write_at(1, b"xyz").is_err();
-    let unsynced = disk.sync().is_err();
-    late && unsynced && plan.syncs.get() == syncs
-}
-
-fn stays_behind_a_sync(rt: &HostRuntime) -> Result<bool, Failed> {
-    let plan = Plan::new(99);
-    let mut disk = mounted(Slow { rt, plan: &plan }, b"sb_filedisk_sync/disk", 4)?;
-    plan.syncs.set(0);
-    plan.left.set(4);
-    disk.write_at(0, b"abc")?;
-    disk.sync()?;
-    let reached = plan.syncs.get() == 1;
-    let failed = disk.sync().is_err();
-    let alone = is_left_alone(&mut disk, &plan);
-    let read = reads(&mut disk, 0, *b"abc\0");
-    Ok(reached && failed && alone && read && counts(&disk) == (4, 5, 3))
+/// What the first row says of which it isn't so.
+fn first_other(rt: &HostRuntime) -> Option<&'static str> {
+    for row in ROWS.iter() {
+        if !is_row(rt, row) {
+            return Some(row.says);
+        }
+    }
+    None
 }
 
 #[test]
-fn after_a_failed_sync_the_file_is_left_alone(rt: HostRuntime) -> Result<(), Fail> {
-    make_folder(&rt, "sb_filedisk_sync")?;
-    assert!(rt; stays_behind_a_sync(&rt)?);
-    assert!(rt; holds(&rt, "sb_filedisk_sync/disk", b"abc\0")?);
-    fs::remove_dir_all(&rt, "sb_filedisk_sync")?;
-    Ok(())
-}
-
-fn stays_behind_a_write(rt: &HostRuntime) -> Result<bool, Failed> {
-    let plan = Plan::new(99);
-    let mut disk = mounted(Slow { rt, plan: &plan }, b"sb_filedisk_write/disk", 4)?;
-    plan.left.set(1);
-    let failed = disk.write_at(0, b"abc").is_err();
-    let alone = is_left_alone(&mut disk, &plan);
-    Ok(failed && alone && counts(&disk) == (4, 3, 3))
-}
-
-#[test]
-fn after_a_failed_write_the_file_is_left_alone(rt: HostRuntime) -> Result<(), Fail> {
-    make_folder(&rt, "sb_filedisk_write")?;
-    assert!(rt; stays_behind_a_write(&rt)?);
-    assert!(rt; holds(&rt, "sb_filedisk_write/disk", b"a\0\0\0")?);
-    fs::remove_dir_all(&rt, "sb_filedisk_write")?;
-    Ok(())
-}
-
-fn is_kept_far(rt: &HostRuntime) -> Result<bool, Failed> {
-    let mut disk = mounted(rt, b"sb_filedisk_sparse/disk", 4_294_967_304)?;
-    disk.write_at(4_294_967_297, b"abc")?;
-    Ok(reads(&mut disk, 4_294_967_296, *b"\0abc"))
-}
-
-/// The bytes of the file behind four gigabytes, by the system's own call.
-fn found_far(rt: &HostRuntime) -> io::Result<[u8; 3]> {
-    let mut file = fs::open(rt, "sb_filedisk_sparse/disk")?;
-    let _place = file.seek(SeekFrom::Start(4_294_967_297))?;
-    let mut found = [9; 3];
-    file.read_exact(&mut found)?;
-    Ok(found)
-}
-
-#[test]
-fn a_place_behind_four_gigabytes_is_kept(rt: HostRuntime) -> Result<(), Fail> {
-    make_folder(&rt, "sb_filedisk_sparse")?;
-    assert!(rt; is_kept_far(&rt)?);
-    assert_eq!(rt; found_far(&rt)?, *b"abc");
-    fs::remove_dir_all(&rt, "sb_filedisk_sparse")?;
-    Ok(())
-}
-
-/// Whether the source gives `ab` at once, and no failure is counted.
-fn gives_ab<S: Source>(source: &mut S) -> bool {
-    let mut buffer = [0; 4];
-    source.read(&mut buffer) == Ok(2) && buffer == *b"ab\0\0" && source.faults() == 0
-}
-
-/// Whether the sink takes three bytes at once, and no failure is counted.
-fn takes_three<K: Sink>(sink: &mut K) -> bool {
-    sink.write(b"abc") == Ok(3) && sink.faults() == 0
+fn disks_over_files(rt: HostRuntime) {
+    assert_eq!(rt; first_other(&rt), None);
+    assert!(rt; fs::remove_dir_all(&rt, "sb_filedisk_rows").is_ok());
 }
 
 #[test]
 fn an_interrupted_call_is_made_again(rt: HostRuntime) {
-    assert!(rt; gives_ab(&mut ReadSource::new(Unsure { interrupts: 1 })));
-    assert!(rt; takes_three(&mut WriteSink::new(Unsure { interrupts: 1 })));
+    let mut source = ReadSource::new(Unsure { interrupts: 1 });
+    assert!(rt; gives(&mut source, Some((2, b"ab\0\0")), 0));
+    let mut sink = WriteSink::new(Unsure { interrupts: 1 });
+    assert!(rt; takes(&mut sink, b"abc", Some(3), 0));
 }
 
 /// Whether the source gives `abc` and then ends, with no failure counted.
 fn ends_behind_abc<S: Source>(source: &mut S) -> bool {
-    let mut buffer = [0; 4];
-    let first = source.read(&mut buffer) == Ok(3) && buffer == *b"abc\0";
-    first && source.read(&mut buffer) == Ok(0) && source.faults() == 0
+    gives(source, Some((3, b"abc\0")), 0) && gives(source, Some((0, &[0; 4])), 0)
 }
 
 #[test]
-fn a_pipe_gives_what_it_took_and_ends(rt: HostRuntime) -> Result<(), Fail> {
-    let (reader, writer) = io::pipe(&rt)?;
-    assert!(rt; takes_three(&mut WriteSink::new(writer)));
+fn a_pipe_gives_what_it_took_and_ends(rt: HostRuntime) {
+    let (reader, writer) = io::pipe(&rt).expect(&rt, "a pipe");
+    assert!(rt; takes(&mut WriteSink::new(writer), b"abc", Some(3), 0));
     assert!(rt; ends_behind_abc(&mut ReadSource::new(reader)));
-    Ok(())
-}
-
-fn refuses_reads<S: Source>(source: &mut S) -> bool {
-    let mut buffer = [0; 4];
-    source.read(&mut buffer) == Err(Failed) && source.faults() == 1
-}
-
-fn refuses_writes<K: Sink>(sink: &mut K) -> bool {
-    sink.write(b"abc") == Err(Failed) && sink.faults() == 1
 }
 
 #[test]
-fn a_refused_read_or_write_counts(rt: HostRuntime) -> Result<(), Fail> {
-    make_folder(&rt, "sb_filedisk_streams")?;
-    let name = "sb_filedisk_streams/file";
-    assert!(rt; refuses_reads(&mut ReadSource::new(fs::create(&rt, name)?)));
-    assert!(rt; refuses_writes(&mut WriteSink::new(fs::open(&rt, name)?)));
-    fs::remove_dir_all(&rt, "sb_filedisk_streams")?;
-    Ok(())
+fn a_refused_read_or_write_counts(rt: HostRuntime) {
+    let name = "sb_filedisk_streams";
+    let made = fs::create(&rt, name).expect(&rt, "a file");
+    assert!(rt; gives(&mut ReadSource::new(made), None, 1));
+    let found = fs::open(&rt, name).expect(&rt, "a file");
+    assert!(rt; takes(&mut WriteSink::new(found), b"abc", None, 1));
+    assert!(rt; fs::remove_file(&rt, name).is_ok());
 }

@@ -5,3 +5,5 @@
 mod files;
 #[cfg(test)]
 mod memdisk;
+#[cfg(test)]
+mod streams;

@@ -1,5 +1,6 @@
 //! What no clause says: that calls succeed while memory lasts. And rows with their numbers, through the traits.
 
+use super::streams::{gives, takes};
 use sb_disk::{Disk, Failed, Sink, Source};
 use sb_memdisk::{MemDisk, MemSink, MemSource};
 use std::alloc::Global;
@@ -137,73 +138,76 @@ fn writes_are_stored_torn_and_lost(rt: HostRuntime) {
     }
 }
 
-fn read_back<D: Disk>(disk: &mut D, buffer: &mut [u8; 2]) -> bool {
+fn read_back<D: Disk>(disk: &mut D) -> Option<[u8; 2]> {
     if disk.len() < 3 {
-        return false;
+        return None;
     }
-    disk.read_at(1, buffer.as_mut_slice()).is_ok()
+    let mut buffer = [0; 2];
+    match disk.read_at(1, &mut buffer) {
+        Ok(()) => Some(buffer),
+        Err(Failed) => None,
+    }
+}
+
+/// Whether the second of three reads of 8, 9 fails, and is counted.
+fn fails_once<D: Disk>(disk: &mut D) -> bool {
+    let first = read_back(disk) == Some([8, 9]);
+    let second = read_back(disk).is_none();
+    let third = read_back(disk) == Some([8, 9]);
+    first && second && third && disk.clock() == 0 && disk.faults() == 1
 }
 
 #[test]
 fn an_image_is_read(rt: HostRuntime) {
-    let alloc = rt.alloc();
-    let mut disk = MemDisk::from_image(alloc, &[7, 8, 9]).expect(&rt, "memory");
+    let mut disk = MemDisk::from_image(rt.alloc(), &[7, 8, 9]).expect(&rt, "memory");
     disk.fail_at(&[1]).expect(&rt, "memory");
-    let mut buffer = [0; 2];
-    assert!(rt; read_back(&mut disk, &mut buffer));
-    assert_eq!(rt; buffer, [8, 9]);
-    assert!(rt; !read_back(&mut disk, &mut buffer));
-    assert!(rt; read_back(&mut disk, &mut buffer));
-    assert_eq!(rt; disk.calls(), 3);
-    assert_eq!(rt; disk.clock(), 0);
-    assert_eq!(rt; disk.faults(), 1);
+    assert!(rt; fails_once(&mut disk));
+    assert!(rt; disk.calls() == 3);
     drop(disk);
 }
 
-fn read_once<S: Source>(source: &mut S, buffer: &mut [u8; 4]) -> Result<usize, Failed> {
-    source.read(buffer.as_mut_slice())
+/// Whether a read of 8, 9 succeeds, and a sync fails and then a read.
+fn stops_at_a_sync<D: Disk>(disk: &mut D) -> bool {
+    let before = read_back(disk) == Some([8, 9]);
+    let synced = disk.sync().is_ok();
+    let behind = read_back(disk).is_none();
+    before && !synced && behind && disk.faults() == 2
 }
 
 #[test]
 fn reads_fail_behind_the_stop(rt: HostRuntime) {
-    let alloc = rt.alloc();
-    let mut disk = MemDisk::from_image(alloc, &[7, 8, 9]).expect(&rt, "memory");
+    let mut disk = MemDisk::from_image(rt.alloc(), &[7, 8, 9]).expect(&rt, "memory");
     disk.stop_at(0, 0);
-    let mut buffer = [0; 2];
-    assert!(rt; read_back(&mut disk, &mut buffer));
-    assert!(rt; disk.sync().is_err());
-    assert!(rt; !read_back(&mut disk, &mut buffer));
-    assert_eq!(rt; disk.faults(), 2);
+    assert!(rt; stops_at_a_sync(&mut disk));
     drop(disk);
+}
+
+/// Whether a source of `abcde` gives three bytes at most, and its second read fails.
+fn gives_abcde<S: Source>(source: &mut S) -> bool {
+    let first = gives(source, Some((3, b"abc\0")), 0);
+    let failed = gives(source, None, 1);
+    let last = gives(source, Some((2, b"de\0\0")), 1);
+    first && failed && last && gives(source, Some((0, &[0; 4])), 1)
 }
 
 #[test]
 fn a_source_gives_its_bytes_piece_by_piece(rt: HostRuntime) {
-    let alloc = rt.alloc();
-    let mut source = MemSource::new(alloc, b"abcde", 3, Some(1)).expect(&rt, "memory");
-    let mut buffer = [0; 4];
-    assert_eq!(rt; read_once(&mut source, &mut buffer), Ok(3));
-    assert_eq!(rt; &buffer[..3], b"abc".as_slice());
-    assert_eq!(rt; read_once(&mut source, &mut buffer), Err(Failed));
-    assert_eq!(rt; read_once(&mut source, &mut buffer), Ok(2));
-    assert_eq!(rt; &buffer[..2], b"de".as_slice());
-    assert_eq!(rt; read_once(&mut source, &mut buffer), Ok(0));
-    assert_eq!(rt; source.faults(), 1);
+    let mut source = MemSource::new(rt.alloc(), b"abcde", 3, Some(1)).expect(&rt, "memory");
+    assert!(rt; gives_abcde(&mut source));
     drop(source);
 }
 
-fn write_once<S: Sink>(sink: &mut S, piece: &[u8]) -> Result<usize, Failed> {
-    sink.write(piece)
+/// Whether a sink takes three bytes at most, and its second write fails.
+fn takes_abcde<K: Sink>(sink: &mut K) -> bool {
+    let first = takes(sink, b"abcd", Some(3), 0);
+    let failed = takes(sink, b"d", None, 1);
+    first && failed && takes(sink, b"de", Some(2), 1)
 }
 
 #[test]
 fn a_sink_takes_piece_by_piece(rt: HostRuntime) {
-    let alloc = rt.alloc();
-    let mut sink = MemSink::new(alloc, 3, Some(1));
-    assert_eq!(rt; write_once(&mut sink, b"abcd"), Ok(3));
-    assert_eq!(rt; write_once(&mut sink, b"d"), Err(Failed));
-    assert_eq!(rt; write_once(&mut sink, b"de"), Ok(2));
-    assert_eq!(rt; sink.held(), b"abcde".as_slice());
-    assert_eq!(rt; sink.faults(), 1);
+    let mut sink = MemSink::new(rt.alloc(), 3, Some(1));
+    assert!(rt; takes_abcde(&mut sink));
+    assert!(rt; sink.held() == b"abcde".as_slice());
     drop(sink);
 }
