@@ -6,6 +6,8 @@ mod bytes;
 #[cfg(test)]
 mod codes;
 #[cfg(test)]
+mod fixtures;
+#[cfg(test)]
 mod images;
 #[cfg(test)]
 mod kinds;

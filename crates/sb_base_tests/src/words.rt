@@ -1,7 +1,9 @@
+use super::fixtures::text;
 use sb_value::Str;
 use sb_words::{Words, read_words};
-use std::alloc::{AllocError, Global};
-use std::test::Fail;
+use std::alloc::Global;
+use std::process::Abort;
+use std::test::*;
 
 /// The store's name, whether it is made, its pages, the bytes of its log, and the frames.
 type Asked = (&'static str, bool, u32, u64, u32);
@@ -64,12 +66,12 @@ static LINES: [(&str, Option<Asked>); 36] = [
     ("--store s --pages 64k", None),
 ];
 
-fn words_of(alloc: Global, line: &str) -> Result<Vec<Str>, AllocError> {
+fn words_of(rt: &impl Abort, alloc: Global, line: &str) -> Vec<Str> {
     let mut words = Vec::new(alloc);
     for word in line.split_ascii_whitespace() {
-        words.push(Str::from_string(String::from_str(alloc, word)?))?;
+        words.push(text(rt, alloc, word)).expect(rt, "memory");
     }
-    Ok(words)
+    words
 }
 
 fn is(words: &Option<Words>, asked: &Option<Asked>) -> bool {
@@ -84,13 +86,17 @@ fn is(words: &Option<Words>, asked: &Option<Asked>) -> bool {
     }
 }
 
+fn is_row(rt: &impl Abort, alloc: Global, line: &str, asked: &Option<Asked>) -> bool {
+    let words = words_of(rt, alloc, line);
+    is(
+        &read_words(alloc, words.as_slice()).expect(rt, "memory"),
+        asked,
+    )
+}
+
 #[test]
-fn reads_words(rt: HostRuntime) -> Result<(), Fail> {
-    let alloc = rt.alloc();
-    for (line, asked) in &LINES {
-        let words = words_of(alloc, line)?;
-        let read = read_words(alloc, words.as_slice())?;
-        assert!(rt; is(&read, asked), "at {line}");
+fn reads_words(rt: HostRuntime) {
+    for (line, asked) in LINES.iter() {
+        assert!(rt; is_row(&rt, rt.alloc(), line, asked), "at {line}");
     }
-    Ok(())
 }
