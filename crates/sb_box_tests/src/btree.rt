@@ -1,6 +1,6 @@
 //! Walks over pages made by hand.
 
-ghost use Rattle.std.specs.Prelude.{◌≤◌, length};
+ghost use Rattle.std.specs.Prelude.{◌≤◌, ◌+◌, IsTrue, length};
 
 use sb_btree::{
     LeafEntry, Walk, find, insert, leaves_are_whole, next, reads_trees, remove, replace,
@@ -8,6 +8,7 @@ use sb_btree::{
 };
 use sb_ctx::Ctx;
 use std::alloc::Global;
+use std::ops::Range;
 use std::process::Abort;
 use std::test::*;
 
@@ -35,119 +36,84 @@ const ROOT: [u8; 33] = [
 // which is dear to prove. A value that goes by a call of `drop` is far cheaper than one that goes at its scope's end.
 
 /// Gives a page that begins with these bytes.
-fn give(rt: &impl Abort, ctx: &mut Ctx, n: u32, front: &[u8])
+fn gives(ctx: &mut Ctx, n: u32, front: &[u8]) -> bool
     requires { length front.now ≤ 4096 }
 {
     let mut page = [0; 4096];
     page[..front.len()].copy_from_slice(front);
-    ctx.give_page(n, &page).expect(rt, "memory");
+    ctx.give_page(n, &page).is_ok()
 }
 
-/// An entry, and its leaf.
-type Entry = (u32, &'static [u8], &'static [u8]);
-
-/// Those of the two leaves.
-static TWO: Entry = (8, b"b", b"two");
-
-static LAST: Entry = (9, b"n", b"z");
-
-/// How a lookup ends, in short.
-#[derive(Clone, Copy)]
-enum End {
-    /// The entry that is named is found.
-    Found,
+/// How a walk ends.
+#[derive(Clone, Copy, PartialEq, Eq)]
+enum End<'a> {
+    /// This entry of this leaf is found.
+    Found(u32, &'a [u8], &'a [u8]),
     NotFound,
+    Changed,
+    Unchanged,
     Need(u32),
+    Fresh,
     Broken(u32),
-    Other,
+    NoMemory,
 }
 
-fn end_of(walk: Walk<Option<LeafEntry>>, entry: &Entry) -> End {
-    let end = match &walk {
+fn end_of_lookup<'a>(walk: &'a Walk<Option<LeafEntry>>) -> End<'a> {
+    match walk {
         Walk::Ready(Some(found)) => {
-            if is_entry(found, entry) {
-                End::Found
-            } else {
-                End::Other
-            }
+            End::Found(found.leaf, found.key.as_slice(), found.value.as_slice())
         }
         Walk::Ready(None) => End::NotFound,
         Walk::Need(n) => End::Need(*n),
+        Walk::Fresh => End::Fresh,
         Walk::Broken(n) => End::Broken(*n),
-        Walk::Fresh | Walk::NoMemory => End::Other,
-    };
+        Walk::NoMemory => End::NoMemory,
+    }
+}
+
+fn looks_up(walk: Walk<Option<LeafEntry>>, wanted: End) -> bool {
+    let ends = end_of_lookup(&walk) == wanted;
     drop(walk);
-    end
+    ends
 }
 
-fn is_entry(found: &LeafEntry, entry: &Entry) -> bool {
-    found.leaf == entry.0 && found.key.as_slice() == entry.1 && found.value.as_slice() == entry.2
+fn changes(walk: Walk<bool>, wanted: End) -> bool {
+    let end = match walk {
+        Walk::Ready(true) => End::Changed,
+        Walk::Ready(false) => End::Unchanged,
+        Walk::Need(n) => End::Need(n),
+        Walk::Fresh => End::Fresh,
+        Walk::Broken(n) => End::Broken(n),
+        Walk::NoMemory => End::NoMemory,
+    };
+    end == wanted
 }
 
-/// How a lookup below page 7 ends.
-fn sought(alloc: Global, ctx: &Ctx, key: &[u8], entry: &Entry) -> End {
-    end_of(find(alloc, ctx, 7, key), entry)
-}
-
-fn following(alloc: Global, ctx: &Ctx, after: Option<&[u8]>, entry: &Entry) -> End {
-    end_of(next(alloc, ctx, 7, after), entry)
-}
-
-#[test]
-fn a_page_that_lacks_is_asked_for(rt: HostRuntime) {
-    let ctx = Ctx::new(rt.alloc());
-    assert!(rt; matches!(sought(rt.alloc(), &ctx, b"b", &TWO), End::Need(7)));
-    assert!(rt; matches!(following(rt.alloc(), &ctx, None, &TWO), End::Need(7)));
-    drop(ctx);
-}
-
-#[test]
-fn the_child_of_the_key_is_looked_up(rt: HostRuntime) {
-    let mut ctx = Ctx::new(rt.alloc());
-    give(&rt, &mut ctx, 7, &ROOT);
-    assert!(rt; matches!(sought(rt.alloc(), &ctx, b"b", &TWO), End::Need(8)));
-    assert!(rt; matches!(sought(rt.alloc(), &ctx, b"m", &TWO), End::Need(9)));
-    give(&rt, &mut ctx, 8, &LEAF);
-    assert!(rt; matches!(sought(rt.alloc(), &ctx, b"b", &TWO), End::Found));
-    assert!(rt; matches!(sought(rt.alloc(), &ctx, b"c", &TWO), End::NotFound));
-    drop(ctx);
-}
-
-#[test]
-fn the_next_entry_may_be_in_the_next_child(rt: HostRuntime) {
-    let alloc = rt.alloc();
-    let mut ctx = Ctx::new(alloc);
-    give(&rt, &mut ctx, 7, &ROOT);
-    give(&rt, &mut ctx, 8, &LEAF);
-    assert!(rt; matches!(following(alloc, &ctx, Some(b"a"), &TWO), End::Found));
-    assert!(rt; matches!(following(alloc, &ctx, Some(b"b"), &TWO), End::Need(9)));
-    give(&rt, &mut ctx, 9, &NEXT);
-    assert!(rt; matches!(following(alloc, &ctx, Some(b"b"), &LAST), End::Found));
-    assert!(rt; matches!(following(alloc, &ctx, Some(b"n"), &LAST), End::NotFound));
-    drop(ctx);
-}
-
-#[test]
-fn a_page_of_another_level_is_broken(rt: HostRuntime) {
-    let alloc = rt.alloc();
-    let mut ctx = Ctx::new(alloc);
-    give(&rt, &mut ctx, 7, &ROOT);
-    give(&rt, &mut ctx, 8, &ROOT);
-    ctx.give_page(9, &[]).expect(&rt, "memory");
-    assert!(rt; matches!(sought(alloc, &ctx, b"b", &TWO), End::Broken(8)));
-    assert!(rt; matches!(following(alloc, &ctx, Some(b"m"), &TWO), End::Broken(9)));
-    let in_free = end_of(find(alloc, &ctx, 9, b"b"), &TWO);
-    drop(ctx);
-    assert!(rt; matches!(in_free, End::Broken(9)));
-}
-
-#[test]
-fn the_laws_of_trees_are_there(_: HostRuntime) {
-    leaves_are_whole();
-    reads_trees();
-    trees_are_small();
-    trees_are_whole();
-    ways_are_short();
+/// Something that is given, a walk and how it ends, or what is so of a page then. A tree has its root at page 7 where no other is
+/// named.
+#[derive(Clone, Copy)]
+enum Step {
+    /// A page that begins with these bytes is given.
+    Page(u32, &'static [u8]),
+    /// It is said that nobody has the page.
+    Nobodys(u32),
+    /// A page that nobody has is given, to be taken.
+    Fresh(u32),
+    DropEdits,
+    /// The key is looked up below this root.
+    Find(u32, &'static [u8], End<'static>),
+    Next(Option<&'static [u8]>, End<'static>),
+    Insert(&'static [u8], &'static [u8], End<'static>),
+    Replace(&'static [u8], &'static [u8], End<'static>),
+    Remove(&'static [u8], End<'static>),
+    /// An entry of the greatest size is put in, its key this byte 602 times.
+    Put(u8, End<'static>),
+    /// That entry is in the tree.
+    Has(u8),
+    /// The page is held and begins with these bytes.
+    Begins(u32, &'static [u8]),
+    /// The page is held and has no bytes.
+    Free(u32),
 }
 
 /// Puts an entry of the greatest size into the tree at page 7: its key is this byte 602 times.
@@ -168,147 +134,215 @@ fn has(alloc: Global, ctx: &Ctx, key: u8) -> bool {
 
 /// Whether a page is held and begins with these bytes.
 fn begins(ctx: &Ctx, n: u32, front: &[u8]) -> bool {
-    match ctx.page(n) {
-        Some(bytes) => bytes.starts_with(front),
-        None => false,
-    }
-}
-
-/// Whether a page is held and begins with this kind and level.
-fn is_page(ctx: &Ctx, n: u32, kind: u8, level: u8) -> bool {
-    begins(ctx, n, &[kind, level])
-}
-
-/// An insertion at page 7 under the key "b".
-fn put_b(alloc: Global, ctx: &mut Ctx, value: &[u8]) -> Walk<bool>
-    requires { length value.now ≤ 1000 }
-{
-    insert(alloc, ctx, 7, b"b", value)
-}
-
-#[test]
-fn an_entry_is_put_into_an_empty_leaf(rt: HostRuntime) {
-    let alloc = rt.alloc();
-    let mut ctx = Ctx::new(alloc);
-    assert!(rt; matches!(put_b(alloc, &mut ctx, b"two"), Walk::Need(7)));
-    give(&rt, &mut ctx, 7, &EMPTY);
-    assert!(rt; matches!(put_b(alloc, &mut ctx, b"two"), Walk::Ready(true)));
-    assert!(rt; matches!(sought(alloc, &ctx, b"b", &(7, b"b", b"two")), End::Found));
-    assert!(rt; matches!(put_b(alloc, &mut ctx, b"three"), Walk::Ready(false)));
-    assert!(rt; begins(&ctx, 7, &LEAF));
-    drop(ctx);
-}
-
-#[test]
-fn a_value_is_replaced_below_the_root(rt: HostRuntime) {
-    let alloc = rt.alloc();
-    let mut ctx = Ctx::new(alloc);
-    give(&rt, &mut ctx, 7, &ROOT);
-    give(&rt, &mut ctx, 8, &LEAF);
-    assert!(rt;
-        matches!(
-            replace(alloc, &mut ctx, 7, b"c", b"six"),
-            Walk::Ready(false)
-        )
-    );
-    assert!(rt; matches!(replace(alloc, &mut ctx, 7, b"b", b"six"), Walk::Ready(true)));
-    assert!(rt; matches!(sought(alloc, &ctx, b"b", &(8, b"b", b"six")), End::Found));
-    drop(ctx);
-}
-
-fn give_fresh(rt: &impl Abort, ctx: &mut Ctx, n: u32) {
-    ctx.give_fresh(n).expect(rt, "memory");
-}
-
-#[test]
-fn a_full_leaf_is_split(rt: HostRuntime) {
-    let alloc = rt.alloc();
-    let mut ctx = Ctx::new(alloc);
-    give(&rt, &mut ctx, 7, &EMPTY);
-    assert!(rt; matches!(put(alloc, &mut ctx, 1), Walk::Ready(true)));
-    assert!(rt; matches!(put(alloc, &mut ctx, 3), Walk::Ready(true)));
-    assert!(rt; matches!(put(alloc, &mut ctx, 0), Walk::Fresh));
-    give_fresh(&rt, &mut ctx, 8);
-    give_fresh(&rt, &mut ctx, 9);
-    assert!(rt; matches!(put(alloc, &mut ctx, 0), Walk::Ready(true)));
-    assert!(rt; is_page(&ctx, 7, 3, 1) && is_page(&ctx, 8, 2, 0) && is_page(&ctx, 9, 2, 0));
-    give_fresh(&rt, &mut ctx, 10);
-    assert!(rt; matches!(put(alloc, &mut ctx, 2), Walk::Ready(true)));
-    assert!(rt; is_page(&ctx, 10, 2, 0));
-    for key in 0..4 {
-        assert!(rt; has(alloc, &ctx, key), "{key}");
-    }
-    drop(ctx);
-}
-
-/// A tree at page 7 with twenty entries of the greatest size.
-fn full_tree(rt: &impl Abort, alloc: Global) -> Ctx {
-    let mut ctx = Ctx::new(alloc);
-    give(rt, &mut ctx, 7, &EMPTY);
-    for n in 8..40 {
-        give_fresh(rt, &mut ctx, n);
-    }
-    for key in 0..20 {
-        assert!(rt; matches!(put(alloc, &mut ctx, key), Walk::Ready(true)));
-    }
-    ctx
-}
-
-#[test]
-fn inner_pages_and_the_root_are_split(rt: HostRuntime) {
-    let ctx = full_tree(&rt, rt.alloc());
-    assert!(rt; is_page(&ctx, 7, 3, 2));
-    for key in 0..20 {
-        assert!(rt; has(rt.alloc(), &ctx, key), "{key}");
-    }
-    drop(ctx);
-}
-
-/// Takes the entry of the greatest size with this key out of the tree at page 7.
-fn take(alloc: Global, ctx: &mut Ctx, key: u8) -> Walk<bool> {
-    remove(alloc, ctx, 7, &[key; 602])
+    matches!(ctx.page(n), Some(bytes) if bytes.starts_with(front))
 }
 
 /// Whether a page is held and has no bytes.
 fn is_free(ctx: &Ctx, n: u32) -> bool {
-    match ctx.page(n) {
-        Some(bytes) => bytes.is_empty(),
-        None => false,
+    matches!(ctx.page(n), Some([]))
+}
+
+/// Whether a key and a value may be put into a tree.
+fn may_be_put(key: &[u8], value: &[u8]) -> bool
+    ensures { IsTrue result → (length key.now ≤ 602) × (length key.now + length value.now ≤ 2032) }
+{
+    key.len() <= 602 && value.len() <= 1430
+}
+
+/// Whether the step goes as it says.
+fn goes(alloc: Global, ctx: &mut Ctx, step: Step) -> bool {
+    match step {
+        Step::Page(n, front) => front.len() <= 4096 && gives(ctx, n, front),
+        Step::Nobodys(n) => ctx.give_page(n, &[]).is_ok(),
+        Step::Fresh(n) => ctx.give_fresh(n).is_ok(),
+        Step::DropEdits => {
+            ctx.drop_edits();
+            true
+        }
+        Step::Find(root, key, end) => looks_up(find(alloc, ctx, root, key), end),
+        Step::Next(after, end) => looks_up(next(alloc, ctx, 7, after), end),
+        Step::Insert(key, value, end) => {
+            may_be_put(key, value) && changes(insert(alloc, ctx, 7, key, value), end)
+        }
+        Step::Replace(key, value, end) => {
+            may_be_put(key, value) && changes(replace(alloc, ctx, 7, key, value), end)
+        }
+        Step::Remove(key, end) => changes(remove(alloc, ctx, 7, key), end),
+        Step::Put(key, end) => changes(put(alloc, ctx, key), end),
+        Step::Has(key) => has(alloc, ctx, key),
+        Step::Begins(n, front) => begins(ctx, n, front),
+        Step::Free(n) => is_free(ctx, n),
+    }
+}
+
+/// Takes the steps one after the other, over no page at first.
+fn walk(rt: &impl Abort, alloc: Global, name: &str, steps: &[Step]) {
+    let mut ctx = Ctx::new(alloc);
+    for (number, step) in steps.iter().enumerate() {
+        assert!(rt; goes(alloc, &mut ctx, *step), "{name}: step {number}");
+    }
+    drop(ctx);
+}
+
+/// Walks, one step after the other, over no page at first.
+static WALKS: [(&'static str, &'static [Step]); 9] = [
+    (
+        "a page that lacks is asked for",
+        &[
+            Step::Find(7, b"b", End::Need(7)),
+            Step::Next(None, End::Need(7)),
+        ],
+    ),
+    (
+        "the child of the key is looked up",
+        &[
+            Step::Page(7, &ROOT),
+            Step::Find(7, b"b", End::Need(8)),
+            Step::Find(7, b"m", End::Need(9)),
+            Step::Page(8, &LEAF),
+            Step::Find(7, b"b", End::Found(8, b"b", b"two")),
+            Step::Find(7, b"c", End::NotFound),
+        ],
+    ),
+    (
+        "the next entry may be in the next child",
+        &[
+            Step::Page(7, &ROOT),
+            Step::Page(8, &LEAF),
+            Step::Next(Some(b"a"), End::Found(8, b"b", b"two")),
+            Step::Next(Some(b"b"), End::Need(9)),
+            Step::Page(9, &NEXT),
+            Step::Next(Some(b"b"), End::Found(9, b"n", b"z")),
+            Step::Next(Some(b"n"), End::NotFound),
+        ],
+    ),
+    (
+        "a page of another level is broken",
+        &[
+            Step::Page(7, &ROOT),
+            Step::Page(8, &ROOT),
+            Step::Nobodys(9),
+            Step::Find(7, b"b", End::Broken(8)),
+            Step::Next(Some(b"m"), End::Broken(9)),
+            Step::Find(9, b"b", End::Broken(9)),
+        ],
+    ),
+    (
+        "an entry is put into an empty leaf",
+        &[
+            Step::Insert(b"b", b"two", End::Need(7)),
+            Step::Page(7, &EMPTY),
+            Step::Insert(b"b", b"two", End::Changed),
+            Step::Find(7, b"b", End::Found(7, b"b", b"two")),
+            Step::Insert(b"b", b"three", End::Unchanged),
+            Step::Begins(7, &LEAF),
+        ],
+    ),
+    (
+        "a value is replaced below the root",
+        &[
+            Step::Page(7, &ROOT),
+            Step::Page(8, &LEAF),
+            Step::Replace(b"c", b"six", End::Unchanged),
+            Step::Replace(b"b", b"six", End::Changed),
+            Step::Find(7, b"b", End::Found(8, b"b", b"six")),
+        ],
+    ),
+    (
+        "a full leaf is split",
+        &[
+            Step::Page(7, &EMPTY),
+            Step::Put(1, End::Changed),
+            Step::Put(3, End::Changed),
+            Step::Put(0, End::Fresh),
+            Step::Fresh(8),
+            Step::Fresh(9),
+            Step::Put(0, End::Changed),
+            Step::Begins(7, &[3, 1]),
+            Step::Begins(8, &[2, 0]),
+            Step::Begins(9, &[2, 0]),
+            Step::Fresh(10),
+            Step::Put(2, End::Changed),
+            Step::Begins(10, &[2, 0]),
+            Step::Has(0),
+            Step::Has(1),
+            Step::Has(2),
+            Step::Has(3),
+        ],
+    ),
+    (
+        "an entry is taken out of a leaf",
+        &[
+            Step::Remove(b"b", End::Need(7)),
+            Step::Page(7, &LEAF),
+            Step::Remove(b"c", End::Unchanged),
+            Step::Begins(7, &LEAF),
+            Step::Remove(b"b", End::Changed),
+            Step::Begins(7, &EMPTY),
+        ],
+    ),
+    (
+        "an emptied leaf is given back",
+        &[
+            Step::Page(7, &ROOT),
+            Step::Page(9, &NEXT),
+            Step::Remove(b"n", End::Need(8)),
+            Step::DropEdits,
+            Step::Page(8, &LEAF),
+            Step::Remove(b"n", End::Changed),
+            Step::Begins(7, &LEAF),
+            Step::Free(8),
+            Step::Free(9),
+        ],
+    ),
+];
+
+#[test]
+fn walks_end_as_they_say(rt: HostRuntime) {
+    for (name, steps) in WALKS.iter() {
+        walk(&rt, rt.alloc(), name, steps);
     }
 }
 
 #[test]
-fn an_entry_is_taken_out_of_a_leaf(rt: HostRuntime) {
-    let alloc = rt.alloc();
-    let mut ctx = Ctx::new(alloc);
-    assert!(rt; matches!(remove(alloc, &mut ctx, 7, b"b"), Walk::Need(7)));
-    give(&rt, &mut ctx, 7, &LEAF);
-    assert!(rt; matches!(remove(alloc, &mut ctx, 7, b"c"), Walk::Ready(false)));
-    assert!(rt; begins(&ctx, 7, &LEAF));
-    assert!(rt; matches!(remove(alloc, &mut ctx, 7, b"b"), Walk::Ready(true)));
-    assert!(rt; begins(&ctx, 7, &EMPTY));
-    drop(ctx);
+fn the_laws_of_trees_are_there(_: HostRuntime) {
+    leaves_are_whole();
+    reads_trees();
+    trees_are_small();
+    trees_are_whole();
+    ways_are_short();
 }
 
-#[test]
-fn an_emptied_leaf_is_given_back(rt: HostRuntime) {
-    let alloc = rt.alloc();
+/// A tree without entries at a page, and fresh pages.
+fn empty_tree(rt: &impl Abort, alloc: Global, root: u32, fresh: Range<u32>) -> Ctx {
     let mut ctx = Ctx::new(alloc);
-    give(&rt, &mut ctx, 7, &ROOT);
-    give(&rt, &mut ctx, 9, &NEXT);
-    assert!(rt; matches!(remove(alloc, &mut ctx, 7, b"n"), Walk::Need(8)));
-    ctx.drop_edits();
-    give(&rt, &mut ctx, 8, &LEAF);
-    assert!(rt; matches!(remove(alloc, &mut ctx, 7, b"n"), Walk::Ready(true)));
-    assert!(rt; begins(&ctx, 7, &LEAF));
-    assert!(rt; is_free(&ctx, 8) && is_free(&ctx, 9));
-    drop(ctx);
+    assert!(rt; gives(&mut ctx, root, &EMPTY));
+    for n in fresh {
+        assert!(rt; ctx.give_fresh(n).is_ok());
+    }
+    ctx
+}
+
+/// Takes the entry of the greatest size with this key out of the tree at page 7, and says how that must end.
+fn takes(alloc: Global, ctx: &mut Ctx, key: u8, end: End) -> bool {
+    changes(remove(alloc, ctx, 7, &[key; 602]), end)
+}
+
+/// Puts twenty entries of the greatest size in, so that inner pages and the root are split.
+fn put_rising(rt: &impl Abort, alloc: Global, ctx: &mut Ctx) {
+    for key in 0..20 {
+        assert!(rt; changes(put(alloc, ctx, key), End::Changed));
+    }
+    assert!(rt; begins(ctx, 7, &[3, 2]));
+    for key in 0..20 {
+        assert!(rt; has(alloc, ctx, key), "{key}");
+    }
 }
 
 /// Takes the entries of the lower ten keys out, rising: each goes, and the one behind it is there.
 fn take_rising(rt: &impl Abort, alloc: Global, ctx: &mut Ctx) {
     for key in 0..10 {
-        assert!(rt; matches!(take(alloc, ctx, key), Walk::Ready(true)));
+        assert!(rt; takes(alloc, ctx, key, End::Changed));
         assert!(rt; !has(alloc, ctx, key) && has(alloc, ctx, key + 1));
     }
 }
@@ -316,18 +350,19 @@ fn take_rising(rt: &impl Abort, alloc: Global, ctx: &mut Ctx) {
 /// Takes the upper ten out, falling: each goes, and goes once, and the tenth stays till the last.
 fn take_falling(rt: &impl Abort, alloc: Global, ctx: &mut Ctx) {
     for key in (10..20).rev() {
-        assert!(rt; matches!(take(alloc, ctx, key), Walk::Ready(true)));
-        assert!(rt; matches!(take(alloc, ctx, key), Walk::Ready(false)));
+        assert!(rt; takes(alloc, ctx, key, End::Changed));
+        assert!(rt; takes(alloc, ctx, key, End::Unchanged));
         assert!(rt; !has(alloc, ctx, key) && (key == 10 || has(alloc, ctx, 10)));
     }
 }
 
 #[test]
-fn inner_pages_give_their_last_children_away(rt: HostRuntime) {
-    let mut ctx = full_tree(&rt, rt.alloc());
+fn inner_pages_are_split_and_give_their_last_children_away(rt: HostRuntime) {
+    let mut ctx = empty_tree(&rt, rt.alloc(), 7, 8..40);
+    put_rising(&rt, rt.alloc(), &mut ctx);
     take_rising(&rt, rt.alloc(), &mut ctx);
     take_falling(&rt, rt.alloc(), &mut ctx);
-    assert!(rt; is_page(&ctx, 7, 2, 0));
+    assert!(rt; begins(&ctx, 7, &[2, 0]));
     for n in 8..40 {
         assert!(rt; is_free(&ctx, n), "{n}");
     }
@@ -357,14 +392,8 @@ fn put_number(alloc: Global, ctx: &mut Ctx, sizes: Sizes, key: u16) -> bool
     let mut bytes = [0; 602];
     bytes[..2].copy_from_slice(&key.to_be_bytes());
     let len = key_len(sizes, key);
-    let walk = insert(
-        alloc,
-        ctx,
-        0,
-        &bytes[..len],
-        &[7; 2032][..sizes.entry - len],
-    );
-    matches!(walk, Walk::Ready(true))
+    let value = &[7; 2032][..sizes.entry - len];
+    changes(insert(alloc, ctx, 0, &bytes[..len], value), End::Changed)
 }
 
 /// Takes that entry out.
@@ -374,17 +403,7 @@ fn take_number(alloc: Global, ctx: &mut Ctx, sizes: Sizes, key: u16) -> bool
     let mut bytes = [0; 602];
     bytes[..2].copy_from_slice(&key.to_be_bytes());
     let len = key_len(sizes, key);
-    matches!(remove(alloc, ctx, 0, &bytes[..len]), Walk::Ready(true))
-}
-
-/// A tree at page 0 without entries, and so many fresh pages.
-fn empty_tree(rt: &impl Abort, alloc: Global, pages: u32) -> Ctx {
-    let mut ctx = Ctx::new(alloc);
-    give(rt, &mut ctx, 0, &EMPTY);
-    for n in 1..=pages {
-        give_fresh(rt, &mut ctx, n);
-    }
-    ctx
+    changes(remove(alloc, ctx, 0, &bytes[..len]), End::Changed)
 }
 
 /// Puts 3,000 entries in, by steps of 1,009.
@@ -413,27 +432,21 @@ fn take_all(alloc: Global, ctx: &mut Ctx, sizes: Sizes) -> bool
 }
 
 /// The number of the last page that has bytes.
-fn last_page(ctx: &Ctx, pages: u32) -> u32 {
+fn last_page(ctx: &Ctx) -> u32 {
     let mut last = 0;
-    for n in 0..=pages {
-        if has_bytes(ctx, n) {
+    for n in 0..=6000 {
+        if matches!(ctx.page(n), Some([_, ..])) {
             last = n;
         }
     }
     last
 }
 
-fn has_bytes(ctx: &Ctx, n: u32) -> bool {
-    match ctx.page(n) {
-        Some(bytes) => !bytes.is_empty(),
-        None => false,
-    }
-}
-
 /// Whether an empty leaf is left at page 0.
 fn is_empty_tree(alloc: Global, ctx: &Ctx) -> bool {
-    let first = end_of(next(alloc, ctx, 0, None), &TWO);
-    is_page(ctx, 0, 2, 0) && last_page(ctx, 6000) == 0 && matches!(first, End::NotFound)
+    begins(ctx, 0, &[2, 0])
+        && last_page(ctx) == 0
+        && looks_up(next(alloc, ctx, 0, None), End::NotFound)
 }
 
 /// Whether 3,000 entries are put in, and are all taken out.
@@ -441,8 +454,8 @@ fn come_and_go(rt: &impl Abort, alloc: Global, sizes: Sizes) -> bool
     requires key { (2 ≤ sizes.key) × (sizes.key ≤ 602) }
     requires entry { (sizes.key ≤ sizes.entry) × (sizes.entry ≤ 2032) }
 {
-    let mut ctx = empty_tree(rt, alloc, 6000);
-    let have_come = put_all(alloc, &mut ctx, sizes) && last_page(&ctx, 6000) > 0;
+    let mut ctx = empty_tree(rt, alloc, 0, 1..6001);
+    let have_come = put_all(alloc, &mut ctx, sizes) && last_page(&ctx) > 0;
     let have_gone = take_all(alloc, &mut ctx, sizes) && is_empty_tree(alloc, &ctx);
     drop(ctx);
     have_come && have_gone

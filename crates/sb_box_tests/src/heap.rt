@@ -5,9 +5,10 @@ ghost use Rattle.std.specs.Prelude.{◌≡◌, ◌≤◌, length};
 ghost use Rattle.sb_ctx.specs.View.{IsClean};
 ghost use Rattle.sb_heap.specs.Examples.{IsExample, MayBeHeld, text_column};
 
+use crate::text::text;
 use sb_ctx::{Ctx, Instance, Move, StorageMethod};
 use sb_heap::Heap;
-use sb_value::{Bytes, Column, Kind, Names, RecKey, Schema, Str, Tuple, Value};
+use sb_value::{Bytes, Column, Kind, Names, RecKey, Schema, Tuple, Value};
 use std::alloc::Global;
 use std::process::Abort;
 use std::test::*;
@@ -22,12 +23,6 @@ const Y: &str =
 
 // Want of memory ends a test at once: where a test went on to an `Err`, each value that it has would be dropped on the way,
 // which is dear to prove. A value that goes by a call of `drop` is far cheaper than one that goes at its scope's end.
-
-fn text(rt: &impl Abort, alloc: Global, text: &str) -> Str
-    ensures { result ≡ text.now }
-{
-    Str::from_string(String::from_str(alloc, text).expect(rt, "memory"))
-}
 
 fn words(rt: &impl Abort, alloc: Global, name: &str) -> Column
     ensures { result ≡ text_column name.now }
@@ -116,7 +111,7 @@ fn after(rt: &impl Abort, alloc: Global, ctx: Ctx) -> Ctx
 }
 
 /// What a call answers, in short.
-#[derive(Clone, Copy)]
+#[derive(Clone, Copy, PartialEq, Eq)]
 enum Answer {
     Done,
     /// The page and the slot of the key that a row got.
@@ -159,7 +154,7 @@ fn prepared(rt: &impl Abort, alloc: Global, inst: &Instance) -> Ctx
     let mut ctx = Ctx::new(alloc);
     ctx.give_page(2, &[0; 4096]).expect(rt, "memory");
     let answer = Heap::new().prepare(alloc, &mut ctx, inst);
-    assert!(rt; matches!(answer_of(answer), Answer::Done));
+    assert!(rt; answer_of(answer) == Answer::Done);
     after(rt, alloc, ctx)
 }
 
@@ -208,120 +203,111 @@ fn are_numbers(rt: &impl Abort, alloc: Global, ctx: &Ctx, inst: &Instance, numbe
     next_row(rt, alloc, ctx, inst, low).is_none()
 }
 
-/// A row more.
-fn with_row(
-    rt: &impl Abort,
-    alloc: Global,
-    inst: &Instance,
-    ctx: Ctx,
-    number: i64,
-    x: &str,
-    y: &str,
-) -> Ctx
-    requires inst { IsExample inst.now }
-    requires clean { IsClean ctx }
-    requires first { length x.now ≤ 255 }
-    requires last { length y.now ≤ 217 }
-    ensures { IsClean result }
+/// A row that takes the 1,000 bytes that one may, or as few as it may.
+fn row_of(rt: &impl Abort, alloc: Global, number: i64, is_long: bool) -> Tuple
+    ensures { MayBeHeld result }
 {
-    let mut ctx = ctx;
-    inserted(rt, alloc, &mut ctx, inst, number, x, y);
-    after(rt, alloc, ctx)
+    if is_long {
+        row(rt, alloc, number, X, Y)
+    } else {
+        row(rt, alloc, number, "", "")
+    }
 }
 
-/// What the insertion of a row answers.
-fn inserted(
-    rt: &impl Abort,
-    alloc: Global,
-    ctx: &mut Ctx,
-    inst: &Instance,
-    number: i64,
-    x: &str,
-    y: &str,
-) -> Answer
+/// A call. A row is long or short, and its key names a slot of page 2.
+#[derive(Clone, Copy)]
+enum Call {
+    Insert(i64, bool),
+    Update(u8, i64, bool),
+    Delete(u8),
+    Get(u8),
+}
+
+/// What the heap answers to the call.
+fn answered(rt: &impl Abort, alloc: Global, ctx: &mut Ctx, inst: &Instance, call: Call) -> Answer
     requires inst { IsExample inst.now }
     requires clean { IsClean ctx.old }
-    requires first { length x.now ≤ 255 }
-    requires last { length y.now ≤ 217 }
 {
-    let row = row(rt, alloc, number, x, y);
-    let answer = Heap::new().insert(alloc, ctx, inst, &row);
-    drop(row);
-    answer_of(answer)
+    match call {
+        Call::Insert(number, is_long) => {
+            let row = row_of(rt, alloc, number, is_long);
+            let answer = Heap::new().insert(alloc, ctx, inst, &row);
+            drop(row);
+            answer_of(answer)
+        }
+        Call::Update(slot, number, is_long) => {
+            let key = key(rt, alloc, 2, slot);
+            let row = row_of(rt, alloc, number, is_long);
+            let answer = Heap::new().update(alloc, ctx, inst, &key, &row);
+            drop(row);
+            drop(key);
+            answer_of(answer)
+        }
+        Call::Delete(slot) => {
+            let key = key(rt, alloc, 2, slot);
+            let answer = Heap::new().delete(alloc, ctx, inst, &key);
+            drop(key);
+            answer_of(answer)
+        }
+        Call::Get(slot) => {
+            let key = key(rt, alloc, 2, slot);
+            let answer = Heap::new().get(alloc, ctx, inst, &key);
+            drop(key);
+            answer_of(answer)
+        }
+    }
 }
 
-/// Five rows on page 2, the fourth of them short, which fill it.
-fn five_rows(rt: &impl Abort, alloc: Global, inst: &Instance) -> Ctx
+/// A new heap after these calls, each of which is answered so.
+fn called(rt: &impl Abort, alloc: Global, inst: &Instance, calls: &[(Call, Answer)]) -> Ctx
     requires { IsExample inst.now }
-    ensures { IsClean result }
 {
-    let ctx = prepared(rt, alloc, inst);
-    let ctx = with_row(rt, alloc, inst, ctx, 1, X, Y);
-    let ctx = with_row(rt, alloc, inst, ctx, 2, X, Y);
-    let ctx = with_row(rt, alloc, inst, ctx, 3, X, Y);
-    let ctx = with_row(rt, alloc, inst, ctx, 4, "", "");
-    with_row(rt, alloc, inst, ctx, 5, X, Y)
+    let mut ctx = prepared(rt, alloc, inst);
+    for (number, (call, wanted)) in calls.iter().enumerate() {
+        let answer = answered(rt, alloc, &mut ctx, inst, *call);
+        assert!(rt; answer == *wanted, "call {number}");
+        ctx = after(rt, alloc, ctx);
+    }
+    ctx
 }
 
-/// What the long row of 4 in place of the short one answers.
-fn grown(rt: &impl Abort, alloc: Global, ctx: &mut Ctx, inst: &Instance) -> Answer
-    requires inst { IsExample inst.now }
-    requires clean { IsClean ctx.old }
-{
-    let key = key(rt, alloc, 2, 3);
-    let row = row(rt, alloc, 4, X, Y);
-    let answer = Heap::new().update(alloc, ctx, inst, &key, &row);
-    drop(row);
-    drop(key);
-    answer_of(answer)
-}
+/// Five rows fill page 2. The fourth of them is short, and a long one in its place goes to page 3.
+static GROWN: [(Call, Answer); 6] = [
+    (Call::Insert(1, true), Answer::Key(2, 0)),
+    (Call::Insert(2, true), Answer::Key(2, 1)),
+    (Call::Insert(3, true), Answer::Key(2, 2)),
+    (Call::Insert(4, false), Answer::Key(2, 3)),
+    (Call::Insert(5, true), Answer::Key(2, 4)),
+    (Call::Update(3, 4, true), Answer::Key(3, 0)),
+];
 
 #[test]
 fn a_row_that_grows_moves(rt: HostRuntime) {
     let alloc = rt.alloc();
     let inst = instance(&rt, alloc);
-    let mut ctx = five_rows(&rt, alloc, &inst);
-    let answer = grown(&rt, alloc, &mut ctx, &inst);
-    let are_all = are_numbers(&rt, alloc, &ctx, &inst, &[1, 2, 3, 5, 4]);
+    let ctx = called(&rt, alloc, &inst, &GROWN);
+    assert!(rt; are_numbers(&rt, alloc, &ctx, &inst, &[1, 2, 3, 5, 4]));
     drop(ctx);
     drop(inst);
-    assert!(rt; matches!(answer, Answer::Key(3, 0)));
-    assert!(rt; are_all);
 }
 
-fn deleted(rt: &impl Abort, alloc: Global, ctx: &mut Ctx, inst: &Instance) -> Answer
-    requires inst { IsExample inst.now }
-    requires clean { IsClean ctx.old }
-{
-    let key = key(rt, alloc, 2, 1);
-    let answer = Heap::new().delete(alloc, ctx, inst, &key);
-    drop(key);
-    answer_of(answer)
-}
-
-fn got(rt: &impl Abort, alloc: Global, ctx: &mut Ctx, inst: &Instance) -> Answer
-    requires inst { IsExample inst.now }
-    requires clean { IsClean ctx.old }
-{
-    let key = key(rt, alloc, 2, 1);
-    let answer = Heap::new().get(alloc, ctx, inst, &key);
-    drop(key);
-    answer_of(answer)
-}
+/// Five rows fill page 2, the second goes, and another has its slot.
+static REPLACED: [(Call, Answer); 8] = [
+    (Call::Insert(1, true), Answer::Key(2, 0)),
+    (Call::Insert(2, true), Answer::Key(2, 1)),
+    (Call::Insert(3, true), Answer::Key(2, 2)),
+    (Call::Insert(4, false), Answer::Key(2, 3)),
+    (Call::Insert(5, true), Answer::Key(2, 4)),
+    (Call::Delete(1), Answer::Done),
+    (Call::Insert(6, true), Answer::Key(2, 1)),
+    (Call::Get(1), Answer::Row(6)),
+];
 
 #[test]
 fn a_free_slot_is_used_again(rt: HostRuntime) {
     let alloc = rt.alloc();
     let inst = instance(&rt, alloc);
-    let mut ctx = five_rows(&rt, alloc, &inst);
-    let gone = deleted(&rt, alloc, &mut ctx, &inst);
-    let mut ctx = after(&rt, alloc, ctx);
-    let put = inserted(&rt, alloc, &mut ctx, &inst, 6, X, Y);
-    let mut ctx = after(&rt, alloc, ctx);
-    let found = got(&rt, alloc, &mut ctx, &inst);
+    let ctx = called(&rt, alloc, &inst, &REPLACED);
     drop(ctx);
     drop(inst);
-    assert!(rt; matches!(gone, Answer::Done));
-    assert!(rt; matches!(put, Answer::Key(2, 1)));
-    assert!(rt; matches!(found, Answer::Row(6)));
 }

@@ -7,3 +7,5 @@ mod btree;
 mod heap;
 #[cfg(test)]
 mod rules;
+#[cfg(test)]
+mod text;

@@ -3,7 +3,7 @@
 
 mod triggers;
 
-ghost use Rattle.std.specs.Prelude.{◌≡◌, codes, ◌∷◌, []};
+ghost use Rattle.std.specs.Prelude.{◌≡◌, ◌∷◌, []};
 ghost use Rattle.sb_rule.specs.Spelling.{rule_spelling, IsStorableRule};
 ghost use Rattle.sb_ctx.specs.declared.instance.Instance.{Instance as Seen};
 ghost use Rattle.sb_ctx.specs.View.{IsClean};
@@ -11,6 +11,7 @@ ghost use Rattle.sb_ctx.specs.Attachment.{IsInstance, IsQuery, MayHold, MayMeet}
 ghost use Rattle.sb_rules.specs.Checks.{check};
 ghost use Rattle.sb_rules.specs.Examples.{numbers, not_negative};
 
+use crate::text::text;
 use sb_codec::encode_tuple;
 use sb_ctx::{Attachment, Ctx, Instance, Keys, Move};
 use sb_pred::{Op, Pred, Term};
@@ -24,17 +25,11 @@ use std::test::*;
 // Want of memory ends a test at once: where a test went on to an `Err`, each value that it has would be dropped on the way,
 // which is dear to prove. A value that goes by a call of `drop` is far cheaper than one that goes at its scope's end.
 
-fn k(rt: &impl Abort, alloc: Global) -> Str
-    ensures { result ≡ codes "k" }
-{
-    Str::from_string(String::from_str(alloc, "k").expect(rt, "memory"))
-}
-
 fn columns(rt: &impl Abort, alloc: Global) -> Schema
     ensures { result ≡ numbers }
 {
     let column = Column {
-        name: k(rt, alloc),
+        name: text(rt, alloc, "k"),
         kind: Kind::Int,
         limit: 0,
     };
@@ -47,7 +42,7 @@ fn desc(rt: &impl Abort, alloc: Global, deferred: bool) -> Bytes
     ensures storable { IsStorableRule (Rule.Check not_negative deferred) }
 {
     let zero = Term::Const(Value::Int(0));
-    let pred = Pred::cmp(Op::Ge, Term::New(k(rt, alloc)), zero);
+    let pred = Pred::cmp(Op::Ge, Term::New(text(rt, alloc, "k")), zero);
     let rule = Rule::Check { pred, deferred };
     let mut desc = Bytes::new(alloc);
     write_rule(&rule, &mut desc).expect(rt, "memory");
@@ -61,7 +56,7 @@ fn instance(rt: &impl Abort, alloc: Global, deferred: bool) -> Instance
     ensures columns { result.schema ≡ numbers }
 {
     Instance {
-        relation: Str::from_string(String::from_str(alloc, "r").expect(rt, "memory")),
+        relation: text(rt, alloc, "r"),
         owner: 0,
         root: 0,
         durable: true,
@@ -172,35 +167,6 @@ fn in_short(made: &Move) -> Reply {
     }
 }
 
-fn prepared<A: Attachment>(attachment: &A, alloc: Global, inst: &Instance) -> Reply
-    requires { IsInstance (A.attachment attachment.now) inst.now }
-{
-    let mut ctx = Ctx::new(alloc);
-    let made = attachment.prepare(alloc, &mut ctx, inst);
-    drop(ctx);
-    reply_of(made)
-}
-
-fn first_entry<A: Attachment>(attachment: &A, alloc: Global, inst: &Instance) -> Reply
-    requires { IsInstance (A.attachment attachment.now) inst.now }
-{
-    let low = key(alloc);
-    let mut ctx = Ctx::new(alloc);
-    let made = attachment.next_entry(alloc, &mut ctx, inst, &low, None);
-    drop(ctx);
-    drop(low);
-    reply_of(made)
-}
-
-fn summed<A: Attachment>(attachment: &A, alloc: Global, inst: &Instance) -> Reply
-    requires { IsInstance (A.attachment attachment.now) inst.now }
-{
-    let mut ctx = Ctx::new(alloc);
-    let made = attachment.sums(alloc, &mut ctx, inst);
-    drop(ctx);
-    reply_of(made)
-}
-
 /// Four numbers.
 fn query(rt: &impl Abort, alloc: Global) -> Tuple
     ensures { IsQuery result }
@@ -209,18 +175,48 @@ fn query(rt: &impl Abort, alloc: Global) -> Tuple
     Tuple::from_vec(numbers.expect(rt, "memory"))
 }
 
-fn hits<A: Attachment>(rt: &impl Abort, attachment: &A, alloc: Global, inst: &Instance) -> Reply
+/// What an attachment is asked that has nothing of its own.
+#[derive(Clone, Copy)]
+enum Call {
+    Prepare,
+    FirstEntry,
+    Sums,
+    Seek,
+}
+
+fn asked<A: Attachment>(
+    rt: &impl Abort,
+    attachment: &A,
+    alloc: Global,
+    inst: &Instance,
+    call: Call,
+) -> Reply
     requires { IsInstance (A.attachment attachment.now) inst.now }
 {
+    let low = key(alloc);
     let query = query(rt, alloc);
     let mut ctx = Ctx::new(alloc);
-    let made = attachment.seek(alloc, &mut ctx, inst, &query);
+    let made = match call {
+        Call::Prepare => attachment.prepare(alloc, &mut ctx, inst),
+        Call::FirstEntry => attachment.next_entry(alloc, &mut ctx, inst, &low, None),
+        Call::Sums => attachment.sums(alloc, &mut ctx, inst),
+        Call::Seek => attachment.seek(alloc, &mut ctx, inst, &query),
+    };
     drop(ctx);
     drop(query);
+    drop(low);
     reply_of(made)
 }
 
-/// Whether it is prepared without a page, and has no entry, no sums and no hits.
+/// The answers of one that is prepared without a page, and has no entry, no sums and no hits.
+static NOTHING: [(Call, Reply); 4] = [
+    (Call::Prepare, Reply::Done),
+    (Call::FirstEntry, Reply::End),
+    (Call::Sums, Reply::NoSums),
+    (Call::Seek, Reply::NoHits),
+];
+
+/// Whether it answers so.
 fn keeps_nothing<A: Attachment>(
     rt: &impl Abort,
     attachment: &A,
@@ -229,10 +225,12 @@ fn keeps_nothing<A: Attachment>(
 ) -> bool
     requires { IsInstance (A.attachment attachment.now) inst.now }
 {
-    prepared(attachment, alloc, inst) == Reply::Done
-        && first_entry(attachment, alloc, inst) == Reply::End
-        && summed(attachment, alloc, inst) == Reply::NoSums
-        && hits(rt, attachment, alloc, inst) == Reply::NoHits
+    for (call, wanted) in NOTHING.iter() {
+        if asked(rt, attachment, alloc, inst, *call) != *wanted {
+            return false;
+        }
+    }
+    true
 }
 
 /// Whether it has the code, and fits the instance.
@@ -376,8 +374,8 @@ fn knowing(rt: &impl Abort, alloc: Global, known: Known) -> Ctx
         Known::NoRow => {}
         Known::ARow => keys.push(key(alloc)).expect(rt, "memory"),
     }
-    let relation = Str::from_string(String::from_str(alloc, "r").expect(rt, "memory"));
-    let columns = Names::from_vec(vec![in alloc; k(rt, alloc)].expect(rt, "memory"));
+    let relation = text(rt, alloc, "r");
+    let columns = Names::from_vec(vec![in alloc; text(rt, alloc, "k")].expect(rt, "memory"));
     let row = row(rt, alloc, -1);
     let keys = Keys::from_vec(keys);
     let given = ctx.give_found(&relation, &columns, &row, &keys);

@@ -1,7 +1,7 @@
 //! A trigger on the relation `e` of salaries and departments: whoever comes with more than 100 adds that to the total of
 //! the department in `d`.
 
-ghost use Rattle.std.specs.Prelude.{◌≡◌, codes, ◌∷◌, [], pos};
+ghost use Rattle.std.specs.Prelude.{◌≡◌, ◌∷◌, [], pos};
 ghost use Rattle.sb_pred.specs.Spelling.{IsShortTerm};
 ghost use Rattle.sb_rule.specs.Spelling.{rule_spelling, IsStorableRule, IsShortAction};
 ghost use Rattle.sb_ctx.specs.View.{IsClean};
@@ -11,43 +11,26 @@ ghost use Rattle.sb_rules.specs.Triggers.{trigger};
 ghost use Rattle.sb_rules.specs.Examples.{staff, well_paid, adds_salary, hires};
 
 use super::{Reply, built, changed, is_of, keeps_nothing, key, late};
+use crate::text::text;
 use sb_ctx::{Ctx, Instance};
 use sb_pred::{Op, Pred, Term};
 use sb_relation::{Action, Change, Event, Pairs, Rule, write_rule};
 use sb_rules::Trigger;
-use sb_value::{Bytes, Column, Kind, Names, Schema, Str, Tuple, Value};
+use sb_value::{Bytes, Column, Kind, Names, Schema, Tuple, Value};
 use std::alloc::Global;
 use std::process::Abort;
 use std::test::*;
-
-fn employees(rt: &impl Abort, alloc: Global) -> Str
-    ensures { result ≡ codes "e" }
-{
-    Str::from_string(String::from_str(alloc, "e").expect(rt, "memory"))
-}
-
-fn salary(rt: &impl Abort, alloc: Global) -> Str
-    ensures { result ≡ codes "salary" }
-{
-    Str::from_string(String::from_str(alloc, "salary").expect(rt, "memory"))
-}
-
-fn dept(rt: &impl Abort, alloc: Global) -> Str
-    ensures { result ≡ codes "dept" }
-{
-    Str::from_string(String::from_str(alloc, "dept").expect(rt, "memory"))
-}
 
 fn columns(rt: &impl Abort, alloc: Global) -> Schema
     ensures { result ≡ staff }
 {
     let first = Column {
-        name: salary(rt, alloc),
+        name: text(rt, alloc, "salary"),
         kind: Kind::Int,
         limit: 0,
     };
     let second = Column {
-        name: dept(rt, alloc),
+        name: text(rt, alloc, "dept"),
         kind: Kind::Int,
         limit: 0,
     };
@@ -58,18 +41,18 @@ fn predicate(rt: &impl Abort, alloc: Global) -> Pred
     ensures { result ≡ well_paid }
 {
     let hundred = Term::Const(Value::Int(100));
-    Pred::cmp(Op::Gt, Term::New(salary(rt, alloc)), hundred)
+    Pred::cmp(Op::Gt, Term::New(text(rt, alloc, "salary")), hundred)
 }
 
 fn action(rt: &impl Abort, alloc: Global) -> Action
     ensures { result ≡ adds_salary }
 {
-    let id = Str::from_string(String::from_str(alloc, "id").expect(rt, "memory"));
-    let pair = (id, Term::New(dept(rt, alloc)));
+    let id = text(rt, alloc, "id");
+    let pair = (id, Term::New(text(rt, alloc, "dept")));
     Action::Add {
-        relation: Str::from_string(String::from_str(alloc, "d").expect(rt, "memory")),
-        column: Str::from_string(String::from_str(alloc, "total").expect(rt, "memory")),
-        term: Term::New(salary(rt, alloc)),
+        relation: text(rt, alloc, "d"),
+        column: text(rt, alloc, "total"),
+        term: Term::New(text(rt, alloc, "salary")),
         pairs: Pairs::from_vec(vec![in alloc; pair].expect(rt, "memory")),
     }
 }
@@ -95,7 +78,7 @@ fn instance(rt: &impl Abort, alloc: Global, deferred: bool) -> Instance
     ensures columns { result.schema ≡ staff }
 {
     Instance {
-        relation: employees(rt, alloc),
+        relation: text(rt, alloc, "e"),
         owner: 0,
         root: 0,
         durable: true,
