@@ -7,25 +7,17 @@ ghost use Rattle.sb_heap.specs.Examples.{IsExample};
 ghost use Rattle.sb_heap.specs.Heap.{heap_method};
 
 use crate::random::Random;
-use crate::rows::{Content, End, OWNER, X, Y, delete, insert, letters, next, prepared, update};
+use crate::rows::{Change, Content, End, OWNER, Texts, changed, letters, next, prepared};
 use sb_ctx::Instance;
 use sb_memory::Memory;
 use sb_node::{Head, form, kind, room};
-use std::alloc::{AllocError, Global};
+use std::alloc::Global;
 use std::collections::BTreeMap;
+use std::process::Abort;
 use std::test::*;
 
 /// The rows by the numbers of their keys.
 type Rows = BTreeMap<u64, Content>;
-
-/// A row of 1,000 bytes or a short one.
-fn content_of(number: u16, long: bool) -> Content {
-    Content {
-        number: i64::from(number),
-        len: if long { 255 } else { 0 },
-        front: if long { *b"xxxx" } else { [0; 4] },
-    }
-}
 
 /// The key at a place of the map, or one that no row has.
 fn key_at(rows: &Rows, place: usize) -> u64 {
@@ -35,81 +27,50 @@ fn key_at(rows: &Rows, place: usize) -> u64 {
     }
 }
 
-/// Puts a row in. False where it isn't, or under a key that another has.
-fn is_inserted(
-    memory: &mut Memory,
-    alloc: Global,
-    inst: &Instance,
-    rows: &mut Rows,
-    number: u16,
-    long: bool,
-) -> Result<bool, AllocError>
-    requires { IsExample inst.now }
-{
-    let (x, y) = if long { (X, Y) } else { ("", "") };
-    match insert(memory, alloc, inst, i64::from(number), x, y)? {
-        End::Key(key) => Ok(rows.insert(key, content_of(number, long))?.is_none()),
-        _ => Ok(false),
-    }
+/// Puts a row under its key. False where another stood there.
+fn is_put(rt: &impl Abort, rows: &mut Rows, key: u64, content: Content) -> bool {
+    let old: Result<_, _> = rows.insert(key, content);
+    old.expect(rt, "memory").is_none()
 }
 
-/// Takes the row of a key out. False where the answer isn't as the map says.
-fn is_deleted(
-    memory: &mut Memory,
-    alloc: Global,
-    inst: &Instance,
-    rows: &mut Rows,
-    key: u64,
-) -> Result<bool, AllocError>
-    requires { IsInstance heap_method inst.now }
-{
-    match delete(memory, alloc, inst, key)? {
-        End::Done => Ok(rows.remove(&key).is_some()),
-        End::NoRecord => Ok(!rows.contains_key(&key)),
-        _ => Ok(false),
-    }
-}
-
-/// Puts another row in place of that of a key. False where the answer isn't as the map says.
-fn is_updated(
-    memory: &mut Memory,
-    alloc: Global,
-    inst: &Instance,
-    rows: &mut Rows,
-    key: u64,
-    number: u16,
-    long: bool,
-) -> Result<bool, AllocError>
-    requires { IsExample inst.now }
-{
-    let (x, y) = if long { (X, Y) } else { ("", "") };
-    match update(memory, alloc, inst, key, i64::from(number), x, y)? {
-        End::Key(now) => {
-            let stood = rows.remove(&key).is_some();
-            Ok(rows.insert(now, content_of(number, long))?.is_none() && stood)
+/// Changes the map as the heap was changed. False where the heap's answer isn't as the map says.
+fn is_matched(rt: &impl Abort, rows: &mut Rows, change: Change, end: End) -> bool {
+    match (change, end) {
+        (Change::Insert(number, texts), End::Key(key)) => {
+            let content = Content::new(number, texts.first());
+            is_put(rt, rows, key, content)
         }
-        End::NoRecord => Ok(!rows.contains_key(&key)),
-        _ => Ok(false),
+        (Change::Update(key, number, texts), End::Key(now)) => {
+            let content = Content::new(number, texts.first());
+            let stood = rows.remove(&key).is_some();
+            is_put(rt, rows, now, content) && stood
+        }
+        (Change::Delete(key), End::Done) => rows.remove(&key).is_some(),
+        (Change::Update(key, _, _) | Change::Delete(key), End::NoRecord) => !rows.contains_key(
+            &key,
+        ),
+        _ => false,
     }
 }
 
 /// Whether the rows that are found from the first one on are those of the map.
 fn are_found(
-    memory: &mut Memory,
+    rt: &impl Abort,
     alloc: Global,
+    memory: &mut Memory,
     inst: &Instance,
     rows: &Rows,
-) -> Result<bool, AllocError>
+) -> bool
     requires { IsInstance heap_method inst.now }
 {
     let mut low = None;
     for (key, content) in rows {
-        if next(memory, alloc, inst, low)? != End::Row(*key, *content) {
-            return Ok(false);
+        if next(rt, alloc, memory, inst, low) != End::Row(*key, *content) {
+            return false;
         }
         low = Some(*key);
     }
-    Ok(next(memory, alloc, inst, low)? == End::Behind)
+    next(rt, alloc, memory, inst, low) == End::Behind
 }
 
 /// The head of a page of the heap, and how many bytes it has free.
@@ -170,71 +131,61 @@ fn is_listed(memory: &Memory) -> bool {
     }
 }
 
-/// A step: of eight, so many put a row in, and of the others every second takes one out.
-fn is_stepped(
-    memory: &mut Memory,
-    alloc: Global,
-    inst: &Instance,
-    rows: &mut Rows,
-    random: &mut Random,
-    puts: u16,
-) -> Result<bool, AllocError>
-    requires { IsExample inst.now }
-{
-    let number = random.below(1000);
-    let long = random.below(3) > 0;
+/// A change: of eight, so many put a row in, and of the others every second takes one out.
+fn random_change(random: &mut Random, rows: &Rows, puts: u16) -> Change {
+    let number = i64::from(random.below(1000));
+    let texts = if random.below(3) > 0 {
+        Texts::Long
+    } else {
+        Texts::None
+    };
     let key = key_at(rows, usize::from(random.below(64)));
     let choice = random.below(8);
     if choice < puts {
-        is_inserted(memory, alloc, inst, rows, number, long)
+        Change::Insert(number, texts)
     } else if choice % 2 == 0 {
-        is_deleted(memory, alloc, inst, rows, key)
+        Change::Delete(key)
     } else {
-        is_updated(memory, alloc, inst, rows, key, number, long)
+        Change::Update(key, number, texts)
     }
 }
 
-/// So many steps. The number of those that went well, from the first one on.
-fn steps_made(
-    memory: &mut Memory,
+/// 150 changes, after each of which the heap is compared with the map.
+fn change_rows(
+    rt: &impl Abort,
     alloc: Global,
+    memory: &mut Memory,
     inst: &Instance,
     rows: &mut Rows,
     random: &mut Random,
     puts: u16,
-) -> Result<u16, AllocError>
+)
     requires { IsExample inst.now }
 {
     for step in 0..150 {
-        if !is_stepped(memory, alloc, inst, rows, random, puts)? {
-            return Ok(step);
-        }
-        if !are_found(memory, alloc, inst, rows)? || !is_listed(memory) {
-            return Ok(step);
-        }
+        let change = random_change(random, rows, puts);
+        let end = changed(rt, alloc, memory, inst, change);
+        assert!(rt; is_matched(rt, rows, change, end), "{step}");
+        assert!(rt;
+            are_found(rt, alloc, memory, inst, rows) && is_listed(memory),
+            "{step}"
+        );
     }
-    Ok(150)
 }
 
-/// Three runs of steps, of which most put rows in at first and take them out at last: how many went well, and how many rows
-/// there are after the first two.
-fn runs_made(alloc: Global) -> Result<([u16; 3], usize), AllocError> {
-    let inst = letters(alloc)?;
-    let Some(mut memory) = prepared(alloc, &inst)? else {
-        return Ok(([0; 3], 0));
-    };
+/// Three runs of changes, of which most put rows in at first and take them out at last.
+#[test]
+fn random_rows_come_and_go(rt: HostRuntime) {
+    let alloc = rt.alloc();
+    let inst = letters(&rt, alloc);
+    let mut memory = prepared(&rt, alloc, &inst);
     let mut rows = BTreeMap::new(alloc);
     let mut random = Random::new(20);
-    let first = steps_made(&mut memory, alloc, &inst, &mut rows, &mut random, 5)?;
-    let second = steps_made(&mut memory, alloc, &inst, &mut rows, &mut random, 3)?;
-    let most = rows.len();
-    let third = steps_made(&mut memory, alloc, &inst, &mut rows, &mut random, 1)?;
-    Ok(([first, second, third], most))
-}
-
-#[test]
-fn random_rows_come_and_go(rt: HostRuntime) -> Result<(), Fail> {
-    let (made, most) = runs_made(rt.alloc())?;
-    assert!(rt; made == [150; 3] && most > 30);
-    Ok(())
+    change_rows(&rt, alloc, &mut memory, &inst, &mut rows, &mut random, 5);
+    change_rows(&rt, alloc, &mut memory, &inst, &mut rows, &mut random, 3);
+    assert!(rt; rows.len() > 30);
+    change_rows(&rt, alloc, &mut memory, &inst, &mut rows, &mut random, 1);
+    drop(rows);
+    drop(memory);
+    drop(inst);
 }

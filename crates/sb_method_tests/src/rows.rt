@@ -1,6 +1,6 @@
 //! Rows of two relations, each in a heap at page 2 of a memory.
 
-ghost use Rattle.std.specs.Prelude.{◌≡◌, ◌≤◌, length, IfOk};
+ghost use Rattle.std.specs.Prelude.{◌≡◌, ◌≤◌, length};
 ghost use Rattle.sb_ctx.specs.Method.{IsInstance};
 ghost use Rattle.sb_drive.specs.MethodCalls.{Fits};
 ghost use Rattle.sb_heap.specs.Examples.{IsExample, MayBeHeld, example_columns, text_column};
@@ -12,72 +12,90 @@ use sb_ctx::{Instance, MethodCall, Move};
 use sb_heap::Heap;
 use sb_memory::{Memory, drive_method};
 use sb_value::{Bytes, Column, Kind, Names, RecKey, Schema, Str, Tuple, Value};
-use std::alloc::{AllocError, Global};
+use std::alloc::Global;
+use std::process::Abort;
+use std::test::*;
 
 /// 255 letters, the most of a text, and 217: with a number and three texts of the first length a row takes the 1,000 bytes
 /// that one may.
-pub const X: &str =
+const X: &str =
     "xxxxxxxxxxxxxxxxxxxxxxxxxxxxxxxxxxxxxxxxxxxxxxxxxxxxxxxxxxxxxxxxxxxxxxxxxxxxxxxxxxxxxxxxxxxxxxxxxxxxxxxxxxxxxxxxxxxxxxxxxxxxxxxxxxxxxxxxxxxxxxxxxxxxxxxxxxxxxxxxxxxxxxxxxxxxxxxxxxxxxxxxxxxxxxxxxxxxxxxxxxxxxxxxxxxxxxxxxxxxxxxxxxxxxxxxxxxxxxxxxxxxxxxxxxxxxxx";
 
-pub const Y: &str =
+const Y: &str =
     "xxxxxxxxxxxxxxxxxxxxxxxxxxxxxxxxxxxxxxxxxxxxxxxxxxxxxxxxxxxxxxxxxxxxxxxxxxxxxxxxxxxxxxxxxxxxxxxxxxxxxxxxxxxxxxxxxxxxxxxxxxxxxxxxxxxxxxxxxxxxxxxxxxxxxxxxxxxxxxxxxxxxxxxxxxxxxxxxxxxxxxxxxxxxxxxxxxxxxxxxxxxxxxxxxxxxxxxxx";
 
 /// The owner of the heaps.
 pub const OWNER: u16 = 5;
 
-fn text(alloc: Global, text: &str) -> Result<Str, AllocError>
-    ensures { IfOk result (λ s. s ≡ text.now) }
-{
-    Ok(Str::from_string(String::from_str(alloc, text)?))
+// Want of memory ends a test at once: where a test went on to an `Err`, each value that it has would be dropped on the way,
+// which is dear to prove. A value that goes by a call of `drop` is far cheaper than one that goes at its scope's end.
+
+/// The texts of a row: three that are the same, and another.
+#[derive(Clone, Copy)]
+pub enum Texts {
+    None,
+    /// Of a letter each.
+    Short,
+    /// So long that the row takes the 1,000 bytes that one may.
+    Long,
 }
 
-fn words(alloc: Global, name: &str) -> Result<Column, AllocError>
-    ensures { IfOk result (λ column. column ≡ text_column name.now) }
+impl Texts {
+    /// The first three.
+    pub fn first(self) -> &'static str
+        ensures { length result.now ≤ 255 }
+    {
+        match self {
+            Texts::None => "",
+            Texts::Short => "x",
+            Texts::Long => X,
+        }
+    }
+
+    fn last(self) -> &'static str
+        ensures { length result.now ≤ 217 }
+    {
+        match self {
+            Texts::None => "",
+            Texts::Short => "y",
+            Texts::Long => Y,
+        }
+    }
+}
+
+fn text(rt: &impl Abort, alloc: Global, text: &str) -> Str
+    ensures { result ≡ text.now }
 {
-    Ok(Column {
-        name: text(alloc, name)?,
+    Str::from_string(String::from_str(alloc, text).expect(rt, "memory"))
+}
+
+fn words(rt: &impl Abort, alloc: Global, name: &str) -> Column
+    ensures { result ≡ text_column name.now }
+{
+    Column {
+        name: text(rt, alloc, name),
         kind: Kind::Text,
         limit: 255,
-    })
+    }
 }
 
-fn number(alloc: Global, name: &str) -> Result<Column, AllocError>
-    ensures { IfOk result (λ column. column ≡ int_column name.now) }
+fn number(rt: &impl Abort, alloc: Global, name: &str) -> Column
+    ensures { result ≡ int_column name.now }
 {
-    Ok(Column {
-        name: text(alloc, name)?,
+    Column {
+        name: text(rt, alloc, name),
         kind: Kind::Int,
         limit: 0,
-    })
-}
-
-fn pair_schema(alloc: Global) -> Result<Schema, AllocError>
-    ensures { IfOk result (λ schema. schema ≡ pair_columns) }
-{
-    let a = number(alloc, "a")?;
-    let b = words(alloc, "b")?;
-    Ok(Schema::from_vec(vec![in alloc; a, b]?))
-}
-
-fn letter_schema(alloc: Global) -> Result<Schema, AllocError>
-    ensures { IfOk result (λ schema. schema ≡ example_columns) }
-{
-    let k = number(alloc, "k")?;
-    let a = words(alloc, "a")?;
-    let b = words(alloc, "b")?;
-    let c = words(alloc, "c")?;
-    let d = words(alloc, "d")?;
-    Ok(Schema::from_vec(vec![in alloc; k, a, b, c, d]?))
+    }
 }
 
 /// The relation `t` of these columns in a heap.
-fn instance(alloc: Global, schema: Schema) -> Result<Instance, AllocError>
-    ensures heap { IfOk result (IsInstance heap_method) }
-    ensures columns { IfOk result (λ inst. inst.schema ≡ schema) }
+fn instance(rt: &impl Abort, alloc: Global, schema: Schema) -> Instance
+    ensures heap { IsInstance heap_method result }
+    ensures columns { result.schema ≡ schema }
 {
-    let relation = text(alloc, "t")?;
-    Ok(Instance {
-        relation,
+    Instance {
+        relation: text(rt, alloc, "t"),
         owner: OWNER,
         root: 2,
         durable: true,
@@ -85,47 +103,53 @@ fn instance(alloc: Global, schema: Schema) -> Result<Instance, AllocError>
         desc: Bytes::new(alloc),
         schema,
         key: Names::from_vec(Vec::new(alloc)),
-    })
+    }
 }
 
 /// A relation of a number and a text.
-pub fn pairs(alloc: Global) -> Result<Instance, AllocError>
-    ensures { IfOk result ArePairs }
+pub fn pairs(rt: &impl Abort, alloc: Global) -> Instance
+    ensures { ArePairs result }
 {
-    let schema = pair_schema(alloc)?;
-    let inst = instance(alloc, schema)?;
-    Ok(inst)
+    let a = number(rt, alloc, "a");
+    let b = words(rt, alloc, "b");
+    let columns = vec![in alloc; a, b].expect(rt, "memory");
+    instance(rt, alloc, Schema::from_vec(columns))
 }
 
 /// A relation of a number and four texts.
-pub fn letters(alloc: Global) -> Result<Instance, AllocError>
-    ensures { IfOk result IsExample }
+pub fn letters(rt: &impl Abort, alloc: Global) -> Instance
+    ensures { IsExample result }
 {
-    let schema = letter_schema(alloc)?;
-    let inst = instance(alloc, schema)?;
-    Ok(inst)
+    let k = number(rt, alloc, "k");
+    let a = words(rt, alloc, "a");
+    let b = words(rt, alloc, "b");
+    let c = words(rt, alloc, "c");
+    let d = words(rt, alloc, "d");
+    let columns = vec![in alloc; k, a, b, c, d].expect(rt, "memory");
+    instance(rt, alloc, Schema::from_vec(columns))
 }
 
 /// A number and a text.
-pub fn pair(alloc: Global, number: i64, word: &str) -> Result<Tuple, AllocError>
+pub fn pair(rt: &impl Abort, alloc: Global, number: i64, word: &str) -> Tuple
     requires { length word.now ≤ 255 }
-    ensures { IfOk result MayBePair }
+    ensures { MayBePair result }
 {
-    let b = Value::Text(text(alloc, word)?);
-    Ok(Tuple::from_vec(vec![in alloc; Value::Int(number), b]?))
+    let b = Value::Text(text(rt, alloc, word));
+    let values = vec![in alloc; Value::Int(number), b].expect(rt, "memory");
+    Tuple::from_vec(values)
 }
 
-/// A number, a text three times and another text.
-pub fn row(alloc: Global, number: i64, x: &str, y: &str) -> Result<Tuple, AllocError>
-    requires first { length x.now ≤ 255 }
-    requires last { length y.now ≤ 217 }
-    ensures { IfOk result MayBeHeld }
+/// A number, and a text three times and another one.
+pub fn row(rt: &impl Abort, alloc: Global, number: i64, texts: Texts) -> Tuple
+    ensures { MayBeHeld result }
 {
-    let a = Value::Text(text(alloc, x)?);
-    let b = Value::Text(text(alloc, x)?);
-    let c = Value::Text(text(alloc, x)?);
-    let d = Value::Text(text(alloc, y)?);
-    Ok(Tuple::from_vec(vec![in alloc; Value::Int(number), a, b, c, d]?))
+    let x = texts.first();
+    let a = Value::Text(text(rt, alloc, x));
+    let b = Value::Text(text(rt, alloc, x));
+    let c = Value::Text(text(rt, alloc, x));
+    let d = Value::Text(text(rt, alloc, texts.last()));
+    let values = vec![in alloc; Value::Int(number), a, b, c, d].expect(rt, "memory");
+    Tuple::from_vec(values)
 }
 
 /// A row's number, and the length and the first four bytes of its first text.
@@ -156,13 +180,13 @@ fn number_of(key: &RecKey) -> u64 {
     }
 }
 
-pub fn key_of(alloc: Global, number: u64) -> Result<RecKey, AllocError> {
+fn key_of(rt: &impl Abort, alloc: Global, number: u64) -> RecKey {
     let bytes = number.to_be_bytes();
-    Ok(RecKey::from_vec(bytes[2..].to_vec(alloc)?))
+    RecKey::from_vec(bytes[2..].to_vec(alloc).expect(rt, "memory"))
 }
 
 /// The first four bytes, and zeros where there are fewer.
-pub fn front_of(bytes: &[u8]) -> [u8; 4] {
+fn front_of(bytes: &[u8]) -> [u8; 4] {
     match bytes {
         [] => [0; 4],
         [a] => [*a, 0, 0, 0],
@@ -172,18 +196,21 @@ pub fn front_of(bytes: &[u8]) -> [u8; 4] {
     }
 }
 
-fn content_of(row: &Tuple) -> Content {
-    match row.as_slice() {
-        [Value::Int(number), Value::Text(text), ..] => Content {
-            number: *number,
+impl Content {
+    /// That of a row of this number and first text.
+    pub fn new(number: i64, text: &str) -> Content {
+        Content {
+            number,
             len: text.len(),
             front: front_of(text.as_bytes()),
-        },
-        _ => Content {
-            number: 0,
-            len: 0,
-            front: [0; 4],
-        },
+        }
+    }
+}
+
+fn content_of(row: &Tuple) -> Content {
+    match row.as_slice() {
+        [Value::Int(number), Value::Text(text), ..] => Content::new(*number, text.as_str()),
+        _ => Content::new(0, ""),
     }
 }
 
@@ -199,95 +226,95 @@ fn end_of(made: &Move) -> End {
 }
 
 /// Makes a call to its end, for good.
-pub fn made(memory: &mut Memory, alloc: Global, inst: &Instance, call: &MethodCall) -> End
+fn made(memory: &mut Memory, alloc: Global, inst: &Instance, call: MethodCall) -> End
     requires inst { IsInstance heap_method inst.now }
-    requires fits { Fits heap_method inst.now call.now }
+    requires fits { Fits heap_method inst.now call }
 {
-    let end = match drive_method(memory, alloc, &Heap::new(), inst, call) {
-        Ok(end) => end_of(&end),
+    let made = drive_method(memory, alloc, &Heap::new(), inst, &call);
+    let end = match &made {
+        Ok(end) => end_of(end),
         Err(_) => End::Other,
     };
+    drop(made);
+    drop(call);
     memory.keep();
     end
 }
 
 /// A memory with a new heap at page 2. Its pages 0, 1 and 3 are the roots of other owners.
-pub fn prepared(alloc: Global, inst: &Instance) -> Result<Option<Memory>, AllocError>
+pub fn prepared(rt: &impl Abort, alloc: Global, inst: &Instance) -> Memory
     requires { IsInstance heap_method inst.now }
 {
     let mut memory = Memory::new(alloc);
     for _ in 0..4 {
-        memory.new_instance(&[])?;
+        memory.new_instance(&[]).expect(rt, "memory");
     }
-    let end = made(&mut memory, alloc, inst, &MethodCall::Prepare);
-    if end == End::Done && memory.owner_of(2) == OWNER {
-        Ok(Some(memory))
-    } else {
-        Ok(None)
-    }
+    let end = made(&mut memory, alloc, inst, MethodCall::Prepare);
+    assert!(rt; end == End::Done && memory.owner_of(2) == OWNER);
+    memory
 }
 
-/// Puts a row in.
-pub fn insert(
-    memory: &mut Memory,
+/// A change of a heap of numbers and four texts.
+#[derive(Clone, Copy)]
+pub enum Change {
+    /// A row is put in.
+    Insert(i64, Texts),
+    /// A row is put in place of that of a key.
+    Update(u64, i64, Texts),
+    /// The row of a key is taken out.
+    Delete(u64),
+}
+
+/// How a change ends.
+pub fn changed(
+    rt: &impl Abort,
     alloc: Global,
+    memory: &mut Memory,
+    inst: &Instance,
+    change: Change,
+) -> End
+    requires { IsExample inst.now }
+{
+    let call = match change {
+        Change::Insert(number, texts) => MethodCall::Insert(row(rt, alloc, number, texts)),
+        Change::Update(key, number, texts) => {
+            let key = key_of(rt, alloc, key);
+            MethodCall::Update(key, row(rt, alloc, number, texts))
+        }
+        Change::Delete(key) => MethodCall::Delete(key_of(rt, alloc, key)),
+    };
+    made(memory, alloc, inst, call)
+}
+
+/// Puts a pair in.
+pub fn insert_pair(
+    rt: &impl Abort,
+    alloc: Global,
+    memory: &mut Memory,
     inst: &Instance,
     number: i64,
-    x: &str,
-    y: &str,
-) -> Result<End, AllocError>
-    requires inst { IsExample inst.now }
-    requires first { length x.now ≤ 255 }
-    requires last { length y.now ≤ 217 }
+    word: &str,
+) -> End
+    requires inst { ArePairs inst.now }
+    requires word { length word.now ≤ 255 }
 {
-    let call = MethodCall::Insert(row(alloc, number, x, y)?);
-    Ok(made(memory, alloc, inst, &call))
-}
-
-/// Puts a row in place of that of a key.
-pub fn update(
-    memory: &mut Memory,
-    alloc: Global,
-    inst: &Instance,
-    key: u64,
-    number: i64,
-    x: &str,
-    y: &str,
-) -> Result<End, AllocError>
-    requires inst { IsExample inst.now }
-    requires first { length x.now ≤ 255 }
-    requires last { length y.now ≤ 217 }
-{
-    let key = key_of(alloc, key)?;
-    let call = MethodCall::Update(key, row(alloc, number, x, y)?);
-    Ok(made(memory, alloc, inst, &call))
-}
-
-/// Takes the row of a key out.
-pub fn delete(
-    memory: &mut Memory,
-    alloc: Global,
-    inst: &Instance,
-    key: u64,
-) -> Result<End, AllocError>
-    requires { IsInstance heap_method inst.now }
-{
-    let call = MethodCall::Delete(key_of(alloc, key)?);
-    Ok(made(memory, alloc, inst, &call))
+    let call = MethodCall::Insert(pair(rt, alloc, number, word));
+    made(memory, alloc, inst, call)
 }
 
 /// The row behind a key, or the first one.
 pub fn next(
-    memory: &mut Memory,
+    rt: &impl Abort,
     alloc: Global,
+    memory: &mut Memory,
     inst: &Instance,
     low: Option<u64>,
-) -> Result<End, AllocError>
+) -> End
     requires { IsInstance heap_method inst.now }
 {
     let low = match low {
-        Some(number) => Some(key_of(alloc, number)?),
+        Some(number) => Some(key_of(rt, alloc, number)),
         None => None,
     };
-    Ok(made(memory, alloc, inst, &MethodCall::Next(low)))
+    made(memory, alloc, inst, MethodCall::Next(low))
 }

@@ -9,8 +9,9 @@ use crate::{
 };
 use sb_btree::{LeafEntry, Walk, find, insert, next, remove};
 use sb_ctx::Ctx;
-use std::alloc::{AllocError, Global};
-use std::test::Fail;
+use std::alloc::Global;
+use std::process::Abort;
+use std::test::*;
 
 /// A leaf without entries.
 const EMPTY: [u8; 6] = [2, 0, 0, 0, 0, 0];
@@ -84,13 +85,13 @@ fn has_at(items: &[Item], place: usize, key: u16) -> bool
 }
 
 /// Puts an item to its place. False where the key stands.
-fn put(items: &mut Vec<Item>, item: Item) -> Result<bool, AllocError> {
+fn put(rt: &impl Abort, items: &mut Vec<Item>, item: Item) -> bool {
     let place = place_of(items, item.key);
     if has_at(items, place, item.key) {
-        return Ok(false);
+        return false;
     }
-    items.insert(place, item)?;
-    Ok(true)
+    items.insert(place, item).expect(rt, "memory");
+    true
 }
 
 /// Takes the item of a key out. False where there is none.
@@ -126,29 +127,32 @@ fn is_answer(walk: &Walk<bool>, wanted: bool) -> bool {
 
 /// Puts an item in or takes it out, and says whether the tree answered as the list.
 fn is_changed(
+    rt: &impl Abort,
     alloc: Global,
     ctx: &mut Ctx,
     items: &mut Vec<Item>,
     item: Item,
     puts: bool,
-) -> Result<bool, AllocError> {
+) -> bool {
     if puts {
         let walk = insert_item(alloc, ctx, item);
-        Ok(is_answer(&walk, put(items, item)?))
+        is_answer(&walk, put(rt, items, item))
     } else {
         let walk = remove_item(alloc, ctx, item.key);
-        Ok(is_answer(&walk, take(items, item.key)))
+        is_answer(&walk, take(items, item.key))
     }
 }
 
-fn is_found(walk: &Walk<Option<LeafEntry>>, item: Option<&Item>) -> bool {
-    match (walk, item) {
+fn is_found(walk: Walk<Option<LeafEntry>>, item: Option<&Item>) -> bool {
+    let is_found = match (&walk, item) {
         (Walk::Ready(Some(found)), Some(item)) => {
             is_entry((found.key.as_slice(), found.value.as_slice()), *item)
         }
         (Walk::Ready(None), None) => true,
         _ => false,
-    }
+    };
+    drop(walk);
+    is_found
 }
 
 /// Whether the entry of a key and the first one behind it are those of the list.
@@ -161,15 +165,14 @@ fn is_looked_up(alloc: Global, ctx: &Ctx, items: &[Item], key: u16) -> bool {
     } else {
         (None, items.get(place))
     };
-    is_found(&find(alloc, ctx, 0, bytes), here)
-        && is_found(&next(alloc, ctx, 0, Some(bytes)), behind)
+    is_found(find(alloc, ctx, 0, bytes), here) && is_found(next(alloc, ctx, 0, Some(bytes)), behind)
 }
 
 /// How many pages have bytes.
 fn used_pages(ctx: &Ctx) -> usize {
     let mut used = 0usize;
     for n in 0..=PAGES {
-        if ctx.page(n).is_some_and(|bytes| !bytes.is_empty()) {
+        if matches!(ctx.page(n), Some([_, ..])) {
             used = used.saturating_add(1);
         }
     }
@@ -189,85 +192,83 @@ fn are_entries(entries: &[(&[u8], &[u8])], items: &[Item]) -> bool {
 }
 
 /// How many pages the tree has, where the pages with bytes are a tree with just these entries.
-fn pages_of_tree(alloc: Global, ctx: &Ctx, items: &[Item]) -> Result<Option<usize>, AllocError> {
-    let Some(tree) = held_tree(alloc, ctx, 0)? else {
-        return Ok(None);
-    };
-    if are_entries(&tree.entries, items) && tree.pages.len() == used_pages(ctx) {
-        Ok(Some(tree.pages.len()))
-    } else {
-        Ok(None)
-    }
+fn pages_of_tree(rt: &impl Abort, alloc: Global, ctx: &Ctx, items: &[Item]) -> Option<usize> {
+    let tree = held_tree(alloc, ctx, 0).expect(rt, "memory")?;
+    let pages = tree.pages.len();
+    let is_whole = are_entries(&tree.entries, items) && pages == used_pages(ctx);
+    drop(tree);
+    if is_whole { Some(pages) } else { None }
 }
 
-/// So many steps, of four of which so many put an item in. How many pages the tree has then, where each step went well.
-fn after_steps(
+/// 200 steps, of four of which so many put an item in. How many pages the tree has then.
+fn pages_after_steps(
+    rt: &impl Abort,
     alloc: Global,
     ctx: &mut Ctx,
     items: &mut Vec<Item>,
     random: &mut Random,
-    steps: u16,
     puts: u16,
-) -> Result<Option<usize>, AllocError> {
+) -> usize {
     let mut pages = None;
-    for _step in 0..steps {
+    for step in 0..200 {
         let item = Item {
             key: random.below(KEYS),
             size: random.below(4),
             byte: random.below(256) as u8,
         };
         let puts = random.below(4) < puts;
-        if !is_changed(alloc, ctx, items, item, puts)? {
-            return Ok(None);
-        }
-        pages = pages_of_tree(alloc, ctx, items)?;
-        if pages.is_none() || !is_looked_up(alloc, ctx, items, random.below(KEYS)) {
-            return Ok(None);
-        }
+        assert!(rt; is_changed(rt, alloc, ctx, items, item, puts), "{step}");
+        pages = pages_of_tree(rt, alloc, ctx, items);
+        assert!(rt; pages.is_some(), "{step}");
+        assert!(rt;
+            is_looked_up(alloc, ctx, items, random.below(KEYS)),
+            "{step}"
+        );
     }
-    Ok(pages)
+    pages.unwrap_or(0)
+}
+
+/// Takes out what is left, by its number.
+fn take_all(rt: &impl Abort, alloc: Global, ctx: &mut Ctx, items: &mut Vec<Item>) {
+    for key in 0..KEYS {
+        let walk = remove_item(alloc, ctx, key);
+        assert!(rt; is_answer(&walk, take(items, key)), "{key}");
+        assert!(rt; pages_of_tree(rt, alloc, ctx, items).is_some(), "{key}");
+    }
+    assert!(rt; items.is_empty() && used_pages(ctx) == 1);
 }
 
 /// Gives a page that begins with these bytes.
-fn give(ctx: &mut Ctx, n: u32, front: &[u8]) -> Result<(), AllocError>
+fn give(rt: &impl Abort, ctx: &mut Ctx, n: u32, front: &[u8])
     requires { length front.now ≤ 4096 }
 {
     let mut page = [0; 4096];
     page[..front.len()].copy_from_slice(front);
-    ctx.give_page(n, &page)
+    ctx.give_page(n, &page).expect(rt, "memory");
 }
 
 /// A tree at page 0 without entries, and fresh pages.
-fn empty_tree(alloc: Global) -> Result<Ctx, AllocError> {
+fn empty_tree(rt: &impl Abort, alloc: Global) -> Ctx {
     let mut ctx = Ctx::new(alloc);
-    give(&mut ctx, 0, &EMPTY)?;
+    give(rt, &mut ctx, 0, &EMPTY);
     for n in 1..=PAGES {
-        ctx.give_fresh(n)?;
+        ctx.give_fresh(n).expect(rt, "memory");
     }
-    Ok(ctx)
+    ctx
 }
 
-/// 200 steps of which most put an entry in, and 200 of which most take one out. What is left is taken out by its number.
+/// 200 steps of which most put an entry in, and 200 of which most take one out.
 #[test]
-fn random_entries_come_and_go(rt: HostRuntime) -> Result<(), Fail> {
+fn random_entries_come_and_go(rt: HostRuntime) {
     let alloc = rt.alloc();
-    let mut ctx = empty_tree(alloc)?;
+    let mut ctx = empty_tree(&rt, alloc);
     let mut items = Vec::new(alloc);
     let mut random = Random::new(16);
-    let grown = after_steps(alloc, &mut ctx, &mut items, &mut random, 200, 3)?;
-    assert!(rt; grown.is_some_and(|pages| pages > 10));
-    let shrunk = after_steps(alloc, &mut ctx, &mut items, &mut random, 200, 1)?;
-    assert!(rt; shrunk.is_some());
-    for key in 0..KEYS {
-        let stood = take(&mut items, key);
-        assert!(rt;
-            is_answer(&remove_item(alloc, &mut ctx, key), stood),
-            "{key}"
-        );
-        assert!(rt; pages_of_tree(alloc, &ctx, &items)?.is_some(), "{key}");
-    }
-    assert!(rt; items.is_empty() && used_pages(&ctx) == 1);
-    Ok(())
+    assert!(rt; pages_after_steps(&rt, alloc, &mut ctx, &mut items, &mut random, 3) > 10);
+    pages_after_steps(&rt, alloc, &mut ctx, &mut items, &mut random, 1);
+    take_all(&rt, alloc, &mut ctx, &mut items);
+    drop(items);
+    drop(ctx);
 }
 
 /// A leaf with one entry, "b" to "two".
@@ -295,7 +296,7 @@ const TWICE: [u8; 33] = [
 
 /// The pages of a tree at page 7 and its children 8 and 9, and how many entries it has, where it is one: with both leaves in
 /// their places, with them changed over, with an empty leaf, with a leaf of another level, and with one leaf met twice.
-const TREES: [(&'static [u8], &'static [u8], &'static [u8], Option<usize>); 6] = [
+static TREES: [(&'static [u8], &'static [u8], &'static [u8], Option<usize>); 6] = [
     (&ROOT, &LEAF, &NEXT, Some(2)),
     (&ROOT, &NEXT, &LEAF, None),
     (&ROOT, &LEAF, &EMPTY, None),
@@ -304,33 +305,32 @@ const TREES: [(&'static [u8], &'static [u8], &'static [u8], Option<usize>); 6] =
     (&LEAF, &NEXT, &NEXT, Some(1)),
 ];
 
-fn entries_at(
-    alloc: Global,
-    root: &[u8],
-    left: &[u8],
-    right: &[u8],
-) -> Result<Option<usize>, AllocError>
-    requires root { length root.now ≤ 4096 }
-    requires left { length left.now ≤ 4096 }
-    requires right { length right.now ≤ 4096 }
-{
-    let mut ctx = Ctx::new(alloc);
-    give(&mut ctx, 7, root)?;
-    give(&mut ctx, 8, left)?;
-    give(&mut ctx, 9, right)?;
-    Ok(held_tree(alloc, &ctx, 7)?.map(|tree| tree.entries.len()))
+/// How many entries the tree at page 7 has, where it is one.
+fn entries_held(rt: &impl Abort, alloc: Global, ctx: &Ctx) -> Option<usize> {
+    let tree = held_tree(alloc, ctx, 7).expect(rt, "memory")?;
+    let count = tree.entries.len();
+    drop(tree);
+    Some(count)
 }
 
 #[test]
-fn pages_are_a_tree_or_none(rt: HostRuntime) -> Result<(), Fail> {
+fn pages_are_a_tree_or_none(rt: HostRuntime) {
     let alloc = rt.alloc();
-    for (root, left, right, wanted) in TREES {
-        assert!(rt; root.len() <= 4096 && left.len() <= 4096 && right.len() <= 4096);
-        assert!(rt; entries_at(alloc, root, left, right)? == wanted);
+    for (root, left, right, wanted) in TREES.iter() {
+        let mut ctx = Ctx::new(alloc);
+        assert!(rt; entries_held(&rt, alloc, &ctx).is_none());
+        for (n, front) in [(7, root), (8, left), (9, right)] {
+            assert!(rt; front.len() <= 4096);
+            give(&rt, &mut ctx, n, front);
+        }
+        assert!(rt; entries_held(&rt, alloc, &ctx) == *wanted);
+        drop(ctx);
     }
-    assert!(rt; held_tree(alloc, &Ctx::new(alloc), 7)?.is_none());
+}
+
+#[test]
+fn the_laws_of_walks_are_there(_: HostRuntime) {
     walks_are_as_long_as_the_tree_is_high();
     next_walks_are_short();
     removals_are_short();
-    Ok(())
 }

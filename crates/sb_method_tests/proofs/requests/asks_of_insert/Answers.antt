@@ -4,4 +4,4 @@ use Rattle.sb_ctx.proofs.DrivingLaws.{IsClean-nothing}
 use Rattle.sb_method_tests.proofs.requests.asks_of_insert.Goals as goal
 
 pub loop-turn-init : goal.loop-turn-init
-loop-turn-init c = subst IsClean (sym c.new-ctx.ensures) IsClean-nothing
+loop-turn-init g c = subst IsClean (sym c.new-ctx.ensures) IsClean-nothing

@@ -6,11 +6,12 @@ use Rattle.sb_method_tests.proofs.Pairing.{MayBePair-from}
 use Rattle.sb_method_tests.proofs.rows.pair.Goals as goal
 
 pub returns : goal.returns
-returns c =
+returns g c =
+    let items = rw c.expect-values.ensures at c.vec.ensures.items in
     MayBePair-from c.from_vec.result (record {
       number = c.args.number;
       word = c.args.word.now;
-      is = c.from_vec.ensures ∙ c.in_ok-vec.ensures.items ∙ (λ i. Int (to_z-of_z w64 c.args.number c.ranges.number i) ∷ Text (c.in_ok-text.ensures i) ∷ []);
+      is = c.from_vec.ensures ∙ items ∙ (λ i. Int (to_z-of_z w64 c.args.number c.ranges.number i) ∷ Text (c.text.ensures i) ∷ []);
       fits = c.ranges.number;
       utf8 = c.utf8.word;
       short = c.requires;

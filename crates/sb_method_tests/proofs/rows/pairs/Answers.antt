@@ -1,5 +1,5 @@
-use Rattle.std.proofs.Common.{◌∙◌}
+use Rattle.std.proofs.Common.{rules}
 use Rattle.sb_method_tests.proofs.rows.pairs.Goals as goal
 
 pub returns : goal.returns
-returns c = record { is = c.in_ok-inst.ensures.heap; columns = c.in_ok-inst.ensures.columns ∙ c.in_ok-schema.ensures }
+returns g c = record { is = c.instance.ensures.heap; columns = search rules }
