@@ -1,58 +1,52 @@
-ghost use Rattle.std.specs.Prelude.{◌≡◌, ◌≤◌, [], ◌∷◌, length, All};
+ghost use Rattle.std.specs.Prelude.{◌≡◌, ◌≤◌, [], ◌∷◌, length, All, IfOk};
 ghost use Rattle.sb_value.specs.Spelling.{IsShort};
 
-use super::fixtures::text;
 use sb_codec::{
     decode_tuple, encode_tuple, keeps_order, key_len, one_list, one_tuple, ordered_key, tuple_len,
     unordered_key,
 };
-use sb_value::{Kind, Tuple, Value};
-use std::alloc::Global;
-use std::process::Abort;
-use std::test::*;
+use sb_value::{Kind, Str, Tuple, Value};
+use std::alloc::{AllocError, Global};
 
-fn pair(rt: &impl Abort, alloc: Global, number: i64, short: &str) -> Tuple
-    requires { length short.now ≤ 255 }
-    ensures exact { result ≡ Value.Int number ∷ Value.Text short.now ∷ [] }
-    ensures short { All IsShort result }
+fn pair(alloc: Global, number: i64, text: &str) -> Result<Tuple, AllocError>
+    requires { length text.now ≤ 255 }
+    ensures exact { IfOk result (λ t. t ≡ Value.Int number ∷ Value.Text text.now ∷ []) }
+    ensures short { IfOk result (λ t. All IsShort t) }
 {
-    let text = Value::Text(text(rt, alloc, short));
-    Tuple::from_vec(vec![in alloc; Value::Int(number), text].expect(rt, "memory"))
+    let text = Value::Text(Str::from_string(String::from_str(alloc, text)?));
+    Ok(Tuple::from_vec(vec![in alloc; Value::Int(number), text]?))
 }
 
 /// Whether the tuple is written so, and such bytes are read as it.
-fn is_spelled(rt: &impl Abort, alloc: Global, tuple: &Tuple, spelling: &[u8]) -> bool
+fn is_spelled(alloc: Global, tuple: &Tuple, spelling: &[u8]) -> bool
     requires few { length tuple.now ≤ 255 }
     requires short { All IsShort tuple.now }
 {
-    let written = encode_tuple(alloc, tuple).expect(rt, "memory");
-    let found = decode_tuple(alloc, spelling).expect(rt, "memory");
-    let read = found.expect(rt, "a tuple");
-    written.as_slice() == spelling && read == *tuple
+    let written = matches!(&encode_tuple(alloc, tuple), Ok(bytes) if bytes.as_slice() == spelling);
+    let read = matches!(&decode_tuple(alloc, spelling), Ok(Some(found)) if *found == *tuple);
+    written && read
 }
 
 /// Whether the pair has this code, and the code is read as it.
-fn is_coded(rt: &impl Abort, alloc: Global, pair: &Tuple, code: &[u8]) -> bool {
-    let written = ordered_key(alloc, pair).expect(rt, "memory");
-    let found = unordered_key(alloc, &[Kind::Int, Kind::Text], code).expect(rt, "memory");
-    let read = found.expect(rt, "a code");
-    written.as_slice() == code && read == *pair
+fn is_coded(alloc: Global, pair: &Tuple, code: &[u8]) -> bool {
+    let kinds = [Kind::Int, Kind::Text];
+    let written = matches!(&ordered_key(alloc, pair), Ok(key) if key.as_slice() == code);
+    let read = matches!(&unordered_key(alloc, &kinds, code), Ok(Some(found)) if *found == *pair);
+    written && read
 }
 
-/// The number and the text of a pair, its spelling and its code.
-type Row = (i64, &'static str, &'static [u8], &'static [u8]);
-
-/// Whether the pair has its spelling and its code.
-fn is_row(rt: &impl Abort, alloc: Global, row: &Row) -> bool {
-    let (number, text, spelling, code) = *row;
-    if text.len() > 255 {
-        return false;
+/// Whether the pair has this spelling and this code.
+fn is_row(alloc: Global, number: i64, text: &str, spelling: &[u8], code: &[u8]) -> bool
+    requires { length text.now ≤ 255 }
+{
+    match &pair(alloc, number, text) {
+        Ok(pair) => is_spelled(alloc, pair, spelling) && is_coded(alloc, pair, code),
+        Err(_) => false,
     }
-    let pair = pair(rt, alloc, number, text);
-    is_spelled(rt, alloc, &pair, spelling) && is_coded(rt, alloc, &pair, code)
 }
 
-const PAIRS: [Row; 3] = [
+/// The numbers and texts of pairs, their spellings and their codes.
+const PAIRS: [(i64, &'static str, &'static [u8], &'static [u8]); 3] = [
     (
         5,
         "ab",
@@ -75,15 +69,23 @@ const PAIRS: [Row; 3] = [
 
 #[test]
 fn rows(rt: HostRuntime) {
-    for row in PAIRS.iter() {
-        assert!(rt; is_row(&rt, rt.alloc(), row));
+    for (number, text, spelling, code) in PAIRS.iter() {
+        assert!(rt; text.len() <= 255);
+        assert!(rt; is_row(rt.alloc(), *number, text, spelling, code));
+    }
+}
+
+/// The lengths of the spelling and of the code of `5, "ab"`.
+fn lengths_of_pair(alloc: Global) -> Option<(u32, u32)> {
+    match &pair(alloc, 5, "ab") {
+        Ok(pair) => Some((tuple_len(pair), key_len(pair))),
+        Err(_) => None,
     }
 }
 
 #[test]
 fn lengths(rt: HostRuntime) {
-    let pair = pair(&rt, rt.alloc(), 5, "ab");
-    assert!(rt; tuple_len(&pair) == 14 && key_len(&pair) == 12);
+    assert!(rt; matches!(lengths_of_pair(rt.alloc()), Some((14, 12))));
 }
 
 const NO_TUPLES: [&'static [u8]; 4] = [
@@ -94,28 +96,26 @@ const NO_TUPLES: [&'static [u8]; 4] = [
 ];
 
 /// Whether this is the code of the text `a` alone.
-fn is_code_of_a(rt: &impl Abort, alloc: Global, bytes: &[u8]) -> bool {
-    let read = unordered_key(alloc, &[Kind::Text], bytes).expect(rt, "memory");
-    let row = read.expect(rt, "a code");
-    matches!(row.as_slice(), [Value::Text(text)] if text.as_str() == "a")
-}
-
-fn is_no_tuple(alloc: Global, bytes: &[u8]) -> bool {
-    matches!(decode_tuple(alloc, bytes), Ok(None))
-}
-
-/// Whether this is the code of no text.
-fn is_no_code(alloc: Global, bytes: &[u8]) -> bool {
-    matches!(unordered_key(alloc, &[Kind::Text], bytes), Ok(None))
+fn is_code_of_a(alloc: Global, bytes: &[u8]) -> bool {
+    match &unordered_key(alloc, &[Kind::Text], bytes) {
+        Ok(Some(read)) => { matches!(read.as_slice(), [Value::Text(text)] if text.as_str() == "a") }
+        _ => false,
+    }
 }
 
 #[test]
 fn no_tuples_and_no_codes(rt: HostRuntime) {
     let alloc = rt.alloc();
     for bytes in NO_TUPLES.iter() {
-        assert!(rt; is_no_tuple(alloc, bytes));
+        assert!(rt; matches!(decode_tuple(alloc, bytes), Ok(None)));
     }
-    assert!(rt; is_code_of_a(&rt, alloc, b"a\0\0") && is_no_code(alloc, b"a\0\x01\0\0"));
+    assert!(rt; is_code_of_a(alloc, b"a\0\0"));
+    assert!(rt;
+        matches!(
+            unordered_key(alloc, &[Kind::Text], b"a\0\x01\0\0"),
+            Ok(None)
+        )
+    );
     keeps_order();
     one_list();
     one_tuple();

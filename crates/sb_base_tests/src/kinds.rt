@@ -1,14 +1,27 @@
 //! A rule of each kind that may stand on a relation `(a int, b text(10))`, and one that may not; the second relation is `s` of `(c int)`.
 //! What is expected follows from the definitions by hand.
 
-use super::fixtures::{column, names, text};
 use sb_kinds::{may_keep, may_stand, other_relation};
 use sb_pred::{Op, Pred, Term};
 use sb_rule::{Action, Event, Mode, Rule, Side, Terms};
-use sb_value::{Bytes, Kind, Schema, Value};
+use sb_value::{Bytes, Column, Kind, Names, Schema, Str, Value};
 use std::alloc::Global;
 use std::process::Abort;
 use std::test::*;
+
+fn name(rt: &impl Abort, alloc: Global, text: &str) -> Str {
+    Str::from_string(String::from_str(alloc, text).expect(rt, "memory"))
+}
+
+fn names(rt: &impl Abort, alloc: Global, text: &str) -> Names {
+    let name = name(rt, alloc, text);
+    Names::from_vec(vec![in alloc; name].expect(rt, "memory"))
+}
+
+fn column(rt: &impl Abort, alloc: Global, text: &str, kind: Kind, limit: u8) -> Column {
+    let name = name(rt, alloc, text);
+    Column { name, kind, limit }
+}
 
 fn own(rt: &impl Abort, alloc: Global) -> Schema {
     let number = column(rt, alloc, "a", Kind::Int, 0);
@@ -35,7 +48,7 @@ fn hash(rt: &impl Abort, alloc: Global, column: &str) -> Rule {
 }
 
 fn stats(rt: &impl Abort, alloc: Global, column: &str) -> Rule {
-    let column = text(rt, alloc, column);
+    let column = name(rt, alloc, column);
     Rule::Stats {
         column,
         low: 0,
@@ -45,7 +58,7 @@ fn stats(rt: &impl Abort, alloc: Global, column: &str) -> Rule {
 
 /// That the new row's column is 1.
 fn check(rt: &impl Abort, alloc: Global, column: &str) -> Rule {
-    let term = Term::New(text(rt, alloc, column));
+    let term = Term::New(name(rt, alloc, column));
     Rule::Check {
         pred: Pred::cmp(Op::Eq, term, Term::Const(Value::Int(1))),
         deferred: false,
@@ -55,7 +68,7 @@ fn check(rt: &impl Abort, alloc: Global, column: &str) -> Rule {
 fn join(rt: &impl Abort, alloc: Global, column: &str, other: &str) -> Rule {
     let columns = names(rt, alloc, column);
     let others = names(rt, alloc, other);
-    let other = text(rt, alloc, "s");
+    let other = name(rt, alloc, "s");
     Rule::JoinIndex {
         side: Side::Main,
         columns,
@@ -67,7 +80,7 @@ fn join(rt: &impl Abort, alloc: Global, column: &str, other: &str) -> Rule {
 fn refers(rt: &impl Abort, alloc: Global, column: &str, other: &str) -> Rule {
     let columns = names(rt, alloc, column);
     let others = names(rt, alloc, other);
-    let other = text(rt, alloc, "s");
+    let other = name(rt, alloc, "s");
     Rule::Refers {
         side: Side::Main,
         columns,
@@ -80,9 +93,9 @@ fn refers(rt: &impl Abort, alloc: Global, column: &str, other: &str) -> Rule {
 
 /// Inserts the new row's column into `s`.
 fn trigger(rt: &impl Abort, alloc: Global, column: &str) -> Rule {
-    let term = Term::New(text(rt, alloc, column));
+    let term = Term::New(name(rt, alloc, column));
     let terms = Terms::from_vec(vec![in alloc; term].expect(rt, "memory"));
-    let relation = text(rt, alloc, "s");
+    let relation = name(rt, alloc, "s");
     Rule::Trigger {
         event: Event::Insert,
         pred: Pred::always(),
@@ -104,10 +117,8 @@ fn rule(rt: &impl Abort, alloc: Global, code: u16, column: &str, other: &str) ->
     }
 }
 
-/// A rule's code, its column and that of the other relation, and whether it may stand.
-type Row = (u16, &'static str, &'static str, bool);
-
-const ROWS: [Row; 14] = [
+/// Rules by their codes and columns, and whether they may stand.
+const ROWS: [(u16, &str, &str, bool); 14] = [
     (1, "b", "", true),
     (1, "c", "", false),
     (2, "a", "", true),
@@ -131,19 +142,14 @@ fn stands(own: &Schema, other: Option<&Schema>, rule: Rule, fits: bool) -> bool 
     stands
 }
 
-fn is_row(rt: &impl Abort, alloc: Global, own: &Schema, other: &Schema, row: &Row) -> bool {
-    let (code, column, others, wanted) = *row;
-    let rule = rule(rt, alloc, code, column, others);
-    stands(own, Some(other), rule, false) == wanted
-}
-
 #[test]
 fn rules_of_each_kind(rt: HostRuntime) {
     let alloc = rt.alloc();
     let own = own(&rt, alloc);
     let other = second(&rt, alloc);
-    for row in ROWS.iter() {
-        assert!(rt; is_row(&rt, alloc, &own, &other, row));
+    for (code, column, others, wanted) in ROWS {
+        let rule = rule(&rt, alloc, code, column, others);
+        assert_eq!(rt; stands(&own, Some(&other), rule, false), wanted);
     }
     drop(other);
     drop(own);
@@ -160,32 +166,23 @@ fn foreign(alloc: Global) -> Rule {
 fn rules_of_others(rt: HostRuntime) {
     let alloc = rt.alloc();
     let own = own(&rt, alloc);
-    let fitting = stands(&own, None, foreign(alloc), true);
-    let other = stands(&own, None, foreign(alloc), false);
-    assert!(rt; fitting && !other);
+    assert!(rt; stands(&own, None, foreign(alloc), true));
+    assert!(rt; !stands(&own, None, foreign(alloc), false));
     drop(own);
-}
-
-/// Whether the rule names a second relation, and may not stand where there is none.
-fn needs_second(own: &Schema, rule: Rule) -> bool {
-    let is_named = other_relation(&rule).is_some();
-    let stands = stands(own, None, rule, false);
-    is_named && !stands
 }
 
 #[test]
 fn second_relations(rt: HostRuntime) {
     let alloc = rt.alloc();
     let own = own(&rt, alloc);
-    assert!(rt; needs_second(&own, join(&rt, alloc, "a", "c")));
+    let rule = join(&rt, alloc, "a", "c");
+    assert!(rt; other_relation(&rule).is_some());
+    assert!(rt; !stands(&own, None, rule, false));
     drop(own);
 }
 
-/// A method's number, its key's column, what the method itself says, and whether it keeps the relation.
-type Method = (u16, &'static str, bool, bool);
-
-/// Heap 1, tree 2 and another's method 1000.
-const METHODS: [Method; 5] = [
+/// Heap 1, tree 2 and another's method 1000: a key of this column, what the method itself says, and whether it keeps the relation.
+const METHODS: [(u16, &str, bool, bool); 5] = [
     (1, "a", true, false),
     (2, "a", false, true),
     (2, "c", false, false),
@@ -193,17 +190,15 @@ const METHODS: [Method; 5] = [
     (1000, "a", false, false),
 ];
 
-fn is_method(rt: &impl Abort, alloc: Global, own: &Schema, method: &Method) -> bool {
-    let (number, column, fits, wanted) = *method;
-    may_keep(own, &names(rt, alloc, column), number, fits) == wanted
-}
-
 #[test]
 fn methods(rt: HostRuntime) {
     let alloc = rt.alloc();
     let own = own(&rt, alloc);
-    for method in METHODS.iter() {
-        assert!(rt; is_method(&rt, alloc, &own, method));
+    for (method, column, fits, wanted) in METHODS {
+        let key = names(&rt, alloc, column);
+        let keeps = may_keep(&own, &key, method, fits);
+        drop(key);
+        assert_eq!(rt; keeps, wanted);
     }
     drop(own);
 }

@@ -6,8 +6,6 @@ mod bytes;
 #[cfg(test)]
 mod codes;
 #[cfg(test)]
-mod fixtures;
-#[cfg(test)]
 mod images;
 #[cfg(test)]
 mod kinds;

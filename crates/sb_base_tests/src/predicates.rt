@@ -1,16 +1,25 @@
 ghost use Rattle.std.specs.Prelude.{◌≤◌, length};
 ghost use Rattle.sb_pred.specs.Spelling.{IsShortPred};
 
-use super::fixtures::{column, text};
 use sb_pred::{
     Node, Op, Pred, Term, append_name, append_term, column_value, eval, find_column,
     kind_of_column, kind_of_term, name_of, nodes, read_pred, term_of, value_in, well_typed,
     write_pred,
 };
-use sb_value::{Bytes, Kind, Schema, Str, Tuple, Value};
+use sb_value::{Bytes, Column, Kind, Schema, Str, Tuple, Value};
 use std::alloc::Global;
 use std::process::Abort;
 use std::test::*;
+
+// Want of memory ends a test at once: where a test went on to an `Err`, each value that it has would be dropped on the way,
+// which is dear to prove.
+
+fn text(rt: &impl Abort, alloc: Global, text: &str) -> Str
+    requires { length text.now ≤ 255 }
+    ensures { length result ≤ 255 }
+{
+    Str::from_string(String::from_str(alloc, text).expect(rt, "memory"))
+}
 
 /// `salary >= least`
 fn paid(rt: &impl Abort, alloc: Global, least: i64) -> Pred
@@ -59,13 +68,6 @@ fn is_spelled(rt: &impl Abort, alloc: Global, pred: &Pred, spelling: &[u8]) -> b
     written && end == spelling.len()
 }
 
-/// `always or always`
-fn either(rt: &impl Abort, alloc: Global) -> Pred
-    ensures { IsShortPred result }
-{
-    Pred::or(alloc, Pred::always(), Pred::always()).expect(rt, "memory")
-}
-
 #[test]
 fn spellings(rt: HostRuntime) {
     let alloc = rt.alloc();
@@ -73,9 +75,20 @@ fn spellings(rt: HostRuntime) {
     assert!(rt; is_spelled(&rt, alloc, &paid(&rt, alloc, 0), spelling));
     let spelling = b"\x02\x00\x04\x01\x01\x02\x04name\x00\x02\x02ab";
     assert!(rt; is_spelled(&rt, alloc, &renamed(&rt, alloc), spelling));
-    assert!(rt; is_spelled(&rt, alloc, &either(&rt, alloc), b"\x03\x00\x00"));
+    let either = Pred::or(alloc, Pred::always(), Pred::always()).expect(&rt, "memory");
+    assert!(rt; is_spelled(&rt, alloc, &either, b"\x03\x00\x00"));
     let behind = read_pred(alloc, b"\x00", 2).expect(&rt, "memory");
     assert!(rt; behind.is_none());
+}
+
+fn column(rt: &impl Abort, alloc: Global, name: &str, kind: Kind, limit: u8) -> Column
+    requires { length name.now ≤ 255 }
+{
+    Column {
+        name: text(rt, alloc, name),
+        kind,
+        limit,
+    }
 }
 
 fn schema(rt: &impl Abort, alloc: Global) -> Schema {
@@ -84,22 +97,22 @@ fn schema(rt: &impl Abort, alloc: Global) -> Schema {
     Schema::from_vec(vec![in alloc; name, salary].expect(rt, "memory"))
 }
 
-fn row(rt: &impl Abort, alloc: Global, name: &str, salary: i64) -> Tuple {
+fn row(rt: &impl Abort, alloc: Global, name: &str, salary: i64) -> Tuple
+    requires { length name.now ≤ 255 }
+{
     let name = Value::Text(text(rt, alloc, name));
     Tuple::from_vec(vec![in alloc; name, Value::Int(salary)].expect(rt, "memory"))
 }
 
 /// Whether the old row is named so, or the new one is paid.
-fn is_named_or_paid(rt: &impl Abort, alloc: Global, old: &Tuple, new: &Tuple) -> bool {
+fn holds(rt: &impl Abort, alloc: Global, name: &str, salary: i64) -> bool
+    requires { length name.now ≤ 255 }
+{
     let pred = Pred::or(alloc, paid(rt, alloc, 0), named(rt, alloc)).expect(rt, "memory");
     let schema = schema(rt, alloc);
-    well_typed(&pred, &schema, true, true) && eval(&pred, &schema, Some(old), Some(new))
-}
-
-fn holds(rt: &impl Abort, alloc: Global, name: &str, salary: i64) -> bool {
     let old = row(rt, alloc, name, 7);
     let new = row(rt, alloc, "cd", salary);
-    is_named_or_paid(rt, alloc, &old, &new)
+    well_typed(&pred, &schema, true, true) && eval(&pred, &schema, Some(&old), Some(&new))
 }
 
 #[test]
@@ -110,31 +123,17 @@ fn truth_of_rows(rt: HostRuntime) {
     assert!(rt; !holds(&rt, alloc, "cd", -1));
 }
 
-fn is_second_column(schema: &Schema, name: &Str) -> bool {
-    let found = matches!(find_column(schema, name), Some(1));
-    found && matches!(kind_of_column(schema, name), Some(Kind::Int))
-}
-
-/// Whether the row's value is 7, and no row has none.
-fn is_seven(schema: &Schema, row: &Tuple, name: &Str) -> bool {
-    let value = matches!(column_value(schema, row, name), Some(Value::Int(7)));
-    let found = matches!(value_in(Some(row), schema, name), Some(Value::Int(7)));
-    value && found && value_in(None, schema, name).is_none()
-}
-
 #[test]
 fn columns_by_name(rt: HostRuntime) {
     let alloc = rt.alloc();
     let schema = schema(&rt, alloc);
     let row = row(&rt, alloc, "ab", 7);
     let salary = text(&rt, alloc, "salary");
-    assert!(rt; is_second_column(&schema, &salary) && is_seven(&schema, &row, &salary));
-}
-
-/// Whether the term is a number that only the new row has.
-fn is_number_of_new(schema: &Schema, term: &Term) -> bool {
-    let new = matches!(kind_of_term(term, schema, false, true), Some(Kind::Int));
-    new && kind_of_term(term, schema, true, false).is_none()
+    assert!(rt; matches!(find_column(&schema, &salary), Some(1)));
+    assert!(rt; matches!(kind_of_column(&schema, &salary), Some(Kind::Int)));
+    assert!(rt; matches!(column_value(&schema, &row, &salary), Some(Value::Int(7))));
+    assert!(rt; matches!(value_in(Some(&row), &schema, &salary), Some(Value::Int(7))));
+    assert!(rt; value_in(None, &schema, &salary).is_none());
 }
 
 #[test]
@@ -142,27 +141,18 @@ fn terms_by_name(rt: HostRuntime) {
     let alloc = rt.alloc();
     let schema = schema(&rt, alloc);
     let term = Term::New(text(&rt, alloc, "salary"));
-    let is_number = is_number_of_new(&schema, &term);
-    drop(term);
-    assert!(rt; is_number);
-}
-
-fn is_conjunction(pred: &Pred) -> bool {
-    nodes(pred) == 4 && matches!(pred.node(), Node::And(_, _))
-}
-
-fn is_five(term: &Term) -> bool {
-    matches!(term, Term::Const(Value::Int(5)))
+    assert!(rt; matches!(kind_of_term(&term, &schema, false, true), Some(Kind::Int)));
+    assert!(rt; kind_of_term(&term, &schema, true, false).is_none());
 }
 
 #[test]
 fn copies(rt: HostRuntime) {
+    let alloc = rt.alloc();
     let term = Term::Const(Value::Int(5)).copy().expect(&rt, "memory");
-    let pred = renamed(&rt, rt.alloc()).copy().expect(&rt, "memory");
-    let are_same = is_five(&term) && is_conjunction(&pred);
-    drop(pred);
-    drop(term);
-    assert!(rt; are_same);
+    assert!(rt; matches!(&term, Term::Const(Value::Int(5))));
+    let pred = renamed(&rt, alloc).copy().expect(&rt, "memory");
+    assert!(rt; nodes(&pred) == 4);
+    assert!(rt; matches!(pred.node(), Node::And(_, _)));
 }
 
 /// The spelling of the column `ab` of the old row, and the name `c` behind it.
@@ -173,28 +163,15 @@ fn spelled(rt: &impl Abort, alloc: Global) -> Bytes {
     out
 }
 
-/// The bytes behind the term, which is the column `ab` of the old row.
-fn behind_term<'a>(rt: &impl Abort, alloc: Global, bytes: &'a [u8]) -> &'a [u8] {
-    let read = term_of(alloc, bytes).expect(rt, "memory");
-    let (term, rest) = read.expect(rt, "a term");
-    let is_ab = matches!(&term, Term::Old(old) if old.as_str() == "ab");
-    drop(term);
-    assert!(rt; is_ab);
-    rest
-}
-
-/// Whether the bytes are the name `c` alone.
-fn is_name(rt: &impl Abort, alloc: Global, bytes: &[u8]) -> bool {
-    let read = name_of(alloc, bytes).expect(rt, "memory");
-    let (name, rest) = read.expect(rt, "a name");
-    name.as_str() == "c" && rest.is_empty()
-}
-
 #[test]
 fn terms_one_by_one(rt: HostRuntime) {
     let alloc = rt.alloc();
     let out = spelled(&rt, alloc);
     assert!(rt; out.as_slice() == b"\x02\x02ab\x01c".as_slice());
-    let rest = behind_term(&rt, alloc, out.as_slice());
-    assert!(rt; is_name(&rt, alloc, rest));
+    let read = term_of(alloc, out.as_slice()).expect(&rt, "memory");
+    let (term, rest) = read.expect(&rt, "a term");
+    assert!(rt; matches!(&term, Term::Old(old) if old.as_str() == "ab"));
+    let read = name_of(alloc, rest).expect(&rt, "memory");
+    let (name, rest) = read.expect(&rt, "a name");
+    assert!(rt; name.as_str() == "c" && rest.is_empty());
 }

@@ -53,47 +53,43 @@ fn image(rt: HostRuntime) {
     assert!(rt; read_rec(&spelling[..4100]).is_none());
 }
 
-const NO_RECORDS: [&'static [u8]; 8] = [
-    b"",
-    b"\0",
-    b"\x06\0\0\0\x01",
-    b"\x01\0\0\0",
-    b"\x04\0\0\0\x01\0\0\0",
-    b"\x03\0\0\0\x01\0\x03\0\0\0\x02\0\x18\0\0",
-    b"\x03\0\0\0\x01\0\x03\0\0\0\x02\x0f\xff\0\x02\0\0\x01\x02",
-    b"\x03\0\0\0\x01\0\x03\0\0\0\x02\0\x18\0\x02\0\0\x01",
-];
-
 #[test]
 fn no_records(rt: HostRuntime) {
-    for bytes in NO_RECORDS.iter() {
+    for bytes in [
+        b"".as_slice(),
+        b"\0".as_slice(),
+        b"\x06\0\0\0\x01".as_slice(),
+        b"\x01\0\0\0".as_slice(),
+        b"\x04\0\0\0\x01\0\0\0".as_slice(),
+        b"\x03\0\0\0\x01\0\x03\0\0\0\x02\0\x18\0\0".as_slice(),
+        b"\x03\0\0\0\x01\0\x03\0\0\0\x02\x0f\xff\0\x02\0\0\x01\x02".as_slice(),
+        b"\x03\0\0\0\x01\0\x03\0\0\0\x02\0\x18\0\x02\0\0\x01".as_slice(),
+    ] {
         assert!(rt; read_rec(bytes).is_none());
     }
 }
 
-/// Chunks of records, and how many they have or where they are bad.
-const CHUNKS: [(&'static [u8], Result<u32, BadAt>); 5] = [
-    (b"", Ok(0)),
-    (
-        b"\x01\0\0\0\x01\x03\0\0\0\x01\0\x03\0\0\0\x02\0\x18\0\x02\0\0\x01\x02\x05\0\0\0\x01",
-        Ok(3),
-    ),
-    (b"\0", Err(BadAt { offset: 0 })),
-    (b"\x01\0\0\0\x01\x06\0\0\0\x01", Err(BadAt { offset: 5 })),
-    (
-        b"\x01\0\0\0\x01\x04\0\0\0\x01\0\0\0\x03\x05\0\0",
-        Err(BadAt { offset: 14 }),
-    ),
-];
-
-fn is_counted(chunk: &[u8], wanted: &Result<u32, BadAt>) -> bool {
-    chunk.len() < 100 && count_records(chunk) == *wanted
-}
-
 #[test]
 fn chunks(rt: HostRuntime) {
-    for (chunk, wanted) in CHUNKS.iter() {
-        assert!(rt; is_counted(chunk, wanted));
+    let rows = [
+        (b"".as_slice(), Ok(0)),
+        (
+            b"\x01\0\0\0\x01\x03\0\0\0\x01\0\x03\0\0\0\x02\0\x18\0\x02\0\0\x01\x02\x05\0\0\0\x01".as_slice(),
+            Ok(3),
+        ),
+        (b"\0".as_slice(), Err(BadAt { offset: 0 })),
+        (
+            b"\x01\0\0\0\x01\x06\0\0\0\x01".as_slice(),
+            Err(BadAt { offset: 5 }),
+        ),
+        (
+            b"\x01\0\0\0\x01\x04\0\0\0\x01\0\0\0\x03\x05\0\0".as_slice(),
+            Err(BadAt { offset: 14 }),
+        ),
+    ];
+    for (chunk, want) in rows {
+        assert!(rt; chunk.len() < 100);
+        assert_eq!(rt; count_records(chunk), want);
     }
 }
 
@@ -104,7 +100,7 @@ fn sizes_and_laws(rt: HostRuntime) {
         log: 2_097_152,
         version: 1,
     };
-    assert!(rt; geometry.pages == 64);
+    assert_eq!(rt; geometry.pages, 64);
     one_record();
     one_row_of_records();
     bad_in_one_place();

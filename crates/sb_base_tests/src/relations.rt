@@ -1,24 +1,22 @@
 //! Columns' values, entries and sums.
 
-use super::fixtures::{column, key, text};
 use sb_relation::{Entries, Sums, values_of};
-use sb_value::{Kind, Names, Schema, Tuple, Value};
+use sb_value::{Column, Kind, Names, RecKey, Schema, Str, Tuple, Value};
 use std::alloc::Global;
 use std::process::Abort;
+use std::test::Fail;
 
-/// Two columns of numbers.
-fn schema(rt: &impl Abort, alloc: Global) -> Schema {
-    let a = column(rt, alloc, "a", Kind::Int, 0);
-    let b = column(rt, alloc, "b", Kind::Int, 0);
-    Schema::from_vec(vec![in alloc; a, b].expect(rt, "memory"))
+fn text(rt: &impl Abort, alloc: Global, text: &str) -> Str {
+    Str::from_string(String::from_str(alloc, text).expect(rt, "memory"))
 }
 
-/// The columns the other way round, with one that isn't there between them.
-fn names(rt: &impl Abort, alloc: Global) -> Names {
-    let b = text(rt, alloc, "b");
-    let c = text(rt, alloc, "c");
-    let a = text(rt, alloc, "a");
-    Names::from_vec(vec![in alloc; b, c, a].expect(rt, "memory"))
+/// A column of numbers.
+fn column(rt: &impl Abort, alloc: Global, name: &str) -> Column {
+    Column {
+        name: text(rt, alloc, name),
+        kind: Kind::Int,
+        limit: 0,
+    }
 }
 
 fn row(rt: &impl Abort, alloc: Global, first: i64, second: i64) -> Tuple {
@@ -26,39 +24,37 @@ fn row(rt: &impl Abort, alloc: Global, first: i64, second: i64) -> Tuple {
     Tuple::from_vec(values.expect(rt, "memory"))
 }
 
-fn reordered(rt: &impl Abort, alloc: Global) -> Tuple {
-    let schema = schema(rt, alloc);
-    let names = names(rt, alloc);
-    values_of(alloc, &schema, &row(rt, alloc, 7, 8), &names).expect(rt, "memory")
-}
-
 #[test]
 fn values_in_the_order_of_the_names(rt: HostRuntime) {
     let alloc = rt.alloc();
-    assert!(rt; reordered(&rt, alloc) == row(&rt, alloc, 8, 7));
-}
-
-fn is_one(entries: Entries) -> bool {
-    let kept = entries.len() == 1 && !entries.is_empty() && entries.as_slice().len() == 1;
-    let count = entries.into_vec().len();
-    kept && count == 1
+    let a = column(&rt, alloc, "a");
+    let b = column(&rt, alloc, "b");
+    let schema = Schema::from_vec(vec![in alloc; a, b].expect(&rt, "memory"));
+    let b = text(&rt, alloc, "b");
+    let c = text(&rt, alloc, "c");
+    let a = text(&rt, alloc, "a");
+    let names = Names::from_vec(vec![in alloc; b, c, a].expect(&rt, "memory"));
+    let values = values_of(alloc, &schema, &row(&rt, alloc, 7, 8), &names);
+    assert!(rt; values.expect(&rt, "memory") == row(&rt, alloc, 8, 7));
 }
 
 #[test]
-fn entries(rt: HostRuntime) {
+fn entries(rt: HostRuntime) -> Result<(), Fail> {
     let alloc = rt.alloc();
-    let pair = (key(&rt, alloc, &[1]), key(&rt, alloc, &[2]));
-    assert!(rt; is_one(Entries::from_vec(vec![in alloc; pair].expect(&rt, "memory"))));
-}
-
-fn are_two(sums: Sums) -> bool {
-    let kept = sums.len() == 2 && !sums.is_empty() && sums.as_slice() == [3, -4].as_slice();
-    let count = sums.into_vec().len();
-    kept && count == 2
+    let first = RecKey::from_vec(vec![in alloc; 1]?);
+    let second = RecKey::from_vec(vec![in alloc; 2]?);
+    let entries = Entries::from_vec(vec![in alloc; (first, second)]?);
+    assert!(rt; entries.len() == 1 && !entries.is_empty());
+    assert_eq!(rt; entries.as_slice().len(), 1);
+    assert_eq!(rt; entries.into_vec().len(), 1);
+    Ok(())
 }
 
 #[test]
-fn sums(rt: HostRuntime) {
-    let sums = vec![in rt.alloc(); 3, -4].expect(&rt, "memory");
-    assert!(rt; are_two(Sums::from_vec(sums)));
+fn sums(rt: HostRuntime) -> Result<(), Fail> {
+    let sums = Sums::from_vec(vec![in rt.alloc(); 3, -4]?);
+    assert!(rt; sums.len() == 2 && !sums.is_empty());
+    assert_eq!(rt; sums.as_slice(), [3, -4].as_slice());
+    assert_eq!(rt; sums.into_vec().len(), 2);
+    Ok(())
 }

@@ -1,14 +1,27 @@
-ghost use Rattle.std.specs.Prelude.{◌≤◌, length};
+ghost use Rattle.std.specs.Prelude.{◌≡◌, ◌≤◌, length};
 ghost use Rattle.sb_value.specs.Spelling.{IsShort};
 
-use super::fixtures::{column, key, names, text};
 use sb_value::{
-    Bytes, Kind, Names, RecKey, Schema, Str, Tuple, TypeFault, Value, int_of, put_value, take_value,
+    Bytes, Column, Kind, Names, RecKey, Schema, Str, Tuple, TypeFault, Value, int_of, put_value,
+    take_value,
 };
 use std::alloc::Global;
 use std::collections::{BTreeMap, HashMap};
 use std::process::Abort;
 use std::test::*;
+
+// Want of memory ends a test at once: where a test went on to an `Err`, each value that it has would be dropped on the way,
+// which is dear to prove.
+
+fn text(rt: &impl Abort, alloc: Global, text: &str) -> Str
+    ensures { result ≡ text.now }
+{
+    Str::from_string(String::from_str(alloc, text).expect(rt, "memory"))
+}
+
+fn key(rt: &impl Abort, alloc: Global, items: &[u8]) -> RecKey {
+    RecKey::from_vec(Vec::from_slice(alloc, items).expect(rt, "memory"))
+}
 
 /// A row of a number and some texts.
 fn row(rt: &impl Abort, alloc: Global, number: i64, texts: &[&str]) -> Tuple {
@@ -20,6 +33,14 @@ fn row(rt: &impl Abort, alloc: Global, number: i64, texts: &[&str]) -> Tuple {
             .expect(rt, "memory");
     }
     Tuple::from_vec(values)
+}
+
+fn column(rt: &impl Abort, alloc: Global, name: &str, kind: Kind, limit: u8) -> Column {
+    Column {
+        name: text(rt, alloc, name),
+        kind,
+        limit,
+    }
 }
 
 /// A number and a text of at most two bytes.
@@ -57,16 +78,13 @@ const NUMBERS: [(i64, [u8; 9]); 3] = [
     (i64::MIN, [1, 128, 0, 0, 0, 0, 0, 0, 0]),
 ];
 
-fn is_spelled(rt: &impl Abort, alloc: Global, number: i64, spelling: &[u8; 9]) -> bool {
-    let written = is_written(rt, alloc, &Value::Int(number), spelling);
-    let read = is_read(rt, alloc, spelling, 0, Value::Int(number), 9);
-    written && read && int_of(&spelling[1..]) == Some(number)
-}
-
 #[test]
 fn spells_numbers(rt: HostRuntime) {
+    let alloc = rt.alloc();
     for (number, spelling) in NUMBERS.iter() {
-        assert!(rt; is_spelled(&rt, rt.alloc(), *number, spelling));
+        assert!(rt; is_written(&rt, alloc, &Value::Int(*number), spelling));
+        assert!(rt; is_read(&rt, alloc, spelling, 0, Value::Int(*number), 9));
+        assert!(rt; int_of(&spelling[1..]) == Some(*number));
     }
     assert!(rt; int_of(&[0, 0, 0, 0, 0, 0, 0]).is_none());
 }
@@ -105,130 +123,91 @@ fn reads_only_values(rt: HostRuntime) {
     assert!(rt; text.expect(&rt, "memory").is_none());
 }
 
-/// The texts of a row, and whether it fits.
-type Fit = (&'static [&'static str], Result<(), TypeFault>);
-
-const FITS: [Fit; 3] = [
+const FITS: [(&'static [&'static str], Result<(), TypeFault>); 3] = [
     (&[], Err(TypeFault { column: 1 })),
     (&["ab"], Ok(())),
     (&["ab", "ab"], Err(TypeFault { column: 2 })),
 ];
 
-fn is_fit(rt: &impl Abort, alloc: Global, columns: &Schema, fit: &Fit) -> bool {
-    columns.fits(&row(rt, alloc, 5, fit.0)) == fit.1
-}
-
-fn is_short(rt: &impl Abort, alloc: Global, columns: &Schema, text: &str) -> bool {
-    columns.short_enough(&row(rt, alloc, 5, &[text]))
-}
-
 #[test]
 fn finds_the_first_misfit(rt: HostRuntime) {
     let alloc = rt.alloc();
     let columns = schema(&rt, alloc);
-    for fit in FITS.iter() {
-        assert!(rt; is_fit(&rt, alloc, &columns, fit));
+    for (texts, answer) in FITS.iter() {
+        assert!(rt; columns.fits(&row(&rt, alloc, 5, texts)) == *answer);
     }
-    assert!(rt; is_short(&rt, alloc, &columns, "ab"));
-    assert!(rt; !is_short(&rt, alloc, &columns, "abc"));
-}
-
-fn is_ab(text: Str) -> bool {
-    let is_long = text.len() == 2 && !text.is_empty();
-    let is_same = text.as_str() == "ab" && text.as_bytes() == b"ab".as_slice();
-    let string = text.into_string();
-    is_long && is_same && string.as_str() == "ab"
+    assert!(rt; columns.short_enough(&row(&rt, alloc, 5, &["ab"])));
+    assert!(rt; !columns.short_enough(&row(&rt, alloc, 5, &["abc"])));
 }
 
 #[test]
 fn keeps_texts(rt: HostRuntime) {
-    let ab = text(&rt, rt.alloc(), "ab").copy().expect(&rt, "memory");
-    assert!(rt; is_ab(ab));
-}
-
-/// The bytes 1 and 2, which a 3 was cut from.
-fn bytes(rt: &impl Abort, alloc: Global) -> Bytes {
-    let mut bytes = Bytes::new(alloc);
-    bytes.push(1).expect(rt, "memory");
-    bytes.extend(&[2, 3]).expect(rt, "memory");
-    bytes.truncate(2);
-    bytes
-}
-
-fn is_one_two(bytes: Bytes) -> bool {
-    Bytes::from_vec(bytes.into_vec()).as_slice() == b"\x01\x02".as_slice()
+    let alloc = rt.alloc();
+    let ab = text(&rt, alloc, "ab").copy().expect(&rt, "memory");
+    assert!(rt; ab.len() == 2 && !ab.is_empty());
+    assert!(rt; ab.as_str() == "ab" && ab.as_bytes() == [0x61, 0x62].as_slice());
+    assert!(rt; ab.into_string().as_str() == "ab");
 }
 
 #[test]
 fn keeps_bytes(rt: HostRuntime) {
-    let bytes = bytes(&rt, rt.alloc());
-    let copy = bytes.copy().expect(&rt, "memory");
-    assert!(rt; bytes.len() == 2 && !bytes.is_empty() && is_one_two(copy));
-}
-
-fn is_key_of_one_two(key: RecKey) -> bool {
-    let is_long = key.len() == 2 && !key.is_empty();
-    let is_same = key.as_slice() == b"\x01\x02".as_slice();
-    let items = key.into_vec();
-    is_long && is_same && items.as_slice() == b"\x01\x02".as_slice()
+    let alloc = rt.alloc();
+    let mut bytes = Bytes::new(alloc);
+    bytes.push(1).expect(&rt, "memory");
+    bytes.extend(&[2, 3]).expect(&rt, "memory");
+    bytes.truncate(2);
+    assert!(rt; bytes.len() == 2 && !bytes.is_empty());
+    let copy = Bytes::from_vec(bytes.copy().expect(&rt, "memory").into_vec());
+    assert!(rt; copy.as_slice() == [1, 2].as_slice());
 }
 
 #[test]
 fn keeps_keys(rt: HostRuntime) {
-    let stored = key(&rt, rt.alloc(), &[1, 2]).copy().expect(&rt, "memory");
-    assert!(rt; is_key_of_one_two(stored));
-}
-
-fn is_pair_of_five(pair: &Tuple) -> bool {
-    let is_long = pair.len() == 2 && !pair.is_empty();
-    is_long && matches!(pair.as_slice().first(), Some(Value::Int(5)))
+    let alloc = rt.alloc();
+    let stored = key(&rt, alloc, &[1, 2]).copy().expect(&rt, "memory");
+    assert!(rt; stored.len() == 2 && !stored.is_empty());
+    assert!(rt; stored.as_slice() == [1, 2].as_slice());
+    assert!(rt; stored.into_vec().as_slice() == [1, 2].as_slice());
 }
 
 #[test]
 fn keeps_tuples(rt: HostRuntime) {
-    let pair = row(&rt, rt.alloc(), 5, &["ab"]);
-    let copy = pair.copy().expect(&rt, "memory");
-    assert!(rt; is_pair_of_five(&pair) && copy == pair);
+    let alloc = rt.alloc();
+    let pair = row(&rt, alloc, 5, &["ab"]);
+    assert!(rt; pair.len() == 2 && !pair.is_empty());
+    assert!(rt; pair.copy().expect(&rt, "memory") == pair);
+    assert!(rt; matches!(pair.as_slice().first(), Some(Value::Int(5))));
     assert!(rt; pair.into_vec().len() == 2);
-}
-
-fn is_ab_alone(names: Names) -> bool {
-    let is_long = names.len() == 1 && !names.is_empty();
-    let is_ab = matches!(names.as_slice().first(), Some(name) if name.as_str() == "ab");
-    let count = names.into_vec().len();
-    is_long && is_ab && count == 1
 }
 
 #[test]
 fn keeps_names(rt: HostRuntime) {
-    let names = names(&rt, rt.alloc(), "ab").copy().expect(&rt, "memory");
-    assert!(rt; is_ab_alone(names));
-}
-
-fn is_pair_from_a_number(columns: Schema) -> bool {
-    let is_long = columns.len() == 2 && !columns.is_empty();
-    let is_number = matches!(columns.as_slice().first(), Some(first) if first.kind == Kind::Int);
-    let count = columns.into_vec().len();
-    is_long && is_number && count == 2
+    let alloc = rt.alloc();
+    let one = vec![in alloc; text(&rt, alloc, "ab")].expect(&rt, "memory");
+    let names = Names::from_vec(one).copy().expect(&rt, "memory");
+    assert!(rt; names.len() == 1 && !names.is_empty());
+    assert!(rt; matches!(names.as_slice().first(), Some(name) if name.as_str() == "ab"));
+    assert!(rt; names.into_vec().len() == 1);
 }
 
 #[test]
 fn keeps_columns(rt: HostRuntime) {
-    let columns = schema(&rt, rt.alloc()).copy().expect(&rt, "memory");
-    assert!(rt; is_pair_from_a_number(columns));
-}
-
-fn insert(rt: &impl Abort, rows: &mut BTreeMap<RecKey, i32>, key: RecKey, row: i32) {
-    let added: Result<_, _> = rows.insert(key, row);
-    added.expect(rt, "memory");
+    let alloc = rt.alloc();
+    let columns = schema(&rt, alloc).copy().expect(&rt, "memory");
+    assert!(rt; columns.len() == 2 && !columns.is_empty());
+    let first = columns.as_slice().first();
+    assert!(rt; matches!(first, Some(first) if first.kind == Kind::Int));
+    assert!(rt; columns.into_vec().len() == 2);
 }
 
 #[test]
 fn serves_as_a_key(rt: HostRuntime) {
     let alloc = rt.alloc();
     let mut rows = BTreeMap::new(alloc);
-    insert(&rt, &mut rows, key(&rt, alloc, &[2]), 20);
-    insert(&rt, &mut rows, key(&rt, alloc, &[1, 0]), 10);
+    let added: Result<_, _> = rows.insert(key(&rt, alloc, &[2]), 20);
+    added.expect(&rt, "memory");
+    let added: Result<_, _> = rows.insert(key(&rt, alloc, &[1, 0]), 10);
+    added.expect(&rt, "memory");
     assert!(rt; rows.get(&key(&rt, alloc, &[1, 0])) == Some(&10));
 }
 

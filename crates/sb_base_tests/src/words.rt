@@ -1,9 +1,7 @@
-use super::fixtures::text;
 use sb_value::Str;
 use sb_words::{Words, read_words};
-use std::alloc::Global;
-use std::process::Abort;
-use std::test::*;
+use std::alloc::{AllocError, Global};
+use std::test::Fail;
 
 /// The store's name, whether it is made, its pages, the bytes of its log, and the frames.
 type Asked = (&'static str, bool, u32, u64, u32);
@@ -66,12 +64,12 @@ static LINES: [(&str, Option<Asked>); 36] = [
     ("--store s --pages 64k", None),
 ];
 
-fn words_of(rt: &impl Abort, alloc: Global, line: &str) -> Vec<Str> {
+fn words_of(alloc: Global, line: &str) -> Result<Vec<Str>, AllocError> {
     let mut words = Vec::new(alloc);
     for word in line.split_ascii_whitespace() {
-        words.push(text(rt, alloc, word)).expect(rt, "memory");
+        words.push(Str::from_string(String::from_str(alloc, word)?))?;
     }
-    words
+    Ok(words)
 }
 
 fn is(words: &Option<Words>, asked: &Option<Asked>) -> bool {
@@ -86,17 +84,13 @@ fn is(words: &Option<Words>, asked: &Option<Asked>) -> bool {
     }
 }
 
-fn is_row(rt: &impl Abort, alloc: Global, line: &str, asked: &Option<Asked>) -> bool {
-    let words = words_of(rt, alloc, line);
-    is(
-        &read_words(alloc, words.as_slice()).expect(rt, "memory"),
-        asked,
-    )
-}
-
 #[test]
-fn reads_words(rt: HostRuntime) {
-    for (line, asked) in LINES.iter() {
-        assert!(rt; is_row(&rt, rt.alloc(), line, asked), "at {line}");
+fn reads_words(rt: HostRuntime) -> Result<(), Fail> {
+    let alloc = rt.alloc();
+    for (line, asked) in &LINES {
+        let words = words_of(alloc, line)?;
+        let read = read_words(alloc, words.as_slice())?;
+        assert!(rt; is(&read, asked), "at {line}");
     }
+    Ok(())
 }
