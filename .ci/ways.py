@@ -5,7 +5,7 @@ import functools
 import os
 import sys
 
-MOST = 250_000
+MOST = 270_000
 HERE = os.path.dirname(os.path.abspath(__file__))
 
 needs = {}

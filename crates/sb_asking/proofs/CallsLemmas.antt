@@ -10,20 +10,23 @@ use Rattle.sb_ctx.specs.View.{View, FoundIn, HoldsPart, IsClean, keys_with, hold
 use Rattle.sb_ctx.specs.declared.instance.Instance.{Instance}
 use Rattle.sb_ctx.specs.declared.calls.AttachCall.{AttachCall}
 use Rattle.sb_ctx.specs.declared.moves.Move.{Move}
-use Rattle.sb_ctx.specs.declared.moves.Move.TheVariants.{Find}
+use Rattle.sb_ctx.specs.declared.moves.Move.TheVariants.{Find, Fresh}
 use Rattle.sb_ctx.specs.Attachment.{Attachment}
-use Rattle.sb_ctx.specs.AttachAnswers.{Answers}
+use Rattle.sb_ctx.specs.AttachAnswers.{Answers, Spends}
 use Rattle.sb_ctx.proofs.DrivingLaws.{FoundIn-nothing, FoundIn-with_found, HoldsPart-nothing, HoldsPart-with_found, IsClean-nothing, IsClean-with_found}
 use Rattle.sb_drive.specs.declared.space.SpaceFault.{SpaceFault}
-use Rattle.sb_drive.specs.declared.space.SpaceFault.TheVariants.{Fault, DataFull, TempFull, Damaged, Down, NoMemory}
+use Rattle.sb_drive.specs.declared.space.SpaceFault.TheVariants.{Fault, DataFull, TempFull, LogFull, GatesFull, Damaged, Down, NoMemory}
+use Rattle.sb_drive.specs.AttachCalls.{IsAsking}
 use Rattle.sb_drive.specs.Slots.{AreWhole, Slots, owned}
-use Rattle.sb_drive.specs.Spaces.{HoldsOf, IsReadFault, IsRefused, Leaves, UnlessDown, Wanted}
+use Rattle.sb_drive.specs.Spaces.{HoldsOf, IsFullFor, IsReadFault, IsRefused, Leaves, UnlessDown, Wanted, WhereFull}
 use Rattle.sb_drive.specs.Turns.{IsEnd}
 use Rattle.sb_drive.proofs.SpacesLemmas.{ArePages-few, GoesOn}
 use Rattle.sb_registry.specs.Runs.{IsFullOf, Looks, WasFull, Works}
+use Rattle.sb_opened.specs.Lacking.{WhereShort}
 use Rattle.sb_opened.proofs.CallsLemmas.{FailsOn, Works-passed}
+use Rattle.sb_opened.proofs.LackingLemmas.{used_by}
 use Rattle.sb_asking.specs.declared.calls.Answer.{Answer}
-use Rattle.sb_asking.specs.Calls.{IsAsked, IsLast, found_of, knowing}
+use Rattle.sb_asking.specs.Calls.{IsAsked, IsLast, LacksOver, found_of, knowing}
 
 -- ---- a changing call behind reading ones
 IsRefused-later : {A B C D : Type 0} (e : SpaceFault) → (A → C) → (B → D) → IsRefused A B e → IsRefused C D e
@@ -152,6 +155,31 @@ fewer-left old new a is few = omega (arith, few, ap length is ∙ length-append 
 pub IsAsked-known : (box : Attachment) (inst : Instance) (call : AttachCall) (answers : List Answer) (ctx : View) (db : Db) (P after : Pages) (move : Move) → ctx ≡ knowing answers → All (IsOver db) answers →
     Answers box inst call ctx P after move → IsAsked box inst call db P after move
 IsAsked-known box inst call answers ctx db P after move is over says = record { view = ctx; found = subst (λ (c : View). FoundIn c db) (sym is) (FoundIn-knowing answers db over); answers = says }
+
+-- no page was left for it
+module _ {S : Type 0} (Leads : ℕ → S → S → Type 0) (Durable : S → Bool) (Total : S → ℕ) (box : Attachment) (inst : Instance) (call : AttachCall)
+    (answers : List Answer) (ctx : View) (db : Db) (old : S) (s : Slots) (is : ctx ≡ knowing answers) (over : All (IsOver db) answers) where
+  abbrev Full : SpaceFault → Type 0
+  Full e = IsFullFor Leads Durable Total inst.owner (IsAsking box inst call ctx) (λ c. Spends box inst call ctx (owned s inst.owner) c Fresh) old s e
+
+  lacks_of : (e : SpaceFault) (total : ℕ) (full : Full e) → ((m : ℕ) → m < total → (s m).0 ≡ 0 → holds_fresh full.ctx m ≡ true) → LacksOver box inst call db s total
+  lacks_of e total full used = record {
+    view = ctx;
+    found = subst (λ (c : View). FoundIn c db) (sym is) (FoundIn-knowing answers db over);
+    ctx = full.ctx;
+    used = used;
+    spends = full.within;
+  }
+
+  pub lacks_known : (e : SpaceFault) → WhereFull e (Full e) → WhereShort e (LacksOver box inst call db s)
+  lacks_known (DataFull used total) full = lacks_of (DataFull used total) total full (used_by s full.ctx (Total full.space) used total full.full.1)
+  lacks_known (TempFull used total) full = lacks_of (TempFull used total) total full (used_by s full.ctx (Total full.space) used total full.full.1)
+  lacks_known Fault full = tt
+  lacks_known (LogFull used more total) full = tt
+  lacks_known (GatesFull used total) full = tt
+  lacks_known (Damaged page) full = tt
+  lacks_known Down full = tt
+  lacks_known NoMemory full = tt
 
 -- the end of a call that is no find
 pub IsLast-end : (move : Move) → IsEnd move → ((relation : Name) (columns : List Name) (values : List Value) → move ≡ Find relation columns values → ⊥) → IsLast move

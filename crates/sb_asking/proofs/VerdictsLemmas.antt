@@ -17,7 +17,7 @@ use Rattle.sb_ctx.specs.declared.moves.Move.{Move}
 use Rattle.sb_ctx.specs.declared.moves.Move.TheVariants.{Done, Acts, Need, Fresh, After, Find, Veto, NoRecord, Duplicate, Range, Key as Keyed, Row as Rowed, Entry, Sums, Hits, End, Broken, NoMemory}
 use Rattle.sb_ctx.specs.View.{View, FoundIn}
 use Rattle.sb_ctx.specs.Attachment.{Attachment, StandsOn}
-use Rattle.sb_ctx.specs.AttachAnswers.{Admitted as AdmittedBy, Answers, BeforeChange, Changed, Holds, content_over}
+use Rattle.sb_ctx.specs.AttachAnswers.{Admitted as AdmittedBy, Answers, BeforeChange, Changed, Costs, Holds, content_after, content_over}
 use Rattle.sb_registry.specs.Boxes.{Meanings, attachment_of}
 use Rattle.sb_drive.specs.Slots.{Slots, owned}
 use Rattle.sb_drive.specs.Spaces.{Leaves, Wanted}
@@ -29,10 +29,10 @@ use Rattle.sb_opened.proofs.AskedLaws.{Asks-more, CanAsk-next}
 use Rattle.sb_opened.proofs.KeptChangedLemmas.{db_of-changed, rising-before}
 use Rattle.sb_opened.proofs.KeptLemmas.{kept_at-name}
 use Rattle.sb_opened.specs.Opened.{IsDurable}
-use Rattle.sb_asking.specs.Calls.{IsAsked, IsFinal}
+use Rattle.sb_asking.specs.Calls.{IsAsked, IsFinal, LacksOver}
 use Rattle.sb_asking.specs.declared.verdicts.Verdict.{Verdict}
 use Rattle.sb_asking.specs.declared.verdicts.Verdict.TheVariants.{Vetoed, Admitted}
-use Rattle.sb_asking.specs.Verdicts.{Admits, IfAdmitted, IsNext, IsVerdict, Judges, LeavesAsked, Says, Situation, verdict_in}
+use Rattle.sb_asking.specs.Verdicts.{Admits, IfAdmitted, IsNext, IsVerdict, Judges, LacksAsked, LeavesAsked, Says, Situation, verdict_in}
 
 -- ---- the ends of a call of a change
 pub IsVerdict-final : (c : Change) (move : Move) → IsFinal (call.Changed c) move → IsVerdict move
@@ -106,6 +106,30 @@ Holds-next m root s x c inst box asks next live =
     subst (λ (i : Instance). (content : Content) × Holds box i (owned s i.owner) content) (sym next.is)
     (subst (λ (b : Attachment). (content : Content) × Holds b (rule_of IsDurable x.kept x.described) (owned s x.described.owner) content) own.same
     (content_over kept.box (rule_of IsDurable x.kept x.described) x.attached.rule (db_of x.before) x.attached.buckets, kept.holds))
+
+-- no page was left for it
+pub lacks_asked : (m : Meanings) (root : ℕ) (s : Slots) (x : Situation) (c : Change) (inst : Instance) (box : Attachment) (total : ℕ) → Asks m IsDurable root s x.gone x.before x.name c x.index → IsNext x inst →
+    attachment_of inst.code m.attachments ≡ Some box → LacksOver box inst (call.Changed c) (db_of (changed_kept x.name c x.before)) s total → LacksAsked m s x c total
+lacks_asked m root s x c inst box total asks next live lacks = record {
+  box = own.can.kept.box;
+  live = own.can.kept.live;
+  short = record { ctx = here.ctx; used = here.used; within = costs.room };
+}
+  where
+    own : CanBeAsked m s x c box
+    own = CanBeAsked-next m root s x c inst box asks next (live_of m x inst box next live)
+
+    here : LacksOver own.can.kept.box (rule_of IsDurable x.kept x.described) (call.Changed c) (db_of (changed_kept x.name c x.before)) s total
+    here = subst (λ (b : Attachment). LacksOver b (rule_of IsDurable x.kept x.described) (call.Changed c) (db_of (changed_kept x.name c x.before)) s total) (sym own.same)
+        (subst (λ (i : Instance). LacksOver box i (call.Changed c) (db_of (changed_kept x.name c x.before)) s total) next.is lacks)
+
+    found : FoundIn here.view (changed (db_of x.before) x.name c)
+    found = subst (FoundIn here.view) (db_of-changed x.name c x.before (rising-before x.name c x.before asks.tables.rising)) here.found
+
+    costs : Costs own.can.kept.box (rule_of IsDurable x.kept x.described) (call.Changed c) (owned s x.described.owner)
+        (content_over own.can.kept.box (rule_of IsDurable x.kept x.described) x.attached.rule (db_of x.before) x.attached.buckets)
+        (content_after own.can.kept.box (rule_of IsDurable x.kept x.described) x.attached.rule (db_of x.before) x.attached.buckets c) here.ctx Fresh
+    costs = here.spends x.attached.rule (db_of x.before) own.can.kept.stands x.attached.buckets (own.can.of here.view found)
 
 -- ---- what it says, and what it leaves
 -- of pages that its call left

@@ -1,15 +1,16 @@
 -- What a call of an attachment says, once its finds are answered.
-use Rattle.std.specs.Prelude.{List, [], ◌∷◌}
+use Rattle.std.specs.Prelude.{◌≡◌, ℕ, ◌<◌, true, List, [], ◌∷◌}
 use Rattle.sb_relation.specs.Db.{Db}
 use Rattle.sb_ctx.specs.Pages.{Pages}
 use Rattle.sb_ctx.specs.declared.held.Found.{Found}
 use Rattle.sb_ctx.specs.declared.instance.Instance.{Instance}
 use Rattle.sb_ctx.specs.declared.calls.AttachCall.{AttachCall}
 use Rattle.sb_ctx.specs.declared.moves.Move.{Move}
-use Rattle.sb_ctx.specs.declared.moves.Move.TheVariants.{Find}
-use Rattle.sb_ctx.specs.View.{View, FoundIn, nothing, with_found}
+use Rattle.sb_ctx.specs.declared.moves.Move.TheVariants.{Find, Fresh}
+use Rattle.sb_ctx.specs.View.{View, FoundIn, holds_fresh, nothing, with_found}
 use Rattle.sb_ctx.specs.Attachment.{Attachment}
-use Rattle.sb_ctx.specs.AttachAnswers.{Answers, MayEnd}
+use Rattle.sb_ctx.specs.AttachAnswers.{Answers, MayEnd, Spends}
+use Rattle.sb_drive.specs.Slots.{Slots, owned}
 use Rattle.sb_drive.specs.Turns.{IsEnd}
 use Rattle.sb_asking.specs.declared.calls.Answer.{Answer}
 
@@ -18,6 +19,14 @@ pub record IsAsked (a : Attachment) (inst : Instance) (call : AttachCall) (db : 
   pub view : View
   pub found : FoundIn view db
   pub answers : Answers a inst call view before after move
+
+-- With its finds answered over the database no page was left for it: each of the first so many is somebody's, or a fresh one that it held within what it spends.
+pub record LacksOver (a : Attachment) (inst : Instance) (call : AttachCall) (db : Db) (s : Slots) (total : ℕ) : Type 0 where
+  pub view : View
+  pub found : FoundIn view db
+  pub ctx : View
+  pub used : (m : ℕ) → m < total → (s m).0 ≡ 0 → holds_fresh ctx m ≡ true
+  pub spends : Spends a inst call view (owned s inst.owner) ctx Fresh
 
 -- it asks for nothing more
 abbrev pub IsLast : Move → Type 0

@@ -9,10 +9,12 @@ use Rattle.sb_relation.specs.Db
 use Rattle.sb_relation.specs.Db.{Name}
 use Rattle.sb_relation.specs.Foreign.{AttachRules}
 use Rattle.sb_relation.specs.Rules.{admits, follows, late_actions, late_checks}
+use Rattle.sb_ctx.specs.declared.calls.AttachCall.TheVariants.{Changed}
 use Rattle.sb_ctx.specs.declared.instance.Instance.{Instance}
 use Rattle.sb_ctx.specs.declared.moves.Move.{Move}
 use Rattle.sb_ctx.specs.declared.moves.Move.TheVariants.{Done, Acts, Veto}
 use Rattle.sb_ctx.specs.Attachment.{Attachment}
+use Rattle.sb_ctx.specs.AttachAnswers.{content_after, content_over, most_pages}
 use Rattle.sb_registry.specs.Boxes.{Meanings, attachment_of}
 use Rattle.sb_drive.specs.Slots.{Slots}
 use Rattle.sb_drive.specs.Spaces.{Wanted}
@@ -20,6 +22,8 @@ use Rattle.sb_catalog.specs.declared.descriptor.Attached.{Attached}
 use Rattle.sb_opened.specs.Instances.{rule_instance}
 use Rattle.sb_opened.specs.Tables.{Kept, KeepsOthers, db_of, kept_at}
 use Rattle.sb_opened.specs.Asked.{Asks}
+use Rattle.sb_opened.specs.AskedLaws.{rule_of}
+use Rattle.sb_opened.specs.Lacking.{IsShort}
 use Rattle.sb_opened.specs.Opened.{IsDurable}
 use Rattle.sb_asking.specs.declared.verdicts.Verdict.{Verdict}
 use Rattle.sb_asking.specs.declared.verdicts.Verdict.TheVariants.{Vetoed, Admitted}
@@ -73,6 +77,19 @@ pub record Says {S : Type 0} (Has : Wanted → Slots → S → Type 0) (m : Mean
   pub live : attachment_of x.described.code m.attachments ≡ Some box
   pub judges : Judges (Some box.rules) (changed (db_of x.before) x.name c) x.name x.attached.rule c verdict
   pub leaves : IfAdmitted verdict (LeavesAsked Has m root want s x c new)
+
+-- the most pages of the one that is asked, while it is
+abbrev pub most_asked : Situation → Attachment → Change → ℕ
+most_asked x box c =
+    let own : Instance = rule_of IsDurable x.kept x.described in
+    most_pages box (Changed c) (content_over box own x.attached.rule (db_of x.before) x.attached.buckets)
+    (content_after box own x.attached.rule (db_of x.before) x.attached.buckets c)
+
+-- no page was left for the live box
+pub record LacksAsked (m : Meanings) (s : Slots) (x : Situation) (c : Change) (total : ℕ) : Type 0 where
+  pub box : Attachment
+  pub live : attachment_of x.described.code m.attachments ≡ Some box
+  pub short : IsShort s x.described.owner (most_asked x box c) total
 
 -- ---- the ends of its call
 abbrev pub IsVerdict : Move → Type 0

@@ -11,7 +11,8 @@ ghost use Rattle.sb_registry.specs.Runs.{IsNewFor, IsSound, Looks, Works};
 ghost use Rattle.sb_opened.specs.Standing.{StandRules};
 ghost use Rattle.sb_opened.specs.Tables.{Kept, Tables, db_of};
 ghost use Rattle.sb_opened.specs.Opened.{IsDurable};
-ghost use Rattle.sb_asking.specs.Calls.{IsAsked, IsFinal, knowing};
+ghost use Rattle.sb_opened.specs.Lacking.{WhereShort};
+ghost use Rattle.sb_asking.specs.Calls.{IsAsked, IsFinal, LacksOver, knowing};
 
 use crate::finds::find_keys;
 use sb_ctx::{AttachCall, Ctx, Instance, Keys, Move};
@@ -60,6 +61,9 @@ pub fn ask<S: PageSpace, B: Boxes>(
         → S.has want s space.old → Tables (B.meanings boxes.now) IsDurable place.root s kept
         → StandRules (B.meanings boxes.now) IsDurable (db_of kept) kept
         → IsNewFor live.box inst.now call.now (owned s inst.now.owner) → IsSound e) }
+    ensures full { IfErr result (λ e. (live : IsLiveRule (B.meanings boxes.now) inst.now) (want : Wanted) (s : Slots) (kept : List Kept)
+        → S.has want s space.old → Tables (B.meanings boxes.now) IsDurable place.root s kept
+        → WhereShort e (LacksOver live.box inst.now call.now (db_of kept) s)) }
     ensures ready { S.is_ready space.new }
 {
     let mut answers = Vec::new(alloc);

@@ -1,5 +1,7 @@
 -- What a box of a storage method means, and the conditions of its calls.
 use Rattle.std.specs.Prelude.{◌≡◌, ◌≢◌, ℕ, ◌^◌, Bool, true, false, [], Option, Some}
+use Rattle.sb_rule.specs.declared.change.Change.{Change}
+use Rattle.sb_rule.specs.declared.change.Change.TheVariants as change
 use Rattle.sb_forms.specs.Db.{Key, Row, Rows, values_in}
 use Rattle.sb_forms.specs.Fits.{MayKeep}
 use Rattle.sb_forms.specs.Foreign.{MethodRules}
@@ -9,6 +11,7 @@ use Rattle.sb_value.specs.Code.{ordered_code}
 use Rattle.sb_forms.specs.Pages.{Pages}
 use Rattle.sb_ctx.specs.declared.instance.Instance.{Instance}
 use Rattle.sb_ctx.specs.declared.calls.MethodCall.{MethodCall}
+use Rattle.sb_ctx.specs.declared.calls.MethodCall.TheVariants as call
 use Rattle.sb_ctx.specs.View.{HeldPages}
 
 -- What it is known by apart from pages; the rows that an instance's pages hold, where they are formed; and which of the pages that a call was given it may call broken. Over formed pages: how many pages so many rows take at most, how many a call edits at most, and which ones a call may ask for.
@@ -51,3 +54,9 @@ code_of inst row = ordered_code (values_in inst.schema row inst.key)
 pub record MayHold (m : Method) (inst : Instance) (row : Row) : Type 0 where
   pub is_row : IsRow inst.schema row
   pub code : keying_of m.rules.code ≡ Coded → is_long_code inst.schema inst.key row ≡ false
+
+-- the call that makes a change
+abbrev pub call_of : Change → MethodCall
+call_of (change.Insert key new) = call.Insert new
+call_of (change.Delete key old) = call.Delete key
+call_of (change.Update from old to new) = call.Update from new

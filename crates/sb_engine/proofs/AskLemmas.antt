@@ -1,6 +1,6 @@
 -- What comes of an attachment that is asked, as the engine stands for it.
 use Rattle.std.proofs.Common.{◌≡◌, ℕ, zero, suc, ◌+◌, ◌<◌, ◌≤◌, Bool, true, false, cond, List, [], ◌∷◌, ◌++◌, length, map, All, Option, Some, None, option_map, IfSome, refl, sym, ap, ◌∙◌, subst, arith, ◌==◌}
-use Rattle.std.specs.List.{slice_get}
+use Rattle.std.specs.List.{Any, slice_get}
 use Rattle.std.proofs.lemmas.List.Elements.{All-append, All-head, All-tail}
 use Rattle.std.proofs.lemmas.Option.{same_Some, slice_get-map, slice_get_past}
 use Rattle.sb_value.specs.declared.schema.Column.{Column}
@@ -14,7 +14,7 @@ use Rattle.sb_rule.specs.Spelling.{SpellsRule, rule_code}
 use Rattle.sb_relation.specs.Buckets.{grown}
 use Rattle.sb_relation.specs.Changes.{changed, changed_rows, with_change}
 use Rattle.sb_relation.specs.Db
-use Rattle.sb_relation.specs.Db.{Name, Row, Rows, Relation, Db, relation_at, rows_at, schema_at}
+use Rattle.sb_relation.specs.Db.{Name, Row, Rows, Relation, Db, relation_at, schema_at}
 use Rattle.sb_relation.specs.Fits.{MayStand}
 use Rattle.sb_relation.specs.Foreign.{AttachRules, attach_rules}
 use Rattle.sb_relation.specs.Lawful.{IsRow, is_long_for}
@@ -24,7 +24,7 @@ use Rattle.std.specs.declared.vec.Vec.{Vec}
 use Rattle.std.specs.declared.alloc.Global.{Global}
 use Rattle.sb_fold.specs.Extensions.{box_of}
 use Rattle.sb_fold.specs.Fold.{attachments_at, queue_late, waiting_actions}
-use Rattle.sb_fold.specs.Outcome.{Going, Queue}
+use Rattle.sb_fold.specs.Outcome.{Going, Queue, Reached}
 use Rattle.sb_deferred.specs.Complete.{AreMirrored, IsChangeOf}
 use Rattle.sb_deferred.proofs.ChangeLemmas.{changed-complete, changed-mirrored}
 use Rattle.sb_cascade.specs.Fitting.{AllFit, IsFitting}
@@ -35,14 +35,21 @@ use Rattle.sb_ctx.specs.Attachment as ctx
 use Rattle.sb_ctx.specs.Attachment.{Attachment, MayHold, MayMeet}
 use Rattle.sb_registry.specs.Boxes.{Meanings, attachment_of, boxes_of}
 use Rattle.sb_registry.specs.Live.{IsLiveRule}
-use Rattle.sb_drive.specs.Slots.{Slots}
-use Rattle.sb_drive.specs.Spaces.{Wanted}
+use Rattle.sb_ctx.specs.Pages.{ArePages, page_count}
+use Rattle.sb_drive.specs.Slots.{Slots, owned}
+use Rattle.sb_drive.specs.Spaces.{LeadsOn, Wanted}
+use Rattle.sb_drive.specs.declared.space.SpaceFault.{SpaceFault}
+use Rattle.sb_drive.specs.declared.space.SpaceFault.TheVariants as fault
+use Rattle.sb_weights.specs.Owned.{IsTabled}
+use Rattle.sb_weights.specs.Weights.{AreMeant, changing}
+use Rattle.sb_weights.proofs.Lacking.{asking-is-full}
 use Rattle.sb_catalog.specs.declared.descriptor.Attached.{Attached}
 use Rattle.sb_catalog.specs.declared.descriptor.Descriptor.{Descriptor}
 use Rattle.sb_catalog.specs.Descriptors.{IsStorableAttached, described, standing}
 use Rattle.sb_catalog.proofs.Parts.{one_rule}
 use Rattle.sb_standing.specs.Instances.{rule_instance}
 use Rattle.sb_standing.specs.Tables.{Kept, db_of, kept_at}
+use Rattle.sb_standing.specs.Lacking.{WhereShort}
 use Rattle.sb_standing.specs.Standing.{StandRules}
 use Rattle.sb_standing.specs.Asked.{changed_kept}
 use Rattle.sb_standing.proofs.AskedLaws.{CanAsk-next}
@@ -51,15 +58,17 @@ use Rattle.sb_standing.proofs.KeptChangedLemmas.{db_of-changed, kept_at-with_cha
 use Rattle.sb_standing.proofs.KeptLemmas.{kept_at-relation}
 use Rattle.sb_asking.specs.OpenRelation.{OpenRelation}
 use Rattle.sb_asking.specs.Opened.{IsDurable, IsOpen}
-use Rattle.sb_asking.specs.Verdicts.{Admits, IsNext, LeavesAsked, Situation}
+use Rattle.sb_asking.specs.Verdicts.{Admits, IsNext, LacksAsked, LeavesAsked, Situation}
 use Rattle.sb_wishes.specs.Outcomes.{MayBeMade}
 use Rattle.sb_engine.specs.declared.running.Work.{Work}
 use Rattle.sb_engine.specs.Asking.{with_late}
 use Rattle.sb_engine.specs.Opening.{IsKeeping}
-use Rattle.sb_engine.specs.Working.{AreOpened, ArePaired, Stands, StandsAsking, extensions_of, open_at, queue_first}
+use Rattle.sb_engine.specs.Refusals.{refusal_of}
+use Rattle.sb_engine.specs.Working.{AreOpened, ArePaired, IsLicensed, IsShortOf, Stands, StandsAsking, extensions_of, open_at, queue_first}
 use Rattle.sb_engine.proofs.LateLemmas.{left-late, queue_first-all, queue_first-more}
 use Rattle.sb_engine.proofs.OpenedLemmas.{has_open}
 use Rattle.sb_engine.proofs.PairedLemmas.{changed-paired}
+use Rattle.sb_engine.proofs.LackingLemmas.{all_meant, any_last, meant_before, none_aside}
 use Rattle.sb_engine.proofs.RowLemmas.{lasting-changed}
 use Rattle.sb_standing.proofs.StandLemmas.{StandRules-asks}
 
@@ -378,7 +387,31 @@ module _ {S : Type 0} (Has : Wanted → Slots → S → Type 0) (m : Meanings) (
               ∙ queue_first-more i name c g asked.after asked.there;
           picked = asking.picked;
           gone = asking.gone;
+          come = asking.come;
           rules = asking.rules;
           fit = asking.fit;
         },
       )
+
+  -- ---- no page was left for it
+  pub asked_full : (Leads : ℕ → S → S → Type 0) (table : S → ℕ) (new : S) (e : SpaceFault) (d : Attached) (asked : IsAsked m asking.before name c one i d g.db)
+      → ((o : ℕ) → ArePages (owned asking.slots o)) → IsTabled (table space) asking.slots → LeadsOn Leads space new
+      → WhereShort e (LacksAsked m asking.slots (situation d asked) c) → IsLicensed Has Leads table m (refusal_of e) g.trail new
+  asked_full Leads table new (fault.DataFull used total) d asked pages tabled leads lacks = λ small. record {
+    space = space;
+    leads = leads;
+    want = asking.want;
+    slots = asking.slots;
+    has = asking.has;
+    short = subst (λ (points : List Reached). Any (IsShortOf total (table space + page_count (owned asking.slots 1)) (extensions_of m)) points) (sym asking.come.is)
+        (any_last (IsShortOf total (table space + page_count (owned asking.slots 1)) (extensions_of m)) asking.come.points
+        (changing (db_of asking.before) name c g.gone asking.come.spent)
+        (λ none. asking-is-full m IsDurable root asking.slots w.gone.items asking.before g.gone asking.come.spent name c i asked.k d asked.a
+        lacks.box (table space) total meant pages asking.asks (none_aside asking.slots w.gone.items g.gone (asking.gone none)) asked.at asked.described
+        asked.attached lacks.live small tabled lacks.short));
+  }
+    where
+      meant : AreMeant (extensions_of m) asking.before
+      meant = meant_before (extensions_of m) name c asking.before
+          (all_meant m root asking.slots (changed_kept name c asking.before) (lasting-changed asking.before name c asking.lasting) asking.asks.tables)
+  asked_full Leads table new e d asked pages tabled leads lacks = tt

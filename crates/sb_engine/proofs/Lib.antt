@@ -1,8 +1,14 @@
 pub use Rattle.sb_asking.proofs.Faults
+pub use Rattle.sb_weights.proofs.Bounded
+pub use Rattle.sb_weights.proofs.Catalogue
+pub use Rattle.sb_weights.proofs.Coming
+pub use Rattle.sb_weights.proofs.Meant
+pub use Rattle.sb_weights.proofs.Weighing
 pub mod OpenedLemmas
 pub mod PicksLemmas
 pub mod RefusedLemmas
 pub mod LateLemmas
+pub mod LackingLemmas
 pub mod RowLemmas
 pub mod AskLemmas
 pub mod ValueLemmas

@@ -2,7 +2,8 @@
 use Rattle.std.proofs.Common.{◌≡◌, ◌⊎◌, ℕ, Bool, true, false, true≢false, refl, sym, subst, inl, inr}
 use Rattle.sb_drive.specs.declared.space.SpaceFault.{SpaceFault}
 use Rattle.sb_drive.specs.declared.space.SpaceFault.TheVariants as fault
-use Rattle.sb_drive.specs.Spaces.{IsReadFault, IsRefused}
+use Rattle.sb_drive.specs.Slots.{Slots}
+use Rattle.sb_drive.specs.Spaces.{IsReadFault, IsRefused, Wanted}
 use Rattle.sb_registry.specs.Runs.{IsSound}
 use Rattle.sb_relation.specs.Db.{Name}
 use Rattle.sb_rule.specs.declared.change.Change.{Change}
@@ -11,7 +12,10 @@ use Rattle.sb_fold.specs.Outcome.{Going, Trail}
 use Rattle.sb_cascade.specs.Runs.{IsVetoed, IsVetoedIf, NotAsked, OnFault, is_free, is_room}
 use Rattle.sb_fold.specs.declared.refusal.Refusal.{Refusal}
 use Rattle.sb_fold.specs.declared.refusal.Refusal.TheVariants as refusal
+use Rattle.sb_registry.specs.Boxes.{Meanings}
+use Rattle.sb_engine.specs.Licensed.{definite_roomless, roomless_licence}
 use Rattle.sb_engine.specs.Refusals.{HasFaultCause, HasRefusalCause, IsRefusedBy, refusal_of}
+use Rattle.sb_engine.specs.Working.{IsStoppedIn}
 
 -- it is none that a definition gives
 pub free_refusal : (e : SpaceFault) → is_free (refusal_of e) ≡ true
@@ -70,6 +74,23 @@ definite_cause Fails refusal.NoMemory now is = tt
 definite_cause Fails (refusal.Room room) now is = absurd (true≢false is)
 definite_cause Fails (refusal.Damaged page) now is = absurd (true≢false is)
 definite_cause Fails refusal.Fault now is = absurd (true≢false is)
+
+-- the refusal of a reading call
+pub read_stop : {S : Type 0} (Has : Wanted → Slots → S → Type 0) (Leads : ℕ → S → S → Type 0) (Fails : SpaceFault → S → S → Type 0) (table : S → ℕ) (m : Meanings) (e : SpaceFault)
+    (trail : Trail) (now : S) → IsReadFault e → HasRefusalCause Fails (refusal_of e) now
+    → IsStoppedIn Has Leads Fails table m (refusal_of e) trail now
+read_stop Has Leads Fails table m e trail now read cause = record {
+  cause = cause;
+  licensed = roomless_licence Has Leads table m (refusal_of e) trail now (roomless_refusal e read);
+}
+
+-- one that a definition gives
+pub definite_stop : {S : Type 0} (Has : Wanted → Slots → S → Type 0) (Leads : ℕ → S → S → Type 0) (Fails : SpaceFault → S → S → Type 0) (table : S → ℕ) (m : Meanings) (r : Refusal)
+    (trail : Trail) (now : S) → is_free r ≡ false → IsStoppedIn Has Leads Fails table m r trail now
+definite_stop Has Leads Fails table m r trail now is = record {
+  cause = definite_cause Fails r now is;
+  licensed = roomless_licence Has Leads table m r trail now (definite_roomless r is);
+}
 
 -- ---- faults, whatever the pages keep
 -- a refusal is a fault, or no fact of a fault is asked of it

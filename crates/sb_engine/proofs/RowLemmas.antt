@@ -1,5 +1,5 @@
 -- A change of one row, as the engine makes it.
-use Rattle.std.proofs.Common.{◌≡◌, ℕ, Bool, false, List, [], ◌∷◌, ◌++◌, map, All, Option, Some, None, option_map, refl, sym, ap, ◌∙◌, subst}
+use Rattle.std.proofs.Common.{◌≡◌, ℕ, ◌+◌, ◌≤◌, Bool, true, false, List, [], ◌∷◌, ◌++◌, map, All, Option, Some, None, option_map, refl, sym, ap, ◌∙◌, subst}
 use Rattle.std.proofs.lemmas.List.Elements.{All-weaker}
 use Rattle.std.specs.declared.vec.Vec.{Vec}
 use Rattle.std.specs.declared.alloc.Global.{Global}
@@ -11,18 +11,27 @@ use Rattle.sb_relation.specs.Keys.{keying_of}
 use Rattle.sb_fold.specs.declared.refusal.Refusal.{Refusal}
 use Rattle.sb_fold.specs.Extensions.{Extensions, box_of}
 use Rattle.sb_fold.specs.Fold.{reach_change}
-use Rattle.sb_fold.specs.Outcome.{Going, Trail, made, refuse, change_to, ◌>>=◌, with_picks, Leads}
+use Rattle.sb_fold.specs.Need.{need}
+use Rattle.sb_fold.specs.Outcome.{Going, Outcome, Trail, made, refuse, change_to, trail_of, ◌>>=◌, with_picks, Leads}
 use Rattle.sb_fold.specs.Wishes.{Wish, wished}
 use Rattle.sb_fold.proofs.LeadsLemmas.{leads_change, leads_from, leads_here, leads_on, leads_refused}
 use Rattle.sb_deferred.specs.Complete.{AreMirrored, IsComplete}
 use Rattle.sb_cascade.specs.Fitting.{IsFitting}
-use Rattle.sb_cascade.specs.Runs.{EndsBy, MadeFrom, StopsFrom, is_free, row_change, row_of_relation}
+use Rattle.sb_cascade.specs.Runs.{EndsBy, GoesOn, MadeFrom, StopsFrom, is_free, row_change, row_of_relation}
+use Rattle.sb_cascade.proofs.Stopping.{stops_free}
 use Rattle.sb_cascade.proofs.Forward.{IsForward, forward_at, forward_made, forward_next, forward_no_step, forward_reach, forward_wished}
 use Rattle.sb_cascade.proofs.Staying.{actions-stay, rules-stay}
-use Rattle.sb_registry.specs.Boxes.{Meanings}
-use Rattle.sb_drive.specs.Slots.{Slots}
-use Rattle.sb_drive.specs.Spaces.{Wanted}
+use Rattle.sb_registry.specs.Boxes.{Meanings, method_of}
+use Rattle.sb_ctx.specs.Pages.{ArePages, page_count}
+use Rattle.sb_drive.specs.Slots.{Slots, owned}
+use Rattle.sb_drive.specs.Spaces.{LeadsOn, Wanted}
+use Rattle.sb_drive.specs.declared.space.SpaceFault.{SpaceFault}
+use Rattle.sb_drive.specs.declared.space.SpaceFault.TheVariants as fault
+use Rattle.sb_weights.specs.Owned.{IsTabled}
+use Rattle.sb_weights.specs.Weights.{changing, most_changed}
+use Rattle.sb_weights.proofs.Lacking.{change-is-full}
 use Rattle.sb_ctx.specs.declared.instance.Instance.{Instance}
+use Rattle.sb_standing.specs.Lacking.{IsShort, WhereShort}
 use Rattle.sb_standing.specs.Live.{HasRows, LeavesRows}
 use Rattle.sb_catalog.specs.declared.descriptor.Attached.{Attached}
 use Rattle.sb_catalog.specs.declared.descriptor.Descriptor.{Descriptor}
@@ -36,11 +45,14 @@ use Rattle.sb_standing.proofs.KeptLemmas.{kept_at-all}
 use Rattle.sb_standing.proofs.RelationLemmas.{AreLawful-kept}
 use Rattle.sb_asking.specs.OpenRelation.{OpenRelation}
 use Rattle.sb_asking.specs.Opened.{IsDurable}
-use Rattle.sb_wishes.specs.Outcomes.{Makes, Refuses}
+use Rattle.sb_wishes.specs.Outcomes.{LacksPage, Makes, Refuses}
 use Rattle.sb_wishes.specs.Wished.{HasCounts, IsTableOf}
 use Rattle.sb_engine.specs.declared.running.Work.{Work as Kept_work}
 use Rattle.sb_engine.specs.Picks.{picks_of}
-use Rattle.sb_engine.specs.Working.{AreLasting, AreOpened, ArePaired, IsLasting, IsOpened, Stands, StandsAsking, extensions_of, open_at}
+use Rattle.sb_engine.specs.Refusals.{refusal_of}
+use Rattle.sb_engine.specs.Working.{AreLasting, AreOpened, ArePaired, IsLasting, IsLicensed, IsOpened, IsShortOf, Stands, StandsAsking, extensions_of, open_at}
+use Rattle.sb_engine.proofs.LackingLemmas.{all_meant, any_last, goes_none, none_aside}
+use Rattle.sb_engine.proofs.RefusedLemmas.{free_refusal}
 use Rattle.sb_engine.proofs.LateLemmas.{queue_first-none}
 use Rattle.sb_engine.proofs.OpenedLemmas.{HasOpen, has_open}
 use Rattle.sb_engine.proofs.PicksLemmas.{leads-picks, leads-quiet}
@@ -154,10 +166,58 @@ module _ {S : Type 0} (Has : Wanted → Slots → S → Type 0) (Ways : ℕ → 
               ∙ ap (λ (method : ℕ). g.used ++ picks_of method c) (sym table.method)
               ∙ sym (leads-picks name k.relation wish g it.picks c run);
           gone = stands.gone;
+          come = record {
+            points = g.trail.points;
+            spent = after.trail.spent;
+            is = ap (λ (db : Db). g.trail.points ++ changing db name c g.gone after.trail.spent ∷ []) stands.db;
+          };
           rules = (rules-stay (box_of (extensions_of m)) g.db name c).1 stands.rules;
           fit = All-weaker (IsFitting g.db) (IsFitting (changed g.db name c)) (λ a fits. (actions-stay g.db name c a).1 fits) g.queue.actions stands.fit;
         };
       }
+
+  -- ---- or no page was left for it
+  abbrev opened_of : (g : Going) (w : Kept_work) (stands : Stands Has m root g old w) → open_at w.opened.items name ≡ Some one → HasOpen m stands.slots stands.kept name one
+  opened_of g w stands at = has_open m root stands.slots stands.kept w.opened.items name one stands.keeps.tables stands.opened at
+
+  pub row_full : {R : Type 0} (table : S → ℕ) (Stopped : Refusal → Trail → R → Type 0) (x : R) (g : Going) (w : Kept_work) (e : SpaceFault) (stands : Stands Has m root g old w)
+      (at : open_at w.opened.items name ≡ Some one) → ((o : ℕ) → ArePages (owned stands.slots o)) → IsTabled (table old) stands.slots → LeadsOn Ways old new
+      → WhereShort e (LacksPage m stands.slots one.table (opened_of g w stands at).k.relation (opened_of g w stands at).rows (wished one.table.relation (opened_of g w stands at).k.relation wish))
+      → ((trail : Trail) → IsLicensed Has Ways table m (refusal_of e) trail new → Stopped (refusal_of e) trail x)
+      → StopsFrom Stopped (row_change (extensions_of m) name wish) g (refusal_of e) x
+  row_full table Stopped x g w (fault.DataFull used total) stands at pages tabled leads lacks stop =
+      let h = opened_of g w stands at in
+      let k = h.k in
+      let ext = extensions_of m in
+      let it = lacks in
+      let box = h.rows.live.box in
+      let there : relation_at g.db name ≡ Some k.relation = ap (λ (d : Db). relation_at d name) stands.db ∙ h.there in
+      let run : Leads (wished name k.relation wish) g it.picks (made it.change) (record g { used = g.used ++ it.picks }) =
+      subst (λ (n : Name). Leads (wished n k.relation wish) g it.picks (made it.change) (record g { used = g.used ++ it.picks })) (table_name m stands.slots stands.kept name one h) (it.wished g) in
+      let after = reached ext name k.relation it.change g it.picks in
+      let comes = leads_row ext name wish g k.relation it.picks it.change there run in
+      let live : method_of k.descriptor.method m.methods ≡ Some box = subst (λ (i : Instance). method_of i.code m.methods ≡ Some box) h.inst h.rows.live.live in
+      let short : IsShort stands.slots k.descriptor.owner (most_changed box k.relation.rows it.change) total =
+      subst (λ (i : Instance). IsShort stands.slots i.owner (most_changed box k.relation.rows it.change) total) h.inst (it.short (no_counts m stands.slots stands.kept name one stands.lasting h)) in
+      record {
+        picks = it.picks ++ ([] ++ []);
+        trail = after.trail;
+        comes = λ more. subst (λ (o : Outcome Change). GoesOn after.trail (trail_of o)) (sym (comes.leads more)) (goes_none after.trail);
+        stopped = stop after.trail (λ small. record {
+          space = old;
+          leads = leads;
+          want = stands.want;
+          slots = stands.slots;
+          has = stands.has;
+          short = any_last (IsShortOf total (table old + page_count (owned stands.slots 1)) ext) g.trail.points (changing g.db name it.change g.gone after.trail.spent)
+              (λ none. subst (λ (db : Db). total ≤ table old + page_count (owned stands.slots 1) + need ext true (changing db name it.change g.gone after.trail.spent)) (sym stands.db)
+              (change-is-full m IsDurable root stands.slots w.gone.items stands.kept g.gone after.trail.spent name k it.change box (table old) total
+              (all_meant m root stands.slots stands.kept stands.lasting stands.keeps.tables) pages stands.keeps
+              (none_aside stands.slots w.gone.items g.gone (stands.gone none)) h.at live small tabled short));
+        });
+      }
+  row_full table Stopped x g w e stands at pages tabled leads lacks stop =
+      stops_free Stopped (row_change (extensions_of m) name wish) (refusal_of e) x g (free_refusal e) (forward_row (extensions_of m) name wish) (stop g.trail tt)
 
   -- ---- or one that was refused
   pub row_refused : {R : Type 0} (Stopped : Refusal → Trail → R → Type 0) (x : R) (g : Going) (w : Kept_work) (e : Refusal) → Stands Has m root g old w → open_at w.opened.items name ≡ Some one → RefusesIt e

@@ -6,7 +6,11 @@ pub use Rattle.sb_asking.specs.Opened
 pub use Rattle.sb_asking.specs.Place
 pub use Rattle.sb_asking.specs.Refusals as MapRefusals
 pub use Rattle.sb_wishes.specs.Wished
+pub use Rattle.sb_weights.specs.Coming
+pub use Rattle.sb_weights.specs.Owned
+pub use Rattle.sb_weights.specs.Weights
 pub mod Working
+pub mod Licensed
 pub mod Refusals
 pub mod Opening
 pub mod Picks

@@ -31,6 +31,11 @@ HasRefusalCause Fails refusal.Fault now = IsRefusedBy Fails refusal.Fault now
 HasRefusalCause Fails (refusal.Damaged page) now = ⊥
 HasRefusalCause Fails r now = Unit {0}
 
+-- it doesn't say that a page is wanting
+abbrev pub HasPagesLeft : Refusal → Type 0
+HasPagesLeft (refusal.Room (Data used total)) = ⊥
+HasPagesLeft r = Unit {0}
+
 -- Where the refusal is a fault, some call of the space was refused so, whatever its pages keep.
 abbrev pub HasFaultCause : {S : Type 0} → (SpaceFault → S → S → Type 0) → Refusal → S → Type 0
 HasFaultCause Fails r now = OnFault r (IsRefusedBy Fails refusal.Fault now)

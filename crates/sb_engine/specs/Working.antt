@@ -1,6 +1,6 @@
 -- What an engine at work on a transaction stands for.
-use Rattle.std.specs.Prelude.{◌≡◌, ℕ, ◌≤◌, List, [], ◌++◌, length, map, drop, take, All, Option, Some, None, bytes_eq}
-use Rattle.std.specs.List.{find, flat_map}
+use Rattle.std.specs.Prelude.{◌≡◌, ℕ, ◌+◌, ◌≤◌, List, [], ◌∷◌, ◌++◌, length, map, drop, take, All, Option, Some, None, bytes_eq}
+use Rattle.std.specs.List.{Any, find, flat_map}
 use Rattle.sb_pred.specs.Typing.{term_kind}
 use Rattle.std.specs.Prelude.{true, false}
 use Rattle.sb_rule.specs.declared.action.Action.{Action}
@@ -13,15 +13,19 @@ use Rattle.sb_relation.specs.Rules.{late_actions, late_checks}
 use Rattle.sb_fold.specs.Building.{rule_at}
 use Rattle.sb_fold.specs.Extensions.{Extensions, box_of}
 use Rattle.sb_fold.specs.Fold.{attachments_at}
-use Rattle.sb_fold.specs.Outcome.{Going, Gone, Queue, Trail, with_waiting}
+use Rattle.sb_fold.specs.Need.{need}
+use Rattle.sb_fold.specs.Outcome.{Going, Gone, Queue, Reached, Trail, with_waiting}
 use Rattle.sb_fold.specs.Wishes.{Wish}
 use Rattle.sb_deferred.specs.Complete.{AreMirrored, IsComplete}
 use Rattle.sb_deferred.specs.Waiting.{check_of, IsFront}
 use Rattle.sb_cascade.specs.Fitting.{AllFit, AllMayStand}
-use Rattle.sb_registry.specs.Boxes.{Meanings, boxes_of}
+use Rattle.sb_registry.specs.Boxes.{Meanings}
 use Rattle.sb_fold.specs.declared.refusal.Refusal.{Refusal}
+use Rattle.sb_fold.specs.declared.refusal.Refusal.TheVariants as refusal
+use Rattle.sb_fold.specs.declared.refusal.Room.TheVariants.{Data}
 use Rattle.sb_drive.specs.declared.space.SpaceFault.{SpaceFault}
-use Rattle.sb_drive.specs.Slots.{Slots}
+use Rattle.sb_ctx.specs.Pages.{page_count}
+use Rattle.sb_drive.specs.Slots.{Slots, owned}
 use Rattle.sb_drive.specs.Spaces.{LeadsOn, Wanted}
 use Rattle.sb_asking.specs.Place.{Place}
 use Rattle.sb_standing.specs.Tables.{Kept, db_of, kept_at}
@@ -37,11 +41,8 @@ use Rattle.sb_wishes.specs.Outcomes.{MayBeMade}
 use Rattle.sb_engine.specs.declared.running.Running.{Running}
 use Rattle.sb_engine.specs.declared.running.Work.{Work}
 use Rattle.sb_engine.specs.Refusals.{HasRefusalCause}
-
--- ---- boxes
--- the extensions by their rules alone; the room that foreign ones take comes with the licences of room
-abbrev pub extensions_of : Meanings → Extensions
-extensions_of m = record { boxes = boxes_of m; methods = []; attachments = [] }
+pub use Rattle.sb_weights.specs.Rooms.{extensions_of}
+use Rattle.sb_weights.specs.Weights.{changing}
 
 -- ---- what is open
 -- the open relation of a name
@@ -124,6 +125,12 @@ IsLasting d = keying_of d.method ≡ Counted → ⊥
 abbrev pub AreLasting : List Kept → Type 0
 AreLasting kept = All IsLasting (map (λ k. k.descriptor) kept)
 
+-- the last point of a trail is that of this change of the database
+pub record HasCome (trail : Trail) (db : Db) (name : Name) (c : Change) (aside : Gone) : Type 0 where
+  pub points : List Reached
+  pub spent : ℕ
+  pub is : trail.points ≡ points ++ changing db name c aside spent ∷ []
+
 -- It can be called: its space serves, the catalogue is where it is to be, boxes keep what is open, and no more was taken out than waited.
 pub record Serves {S : Type 0} (IsReady : S → Type 0) (m : Meanings) (place : Place) (space : S) (w : Work) : Type 0 where
   pub ready : IsReady space
@@ -152,7 +159,7 @@ pub record Stands {S : Type 0} (Has : Wanted → Slots → S → Type 0) (m : Me
   pub fit : AllFit g.db g.queue.actions
 
 -- The same while a change of a relation was asked of so many of its attachments alone: the pages keep the changed database but for what the others
--- are to make of it, and what the first ones put off waits behind the rest.
+-- are to make of it, and what the first ones put off waits behind the rest. The change is the point that the work has come to.
 pub record StandsAsking {S : Type 0} (Has : Wanted → Slots → S → Type 0) (m : Meanings) (root : ℕ) (name : Name) (c : Change) (i : ℕ) (g : Going)
     (space : S) (w : Work) : Type 0 where
   pub want : Wanted
@@ -170,8 +177,31 @@ pub record StandsAsking {S : Type 0} (Has : Wanted → Slots → S → Type 0) (
   pub waits : left_of w ≡ queue_first i name c g
   pub picked : w.picks.items ≡ g.used
   pub gone : IsNoneGone g.gone → w.gone.items ≡ []
+  pub come : HasCome g.trail (db_of before) name c g.gone
   pub rules : AllMayStand (box_of (extensions_of m)) g.db
   pub fit : AllFit g.db g.queue.actions
+
+-- ---- want of a page
+-- the database needs so much at this point that there are no more pages than that and those that the space takes for itself; where nothing was dropped or
+-- detached
+abbrev pub IsShortOf : ℕ → ℕ → Extensions → Reached → Type 0
+IsShortOf total own ext at = IsNoneGone at.aside → total ≤ own + need ext true at
+
+-- So it is at some point of the trail, by the pages of the space at a moment on the way.
+pub record IsShortAt {S : Type 0} (Has : Wanted → Slots → S → Type 0) (Leads : ℕ → S → S → Type 0) (table : S → ℕ) (ext : Extensions) (trail : Trail)
+    (total : ℕ) (now : S) : Type 0 where
+  pub space : S
+  pub leads : LeadsOn Leads space now
+  pub want : Wanted
+  pub slots : Slots
+  pub has : Has want slots space
+  pub short : Any (IsShortOf total (table space + page_count (owned slots 1)) ext) trail.points
+
+-- So it is where want of a page is the refusal; no other one wants it.
+abbrev pub IsLicensed : {S : Type 0} → (Wanted → Slots → S → Type 0) → (ℕ → S → S → Type 0) → (S → ℕ) → Meanings → Refusal → Trail → S → Type 0
+IsLicensed Has Leads table m (refusal.Room (Data used total)) trail now =
+    total ≤ 65536 → IsShortAt Has Leads table (extensions_of m) trail total now
+IsLicensed Has Leads table m r trail now = Unit {0}
 
 -- ---- an engine at work
 -- it can be called
@@ -185,6 +215,16 @@ StandsFor Has meanings g a = Stands Has (meanings a.boxes.now) a.place.root g a.
 -- it was stopped by a refusal, whose cause its space has
 abbrev pub IsStoppedBy : {B S : Type 0} → (SpaceFault → S → S → Type 0) → Refusal → Trail → Running B S → Type 0
 IsStoppedBy Fails r trail a = HasRefusalCause Fails r a.space.now
+
+-- The same of a space, and where that refusal is want of a page, the work had come so far that pages may be wanting.
+pub record IsStoppedIn {S : Type 0} (Has : Wanted → Slots → S → Type 0) (Leads : ℕ → S → S → Type 0) (Fails : SpaceFault → S → S → Type 0) (table : S → ℕ)
+    (m : Meanings) (r : Refusal) (trail : Trail) (now : S) : Type 0 where
+  pub cause : HasRefusalCause Fails r now
+  pub licensed : IsLicensed Has Leads table m r trail now
+
+abbrev pub IsStoppedFor : {B S : Type 0} → (Wanted → Slots → S → Type 0) → (ℕ → S → S → Type 0) → (SpaceFault → S → S → Type 0) → (S → ℕ) → (B → Meanings)
+    → Refusal → Trail → Running B S → Type 0
+IsStoppedFor Has Leads Fails table meanings r trail a = IsStoppedIn Has Leads Fails table (meanings a.boxes.now) r trail a.space.now
 
 -- the extensions that it has
 abbrev pub extensions_in : {B S : Type 0} → (B → Meanings) → Running B S → Extensions

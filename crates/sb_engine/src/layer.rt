@@ -3,8 +3,9 @@
 ghost use Rattle.std.specs.Prelude.{◌≡◌, ◌⊎◌};
 ghost use Rattle.sb_fold.specs.declared.refusal.Refusal.TheVariants as refusal;
 ghost use Rattle.sb_engine.specs.Goings.{goes_on, puts_fit, same_extensions, stays, still_asked, still_done};
-ghost use Rattle.sb_engine.specs.Refusals.{IsRefusedBy, quiet_cause};
-ghost use Rattle.sb_engine.specs.Working.{GoesOpen, MayAsk, MayDo, MayWish, IsServing, IsStoppedBy, StandsFor, StandsAsking, extensions_in};
+ghost use Rattle.sb_engine.specs.Licensed.{quiet_stop};
+ghost use Rattle.sb_engine.specs.Refusals.{IsRefusedBy};
+ghost use Rattle.sb_engine.specs.Working.{GoesOpen, MayAsk, MayDo, MayWish, IsServing, IsStoppedFor, StandsFor, StandsAsking, extensions_in};
 
 use crate::asking::put_left;
 use crate::failing::first_failing;
@@ -34,7 +35,7 @@ impl<B: Boxes, S: PageSpace> Layer for Running<'_, B, S> {
 
     ghost asks = { λ name c i g a. StandsAsking S.has (B.meanings a.boxes.now) a.place.root name c i g a.space.now a.work.now };
 
-    ghost stopped = { λ r trail a. IsStoppedBy S.fails r trail a };
+    ghost stopped = { λ r trail a. IsStoppedFor S.has S.leads S.fails S.table B.meanings r trail a };
 
     ghost failed = { λ a. IsRefusedBy S.fails refusal.Fault a.space.now };
 
@@ -46,9 +47,9 @@ impl<B: Boxes, S: PageSpace> Layer for Running<'_, B, S> {
 
     ghost leads = { λ a b. GoesOpen S.leads a b };
 
-    ghost stops = { λ r g a quiet stands. quiet_cause S.fails r a.space.now quiet };
+    ghost stops = { λ r g a quiet stands. quiet_stop S.has S.leads S.fails S.table B.meanings r g.trail a quiet };
 
-    ghost stops_asking = { λ r name c i g a quiet asks. quiet_cause S.fails r a.space.now quiet };
+    ghost stops_asking = { λ r name c i g a quiet asks. quiet_stop S.has S.leads S.fails S.table B.meanings r g.trail a quiet };
 
     ghost stays = { λ a. stays S.leads S.stays a };
 

@@ -8,7 +8,6 @@ use Rattle.sb_fold.specs.declared.refusal.Refusal.TheVariants as refusal
 use Rattle.sb_cascade.specs.Runs.{OnFault}
 use Rattle.sb_engine.proofs.RefusedLemmas.{on_fault}
 use Rattle.sb_fold.specs.Outcome.{Going}
-use Rattle.sb_engine.specs.Working.{extensions_of}
 use Rattle.sb_engine.specs.declared.running.Work.{Work as EngineWork}
 use Rattle.sb_plain.specs.declared.command.Command.{Command}
 use Rattle.sb_plain.specs.declared.reply.Reply.{Reply}
@@ -45,7 +44,7 @@ module _ {D : Type 0} (told : D → Option Story) (len faults : D → ℕ) (m : 
 
   -- ---- the commit was refused
   module _ {K : Type 0} (r : Refusal) (kept : Remains {T = K} told len faults e b t v (Err r))
-      (stops : (want : Wanted) (g : Going) → IsAt m place want tx g here w → StopsAt told len faults (extensions_of m) tx g r (record { disk = e; store = t })) where
+      (stops : (want : Wanted) (g : Going) → IsAt m place want tx g here w → StopsAt told len faults m tx g r (record { disk = e; store = t })) where
     -- and the transaction is over
     pub EndsAlone-over : ((want : Wanted) (g : Going) → IsAt m place want tx g here w → LeavesOldOrFinished m place.root want g here between) → ((r ≡ refusal.Fault → ⊥) → KeepsWanted here between)
         → (v.book.down ≡ false → v.book.actives ≡ [])

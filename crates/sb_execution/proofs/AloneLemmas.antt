@@ -11,7 +11,7 @@ use Rattle.sb_fold.specs.declared.refusal.Refusal.{Refusal}
 use Rattle.sb_fold.specs.declared.refusal.Refusal.TheVariants as refusal
 use Rattle.sb_fold.specs.Extensions.{Extensions}
 use Rattle.sb_fold.specs.Finish.{finish}
-use Rattle.sb_fold.specs.Outcome.{Going, Trail, Work, made, refuse, Leads, ◌>>=◌}
+use Rattle.sb_fold.specs.Outcome.{Going, Work, made, refuse, Leads, ◌>>=◌}
 use Rattle.sb_fold.proofs.LeadsLemmas.{leads_next, leads_on, leads_refused}
 use Rattle.sb_cascade.specs.Runs.{EndsBy, OnFault, is_free, is_room}
 use Rattle.sb_engine.specs.Refusals.{HasRefusalCause}
@@ -32,12 +32,12 @@ use Rattle.sb_map.specs.declared.place.Place.{Place}
 use Rattle.sb_txn.specs.Parts.{Parts, parts}
 use Rattle.sb_txn.specs.State.{State as StoreState}
 use Rattle.sb_session.specs.Calls.{IsOnlyFault, KeepsWanted, Remains}
-use Rattle.sb_session.specs.Commits.{FailsOn, Finishes, IsDone, LeavesEither, LeavesOldOrFinished, Mounted, StaysOpen, StopsAt}
+use Rattle.sb_session.specs.Commits.{FailsOn, Finishes, IsDone, LeavesEither, LeavesOldOrFinished, IsStoppedOn, Mounted, StaysOpen, StopsAt}
 use Rattle.sb_session.specs.Transactions.{IsAt, IsCommitted, Rests, WasBegun}
 use Rattle.sb_session.proofs.EndLemmas.{Remains-behind}
 use Rattle.sb_execution.specs.Serving.{IsPosedIn, may_have_committed}
 use Rattle.sb_session.specs.Ends.{IsFree, IsStep, is_end}
-use Rattle.sb_session.specs.Sessions.{HasFailed, IsNext, IsOpenFor, Lacks, LeavesNext, LeavesOldOrNext}
+use Rattle.sb_session.specs.Sessions.{HasFailed, IsNext, IsOpenFor, Lacks, LeavesNext, LeavesOldOrNext, WantsPages}
 use Rattle.sb_session.proofs.Carried.{end_of_given}
 use Rattle.sb_session.proofs.CommitSteps.{committed-push, with_committed}
 use Rattle.sb_session.proofs.OpenLemmas.{Outside, outside_at}
@@ -45,16 +45,19 @@ use Rattle.sb_session.proofs.RoomLemmas.{Lacks-there}
 use Rattle.sb_execution.specs.Endings.{AnswersCommand, ComesAlone, EndsAlone, HasAnswered, IsLeftSo, IsOf, going_alone}
 use Rattle.sb_execution.proofs.CallLemmas.{KeepsWanted-then, KeepsWanted-works, Remains-then, err_fault, has_failed, leaves_behind, not_both, ok_err, still_up}
 use Rattle.sb_execution.proofs.EndLemmas.{Ends-by, Ends-stepped, ends_given, may_want_room-works, none_committed, told_none}
+use Rattle.sb_execution.proofs.PagesLemmas.{pages_finished, pages_given, pages_roomless}
 use Rattle.sb_execution.proofs.ReplyLemmas.{answered_given, given_no_fault, is_free_reply, tells_answer}
 use Rattle.sb_execution.proofs.StepsOf.{Steps-stopped_alone, Steps-worked_alone, with_open}
 
--- why a command is refused: as the definitions say, or for a cause; and for want of room only where it may be wanting, by the numbers of these sizes
+-- why a command is refused: as the definitions say, or for a cause; and for want of room only where it may be wanting, by the numbers of these sizes;
+-- and for want of a page where its step comes so far
 pub record Refuses {D : Type 0} (faults : D → ℕ) (m : Meanings) (c : Command) (x : State) (r : Refusal) (g : Geometry) : Type 0 where
   pub given : is_free r ≡ false → Steps (extensions_of m) x c (Refused r) (with_open x None)
   pub there : Mounted D
   pub cause : is_free r ≡ true → HasRefusalCause (FailsOn faults) r there
   pub sizes : is_room r ≡ true → there.store.pool.geometry ≡ g
   pub lacks : is_room r ≡ true → may_want_room x c ≡ true
+  pub pages : WantsPages m g.pages x c (Refused r)
 
 module _ {D : Type 0} (told : D → Option Story) (len faults : D → ℕ) (m : Meanings) (place : Place) (c : Command)
     (d f : D) (s u : StoreState) (up : s.book.down ≡ false) where
@@ -109,6 +112,7 @@ module _ {D : Type 0} (told : D → Option Story) (len faults : D → ℕ) (m : 
         (λ is. absurd (let e = only.is in cc))
         (λ is. failed_so r remains is only.down want x of (inl (left_by still want x of)))
         (λ page is. absurd (let e = only.is in cc));
+    pages = λ want x of posed. pages_roomless m s.pool.geometry.pages x c r (ap is_room only.is);
     leaves = λ not. still;
     none = λ off. not_both u.book.down off only.down;
     fault = λ is. only.down;
@@ -169,6 +173,7 @@ module _ {D : Type 0} (told : D → Option Story) (len faults : D → ℕ) (m : 
           (λ is. record { up = of.up; cause = may x; stands = as_it_was want x of posed (ap is_end is) })
           (λ is. failed_so r remains is (of_fault r (u.book.down ≡ true) faulted is) want x of (fallen want x of posed))
           (λ page is. subst (λ (r : Refusal). HasRefusalCause (FailsOn faults) r why.there) is (why.cause (ap is_free is)));
+      pages = λ want x of posed. (refuses want x of posed).pages;
       leaves = still;
       none = none;
       fault = λ is. let same : r ≡ refusal.Fault = cc in of_fault r (u.book.down ≡ true) faulted same;
@@ -180,6 +185,7 @@ module _ {D : Type 0} (told : D → Option Story) (len faults : D → ℕ) (m : 
       → Each (λ want x. (is_free_reply r ≡ false) × IsStep (LeftBy want x r) ext x c r) → EndsAlone told len faults m place c d f s u (Ok r)
   EndsAlone-done r told_none remains leaves none steps = record {
     ends = λ want x of posed. let to = steps want x of posed in Ends-stepped (LeftBy want x r) (Lacks s.pool.geometry) (HasFailed faults d f) ext x c r to.0 to.1;
+    pages = λ want x of posed. pages_given m s.pool.geometry.pages x c r (steps want x of posed).0;
     leaves = leaves;
     none = none;
     fault = λ is. absurd (told_none is);
@@ -344,27 +350,32 @@ module _ {D : Type 0} (told : D → Option Story) (len faults : D → ℕ) (m : 
         ))
 
   -- ---- it wasn't
-  abbrev Stopped : {D : Type 0} → (D → ℕ) → Refusal → Trail → Mounted D → Type 0
-  Stopped faults refusal trail x = HasRefusalCause (FailsOn faults) refusal x
+  module _ (r : Refusal) (stops : (want : Wanted) (g : Going) → IsAt m place want tx g here w → StopsAt told len faults m tx g r (record { disk = e; store = t })) where
+    size : (want : Wanted) (x : State) (of : Begun want x) (posed : IsPosedIn m x c) → is_room r ≡ true
+        → (stops want (has.answers want x of posed).run.after (has.answers want x of posed).run.stands).there.store.pool.geometry ≡ s.pool.geometry
+    size want x of posed room =
+        let why = has.answers want x of posed in
+        ((stops want why.run.after why.run.stands).led (λ is. false≢true (sym (ap is_room is) ∙ room))).1.geometry ∙ same_size told len faults m place d e s t tx has.comes
 
-  module _ (r : Refusal) (stops : (want : Wanted) (g : Going) → IsAt m place want tx g here w → StopsAt told len faults (extensions_of m) tx g r (record { disk = e; store = t })) where
     pub refuses_commit : (want : Wanted) (x : State) → Begun want x → IsPosedIn m x c → Refuses faults m c x r s.pool.geometry
     refuses_commit want x of posed =
         let why = has.answers want x of posed in
         let stop = stops want why.run.after why.run.stands in
         record {
           given = λ given.
-              let run : EndsBy (Stopped faults) false (finish (extensions_of m)) why.run.after r stop.there =
-              subst (λ (b : Bool). EndsBy (Stopped faults) b (finish (extensions_of m)) why.run.after r stop.there) given stop.stops in
+              let run : EndsBy (IsStoppedOn faults m) false (finish (extensions_of m)) why.run.after r stop.there =
+              subst (λ (b : Bool). EndsBy (IsStoppedOn faults m) b (finish (extensions_of m)) why.run.after r stop.there) given stop.stops in
               Steps-stopped_alone (extensions_of m) x c of.up (none_in want x of) why.work why.is (why.run.picks ++ run.picks) run.after r why.passed
               (leads_to_refusal why.work (going_alone x) why.run.after run.after why.run.picks run.picks r why.run.leads run.leads);
           there = stop.there;
           cause = λ free.
-              let broken : EndsBy (Stopped faults) true (finish (extensions_of m)) why.run.after r stop.there =
-              subst (λ (b : Bool). EndsBy (Stopped faults) b (finish (extensions_of m)) why.run.after r stop.there) free stop.stops in
-              broken.stopped;
-          sizes = λ room. (stop.led (λ is. false≢true (sym (ap is_room is) ∙ room))).1.geometry ∙ same_size told len faults m place d e s t tx has.comes;
+              let broken : EndsBy (IsStoppedOn faults m) true (finish (extensions_of m)) why.run.after r stop.there =
+              subst (λ (b : Bool). EndsBy (IsStoppedOn faults m) b (finish (extensions_of m)) why.run.after r stop.there) free stop.stops in
+              broken.stopped.cause;
+          sizes = λ room. size want x of posed room;
           lacks = λ room. may_want_room-works (extensions_of m) x c why.work why.is;
+          pages = pages_finished faults m s.pool.geometry.pages x c has.works of.up why.work why.is why.passed stop.there r
+              (λ room. ap (λ (g : Geometry). g.pages) (size want x of posed room)) (none_in want x of) (λ h p. IsAt m place want tx h p w) answer here why.run stop.stops;
         }
 
   -- ---- the transaction went on, and was aborted then

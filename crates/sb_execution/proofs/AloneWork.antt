@@ -4,6 +4,7 @@ use Rattle.std.proofs.lemmas.Bool.{false≢true}
 use Rattle.sb_disk.specs.Disk.{Story}
 use Rattle.sb_disk.specs.Moments.{LeavesOnly}
 use Rattle.sb_images.specs.Images.{Restores}
+use Rattle.sb_log.specs.declared.geometry.Geometry.{Geometry}
 use Rattle.sb_relation.specs.Db.{Db}
 use Rattle.sb_fold.specs.declared.refusal.Refusal.{Refusal}
 use Rattle.sb_fold.specs.declared.refusal.Refusal.TheVariants as refusal
@@ -30,10 +31,11 @@ use Rattle.sb_space.specs.declared.transactions.Tx.{Tx}
 use Rattle.sb_session.specs.Transaction.{Transaction}
 use Rattle.sb_session.specs.Calls.{IsOnlyFault, KeepsWanted, Remains}
 use Rattle.sb_session.specs.Commits.{FailsOn, IsLed}
+use Rattle.sb_session.specs.Sessions.{WantsPages}
 use Rattle.sb_session.specs.Transactions.{IsAt, IsFirst, IsUsable, Rests, WasBegun}
 use Rattle.sb_session.proofs.CallLemmas.{Remains-answered, up-earlier, up-later}
 use Rattle.sb_statements.specs.declared.answers.Answer as code
-use Rattle.sb_execution.specs.Serving.{IsAnswered, IsPosedIn, IsSeenIn, IsServed, IsUnserved, is_managing}
+use Rattle.sb_execution.specs.Serving.{IsAnswered, IsPosedIn, IsSeenIn, IsServed, IsUnservedOn, is_managing}
 use Rattle.sb_statements.specs.Statements.{answer_of}
 use Rattle.sb_session.specs.declared.session.Savepoint.{Savepoint}
 use Rattle.sb_session.proofs.OpenLemmas.{Outside, outside_at}
@@ -43,7 +45,8 @@ use Rattle.sb_reads.specs.Reads.{is_reading}
 use Rattle.sb_execution.specs.Endings.{ComesAlone, EndsAlone, HasAnswered, IsOf, Passes, going_alone}
 use Rattle.sb_execution.proofs.AloneLemmas.{EndsAlone-done, EndsAlone-fault, EndsAlone-refused, leaves_alone, leaves_so_far, left_by, read_so, remains_alone, same_size}
 use Rattle.sb_execution.proofs.CallLemmas.{Remains-err, Remains-led, Remains-then, not_both, ok_err}
-use Rattle.sb_execution.proofs.EndLemmas.{at_some, free_room, may_want_memory-works, seen_alone, unserved_alone, unserved_cause, unserved_room, work_there}
+use Rattle.sb_execution.proofs.EndLemmas.{at_some, free_room, may_want_memory-works, roomless, seen_alone, unserved_alone, unserved_cause, unserved_pages_alone, unserved_room, work_there}
+use Rattle.sb_execution.proofs.PagesLemmas.{pages_roomless}
 use Rattle.sb_execution.proofs.ReplyLemmas.{answer_no_fault, read_given, refused_given}
 use Rattle.sb_execution.proofs.StepsOf.{Steps-read_alone, Steps-refused_alone, with_open}
 
@@ -142,7 +145,7 @@ module _ {D : Type 0} (told : D → Option Story) (len faults : D → ℕ) (m : 
         EndsAlone-behind : ((x : State) → may_want_memory x c ≡ true) → (r : Refusal) → OnFault r (t.book.down ≡ true)
             → ((want : Wanted) (x : State) → IsOf m place want x from None → IsPosedIn m x c
             → (is_free r ≡ false → Steps (extensions_of m) x c (Refused r) (with_open x None)) × (is_free r ≡ true → HasRefusalCause (FailsOn faults) r (record { disk = e; store = t }))
-            × (is_room r ≡ true → may_want_room x c ≡ true))
+            × (is_room r ≡ true → may_want_room x c ≡ true) × WantsPages m s.pool.geometry.pages x c (Refused r))
             → EndsAlone told len faults m place c d f s u (Err r)
         EndsAlone-behind may r faulted why =
             EndsAlone-refused told len faults m place c d f s u up may r
@@ -157,19 +160,22 @@ module _ {D : Type 0} (told : D → Option Story) (len faults : D → ℕ) (m : 
               cause = both.1;
               sizes = λ room. same_size told len faults m place d e s t last comes;
               lacks = both.2;
+              pages = both.3;
             })
 
         -- the command wasn't served
         pub EndsAlone-back : is_managing c ≡ false → (r : Refusal) → OnFault r (t.book.down ≡ true)
             → ((want : Wanted) (x : State) (g : Going) → IsAt m place want n g (parts told len b bs) a.work → IsSeenIn m false ones x g → IsPosedIn m x c
-            → IsUnserved (FailsOn faults) m x c g r (record { disk = e; store = t })) → EndsAlone told len faults m place c d f s u (Err r)
+            → IsUnservedOn faults m x c g r (record { disk = e; store = t })) → EndsAlone told len faults m place c d f s u (Err r)
         EndsAlone-back works r faulted unserved =
             EndsAlone-behind (λ x. may_want_memory-works x c works) r faulted
             (λ want x of posed.
             let why = unserved want x (going_alone x) (at_command want x of) (seen want x of) posed in (
-              λ given. unserved_alone (FailsOn faults) m x c works r (record { disk = e; store = t }) of.up given (out want x of).none why,
-              unserved_cause (FailsOn faults) m x c works r (record { disk = e; store = t }) (going_alone x) why,
-              unserved_room (FailsOn faults) m x c works r (record { disk = e; store = t }) (going_alone x) why,
+              λ given. unserved_alone faults m x c works r (record { disk = e; store = t }) of.up given (out want x of).none why,
+              unserved_cause faults m x c works r (record { disk = e; store = t }) (going_alone x) why,
+              unserved_room faults m x c works r (record { disk = e; store = t }) (going_alone x) why,
+              unserved_pages_alone faults m x c works r (record { disk = e; store = t }) of.up s.pool.geometry.pages
+                  (λ room. ap (λ (g : Geometry). g.pages) (same_size told len faults m place d e s t last comes)) (out want x of).none why,
             ))
 
         -- a test refuses it
@@ -183,6 +189,7 @@ module _ {D : Type 0} (told : D → Option Story) (len faults : D → ℕ) (m : 
               λ given. Steps-refused_alone (extensions_of m) x c of.up (out want x of).none r is,
               λ free. absurd (false≢true (sym (refused_given (extensions_of m) x c r is) ∙ free)),
               λ room. absurd (false≢true (sym (refused_given (extensions_of m) x c r is) ∙ free_room r room)),
+              pages_roomless m s.pool.geometry.pages x c r (roomless r (refused_given (extensions_of m) x c r is)),
             ))
 
         -- a look of the tests was refused
@@ -195,6 +202,7 @@ module _ {D : Type 0} (told : D → Option Story) (len faults : D → ℕ) (m : 
               λ given. absurd (false≢true (sym given ∙ free)),
               λ also. cause want x (going_alone x) (at_command want x of) (seen want x of),
               λ room. absurd (false≢true (sym none_lacks ∙ room)),
+              pages_roomless m s.pool.geometry.pages x c r none_lacks,
             ))
 
         -- no test refuses it

@@ -10,7 +10,6 @@ use Rattle.sb_fold.specs.Finish.{finish}
 use Rattle.sb_fold.specs.Outcome.{Going, Queue, Trail, Work, made, ◌>>=◌}
 use Rattle.sb_fold.proofs.LeadsLemmas.{leads_refused}
 use Rattle.sb_cascade.specs.Runs.{EndsBy, StopsFrom, is_free, is_room}
-use Rattle.sb_drive.specs.declared.space.SpaceFault.{SpaceFault}
 use Rattle.sb_engine.specs.Refusals.{HasRefusalCause}
 use Rattle.sb_engine.specs.Working.{extensions_of}
 use Rattle.sb_plain.specs.declared.command.Command.{Command}
@@ -28,15 +27,18 @@ use Rattle.sb_drive.specs.Spaces.{Wanted}
 use Rattle.sb_map.specs.declared.place.Place.{Place}
 use Rattle.sb_txn.specs.Parts.{Parts}
 use Rattle.sb_engine.specs.declared.running.Work.{Work as EngineWork}
+use Rattle.sb_session.specs.Commits.{FailsOn, IsStoppedOn, Mounted}
 use Rattle.sb_session.specs.declared.session.Open.{Open}
 use Rattle.sb_session.specs.declared.session.Savepoint.{Savepoint}
 use Rattle.sb_session.specs.Ends.{Ends, IsFree, IsStep, ends_with}
-use Rattle.sb_session.specs.Sessions.{AreSavepoints, IsInside}
+use Rattle.sb_session.specs.Sessions.{AreSavepoints, IsInside, WantsPages}
+use Rattle.sb_statements.specs.Statements.{is_licensed}
 use Rattle.sb_session.proofs.Carried.{Ends-given, end_of_given}
 use Rattle.sb_session.proofs.CommitSteps.{going_on}
 use Rattle.sb_reads.specs.Reads.{is_reading}
 use Rattle.sb_execution.specs.Endings.{IsOf, going_alone}
-use Rattle.sb_execution.specs.Serving.{IsSeenIn, IsUnserved, Looked, Tested, Worked, is_managing, can_commit, may_have_changed, may_have_committed}
+use Rattle.sb_execution.specs.Serving.{IsSeenIn, IsUnservedOn, Looked, StopsOn, Tested, Worked, is_managing, can_commit, may_have_changed, may_have_committed}
+use Rattle.sb_execution.proofs.PagesLemmas.{pages_inside, pages_roomless, pages_worked}
 use Rattle.sb_execution.proofs.ReplyLemmas.{is_free_reply, refused_given}
 use Rattle.sb_execution.proofs.StepsOf.{Steps-refused_alone, Steps-refused_inside, Steps-stopped_alone, Steps-stopped_inside, with_open, with_spent_in}
 
@@ -123,33 +125,41 @@ pub free_room : (r : Refusal) → is_room r ≡ true → is_free r ≡ true
 free_room (refusal.Room room) is = refl
 free_room r is = absurd (false≢true is)
 
+pub roomless : (r : Refusal) → is_free r ≡ false → is_room r ≡ false
+roomless (refusal.Room room) given = absurd (false≢true (sym given))
+roomless r given = refl
+
 -- ---- commands that are refused
-module _ {N : Type 0} (Fails : SpaceFault → N → N → Type 0) (m : Meanings) (s : State) (c : Command) (works : is_managing c ≡ false) (r : Refusal) (new : N) where
+module _ {D : Type 0} (faults : D → ℕ) (m : Meanings) (s : State) (c : Command) (works : is_managing c ≡ false) (r : Refusal) (new : Mounted D) where
   abbrev ext : Extensions
   ext = extensions_of m
 
-  abbrev Stopped : Refusal → Trail → N → Type 0
-  Stopped refusal trail x = HasRefusalCause Fails refusal x
+  abbrev Stopped : Refusal → Trail → Mounted D → Type 0
+  Stopped = StopsOn faults m (is_licensed c)
+
+  caused : (licensed : Bool) (trail : Trail) → StopsOn faults m licensed r trail new → HasRefusalCause (FailsOn faults) r new
+  caused true trail stopped = stopped.cause
+  caused false trail cause = cause
 
   -- for want of room or memory, or by a fault: what has the cause
-  pub unserved_cause : (g : Going) → IsUnserved Fails m s c g r new → is_free r ≡ true → HasRefusalCause Fails r new
+  pub unserved_cause : (g : Going) → IsUnservedOn faults m s c g r new → is_free r ≡ true → HasRefusalCause (FailsOn faults) r new
   unserved_cause g (Tested is) free = absurd (false≢true (sym (refused_given ext s c r is) ∙ free))
   unserved_cause g (Worked passed none stops) free =
       let there = work_there ext (view s) c works none in
       let stop : StopsFrom Stopped there.0 g r new = at_some (work_of ext c) there.0 (λ work. StopsFrom Stopped work g r new) there.1 stops in
       let broken : EndsBy Stopped true there.0 g r new = subst (λ (b : Bool). EndsBy Stopped b there.0 g r new) free stop in
-      broken.stopped
+      caused (is_licensed c) broken.trail broken.stopped
   unserved_cause g (Looked free none cause) also = cause
 
   -- for want of room only where it may be wanting
-  pub unserved_room : (g : Going) → IsUnserved Fails m s c g r new → is_room r ≡ true → may_want_room s c ≡ true
+  pub unserved_room : (g : Going) → IsUnservedOn faults m s c g r new → is_room r ≡ true → may_want_room s c ≡ true
   unserved_room g (Tested is) room = absurd (false≢true (sym (refused_given ext s c r is) ∙ free_room r room))
   unserved_room g (Worked passed none stops) room = let there = work_there ext (view s) c works none in may_want_room-works ext s c there.0 there.1
   unserved_room g (Looked free none cause) room = absurd (false≢true (sym none ∙ room))
 
   -- as the definitions say: it is a step
   module _ (up : s.down ≡ false) (given : is_free r ≡ false) where
-    pub unserved_inside : (t : Transaction) → s.transaction ≡ Some t → IsUnserved Fails m s c (going_on t) r new
+    pub unserved_inside : (t : Transaction) → s.transaction ≡ Some t → IsUnservedOn faults m s c (going_on t) r new
         → (n : ℕ) × Steps ext s c (reply.Refused r) (with_open s (Some (with_spent_in n t)))
     unserved_inside t inside (Tested is) = (t.spent + 1, Steps-refused_inside ext s c up t inside r is)
     unserved_inside t inside (Worked passed none stops) =
@@ -159,7 +169,7 @@ module _ {N : Type 0} (Fails : SpaceFault → N → N → Type 0) (m : Meanings)
         (run.after.trail.spent, Steps-stopped_inside ext s c up t inside there.0 there.1 run.picks run.after r passed run.leads)
     unserved_inside t inside (Looked free none cause) = absurd (false≢true (sym given ∙ free))
 
-    pub unserved_alone : s.transaction ≡ None → IsUnserved Fails m s c (going_alone s) r new → Steps ext s c (reply.Refused r) (with_open s None)
+    pub unserved_alone : s.transaction ≡ None → IsUnservedOn faults m s c (going_alone s) r new → Steps ext s c (reply.Refused r) (with_open s None)
     unserved_alone outside (Tested is) = Steps-refused_alone ext s c up outside r is
     unserved_alone outside (Worked passed none stops) =
         let there = work_there ext (view s) c works none in
@@ -167,6 +177,27 @@ module _ {N : Type 0} (Fails : SpaceFault → N → N → Type 0) (m : Meanings)
         let run : EndsBy Stopped false there.0 (going_alone s) r new = subst (λ (b : Bool). EndsBy Stopped b there.0 (going_alone s) r new) given stop in
         Steps-stopped_alone ext s c up outside there.0 there.1 run.picks run.after r passed (leads_refused (λ (answer : Answer). finish ext >>= λ _. made answer) run.leads)
     unserved_alone outside (Looked free none cause) = absurd (false≢true (sym given ∙ free))
+
+  -- for want of a page to a command that is licensed only where its step comes so far that pages may be wanting
+  module _ (up : s.down ≡ false) (pages : ℕ) (size : is_room r ≡ true → new.store.pool.geometry.pages ≡ pages) where
+    on_licence : (work : Work Answer) (g : Going) → StopsFrom Stopped work g r new → is_licensed c ≡ true → StopsFrom (IsStoppedOn faults m) work g r new
+    on_licence work g stops on = subst (λ (b : Bool). StopsFrom (StopsOn faults m b) work g r new) on stops
+
+    pub unserved_pages_inside : (t : Transaction) → s.transaction ≡ Some t → IsUnservedOn faults m s c (going_on t) r new → WantsPages m pages s c (reply.Refused r)
+    unserved_pages_inside t inside (Tested is) = pages_roomless m pages s c r (roomless r (refused_given ext s c r is))
+    unserved_pages_inside t inside (Worked passed none stops) =
+        let there = work_there ext (view s) c works none in
+        let stop : StopsFrom Stopped there.0 (going_on t) r new = at_some (work_of ext c) there.0 (λ work. StopsFrom Stopped work (going_on t) r new) there.1 stops in
+        pages_inside faults m pages s c works up there.0 there.1 passed new r size t inside (on_licence there.0 (going_on t) stop)
+    unserved_pages_inside t inside (Looked free none cause) = pages_roomless m pages s c r none
+
+    pub unserved_pages_alone : s.transaction ≡ None → IsUnservedOn faults m s c (going_alone s) r new → WantsPages m pages s c (reply.Refused r)
+    unserved_pages_alone outside (Tested is) = pages_roomless m pages s c r (roomless r (refused_given ext s c r is))
+    unserved_pages_alone outside (Worked passed none stops) =
+        let there = work_there ext (view s) c works none in
+        let stop : StopsFrom Stopped there.0 (going_alone s) r new = at_some (work_of ext c) there.0 (λ work. StopsFrom Stopped work (going_alone s) r new) there.1 stops in
+        pages_worked faults m pages s c works up there.0 there.1 passed new r size outside (on_licence there.0 (going_alone s) stop)
+    unserved_pages_alone outside (Looked free none cause) = pages_roomless m pages s c r none
 
 -- ---- what is seen of a transaction
 module _ (m : Meanings) (place : Place) (want : Wanted) where

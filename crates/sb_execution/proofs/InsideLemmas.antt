@@ -2,6 +2,7 @@
 use Rattle.std.proofs.Common.{◌≡◌, ℕ, ◌+◌, true, false, List, Option, Some, Ok, Err, refl, sym, ap, ◌∙◌, subst}
 use Rattle.std.proofs.lemmas.Bool.{false≢true}
 use Rattle.sb_disk.specs.Disk.{Story}
+use Rattle.sb_log.specs.declared.geometry.Geometry.{Geometry}
 use Rattle.sb_relation.specs.Db.{Key}
 use Rattle.sb_fold.specs.declared.refusal.Refusal.{Refusal}
 use Rattle.sb_fold.specs.declared.refusal.Refusal.TheVariants as refusal
@@ -26,7 +27,7 @@ use Rattle.sb_txn.specs.State.{State as StoreState}
 use Rattle.sb_session.specs.Calls.{IsOnlyFault, KeepsWanted, Remains}
 use Rattle.sb_session.specs.Commits.{FailsOn, Mounted}
 use Rattle.sb_session.specs.Transactions.{IsAt, unused}
-use Rattle.sb_execution.specs.Serving.{IsPosedIn, IsServed, IsUnserved, is_managing}
+use Rattle.sb_execution.specs.Serving.{IsPosedIn, IsServed, IsUnservedOn, is_managing}
 use Rattle.sb_statements.specs.Statements.{answer_of}
 use Rattle.sb_session.specs.declared.session.Open.{Open}
 use Rattle.sb_session.specs.Ends.{Ends, IsStep, is_end}
@@ -39,7 +40,8 @@ use Rattle.sb_execution.specs.declared.serving.Served.{Served}
 use Rattle.sb_execution.specs.declared.serving.Served.TheVariants as served
 use Rattle.sb_execution.specs.Endings.{EndsInside, IsLeft, IsOf, IsReplied}
 use Rattle.sb_execution.proofs.CallLemmas.{has_failed, not_both}
-use Rattle.sb_execution.proofs.EndLemmas.{Ends-by, Ends-stepped, at_some, ends_given, may_want_memory-works, unserved_cause, unserved_inside, unserved_room, work_there}
+use Rattle.sb_execution.proofs.EndLemmas.{Ends-by, Ends-stepped, at_some, ends_given, may_want_memory-works, unserved_cause, unserved_inside, unserved_pages_inside, unserved_room, work_there}
+use Rattle.sb_execution.proofs.PagesLemmas.{pages_given, pages_roomless}
 use Rattle.sb_execution.proofs.ReplyLemmas.{answered_given, is_free_reply, read_given}
 use Rattle.sb_execution.proofs.StandingLemmas.{CanGoOn-stays, IsAt-taken, IsInside-stays, IsUsable-taken, Stays, Stays-beside, Stays-then}
 use Rattle.sb_execution.proofs.StepsOf.{Steps-read_inside, Steps-worked_inside, with_open, with_spent_in, worked}
@@ -108,6 +110,7 @@ module _ {D : Type 0} (told : D → Option Story) (len faults : D → ℕ) (m : 
           cause = has_failed told len faults d f s u (Err r) remains up only.down;
           stands = record { down = refl; live = refl; spare = refl; stands = λ on. absurd (false≢true (sym on)) };
         });
+    pages = λ want x of posed. pages_roomless m s.pool.geometry.pages x c r (ap is_room only.is);
     leaves = leaves;
     goes = λ not. absurd (false≢true (sym not ∙ ap is_end only.is));
     fault = λ is. only.down;
@@ -140,6 +143,7 @@ module _ {D : Type 0} (told : D → Option Story) (len faults : D → ℕ) (m : 
               stands = λ on. IsInside-stays m place p q o now number listed stays want (committed x) here.of to.of to.points here.inside to.at;
             };
           });
+      pages = λ want x of posed. pages_given m s.pool.geometry.pages x c r (reaches want x of posed).given;
       leaves = leaves;
       goes = λ not. CanGoOn-stays m place p q o now number listed stays goes;
       fault = λ is. absurd (told_none is);
@@ -150,7 +154,7 @@ module _ {D : Type 0} (told : D → Option Story) (len faults : D → ℕ) (m : 
     module _ (r : Refusal) (remains : Remains {T = Reply} told len faults d f s u (Err r)) (there : Mounted D) (still : there.store.book.down ≡ false) (sizes : there.store.pool.geometry ≡ s.pool.geometry)
         (faulted : OnFault r (there.store.book.down ≡ true))
         (back : (want : Wanted) (g : Going) → IsAt m place want tx g p o.transaction.work → IsAt m place want tx (unused g) q now.transaction.work)
-        (stops : (want : Wanted) (x : State) (of : IsOf m place want x p (Some o)) → IsPosedIn m x c → IsUnserved (FailsOn faults) m x c (going_on (within want x of).of) r there) where
+        (stops : (want : Wanted) (x : State) (of : IsOf m place want x p (Some o)) → IsPosedIn m x c → IsUnservedOn faults m x c (going_on (within want x of).of) r there) where
       stays_inside : (want : Wanted) (x : State) (of : IsOf m place want x p (Some o)) (n : ℕ) → IsInside m place want (committed x) q now (with_spent_in n (within want x of).of)
       stays_inside want x of n =
           let here = within want x of in
@@ -169,12 +173,12 @@ module _ {D : Type 0} (told : D → Option Story) (len faults : D → ℕ) (m : 
       }
 
       cause : (want : Wanted) (x : State) (of : IsOf m place want x p (Some o)) → IsPosedIn m x c → is_free r ≡ true → HasRefusalCause (FailsOn faults) r there
-      cause want x of posed free = unserved_cause (FailsOn faults) m x c works r there (going_on (within want x of).of) (stops want x of posed) free
+      cause want x of posed free = unserved_cause faults m x c works r there (going_on (within want x of).of) (stops want x of posed) free
 
       given_step : (want : Wanted) (x : State) (of : IsOf m place want x p (Some o)) → IsPosedIn m x c → is_free r ≡ false → IsStep (LeftBy want x (Refused r)) (extensions_of m) x c (Refused r)
       given_step want x of posed given =
           let here = within want x of in
-          let to = unserved_inside (FailsOn faults) m x c works r there of.up given here.of here.is (stops want x of posed) in
+          let to = unserved_inside faults m x c works r there of.up given here.of here.is (stops want x of posed) in
           record {
             after = with_open x (Some (with_spent_in to.0 here.of));
             steps = to.1;
@@ -189,13 +193,16 @@ module _ {D : Type 0} (told : D → Option Story) (len faults : D → ℕ) (m : 
               up = of.up;
               cause = (
                 Lacks-there faults s.pool.geometry there sizes room (subst (λ (r : Refusal). HasRefusalCause (FailsOn faults) r there) is (cause want x of posed (ap is_free is))),
-                unserved_room (FailsOn faults) m x c works r there (going_on (within want x of).of) (stops want x of posed) (ap is_room is),
+                unserved_room faults m x c works r there (going_on (within want x of).of) (stops want x of posed) (ap is_room is),
               );
               stands = as_it_was want x of (ap is_end is);
             })
             (λ is. record { up = of.up; cause = may_want_memory-works x c works; stands = as_it_was want x of (ap is_end is) })
             (λ is. not_both there.store.book.down still (of_fault r (there.store.book.down ≡ true) faulted is))
             (λ page is. subst (λ (r : Refusal). HasRefusalCause (FailsOn faults) r there) is (cause want x of posed (ap is_free is)));
+        pages = λ want x of posed.
+            let here = within want x of in
+            unserved_pages_inside faults m x c works r there of.up s.pool.geometry.pages (λ room. ap (λ (g : Geometry). g.pages) sizes) here.of here.is (stops want x of posed);
         leaves = leaves;
         goes = λ not. CanGoOn-stays m place p q o now number listed stays goes;
         fault = λ is. let same : r ≡ refusal.Fault = cc in not_both there.store.book.down still (of_fault r (there.store.book.down ≡ true) faulted same);

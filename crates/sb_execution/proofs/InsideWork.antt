@@ -19,11 +19,11 @@ use Rattle.sb_space.specs.declared.transactions.Tx.{Tx}
 use Rattle.sb_session.specs.Point.{Point}
 use Rattle.sb_session.specs.Transaction.{Transaction}
 use Rattle.sb_session.specs.Calls.{IsOnlyFault, KeepsWanted, Remains}
-use Rattle.sb_session.specs.Commits.{FailsOn, IsLed}
+use Rattle.sb_session.specs.Commits.{IsLed}
 use Rattle.sb_session.specs.Transactions.{IsAt, IsNotBehind, IsPointOf, IsTrimmed, IsUsable, WasBegun, WasSo, unused}
 use Rattle.sb_session.proofs.CallLemmas.{up-earlier, up-later}
 use Rattle.sb_session.proofs.EndLemmas.{Remains-behind, Remains-stopped}
-use Rattle.sb_execution.specs.Serving.{IsAnswered, IsPosedIn, IsSeenIn, IsServed, IsUnserved, is_managing}
+use Rattle.sb_execution.specs.Serving.{IsAnswered, IsPosedIn, IsSeenIn, IsServed, IsUnservedOn, is_managing}
 use Rattle.sb_session.specs.declared.session.Open.{Open}
 use Rattle.sb_session.specs.declared.session.Savepoint.{Savepoint}
 use Rattle.sb_session.specs.Sessions.{CanGoOn, going_in}
@@ -162,7 +162,7 @@ module _ {D : Type 0} (told : D → Option Story) (len faults : D → ℕ) (m : 
         }
 
         pub EndsInside-back : (now : Open) (ones : List Savepoint) → ones ≡ o.points.items → now.transaction ≡ z → now.points.items ≡ o.points.items → (r : Refusal) → OnFault r (t.book.down ≡ true)
-            → ((want : Wanted) (a : State) (g : Going) → IsAt m place want n g from x.work → IsSeenIn m true ones a g → IsPosedIn m a c → IsUnserved (FailsOn faults) m a c g r (record { disk = e; store = t }))
+            → ((want : Wanted) (a : State) (g : Going) → IsAt m place want n g from x.work → IsSeenIn m true ones a g → IsPosedIn m a c → IsUnservedOn faults m a c g r (record { disk = e; store = t }))
             → EndsInside told len faults m place c d f s u o now (Err r)
         EndsInside-back now ones listed is kept r faulted refused =
             EndsInside-refused told len faults m place c works d f s u o now up (all_leaves (Ok tt) remains) (ap (λ (a : Transaction). a.tx.store.number) is ∙ ap (λ (a : Tx). a.store.number) (back_tx ∙ tx ∙ same)) kept

@@ -1,8 +1,8 @@
 -- A command that is tested or served over a store, which is lent.
-use Rattle.std.proofs.Common.{◌≡◌, ℕ, Bool, false, List, Option, Result, Ok, Err, IfErr, IfOk, sym, subst}
+use Rattle.std.proofs.Common.{◌≡◌, ℕ, Bool, true, false, List, Option, Result, Ok, Err, IfErr, IfOk, sym, subst}
 use Rattle.sb_disk.specs.Disk.{Story}
 use Rattle.sb_relation.specs.Db.{Db}
-use Rattle.sb_fold.specs.Outcome.{Going}
+use Rattle.sb_fold.specs.Outcome.{Going, Trail}
 use Rattle.sb_fold.specs.declared.refusal.Refusal.{Refusal}
 use Rattle.sb_plain.specs.declared.command.Command.{Command}
 use Rattle.sb_plain.specs.Refusing.{refused}
@@ -30,8 +30,10 @@ use Rattle.sb_session.specs.Transactions.{IsAt, IsPointOf, IsUsable, WasBegun, W
 use Rattle.sb_session.proofs.DrivenLemmas.{Stands-at, driven-begun, driven-each, driven-points, driven-stands}
 use Rattle.sb_session.proofs.FinishLemmas.{HasCause-map}
 use Rattle.sb_session.proofs.LentLemmas.{FailsLent, IsStoreLent}
+use Rattle.sb_session.proofs.LicenceLemmas.{licensed-lent, table_of}
 use Rattle.sb_session.specs.declared.session.Savepoint.{Savepoint}
-use Rattle.sb_execution.specs.Serving.{IsPosedIn, IsSeenIn, IsServed, IsUnserved}
+use Rattle.sb_execution.specs.Serving.{IsPosedIn, IsSeenIn, IsServed, IsUnservedIn, IsUnservedOn, StopsIn, StopsOn}
+use Rattle.sb_statements.specs.Statements.{is_licensed}
 use Rattle.sb_execution.specs.declared.serving.Served.{Served}
 use Rattle.sb_execution.proofs.WorkLemmas.{IsServed-map, IsUnserved-map}
 
@@ -96,13 +98,19 @@ module _ {D : Type 0} (told : D → Option Story) (len faults : D → ℕ) (m : 
         subst (λ (d : D). HasRefusalCause (FailsOn faults) r (record { disk = d; store = b.store.now })) (sym same)
         (HasCause-map (FailsLent faults) (FailsOn faults) mount (λ fault x y fails. fails) r b cause)
 
+    stops_lent : (licensed : Bool) (r : Refusal) (trail : Trail) → StopsIn (HasLent told len) (LeadsLent told len faults) (FailsLent faults) table_of m licensed r trail b
+        → StopsOn faults m licensed r trail (record { disk = e; store = b.store.now })
+    stops_lent true r trail stopped = record { cause = caused r stopped.cause; licensed = licensed-lent told len faults m b trail r serves.ready.few stopped.cause stopped.licensed }
+    stops_lent false r trail cause = caused r cause
+
     pub unserved-lent : (r : Result Served Refusal)
-        → IfErr r (λ r'. (s : State) (g : Going) → StandsLent g a v → IsSeenIn m inside points s g → IsPosedIn m s c → IsUnserved (FailsLent faults) m s c g r' b)
+        → IfErr r (λ r'. (s : State) (g : Going) → StandsLent g a v → IsSeenIn m inside points s g → IsPosedIn m s c → IsUnservedIn (HasLent told len) (LeadsLent told len faults) (FailsLent faults) table_of m s c g r' b)
         → IfErr r (λ r'. (want : Wanted) (s : State) (g : Going) → IsAt m place want tx g start v → IsSeenIn m inside points s g → IsPosedIn m s c
-        → IsUnserved (FailsOn faults) m s c g r' (record { disk = e; store = b.store.now }))
+        → IsUnservedOn faults m s c g r' (record { disk = e; store = b.store.now }))
     unserved-lent (Ok x) unserved = tt
     unserved-lent (Err r) unserved = λ want s g at seen posed.
-        IsUnserved-map (FailsLent faults) (FailsOn faults) m s c g r b (record { disk = e; store = b.store.now }) (caused r)
+        IsUnserved-map (FailsLent faults) (FailsOn faults) (StopsIn (HasLent told len) (LeadsLent told len faults) (FailsLent faults) table_of m (is_licensed c))
+        (StopsOn faults m (is_licensed c)) m s c g r b (record { disk = e; store = b.store.now }) (caused r) (stops_lent (is_licensed c) r)
         (unserved s g (stands_lent want g at) seen posed)
 
     -- ---- tests

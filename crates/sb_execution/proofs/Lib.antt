@@ -1,5 +1,6 @@
 pub mod ReplyLemmas
 pub mod StepsOf
+pub mod PagesLemmas
 pub mod StandingLemmas
 pub mod CallLemmas
 pub mod EndLemmas

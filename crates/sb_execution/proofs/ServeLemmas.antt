@@ -23,7 +23,7 @@ use Rattle.sb_engine.specs.Working.{Stands, extensions_of}
 use Rattle.sb_engine.proofs.RefusedLemmas.{free_refusal, refused_cause}
 use Rattle.sb_session.specs.declared.session.Savepoint.{Savepoint}
 use Rattle.sb_reads.specs.Reads.{MayRead}
-use Rattle.sb_execution.specs.Serving.{IsPosedIn, IsSeenIn, IsServed, IsUnserved, Looked, MayServe}
+use Rattle.sb_execution.specs.Serving.{IsPosedIn, IsSeenIn, IsServed, IsUnservedIn, Looked, MayServe}
 use Rattle.sb_statements.specs.Statements.{MayWork}
 use Rattle.sb_statements.proofs.PosedLemmas.{tested-may-work}
 use Rattle.sb_execution.specs.declared.serving.Served.{Served}
@@ -31,7 +31,7 @@ use Rattle.sb_execution.proofs.ReadLemmas.{may-read}
 use Rattle.sb_execution.proofs.SeenLemmas.{look_refusal, none_waits}
 
 -- ---- behind the tests
-module _ {S : Type 0} (Has : Wanted → Slots → S → Type 0) (Fails : SpaceFault → S → S → Type 0) (m : Meanings) (root : ℕ) (inside : Bool) (points : List Savepoint) (c : Command)
+module _ {S : Type 0} (Has : Wanted → Slots → S → Type 0) (Leads : ℕ → S → S → Type 0) (Fails : SpaceFault → S → S → Type 0) (table : S → ℕ) (m : Meanings) (root : ℕ) (inside : Bool) (points : List Savepoint) (c : Command)
     (x y z : S) (v w : Work) (none : (s : State) (g : Going) → Stands Has m root g x v → IsSeenIn m inside points s g → None ≡ refused (extensions_of m) s c)
     (stood : (s : State) (g : Going) → Stands Has m root g x v → IsSeenIn m inside points s g → Stands Has m root g y v) where
   may : (s : State) (g : Going) → Stands Has m root g x v → IsSeenIn m inside points s g → IsPosedIn m s c → MayServe m s c g
@@ -53,8 +53,8 @@ module _ {S : Type 0} (Has : Wanted → Slots → S → Type 0) (Fails : SpaceFa
   tested_served (Err r) served = tt
 
   pub tested_unserved : (r : Result Served Refusal)
-      → IfErr r (λ e. (s : State) (g : Going) → Stands Has m root g y v → MayServe m s c g → IsUnserved Fails m s c g e z)
-      → IfErr r (λ e. (s : State) (g : Going) → Stands Has m root g x v → IsSeenIn m inside points s g → IsPosedIn m s c → IsUnserved Fails m s c g e z)
+      → IfErr r (λ e. (s : State) (g : Going) → Stands Has m root g y v → MayServe m s c g → IsUnservedIn Has Leads Fails table m s c g e z)
+      → IfErr r (λ e. (s : State) (g : Going) → Stands Has m root g x v → IsSeenIn m inside points s g → IsPosedIn m s c → IsUnservedIn Has Leads Fails table m s c g e z)
   tested_unserved (Ok done) unserved = tt
   tested_unserved (Err r) unserved = λ s g stands seen posed. unserved s g (stood s g stands seen) (may s g stands seen posed)
 
@@ -77,9 +77,9 @@ module _ {S : Type 0} (Has : Wanted → Slots → S → Type 0) (m : Meanings) (
       ap (λ (db : Db). read (extensions_of m) db c) same_db ∙ sym (is stands.want stands.slots w.gone.items stands.kept (extensions_of m) stands.has stands.keeps refl reads)
 
   -- a refused look
-  pub look_refused : (Fails : SpaceFault → S → S → Type 0) (Same : Type 0) (y : S) (e : SpaceFault) (r : Refusal) → r ≡ refusal_of e → IsReadFault e → IsRefused Same (Fails e x y) e
+  pub look_refused : (Leads : ℕ → S → S → Type 0) (Fails : SpaceFault → S → S → Type 0) (table : S → ℕ) (Same : Type 0) (y : S) (e : SpaceFault) (r : Refusal) → r ≡ refusal_of e → IsReadFault e → IsRefused Same (Fails e x y) e
       → ((want : Wanted) (s : Slots) (gone : List ℕ) (kept : List Kept) → Has want s x → Keeps m IsDurable root s gone kept → MayRead (db_of kept) c → IsSound e)
-      → IsUnserved Fails m s c g r y
-  look_refused Fails Same y e r is looked refused sound =
-      subst (λ (q : Refusal). IsUnserved Fails m s c g q y) (sym is)
+      → IsUnservedIn Has Leads Fails table m s c g r y
+  look_refused Leads Fails table Same y e r is looked refused sound =
+      subst (λ (q : Refusal). IsUnservedIn Has Leads Fails table m s c g q y) (sym is)
       (Looked (free_refusal e) (look_refusal e looked) (refused_cause Fails Same x y e refused (sound stands.want stands.slots w.gone.items stands.kept stands.has stands.keeps reads)))

@@ -76,11 +76,11 @@ module _ (ext : Extensions) (s : State) where
 module _ (ext : Extensions) (s : State) (c : Command) (up : s.down ≡ false) where
   -- ---- in an open transaction
   module _ (t : Transaction) (inside : s.transaction ≡ Some t) where
-    abbrev within : State
+    abbrev pub within : State
     within = with_open s (Some t)
 
     -- what is so of a state with these fields
-    by_fields : (P : State → Type 0) → P within → P s
+    pub by_fields : (P : State → Type 0) → P within → P s
     by_fields P is = at_fields P s (Some t) false inside up is
 
     pub Steps-read_inside : (reply : Reply) → refused ext s c ≡ None → read ext (view s) c ≡ Some reply
@@ -95,7 +95,7 @@ module _ (ext : Extensions) (s : State) (c : Command) (up : s.down ≡ false) wh
         (λ is. Steps-refused ext within c r is)
 
     module _ (work : Work Answer) (is : work_of ext c ≡ Some work) (picks : List Key) (after : Going) where
-      whole : refused ext within c ≡ None → step ext within c picks ≡ changing ext (paid within) picks work
+      pub whole : refused ext within c ≡ None → step ext within c picks ≡ changing ext (paid within) picks work
       whole none = carried ext within c picks refl none ∙ changes ext (paid within) c picks work is
 
       turn : Outcome Answer → Turn
@@ -123,10 +123,10 @@ module _ (ext : Extensions) (s : State) (c : Command) (up : s.down ≡ false) wh
 
   -- ---- in a transaction of its own
   module _ (outside : s.transaction ≡ None) where
-    abbrev alone : State
+    abbrev pub alone : State
     alone = with_open s None
 
-    by_none : (P : State → Type 0) → P alone → P s
+    pub by_none : (P : State → Type 0) → P alone → P s
     by_none P is = at_fields P s None false outside up is
 
     pub Steps-read_alone : (reply : Reply) → refused ext s c ≡ None → read ext (view s) c ≡ Some reply → Steps ext s c reply (with_open s None)
@@ -139,7 +139,7 @@ module _ (ext : Extensions) (s : State) (c : Command) (up : s.down ≡ false) wh
         by_none (λ (s : State). refused ext s c ≡ Some r → Steps ext s c (Refused r) (with_open s None)) (λ is. Steps-refused ext alone c r is)
 
     module _ (work : Work Answer) (is : work_of ext c ≡ Some work) (picks : List Key) (after : Going) where
-      whole_alone : refused ext alone c ≡ None → step ext alone c picks ≡ changing ext alone picks work
+      pub whole_alone : refused ext alone c ≡ None → step ext alone c picks ≡ changing ext alone picks work
       whole_alone none = carried ext alone c picks refl none ∙ changes ext alone c picks work is
 
       pub Steps-worked_alone : (answer : Answer) → refused ext s c ≡ None → Leads (finished ext work) (going_alone s) picks (made answer) after

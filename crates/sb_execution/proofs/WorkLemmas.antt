@@ -1,8 +1,8 @@
 -- A command's work on an engine that is lent a space and what is kept beside it.
-use Rattle.std.proofs.Common.{◌≡◌, ℕ, ◌+◌, [], append-nil, Option, Some, None, Result, Ok, Err, IfErr, IfOk, sym, subst}
+use Rattle.std.proofs.Common.{◌≡◌, ℕ, ◌+◌, Bool, true, false, [], append-nil, Option, Some, None, Result, Ok, Err, IfErr, IfOk, sym, subst}
 use Rattle.std.specs.Prelude.{IfSome}
 use Rattle.sb_fold.specs.declared.refusal.Refusal.{Refusal}
-use Rattle.sb_fold.specs.Outcome.{Going}
+use Rattle.sb_fold.specs.Outcome.{Going, Trail}
 use Rattle.sb_plain.specs.declared.command.Command.{Command}
 use Rattle.sb_plain.specs.State.{State}
 use Rattle.sb_plain.specs.Step.{Answer, work_of}
@@ -16,15 +16,15 @@ use Rattle.sb_engine.specs.declared.running.Running.{Running}
 use Rattle.sb_engine.specs.declared.running.Work.{Work}
 use Rattle.sb_engine.specs.Goings.{front_none}
 use Rattle.sb_engine.specs.Refusals.{HasFaultCause, HasRefusalCause}
-use Rattle.sb_engine.specs.Working.{IsStoppedBy, Stands, StandsFor, extensions_of}
+use Rattle.sb_engine.specs.Working.{IsStoppedIn, Stands, StandsFor, extensions_of}
 use Rattle.sb_session.specs.Driven.{WorksOn}
 use Rattle.sb_session.proofs.FinishLemmas.{StopsFrom-map}
 use Rattle.sb_session.proofs.RunLemmas.{IsLent, parts-from, parts-to}
 use Rattle.sb_statements.specs.declared.answers.Answer.{Answer as Answered}
-use Rattle.sb_statements.specs.Statements.{IsDone, IsStopped, MayWork, answer_of}
+use Rattle.sb_statements.specs.Statements.{IsDone, IsStopped, MayWork, StopsBy, answer_of, is_licensed}
 use Rattle.sb_execution.specs.declared.serving.Served.{Served}
 use Rattle.sb_execution.specs.declared.serving.Served.TheVariants as served
-use Rattle.sb_execution.specs.Serving.{IsRefusedIn, IsServed, IsUnserved, Looked, Makes, Tested, Worked}
+use Rattle.sb_execution.specs.Serving.{IsRefusedIn, IsServed, IsUnserved, Looked, Makes, StopsIn, Tested, Worked}
 
 if_some : {A : Type 0} (o : Option A) (P Q : A → Type 0) → ((x : A) → P x → Q x) → IfSome o P → IfSome o Q
 if_some None P Q gives so = tt
@@ -37,13 +37,12 @@ Makes-map P Q m c g answer a b gives makes =
     if_some (work_of (extensions_of m) c) (λ work. MadeFrom P work g answer a) (λ work. MadeFrom Q work g answer b)
     (λ work from. record { picks = from.picks; after = from.after; leads = from.leads; stands = gives from.after from.stands }) makes
 
-pub IsRefusedIn-map : {S T : Type 0} (P : SpaceFault → S → S → Type 0) (Q : SpaceFault → T → T → Type 0) (m : Meanings) (c : Command) (g : Going) (r : Refusal) (a : S) (b : T)
-    → (HasRefusalCause P r a → HasRefusalCause Q r b) → IsRefusedIn P m c g r a → IsRefusedIn Q m c g r b
+pub IsRefusedIn-map : {S T : Type 0} (P : Refusal → Trail → S → Type 0) (Q : Refusal → Trail → T → Type 0) (m : Meanings) (c : Command) (g : Going) (r : Refusal) (a : S) (b : T)
+    → ((trail : Trail) → P r trail a → Q r trail b) → IsRefusedIn P m c g r a → IsRefusedIn Q m c g r b
 IsRefusedIn-map P Q m c g r a b gives refused =
-    if_some (work_of (extensions_of m) c) (λ work. StopsFrom (λ refusal trail x. HasRefusalCause P refusal x) work g r a) (λ work. StopsFrom (λ refusal trail x. HasRefusalCause Q refusal x) work g r b)
-    (λ work stops. StopsFrom-map (λ refusal trail x. HasRefusalCause P refusal x) (λ refusal trail x. HasRefusalCause Q refusal x) work g r a b (λ trail. gives) stops) refused
+    if_some (work_of (extensions_of m) c) (λ work. StopsFrom P work g r a) (λ work. StopsFrom Q work g r b) (λ work stops. StopsFrom-map P Q work g r a b gives stops) refused
 
-module _ {B S : Type 0} (Has : Wanted → Slots → S → Type 0) (Fails : SpaceFault → S → S → Type 0) (meanings : B → Meanings) (boxes : B) (place : Place) (x y : S) (w v : Work) (a b : Running B S)
+module _ {B S : Type 0} (Has : Wanted → Slots → S → Type 0) (Leads : ℕ → S → S → Type 0) (Fails : SpaceFault → S → S → Type 0) (table : S → ℕ) (meanings : B → Meanings) (boxes : B) (place : Place) (x y : S) (w v : Work) (a b : Running B S)
     (lent : IsLent boxes place x w a) (end : IsLent boxes place y v b) (c : Command) where
   abbrev IsSo : Going → Meanings → Place → S → Work → Type 0
   IsSo g m q z u = Stands Has m q.root g z u
@@ -61,12 +60,24 @@ module _ {B S : Type 0} (Has : Wanted → Slots → S → Type 0) (Fails : Space
       (λ h so. parts-from meanings boxes place y v b end (IsSo h) so)
       (subst (λ (d : B). Makes (λ h e. StandsFor Has meanings h e) (meanings d) c g answer b) lent.boxes_are (done g (stands_in g stands) (may_in g may)))
 
-  work-stopped : (r : Refusal) → IsStopped Has Fails meanings c a r b → (g : Going) → Stands Has (meanings boxes) place.root g x w → MayWork (meanings boxes) g c
-      → IsRefusedIn Fails (meanings boxes) c g r y
+  abbrev By : Refusal → Trail → Running B S → Type 0
+  By = StopsBy Has Leads Fails table meanings (is_licensed c)
+
+  abbrev In : Refusal → Trail → S → Type 0
+  In = StopsIn Has Leads Fails table (meanings boxes) (is_licensed c)
+
+  stops-in : (licensed : Bool) (r : Refusal) (trail : Trail) → StopsBy Has Leads Fails table meanings licensed r trail b → StopsIn Has Leads Fails table (meanings boxes) licensed r trail y
+  stops-in true r trail is =
+      subst (λ (d : B). IsStoppedIn Has Leads Fails table (meanings d) r trail y) end.boxes_are
+      (subst (λ (z : S). IsStoppedIn Has Leads Fails table (meanings b.boxes.now) r trail z) end.space_is is)
+  stops-in false r trail is = subst (λ (z : S). HasRefusalCause Fails r z) end.space_is is
+
+  work-stopped : (r : Refusal) → IsStopped Has Leads Fails table meanings c a r b → (g : Going) → Stands Has (meanings boxes) place.root g x w → MayWork (meanings boxes) g c
+      → IsRefusedIn In (meanings boxes) c g r y
   work-stopped r stopped g stands may =
-      if_some (work_of (extensions_of (meanings boxes)) c) (λ work. StopsFrom (IsStoppedBy Fails) work g r b) (λ work. StopsFrom (λ refusal trail z. HasRefusalCause Fails refusal z) work g r y)
-      (λ work stops. StopsFrom-map (IsStoppedBy Fails) (λ refusal trail z. HasRefusalCause Fails refusal z) work g r b y (λ trail is. subst (λ (z : S). HasRefusalCause Fails r z) end.space_is is) stops)
-      (subst (λ (d : B). IfSome (work_of (extensions_of (meanings d)) c) (λ work. StopsFrom (IsStoppedBy Fails) work g r b)) lent.boxes_are (stopped g (stands_in g stands) (may_in g may)))
+      if_some (work_of (extensions_of (meanings boxes)) c) (λ work. StopsFrom By work g r b) (λ work. StopsFrom In work g r y)
+      (λ work stops. StopsFrom-map By In work g r b y (λ trail is. stops-in (is_licensed c) r trail is) stops)
+      (subst (λ (d : B). IfSome (work_of (extensions_of (meanings d)) c) (λ work. StopsFrom By work g r b)) lent.boxes_are (stopped g (stands_in g stands) (may_in g may)))
 
   pub works-made : (r : Result Answered Refusal) → IfOk r (λ answer. IsDone Has meanings c a (answer_of answer) b)
       → IfOk r (λ answer. (g : Going) → Stands Has (meanings boxes) place.root g x w → MayWork (meanings boxes) g c
@@ -74,8 +85,8 @@ module _ {B S : Type 0} (Has : Wanted → Slots → S → Type 0) (Fails : Space
   works-made (Ok answer) done = work-made (answer_of answer) done
   works-made (Err r) done = tt
 
-  pub works-stopped : (r : Result Answered Refusal) → IfErr r (λ e. IsStopped Has Fails meanings c a e b)
-      → IfErr r (λ e. (g : Going) → Stands Has (meanings boxes) place.root g x w → MayWork (meanings boxes) g c → IsRefusedIn Fails (meanings boxes) c g e y)
+  pub works-stopped : (r : Result Answered Refusal) → IfErr r (λ e. IsStopped Has Leads Fails table meanings c a e b)
+      → IfErr r (λ e. (g : Going) → Stands Has (meanings boxes) place.root g x w → MayWork (meanings boxes) g c → IsRefusedIn In (meanings boxes) c g e y)
   works-stopped (Ok answer) stopped = tt
   works-stopped (Err r) stopped = work-stopped r stopped
 
@@ -102,8 +113,9 @@ pub IsServed-map : {S T : Type 0} (P : Going → S → Type 0) (Q : Going → T 
 IsServed-map P Q m s c g (served.Read reply) a b gives is = (is.0, is.1, gives g is.2)
 IsServed-map P Q m s c g (served.Worked answer) a b gives is = (is.0, is.1, Makes-map P Q m c g (answer_of answer) a b gives is.2)
 
-pub IsUnserved-map : {S T : Type 0} (P : SpaceFault → S → S → Type 0) (Q : SpaceFault → T → T → Type 0) (m : Meanings) (s : State) (c : Command) (g : Going) (r : Refusal) (a : S) (b : T)
-    → (HasRefusalCause P r a → HasRefusalCause Q r b) → IsUnserved P m s c g r a → IsUnserved Q m s c g r b
-IsUnserved-map P Q m s c g r a b gives (Tested is) = Tested is
-IsUnserved-map P Q m s c g r a b gives (Worked none unread refused) = Worked none unread (IsRefusedIn-map P Q m c g r a b gives refused)
-IsUnserved-map P Q m s c g r a b gives (Looked free none cause) = Looked free none (gives cause)
+pub IsUnserved-map : {S T : Type 0} (P : SpaceFault → S → S → Type 0) (Q : SpaceFault → T → T → Type 0) (Before : Refusal → Trail → S → Type 0) (Behind : Refusal → Trail → T → Type 0)
+    (m : Meanings) (s : State) (c : Command) (g : Going) (r : Refusal) (a : S) (b : T)
+    → (HasRefusalCause P r a → HasRefusalCause Q r b) → ((trail : Trail) → Before r trail a → Behind r trail b) → IsUnserved P Before m s c g r a → IsUnserved Q Behind m s c g r b
+IsUnserved-map P Q Before Behind m s c g r a b gives stops (Tested is) = Tested is
+IsUnserved-map P Q Before Behind m s c g r a b gives stops (Worked none unread refused) = Worked none unread (IsRefusedIn-map Before Behind m c g r a b stops refused)
+IsUnserved-map P Q Before Behind m s c g r a b gives stops (Looked free none cause) = Looked free none (gives cause)

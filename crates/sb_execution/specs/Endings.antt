@@ -29,7 +29,7 @@ use Rattle.sb_statements.specs.Statements.{answer_of}
 use Rattle.sb_session.specs.declared.session.Open.{Open}
 use Rattle.sb_session.specs.Ends.{Ends, ends_with}
 use Rattle.sb_session.specs.declared.session.Session.{Session}
-use Rattle.sb_session.specs.Sessions.{CanGoOn, CanRun, HasFailed, IsFor, IsOpenFor, KeepsSession, Lacks, LeavesOldOrNext, StandsBehind, parts_of, sizes_of}
+use Rattle.sb_session.specs.Sessions.{CanGoOn, CanRun, HasFailed, IsFor, IsOpenFor, KeepsSession, Lacks, LeavesOldOrNext, StandsBehind, WantsPages, parts_of, sizes_of}
 use Rattle.sb_execution.specs.declared.serving.Served.{Served}
 use Rattle.sb_execution.specs.declared.serving.Served.TheVariants as served
 
@@ -82,6 +82,8 @@ pub record EndsInside {D : Type 0} (told : D → Option Story) (len faults : D �
   pub ends : (want : Wanted) (x : State) → IsOf m place want x (parts told len d s) (Some o) → IsPosedIn m x c
       → Ends (IsLeft m place want x (parts told len e t) (Some now) (reply_by result)) (Lacks s.pool.geometry) (HasFailed faults d e)
       (extensions_of m) x c (reply_by result)
+  pub pages : (want : Wanted) (x : State) → IsOf m place want x (parts told len d s) (Some o) → IsPosedIn m x c
+      → WantsPages m s.pool.geometry.pages x c (reply_by result)
   pub leaves : KeepsWanted (parts told len d s) (parts told len e t)
   pub goes : ends_with (reply_by result) ≡ false → CanGoOn m place (parts told len e t) (Some now)
   pub fault : reply_by result ≡ Refused Fault → t.book.down ≡ true
@@ -95,6 +97,8 @@ pub record EndsAlone {D : Type 0} (told : D → Option Story) (len faults : D �
   pub ends : (want : Wanted) (x : State) → IsOf m place want x (parts told len d s) None → IsPosedIn m x c
       → Ends (IsLeftSo m place want x c (parts told len d s) (parts told len e t) None (reply_by result)) (Lacks s.pool.geometry) (HasFailed faults d e)
       (extensions_of m) x c (reply_by result)
+  pub pages : (want : Wanted) (x : State) → IsOf m place want x (parts told len d s) None → IsPosedIn m x c
+      → WantsPages m s.pool.geometry.pages x c (reply_by result)
   pub leaves : may_have_committed c false (reply_by result) ≡ false → KeepsWanted (parts told len d s) (parts told len e t)
   pub none : t.book.down ≡ false → t.book.actives ≡ []
   pub fault : reply_by result ≡ Refused Fault → t.book.down ≡ true
@@ -151,6 +155,8 @@ pub record Executed {B D : Type 0} (meanings : B → Meanings) (told : D → Opt
   pub ends : (want : Wanted) (s : State) → IsFor meanings told len want s d x → IsPosedIn (meanings x.boxes) s c
       → Ends (StandsBehind meanings told len want (extensions_of (meanings x.boxes)) s c d e x y) (Lacks (sizes_of x)) (HasFailed faults d e)
       (extensions_of (meanings x.boxes)) s c r
+  pub pages : (want : Wanted) (s : State) → IsFor meanings told len want s d x → IsPosedIn (meanings x.boxes) s c
+      → WantsPages (meanings x.boxes) (sizes_of x).pages s c r
   pub leaves : may_have_committed c (is_some x.open) r ≡ false → KeepsWanted (parts_of told len d x) (parts_of told len e y)
   pub same : AreSameBoxes (meanings x.boxes) (meanings y.boxes)
   pub keeps : KeepsSession len faults d e x y r

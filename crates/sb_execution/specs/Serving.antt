@@ -1,8 +1,8 @@
 -- What comes of a command on an engine, for a state of the plain database.
-use Rattle.std.specs.Prelude.{◌≡◌, Bool, true, false, not, ◌||◌, ◌&&◌, List, map, Some, None, IfSome}
+use Rattle.std.specs.Prelude.{◌≡◌, ℕ, Bool, true, false, not, ◌||◌, ◌&&◌, List, map, Some, None, IfSome}
 use Rattle.sb_fold.specs.declared.refusal.Refusal.{Refusal}
 use Rattle.sb_fold.specs.declared.refusal.Refusal.TheVariants as refusal
-use Rattle.sb_fold.specs.Outcome.{Going, Queue}
+use Rattle.sb_fold.specs.Outcome.{Going, Queue, Trail}
 use Rattle.sb_plain.specs.declared.command.Command.{Command}
 use Rattle.sb_plain.specs.declared.command.Command.TheVariants as command
 use Rattle.sb_plain.specs.declared.reply.Reply.{Reply}
@@ -13,14 +13,17 @@ use Rattle.sb_plain.specs.State.{State, is_inside, no_queue, points_of, view}
 use Rattle.sb_plain.specs.Step.{Answer, work_of}
 use Rattle.sb_cascade.specs.Runs.{MadeFrom, StopsFrom, is_free, is_room}
 use Rattle.sb_registry.specs.Boxes.{Meanings}
+use Rattle.sb_drive.specs.Slots.{Slots}
+use Rattle.sb_drive.specs.Spaces.{Wanted}
 use Rattle.sb_drive.specs.declared.space.SpaceFault.{SpaceFault}
 use Rattle.sb_engine.specs.Refusals.{HasRefusalCause}
-use Rattle.sb_engine.specs.Working.{extensions_of}
+use Rattle.sb_engine.specs.Working.{IsStoppedIn, extensions_of}
 use Rattle.sb_vectors.specs.Vectors.{live_codes, spare_codes}
+use Rattle.sb_session.specs.Commits.{FailsOn, IsStoppedOn, Mounted}
 use Rattle.sb_session.specs.declared.session.Savepoint.{Savepoint}
 use Rattle.sb_reads.specs.Reads.{IsAnswer, is_reading}
 use Rattle.sb_statements.specs.Posed.{IsPosed, IsWhere}
-use Rattle.sb_statements.specs.Statements.{answer_of}
+use Rattle.sb_statements.specs.Statements.{answer_of, is_licensed}
 use Rattle.sb_execution.specs.declared.serving.Served.{Served}
 use Rattle.sb_execution.specs.declared.serving.Served.TheVariants as served
 
@@ -80,9 +83,21 @@ pub record MayServe (m : Meanings) (s : State) (c : Command) (g : Going) : Type 
 abbrev pub Makes : {S : Type 0} → (Going → S → Type 0) → Meanings → Command → Going → Answer → S → Type 0
 Makes IsSo m c g answer new = IfSome (work_of (extensions_of m) c) (λ work. MadeFrom IsSo work g answer new)
 
--- or which is refused so, for a cause that the space has
-abbrev pub IsRefusedIn : {S : Type 0} → (SpaceFault → S → S → Type 0) → Meanings → Command → Going → Refusal → S → Type 0
-IsRefusedIn Fails m c g r new = IfSome (work_of (extensions_of m) c) (λ work. StopsFrom (λ refusal trail x. HasRefusalCause Fails refusal x) work g r new)
+-- or which is refused so, where this stops it
+abbrev pub IsRefusedIn : {S : Type 0} → (Refusal → Trail → S → Type 0) → Meanings → Command → Going → Refusal → S → Type 0
+IsRefusedIn Stopped m c g r new = IfSome (work_of (extensions_of m) c) (λ work. StopsFrom Stopped work g r new)
+
+-- What stops the work of a command: the space has the cause; and where that is want of a page to a command that is licensed, the work had come so
+-- far that pages may be wanting.
+abbrev pub StopsIn : {S : Type 0} → (Wanted → Slots → S → Type 0) → (ℕ → S → S → Type 0) → (SpaceFault → S → S → Type 0) → (S → ℕ) → Meanings → (licensed : Bool)
+    → Refusal → Trail → S → Type 0
+StopsIn Has Leads Fails table m true r trail x = IsStoppedIn Has Leads Fails table m r trail x
+StopsIn Has Leads Fails table m false r trail x = HasRefusalCause Fails r x
+
+-- so it is of a store and its disk
+abbrev pub StopsOn : {D : Type 0} → (D → ℕ) → Meanings → (licensed : Bool) → Refusal → Trail → Mounted D → Type 0
+StopsOn faults m true r trail x = IsStoppedOn faults m r trail x
+StopsOn faults m false r trail x = HasRefusalCause (FailsOn faults) r x
 
 -- what came of a command was read
 abbrev pub is_read : Served → Bool
@@ -102,9 +117,17 @@ IsServed IsSo m s c g (served.Worked answer) new =
     (refused (extensions_of m) s c ≡ None) × (read (extensions_of m) (view s) c ≡ None) × Makes IsSo m c g (answer_of answer) new
 
 -- A command is refused: by a test; or by its work; or the space has refused a look at its pages, to which no room is wanting.
-pub data IsUnserved {S : Type 0} (Fails : SpaceFault → S → S → Type 0) (m : Meanings) (s : State) (c : Command)
+pub data IsUnserved {S : Type 0} (Fails : SpaceFault → S → S → Type 0) (Stopped : Refusal → Trail → S → Type 0) (m : Meanings) (s : State) (c : Command)
     (g : Going) (r : Refusal) (new : S) : Type 0 where
-  Tested : refused (extensions_of m) s c ≡ Some r → IsUnserved Fails m s c g r new
-  Worked : refused (extensions_of m) s c ≡ None → read (extensions_of m) (view s) c ≡ None → IsRefusedIn Fails m c g r new
-      → IsUnserved Fails m s c g r new
-  Looked : is_free r ≡ true → is_room r ≡ false → HasRefusalCause Fails r new → IsUnserved Fails m s c g r new
+  Tested : refused (extensions_of m) s c ≡ Some r → IsUnserved Fails Stopped m s c g r new
+  Worked : refused (extensions_of m) s c ≡ None → read (extensions_of m) (view s) c ≡ None → IsRefusedIn Stopped m c g r new
+      → IsUnserved Fails Stopped m s c g r new
+  Looked : is_free r ≡ true → is_room r ≡ false → HasRefusalCause Fails r new → IsUnserved Fails Stopped m s c g r new
+
+-- of a command over a space of pages, and of one over a store
+abbrev pub IsUnservedIn : {S : Type 0} → (Wanted → Slots → S → Type 0) → (ℕ → S → S → Type 0) → (SpaceFault → S → S → Type 0) → (S → ℕ) → Meanings → State
+    → Command → Going → Refusal → S → Type 0
+IsUnservedIn Has Leads Fails table m s c g r new = IsUnserved Fails (StopsIn Has Leads Fails table m (is_licensed c)) m s c g r new
+
+abbrev pub IsUnservedOn : {D : Type 0} → (D → ℕ) → Meanings → State → Command → Going → Refusal → Mounted D → Type 0
+IsUnservedOn faults m s c g r new = IsUnserved (FailsOn faults) (StopsOn faults m (is_licensed c)) m s c g r new

@@ -11,7 +11,7 @@ ghost use Rattle.sb_execution.specs.Serving.{IsPosedIn, may_have_committed};
 ghost use Rattle.sb_execution.specs.Endings.{Executed};
 ghost use Rattle.sb_session.specs.Ends.{Ends, is_open_behind};
 ghost use Rattle.sb_session.specs.Ends as answers;
-ghost use Rattle.sb_session.specs.Sessions.{CanRun, HasFailed, IsFor, KeepsSession, Lacks, StandsBehind, parts_of, sizes_of};
+ghost use Rattle.sb_session.specs.Sessions.{CanRun, HasFailed, IsFor, KeepsSession, Lacks, StandsBehind, WantsPages, parts_of, sizes_of};
 ghost use Rattle.sb_session.specs.Calls.{KeepsWanted};
 ghost use Rattle.sb_vectors.specs.Vectors.{AreSameBoxes};
 
@@ -40,6 +40,8 @@ pub fn exec<B: Vectors, D: Disk>(
     ensures ends { (want : Wanted) (s : State) → IsFor B.meanings D.told D.len want s disk.old session.old → IsPosedIn (B.meanings session.old.boxes) s command.now
         → Ends (StandsBehind B.meanings D.told D.len want (extensions_of (B.meanings session.old.boxes)) s command.now disk.old disk.new session.old session.new)
         (Lacks (sizes_of session.old)) (HasFailed D.faults disk.old disk.new) (extensions_of (B.meanings session.old.boxes)) s command.now result }
+    ensures pages { (want : Wanted) (s : State) → IsFor B.meanings D.told D.len want s disk.old session.old → IsPosedIn (B.meanings session.old.boxes) s command.now
+        → WantsPages (B.meanings session.old.boxes) (sizes_of session.old).pages s command.now result }
     ensures leaves { may_have_committed command.now (is_some session.old.open) result ≡ false
         → KeepsWanted (parts_of D.told D.len disk.old session.old) (parts_of D.told D.len disk.new session.new) }
     ensures open { session.new.down ≡ false → is_some session.new.open ≡ is_open_behind command.now (is_some session.old.open) result }

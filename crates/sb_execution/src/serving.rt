@@ -13,8 +13,8 @@ ghost use Rattle.sb_engine.specs.Working as engine;
 ghost use Rattle.sb_plain.specs.Refusing.{refused};
 ghost use Rattle.sb_plain.specs.State.{State};
 ghost use Rattle.sb_reads.specs.Reads.{is_reading};
-ghost use Rattle.sb_execution.specs.Serving.{IsAnswered, IsPosedIn, IsRefusedIn, IsSeenIn, IsServed, IsUnserved, Makes, MayServe, is_read};
-ghost use Rattle.sb_statements.specs.Statements.{MayWork, answer_of};
+ghost use Rattle.sb_execution.specs.Serving.{IsAnswered, IsPosedIn, IsRefusedIn, IsSeenIn, IsServed, IsUnservedIn, IsUnservedOn, Makes, MayServe, StopsIn, is_read};
+ghost use Rattle.sb_statements.specs.Statements.{MayWork, answer_of, is_licensed};
 ghost use Rattle.sb_session.specs.Driven.{WorksOn};
 ghost use Rattle.sb_session.specs.Calls.{KeepsWanted};
 ghost use Rattle.sb_txn.specs.Parts.{parts};
@@ -59,7 +59,8 @@ fn work_over<B: Boxes, S: Owners>(
         → MayWork (B.meanings boxes.now) g command.now
         → Makes (λ h y. engine.Stands S.has (B.meanings boxes.now) place.root h y work.new) (B.meanings boxes.now) command.now g (answer_of x) space.new) }
     ensures refused { IfErr result (λ r. (g : Going) → engine.Stands S.has (B.meanings boxes.now) place.root g space.old work.old
-        → MayWork (B.meanings boxes.now) g command.now → IsRefusedIn S.fails (B.meanings boxes.now) command.now g r space.new) }
+        → MayWork (B.meanings boxes.now) g command.now → IsRefusedIn (StopsIn S.has S.leads S.fails S.table (B.meanings boxes.now) (is_licensed command.now)) (B.meanings boxes.now)
+        command.now g r space.new) }
     ensures fault { IfErr result (λ r. HasFaultCause S.fails r space.new) }
     ensures works { WorksOn S.leads space.old space.new work.old work.new }
     ensures ready { engine.Serves S.is_ready (B.meanings boxes.now) place space.new work.new }
@@ -86,7 +87,7 @@ fn carry_out<B: Boxes, S: Owners>(
     ensures reads { IfOk result (λ x. is_read x ≡ is_reading command.now) }
     ensures answer { IfOk result IsAnswered }
     ensures refused { IfErr result (λ r. (s : State) (g : Going) → engine.Stands S.has (B.meanings boxes.now) place.root g space.old work.old
-        → MayServe (B.meanings boxes.now) s command.now g → IsUnserved S.fails (B.meanings boxes.now) s command.now g r space.new) }
+        → MayServe (B.meanings boxes.now) s command.now g → IsUnservedIn S.has S.leads S.fails S.table (B.meanings boxes.now) s command.now g r space.new) }
     ensures fault { IfErr result (λ r. HasFaultCause S.fails r space.new) }
     ensures works { WorksOn S.leads space.old space.new work.old work.new }
     ensures ready { engine.Serves S.is_ready (B.meanings boxes.now) place space.new work.new }
@@ -122,7 +123,7 @@ fn serve<B: Vectors, S: Owners>(
     ensures answer { IfOk result IsAnswered }
     ensures refused { IfErr result (λ r. (s : State) (g : Going) → engine.Stands S.has (B.meanings boxes.now) place.root g space.old work.old
         → IsSeenIn (B.meanings boxes.now) inside points.now s g → IsPosedIn (B.meanings boxes.now) s command.now
-        → IsUnserved S.fails (B.meanings boxes.now) s command.now g r space.new) }
+        → IsUnservedIn S.has S.leads S.fails S.table (B.meanings boxes.now) s command.now g r space.new) }
     ensures fault { IfErr result (λ r. HasFaultCause S.fails r space.new) }
     ensures works { WorksOn S.leads space.old space.new work.old work.new }
     ensures ready { engine.Serves S.is_ready (B.meanings boxes.now) place space.new work.new }
@@ -159,7 +160,7 @@ pub(crate) fn serve_in<B: Vectors, D: Disk>(
     ensures refused { IfErr result (λ r. (want : Wanted) (s : State) (g : Going)
         → IsAt (B.meanings boxes.now) place want transaction.old.tx.store.number g (parts D.told D.len disk.old space.old.store) transaction.old.work
         → IsSeenIn (B.meanings boxes.now) inside points.now s g → IsPosedIn (B.meanings boxes.now) s command.now
-        → IsUnserved (FailsOn D.faults) (B.meanings boxes.now) s command.now g r (record { disk = disk.new; store = space.new.store })) }
+        → IsUnservedOn D.faults (B.meanings boxes.now) s command.now g r (record { disk = disk.new; store = space.new.store })) }
     ensures fault { IfErr result (λ r. OnFault r (space.new.store.book.down ≡ true)) }
     ensures points { space.new.store.book.down ≡ false → (m : Meanings) (want : Wanted) (g : Going) (point : Point)
         → WasSo m place want transaction.old.tx.store.number g point (parts D.told D.len disk.old space.old.store) transaction.old.work

@@ -68,8 +68,8 @@ an_index_over_no_relation = refl
 sums_are_one_page : rule_costs none (Stats (codes "b") (pos 0) (pos 1)) 0 3 ≡ 1 ∷ 1 ∷ 1 ∷ []
 sums_are_one_page = refl
 
--- 1000 for each byte of its desc, 100 for a column, 10 for a row and the kind of the change
-a_guest's_attachment : rule_costs guests (Foreign 1000 (5 ∷ 5 ∷ [])) 0 3 ≡ 2231 ∷ 2232 ∷ 2233 ∷ []
+-- 10000 for a bucket, 1000 for each byte of its desc, 100 for a column, 10 for a row and the kind of the change
+a_guest's_attachment : rule_costs guests (Foreign 1000 (5 ∷ 5 ∷ [])) 4 3 ≡ 42231 ∷ 42232 ∷ 42233 ∷ []
 a_guest's_attachment = refl
 
 another_guest's : rule_costs guests (Foreign 1001 []) 0 3 ≡ 5 ∷ 5 ∷ 5 ∷ []

@@ -47,7 +47,7 @@ rules =
     ∷ []
 
 -- over the two rows of l, which make four pairs with s, with five buckets
-of_rules : map (λ rule. rule_bound guests both (codes "l") rule 5) rules ≡ 7 ∷ 17 ∷ 11 ∷ 0 ∷ 3 ∷ 0 ∷ 0 ∷ 0 ∷ 0 ∷ 222 ∷ 6 ∷ 0 ∷ []
+of_rules : map (λ rule. rule_bound guests both (codes "l") rule 5) rules ≡ 7 ∷ 17 ∷ 11 ∷ 0 ∷ 3 ∷ 0 ∷ 0 ∷ 0 ∷ 0 ∷ 5222 ∷ 6 ∷ 0 ∷ []
 of_rules = refl
 
 of_attachments : map (attached_bound none both (codes "l")) (named (HashIndex (codes "b" ∷ [])) 4 ∷ named (HashIndex (codes "b" ∷ [])) 6 ∷ []) ≡ 15 ∷ 19 ∷ []

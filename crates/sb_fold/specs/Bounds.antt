@@ -19,9 +19,9 @@ foreign_method_bound (Some room) n = room.bound n
 abbrev pub method_bound : Extensions → Relation → ℕ
 method_bound ext r = foreign_method_bound (cond (nat_lt r.method 1000) None (method_room ext r.method)) (length r.rows)
 
-abbrev pub foreign_bound : Option AttachRoom → List ℕ → Db → Name → ℕ
-foreign_bound None desc db name = 0
-foreign_bound (Some room) desc db name = room.bound desc (schema_at db name) (rows_at db name)
+abbrev pub foreign_bound : Option AttachRoom → List ℕ → Db → Name → ℕ → ℕ
+foreign_bound None desc db name buckets = 0
+foreign_bound (Some room) desc db name buckets = room.bound desc (schema_at db name) (rows_at db name) buckets
 
 -- of an attachment on the named relation; a mirror, a check, a refers and a trigger have no pages
 abbrev pub rule_bound : Extensions → Db → Name → Rule → ℕ → ℕ
@@ -29,7 +29,7 @@ rule_bound ext db name (TreeIndex columns unique) buckets = plain_bound (length 
 rule_bound ext db name (HashIndex columns) buckets = plain_bound (length (rows_at db name)) + 2 * buckets
 rule_bound ext db name (JoinIndex Main columns other others) buckets = plain_bound (length (join_entries db name columns other others))
 rule_bound ext db name (Stats column low width) buckets = plain_bound 0
-rule_bound ext db name (Foreign code desc) buckets = foreign_bound (attach_room ext code) desc db name
+rule_bound ext db name (Foreign code desc) buckets = foreign_bound (attach_room ext code) desc db name buckets
 rule_bound ext db name _ buckets = 0
 
 abbrev pub attached_bound : Extensions → Db → Name → Attached → ℕ

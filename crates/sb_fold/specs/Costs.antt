@@ -62,15 +62,15 @@ split_rows schema columns buckets rows (Insert key new) =
 split_rows schema columns buckets rows _ = 0
 
 -- ---- one change
-abbrev pub foreign_method_cost : Option MethodRoom → ℕ → Change → ℕ
-foreign_method_cost None n c = 0
-foreign_method_cost (Some room) n c = room.cost n c
+abbrev pub foreign_method_cost : Option MethodRoom → Rows → Change → ℕ
+foreign_method_cost None rows c = 0
+foreign_method_cost (Some room) rows c = room.cost rows c
 
 -- of heap, of tree and of a foreign method
 abbrev pub method_cost : Extensions → Relation → Change → ℕ
 method_cost ext r c =
     cond (r.method == 1) 10
-    (cond (r.method == 2) (operations c * tree_cost (length r.rows)) (foreign_method_cost (method_room ext r.method) (length r.rows) c))
+    (cond (r.method == 2) (operations c * tree_cost (length r.rows)) (foreign_method_cost (method_room ext r.method) r.rows c))
 
 -- how many rows of the other relation join a row of the named one
 abbrev pub partners : Db → Name → List Name → Name → List Name → Option Row → ℕ
@@ -84,9 +84,9 @@ join_cost db entries name columns other others c =
     let come : ℕ = partners db name columns other others (row_after c) in
     (partners db name columns other others (row_before c) + come) * tree_cost (entries + come)
 
-abbrev pub foreign_cost : Option AttachRoom → List ℕ → Db → Name → Change → ℕ
-foreign_cost None desc db name c = 0
-foreign_cost (Some room) desc db name c = room.cost desc (schema_at db name) (rows_at db name) c
+abbrev pub foreign_cost : Option AttachRoom → List ℕ → Db → Name → ℕ → Change → ℕ
+foreign_cost None desc db name buckets c = 0
+foreign_cost (Some room) desc db name buckets c = room.cost desc (schema_at db name) (rows_at db name) buckets c
 
 -- of an attachment on the changed relation, over the database before the change
 abbrev pub rule_cost : Extensions → Db → Name → Rule → ℕ → Change → ℕ
@@ -97,7 +97,7 @@ rule_cost ext db name (JoinIndex Main columns other others) buckets c =
 rule_cost ext db name (JoinIndex Mirror columns other others) buckets c =
     join_cost db (length (join_entries db other others name columns)) name columns other others c
 rule_cost ext db name (Stats column low width) buckets c = 1
-rule_cost ext db name (Foreign code desc) buckets c = foreign_cost (attach_room ext code) desc db name c
+rule_cost ext db name (Foreign code desc) buckets c = foreign_cost (attach_room ext code) desc db name buckets c
 rule_cost ext db name _ buckets c = 0
 
 -- of a change of a relation and of all its attachments; what doesn't outlive the run costs nothing

@@ -3,7 +3,7 @@ use Rattle.std.proofs.Common.{◌≡◌, inl, inr, ⊎_elim, ℕ, ◌<◌, ◌�
 use Rattle.std.proofs.lemmas.Bool.{cases_lt, false≢true}
 use Rattle.sb_disk.specs.Disk.{Fits, Story}
 use Rattle.sb_disk.specs.Moments.{LeavesOnly, MayLeave, moment}
-use Rattle.sb_fold.specs.declared.refusal.Room.{Room}
+use Rattle.sb_log.specs.declared.geometry.Geometry.{Geometry}
 use Rattle.sb_plain.specs.declared.reply.Reply.{Reply}
 use Rattle.sb_plain.specs.State.{State, committed}
 use Rattle.sb_grammar.specs.Columns.{Item, Says, Bad}
@@ -85,13 +85,13 @@ module _ (m : Meanings) (old new : Option Story) where
   LeavesAlong-more c item t at s (i ∷ items) (u ∷ states) [] order run along = absurd along
 
 -- what holds the database behind an item may be left by it
-MovesBy-left : (m : Meanings) (Lacks : Room → Type 0) (HasFailed : Type 0) (s : State) (item : Item) (reply : Reply) (t : State) (image : List ℕ)
-    → MovesBy m Lacks HasFailed s item reply t → HoldsDatabase m image (committed t) → IsLeft m s item t image
-MovesBy-left m Lacks HasFailed s (Bad column) reply t image moves holds = subst (λ (u : State). HoldsDatabase m image (committed u)) moves.moves.1 holds
-MovesBy-left m Lacks HasFailed s (Says c) reply t image moves holds = inr (record { db = committed t; made = inl refl; holds = holds })
+MovesBy-left : (m : Meanings) (g : Geometry) (HasFailed : Type 0) (s : State) (item : Item) (reply : Reply) (t : State) (image : List ℕ)
+    → MovesBy m g HasFailed s item reply t → HoldsDatabase m image (committed t) → IsLeft m s item t image
+MovesBy-left m g HasFailed s (Bad column) reply t image moves holds = subst (λ (u : State). HoldsDatabase m image (committed u)) moves.moves.1 holds
+MovesBy-left m g HasFailed s (Says c) reply t image moves holds = inr (record { db = committed t; made = inl refl; holds = holds })
 
 -- ---- no item more
-module _ (m : Meanings) (Lacks : Room → Type 0) (HasFailed : Type 0) (old new : Option Story) where
+module _ (m : Meanings) (g : Geometry) (HasFailed : Type 0) (old new : Option Story) where
   -- a moment of the last item that is no earlier than this one
   is_last : (k : ℕ) (s : State) (items : List Item) (states : List State) (starts : List ℕ) → LeavesAlong m old (suc (moment old)) s items states starts → AreInOrder starts (moment old)
       → k < next_start starts (suc (moment old)) → moment old ≤ k → last_state s states ≡ s
@@ -102,7 +102,7 @@ module _ (m : Meanings) (Lacks : Room → Type 0) (HasFailed : Type 0) (old new 
   is_last k s (i ∷ items) (u ∷ states) [] along order early late = absurd along
 
   pub LeavesAlong-closed : (s : State) (items : List Item) (replies : List Reply) (states : List State) (starts : List ℕ) → (is_some old ≡ true → AreInOrder starts (moment old))
-      → Plays m Lacks HasFailed s items replies states → LeavesOnly old new (λ image. HoldsDatabase m image (committed (last_state s states)))
+      → Plays m g HasFailed s items replies states → LeavesOnly old new (λ image. HoldsDatabase m image (committed (last_state s states)))
       → LeavesAlong m old (suc (moment old)) s items states starts → LeavesAlong m new (suc (moment old)) s items states starts
   LeavesAlong-closed s [] [] [] [] order plays run along = tt
   LeavesAlong-closed s (i ∷ items) (r ∷ replies) (u ∷ states) (start ∷ starts) order plays run along = (
@@ -111,7 +111,7 @@ module _ (m : Meanings) (Lacks : Room → Type 0) (HasFailed : Type 0) (old new 
         (λ (later : moment old ≤ k).
         let told : is_some old ≡ true = run.tells ∙ told_of new k image left in
         let last : last_state u states ≡ u = is_last k u items states starts along.1 (order told).1 early later in
-        MovesBy-left m Lacks HasFailed s i r u image plays.0 (subst (λ (t : State). HoldsDatabase m image (committed t)) last (run.since k image later left)))
+        MovesBy-left m g HasFailed s i r u image plays.0 (subst (λ (t : State). HoldsDatabase m image (committed t)) last (run.since k image later left)))
         (cases_lt k (moment old)),
     LeavesAlong-closed u items replies states starts (λ told. (order told).1) plays.1 run along.1,
   )

@@ -25,7 +25,7 @@ use Rattle.sb_vectors.specs.Vectors.{AreSameBoxes}
 use Rattle.sb_opening.specs.Naming.{all_live}
 use Rattle.sb_opening.specs.Session.{Session}
 use Rattle.sb_opening.specs.Ends.{Ends}
-use Rattle.sb_opening.specs.Sessions.{HasFailed, IsFor, IsNext, KeepsSession, Lacks, LeavesNext, LeavesOldOrNext, StandsBehind, parts_of, sizes_of}
+use Rattle.sb_opening.specs.Sessions.{HasFailed, IsFor, IsNext, KeepsSession, Lacks, LeavesNext, LeavesOldOrNext, StandsBehind, WantsPages, parts_of, sizes_of}
 use Rattle.sb_opening.proofs.MoveLists.{found_more}
 use Rattle.sb_opening.proofs.SameBoxes.{same-then}
 use Rattle.sb_execution.specs.Serving.{IsPosedIn}
@@ -70,6 +70,7 @@ HasReplied-bad w line column d x up is = record {
       boxes = w.meanings x.boxes;
       are = record { same = now.same; live = now.stands.is.live; spare = now.stands.is.spare };
       moves = (refl, refl);
+      pages = tt;
     };
     now = now;
     leaves = leaves-still w m d x s now (sym now.stands.is.down ∙ up);
@@ -80,6 +81,7 @@ HasReplied-bad w line column d x up is = record {
 module _ {B D : Type 0} (w : World B D) (c : Command) (old new : D) (x y : Session B) (reply : Reply) (up : x.down ≡ false)
     (ends : (want : Wanted) (s : State) → IsFor w.meanings w.told w.len want s old x → IsPosedIn (w.meanings x.boxes) s c
     → Ends (StandsBehind w.meanings w.told w.len want (extensions_of (w.meanings x.boxes)) s c old new x y) (Lacks (sizes_of x)) (HasFailed w.faults old new) (extensions_of (w.meanings x.boxes)) s c reply)
+    (pages : (want : Wanted) (s : State) → IsFor w.meanings w.told w.len want s old x → IsPosedIn (w.meanings x.boxes) s c → WantsPages (w.meanings x.boxes) (sizes_of x).pages s c reply)
     (same : AreSameBoxes (w.meanings x.boxes) (w.meanings y.boxes)) (keeps : KeepsSession w.len w.faults old new x y reply)
     (kept : Keeps w (Says c ∷ []) (reply ∷ []) old new x y) where
   abbrev n : Meanings
@@ -127,7 +129,7 @@ module _ {B D : Type 0} (w : World B D) (c : Command) (old new : D) (x y : Sessi
       Ends-comes Behind (Lacks (sizes_of x)) (HasFailed w.faults old new) (extensions_of n) s c reply (ends want s for posed) in
       record {
         state = comes.state;
-        moves = record { boxes = n; are = are; moves = comes.ends };
+        moves = record { boxes = n; are = are; moves = comes.ends; pages = pages want s for posed };
         now = record {
           same = same-then m n (w.meanings y.boxes) now.same same;
           root = ap (λ (p : Place). p.root) keeps.place ∙ now.root ∙ ap (λ (h : Geometry). table_len h.pages) (sym keeps.geometry);

@@ -11,7 +11,9 @@ use Rattle.sb_plain.specs.State.{State, downed}
 use Rattle.sb_grammar.specs.Columns.{Item, Says, Bad}
 use Rattle.sb_registry.specs.Boxes.{Meanings}
 use Rattle.sb_execution.specs.Working.{extensions_of}
+use Rattle.sb_log.specs.declared.geometry.Geometry.{Geometry}
 use Rattle.sb_opening.specs.Ends.{Ends, IsFree, IsStep}
+use Rattle.sb_opening.specs.Sessions.{Lacks}
 use Rattle.sb_execution.proofs.EndLemmas.{Ends-since}
 use Rattle.sb_kernel.specs.Plays.{Moves, MovesBy, Plays, last_state}
 
@@ -20,10 +22,10 @@ pub last-more : (s : State) (states : List State) (t : State) → last_state s (
 last-more s [] t = refl
 last-more s (u ∷ states) t = last-more u states t
 
-module _ (m : Meanings) (Lacks : Room → Type 0) where
+module _ (m : Meanings) (g : Geometry) where
   pub Plays-more : (HasFailed : Type 0) (s : State) (items : List Item) (replies : List Reply) (states : List State) (item : Item) (reply : Reply) (t : State)
-      → Plays m Lacks HasFailed s items replies states → MovesBy m Lacks HasFailed (last_state s states) item reply t
-      → Plays m Lacks HasFailed s (items ++ item ∷ []) (replies ++ reply ∷ []) (states ++ t ∷ [])
+      → Plays m g HasFailed s items replies states → MovesBy m g HasFailed (last_state s states) item reply t
+      → Plays m g HasFailed s (items ++ item ∷ []) (replies ++ reply ∷ []) (states ++ t ∷ [])
   Plays-more HasFailed s [] [] [] item reply t plays moves = (moves, tt)
   Plays-more HasFailed s (i ∷ items) (r ∷ replies) (u ∷ states) item reply t plays moves = (plays.0, Plays-more HasFailed u items replies states item reply t plays.1 moves)
   Plays-more HasFailed s [] [] (u ∷ states) item reply t plays moves = absurd plays
@@ -33,18 +35,19 @@ module _ (m : Meanings) (Lacks : Room → Type 0) where
 
   -- ---- what has failed is known otherwise
   module _ (Failed HasFailed : Type 0) (since : Failed → HasFailed) where
-    Moves-since : (ext : Extensions) (s : State) (item : Item) (reply : Reply) (t : State) → Moves Lacks Failed ext s item reply t → Moves Lacks HasFailed ext s item reply t
+    Moves-since : (ext : Extensions) (s : State) (item : Item) (reply : Reply) (t : State) → Moves (Lacks g) Failed ext s item reply t → Moves (Lacks g) HasFailed ext s item reply t
     Moves-since ext s (Bad column) reply t moves = moves
-    Moves-since ext s (Says c) reply t moves = Ends-since (λ u. t ≡ u) Lacks Failed HasFailed ext s c since reply moves
+    Moves-since ext s (Says c) reply t moves = Ends-since (λ u. t ≡ u) (Lacks g) Failed HasFailed ext s c since reply moves
 
-    pub MovesBy-since : (s : State) (item : Item) (reply : Reply) (t : State) → MovesBy m Lacks Failed s item reply t → MovesBy m Lacks HasFailed s item reply t
+    pub MovesBy-since : (s : State) (item : Item) (reply : Reply) (t : State) → MovesBy m g Failed s item reply t → MovesBy m g HasFailed s item reply t
     MovesBy-since s item reply t moves = record {
       boxes = moves.boxes;
       are = moves.are;
       moves = Moves-since (extensions_of moves.boxes) s item reply t moves.moves;
+      pages = moves.pages;
     }
 
-    pub Plays-since : (s : State) (items : List Item) (replies : List Reply) (states : List State) → Plays m Lacks Failed s items replies states → Plays m Lacks HasFailed s items replies states
+    pub Plays-since : (s : State) (items : List Item) (replies : List Reply) (states : List State) → Plays m g Failed s items replies states → Plays m g HasFailed s items replies states
     Plays-since s [] [] [] plays = tt
     Plays-since s (i ∷ items) (r ∷ replies) (u ∷ states) plays = (MovesBy-since s i r u plays.0, Plays-since u items replies states plays.1)
     Plays-since s [] [] (u ∷ states) plays = absurd plays

@@ -11,7 +11,7 @@ use Rattle.sb_grammar.specs.Columns.{Item}
 use Rattle.sb_registry.specs.Boxes.{Meanings}
 use Rattle.sb_opening.specs.Session.{Session}
 use Rattle.sb_log.specs.declared.geometry.Geometry.{Geometry}
-use Rattle.sb_opening.specs.Sessions.{Lacks, sizes_of}
+use Rattle.sb_opening.specs.Sessions.{sizes_of}
 use Rattle.sb_kernel.specs.World.{World, At, IsNow, at}
 use Rattle.sb_kernel.specs.Plays.{MovesBy, last_state}
 use Rattle.sb_kernel.specs.Crashes.{HoldsDatabase, IsLeft}
@@ -53,12 +53,12 @@ PlaysOn-more w fits m items replies first disk new x y held held' starts line re
     record {
       states = played.states ++ moved.state ∷ [];
       sizes = r.keeps.sizes ∙ played.sizes;
-      plays = Plays-more m (Lacks g) HasFailed s items replies played.states r.item reply moved.state
-          (Plays-since m (Lacks g) (Rose (w.faults first.disk) (w.faults disk)) HasFailed
+      plays = Plays-more m g HasFailed s items replies played.states r.item reply moved.state
+          (Plays-since m g (Rose (w.faults first.disk) (w.faults disk)) HasFailed
           (λ rose. Rose-before (w.faults first.disk) (w.faults disk) (w.faults new) rose later) s items replies played.states played.plays)
-          (MovesBy-since m (Lacks g) (Rose (w.faults disk) (w.faults new)) HasFailed
+          (MovesBy-since m g (Rose (w.faults disk) (w.faults new)) HasFailed
           (λ rose. Rose-later (w.faults first.disk) (w.faults disk) (w.faults new) before rose) last r.item reply moved.state
-          (subst (λ (h : Geometry). MovesBy m (Lacks h) (Rose (w.faults disk) (w.faults new)) last r.item reply moved.state) played.sizes moved.moves));
+          (subst (λ (h : Geometry). MovesBy m h (Rose (w.faults disk) (w.faults new)) last r.item reply moved.state) played.sizes moved.moves));
       now = subst (λ (t : State). IsNow w m new y t) (sym (last-more s played.states moved.state)) moved.now;
       on = GoesOn-then (w.told first.disk) (w.told disk) (w.told new) (IsLeft m last r.item moved.state) played.on moved.leaves;
       begins = BeginsAt-more (w.told first.disk) (w.told disk) starts (w.clock disk) (moment (w.told new)) played.on.tells clock moved.leaves.later played.begins;
@@ -79,13 +79,13 @@ module _ {B D : Type 0} (w : World B D) (m : Meanings) (g : Geometry) (items : L
       let run = closes.leaves m last played.now up in
       record {
         states = played.states;
-        plays = Plays-since m (Lacks g) (Rose (w.faults first) (w.faults disk)) (Rose (w.faults first) (w.faults new))
+        plays = Plays-since m g (Rose (w.faults first) (w.faults disk)) (Rose (w.faults first) (w.faults new))
             (λ rose. Rose-before (w.faults first) (w.faults disk) (w.faults new) rose closes.later) s items replies played.states played.plays;
         until = moment (w.told disk);
         within = run.later;
         on = GoesOn-then (w.told first) (w.told disk) (w.told new) (λ image. HoldsDatabase m image (committed last)) played.on run;
         begins = played.begins;
-        leaves = LeavesAlong-closed m (Lacks g) (Rose (w.faults first) (w.faults disk)) (w.told disk) (w.told new) s items replies played.states starts order
+        leaves = LeavesAlong-closed m g (Rose (w.faults first) (w.faults disk)) (w.told disk) (w.told new) s items replies played.states starts order
             played.plays run played.leaves;
         last = λ still t image late left. run.since t image late left;
         end = λ down. absurd (false≢true (sym up ∙ down));

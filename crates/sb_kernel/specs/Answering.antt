@@ -11,7 +11,7 @@ use Rattle.sb_registry.specs.Boxes.{Meanings}
 use Rattle.sb_opening.specs.Naming.{all_live}
 use Rattle.sb_opening.specs.Session.{Session}
 use Rattle.sb_log.specs.declared.geometry.Geometry.{Geometry}
-use Rattle.sb_opening.specs.Sessions.{Lacks, parts_of, sizes_of}
+use Rattle.sb_opening.specs.Sessions.{parts_of, sizes_of}
 use Rattle.sb_kernel.specs.World.{World, IsNow}
 use Rattle.sb_kernel.specs.Keeping.{Keeps}
 use Rattle.sb_kernel.specs.Plays.{MovesBy}
@@ -22,7 +22,7 @@ use Rattle.sb_kernel.specs.Crashes.{HoldsDatabase, IsLeft}
 pub record HasMoved {B D : Type 0} (w : World B D) (m : Meanings) (g : Geometry) (s : State) (item : Item) (reply : Reply) (old new : D) (y : Session B)
     : Type 0 where
   pub state : State
-  pub moves : MovesBy m (Lacks g) (Rose (w.faults old) (w.faults new)) s item reply state
+  pub moves : MovesBy m g (Rose (w.faults old) (w.faults new)) s item reply state
   pub now : IsNow w m new y state
   pub leaves : LeavesOnly (w.told old) (w.told new) (IsLeft m s item state)
 

@@ -1,5 +1,5 @@
 -- Plays: what a plain database replies to items, one after the other, and the states that they lead to.
-use Rattle.std.specs.Prelude.{◌≡◌, List, [], ◌∷◌}
+use Rattle.std.specs.Prelude.{◌≡◌, ℕ, List, [], ◌∷◌}
 use Rattle.sb_fold.specs.declared.refusal.Refusal.TheVariants.{Syntax}
 use Rattle.sb_fold.specs.declared.refusal.Room.{Room}
 use Rattle.sb_fold.specs.Extensions.{Extensions}
@@ -10,7 +10,9 @@ use Rattle.sb_grammar.specs.Columns.{Item, Says, Bad}
 use Rattle.sb_registry.specs.Boxes.{Meanings}
 use Rattle.sb_execution.specs.Working.{extensions_of}
 use Rattle.sb_vectors.specs.Vectors.{AreSameBoxes, live_codes, spare_codes}
+use Rattle.sb_log.specs.declared.geometry.Geometry.{Geometry}
 use Rattle.sb_opening.specs.Ends.{Ends}
+use Rattle.sb_opening.specs.Sessions.{Lacks, WantsPages}
 
 -- The reply to an item, and the state after it: a bad line is answered by the column of its fault, and the state stays. A command ends as a step, or
 -- for want of room or memory, or because the disk has failed.
@@ -24,18 +26,24 @@ pub record AreBoxesOf (m : Meanings) (s : State) (now : Meanings) : Type 0 where
   pub live : s.live ≡ live_codes now
   pub spare : s.spare ≡ spare_codes now
 
--- so it is with the boxes in that order
-pub record MovesBy (m : Meanings) (Lacks : Room → Type 0) (HasFailed : Type 0) (s : State) (item : Item) (reply : Reply) (t : State) : Type 0 where
+-- Want of a page of a store of so many pages is the reply to a command only where its step comes so far; a bad line wants none.
+abbrev pub MayWantPages : Meanings → ℕ → State → Item → Reply → Type 0
+MayWantPages m pages s (Bad column) reply = Unit {0}
+MayWantPages m pages s (Says c) reply = WantsPages m pages s c reply
+
+-- so it is with the boxes in that order, in a store of these sizes
+pub record MovesBy (m : Meanings) (g : Geometry) (HasFailed : Type 0) (s : State) (item : Item) (reply : Reply) (t : State) : Type 0 where
   pub boxes : Meanings
   pub are : AreBoxesOf m s boxes
-  pub moves : Moves Lacks HasFailed (extensions_of boxes) s item reply t
+  pub moves : Moves (Lacks g) HasFailed (extensions_of boxes) s item reply t
+  pub pages : MayWantPages boxes g.pages s item reply
 
 -- the replies to items, and the state after each
-abbrev pub Plays : (m : Meanings) (Lacks : Room → Type 0) (HasFailed : Type 0) → State → List Item → List Reply → List State → Type 0
-Plays m Lacks HasFailed s [] [] [] = Unit {0}
-Plays m Lacks HasFailed s (item ∷ items) (reply ∷ replies) (t ∷ states) =
-    MovesBy m Lacks HasFailed s item reply t × Plays m Lacks HasFailed t items replies states
-Plays m Lacks HasFailed s _ _ _ = ⊥
+abbrev pub Plays : Meanings → Geometry → (HasFailed : Type 0) → State → List Item → List Reply → List State → Type 0
+Plays m g HasFailed s [] [] [] = Unit {0}
+Plays m g HasFailed s (item ∷ items) (reply ∷ replies) (t ∷ states) =
+    MovesBy m g HasFailed s item reply t × Plays m g HasFailed t items replies states
+Plays m g HasFailed s _ _ _ = ⊥
 
 -- the state that they lead to
 abbrev pub last_state : State → List State → State

@@ -13,7 +13,7 @@ use Rattle.sb_posing.specs.Posing.{AreSingle}
 use Rattle.sb_registry.specs.Boxes.{Meanings}
 use Rattle.sb_opening.specs.Naming.{all_live}
 use Rattle.sb_log.specs.declared.geometry.Geometry.{Geometry}
-use Rattle.sb_opening.specs.Sessions.{Lacks, sizes_of}
+use Rattle.sb_opening.specs.Sessions.{sizes_of}
 use Rattle.sb_kernel.specs.declared.ending.Stop.{Stop}
 use Rattle.sb_kernel.specs.World.{World, At, IsNow}
 use Rattle.sb_kernel.specs.Keeping.{Keeps}
@@ -42,7 +42,7 @@ pub record HasPlayed {B D : Type 0} (w : World B D) (m : Meanings) (g : Geometry
     : Type 0 where
   pub states : List State
   pub sizes : sizes_of here.session ≡ g
-  pub plays : Plays m (Lacks g) (Rose (w.faults first) (w.faults here.disk)) s items replies states
+  pub plays : Plays m g (Rose (w.faults first) (w.faults here.disk)) s items replies states
   pub now : IsNow w m here.disk here.session (last_state s states)
   pub on : GoesOn (w.told first) (w.told here.disk)
   pub begins : BeginsAt (w.told first) here.starts (moment (w.told here.disk))
@@ -61,7 +61,7 @@ HoldsLast m told from t = t.down ≡ false → (moment : ℕ) (image : List ℕ)
 pub record HasPlayedOut {D : Type 0} (told : D → Option Story) (faults : D → ℕ) (m : Meanings) (g : Geometry) (first : D) (s : State) (items : List Item)
     (replies : List Reply) (starts : List ℕ) (now : D) : Type 0 where
   pub states : List State
-  pub plays : Plays m (Lacks g) (Rose (faults first) (faults now)) s items replies states
+  pub plays : Plays m g (Rose (faults first) (faults now)) s items replies states
   pub until : ℕ
   pub within : until ≤ moment (told now)
   pub on : GoesOn (told first) (told now)

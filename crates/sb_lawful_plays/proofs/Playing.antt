@@ -6,7 +6,6 @@ use Rattle.std.proofs.lemmas.List.Elements.{All-nil, All-cons, All-head, All-tai
 use Rattle.sb_disk.specs.Disk.{Story}
 use Rattle.sb_disk.specs.Moments.{MayLeave, moment}
 use Rattle.sb_fold.specs.declared.refusal.Refusal.TheVariants as refusal
-use Rattle.sb_fold.specs.declared.refusal.Room.{Room}
 use Rattle.sb_plain.specs.declared.command.Command.{Command}
 use Rattle.sb_plain.specs.declared.reply.Reply.{Reply}
 use Rattle.sb_plain.specs.declared.reply.Reply.TheVariants.{Refused}
@@ -16,6 +15,8 @@ use Rattle.sb_lines.specs.Lines.{asking, whole_lines, lines_of}
 use Rattle.sb_registry.specs.Boxes.{Meanings}
 use Rattle.sb_kernel.specs.Working.{extensions_of}
 use Rattle.sb_kernel.specs.Ends.{Ends}
+use Rattle.sb_kernel.specs.Geometry.{Geometry}
+use Rattle.sb_kernel.specs.Sessions.{Lacks}
 use Rattle.sb_kernel.specs.declared.ending.Ending.TheVariants.{InputEnded, SourceFailed, MostTaken, Stopped}
 use Rattle.sb_kernel.specs.World.{World}
 use Rattle.sb_kernel.specs.Plays.{AreBoxesOf, MovesBy, Plays, last_state}
@@ -34,10 +35,10 @@ answers-written SourceFailed taken items answers = items-written (asking (whole_
 answers-written MostTaken taken items answers = items-written (asking (whole_lines taken)) items answers
 answers-written (Stopped stop) taken items answers = first-written (asking (lines_of taken)) items answers
 
-module _ (m : Meanings) (Lacks : Room → Type 0) (HasFailed : Type 0) where
+module _ (m : Meanings) (g : Geometry) (HasFailed : Type 0) where
   -- ---- one command
   comes : (s : State) (c : Command) (boxes : Meanings) → AreBoxesOf m s boxes → IsWritten c → IsLawfulFor m s → (reply : Reply) (t : State)
-      → Ends (λ u. t ≡ u) Lacks HasFailed (extensions_of boxes) s c reply → IsLawfulFor m t
+      → Ends (λ u. t ≡ u) (Lacks g) HasFailed (extensions_of boxes) s c reply → IsLawfulFor m t
   comes s c boxes are is lawful (Refused (refusal.Room room)) t ends = subst (IsLawfulFor m) (sym ends.stands) lawful
   comes s c boxes are is lawful (Refused refusal.NoMemory) t ends = subst (IsLawfulFor m) (sym ends.stands) lawful
   comes s c boxes are is lawful (Refused refusal.Fault) t ends = subst (IsLawfulFor m) (sym ends.stands) (down-lawful (extensions_of m) s lawful)
@@ -46,12 +47,12 @@ module _ (m : Meanings) (Lacks : Room → Type 0) (HasFailed : Type 0) where
   comes s c boxes are is lawful reply t ends = subst (IsLawfulFor m) (sym ends.stands) (stepped m s c boxes are reply ends.after ends.steps is lawful)
 
   -- ---- one item
-  moved : (s : State) (item : Item) (reply : Reply) (t : State) → IsWrittenItem item → IsLawfulFor m s → MovesBy m Lacks HasFailed s item reply t → IsLawfulFor m t
+  moved : (s : State) (item : Item) (reply : Reply) (t : State) → IsWrittenItem item → IsLawfulFor m s → MovesBy m g HasFailed s item reply t → IsLawfulFor m t
   moved s (Bad column) reply t is lawful by = subst (IsLawfulFor m) (sym by.moves.1) lawful
   moved s (Says c) reply t is lawful by = comes s c by.boxes by.are is lawful reply t by.moves
 
   -- ---- all of them
-  pub plays_lawful : (s : State) (items : List Item) (replies : List Reply) (states : List State) → All IsWrittenItem items → IsLawfulFor m s → Plays m Lacks HasFailed s items replies states
+  pub plays_lawful : (s : State) (items : List Item) (replies : List Reply) (states : List State) → All IsWrittenItem items → IsLawfulFor m s → Plays m g HasFailed s items replies states
       → All (IsLawfulFor m) states
   plays_lawful s [] [] [] are lawful plays = All-nil (IsLawfulFor m)
   plays_lawful s (item ∷ items) (reply ∷ replies) (t ∷ states) are lawful plays =

@@ -12,7 +12,6 @@ use Rattle.sb_kernel.specs.Working.{extensions_of}
 use Rattle.sb_vectors.specs.Vectors.{AreSameBoxes}
 use Rattle.sb_kernel.specs.Opening.{opened}
 use Rattle.sb_kernel.specs.Geometry.{Geometry}
-use Rattle.sb_kernel.specs.Sessions.{Lacks}
 use Rattle.sb_kernel.specs.declared.ending.Ending.{Ending}
 use Rattle.sb_kernel.specs.World.{World, At}
 use Rattle.sb_kernel.specs.Plays.{Plays}
@@ -68,7 +67,7 @@ CrashesLeaveLawful =
 abbrev pub PlaysAreLawful : Type 0
 PlaysAreLawful =
     (m : Meanings) (g : Geometry) (old new : ℕ) (s : State) (items : List Item) (replies : List Reply) (states : List State) → All IsWrittenItem items → IsLawfulFor m s
-    → Plays m (Lacks g) (Rose old new) s items replies states → All (IsLawfulFor m) states
+    → Plays m g (Rose old new) s items replies states → All (IsLawfulFor m) states
 
 -- those of what a session has played
 abbrev pub PlayedAreLawful : {B D : Type 0} → World B D → Type 0

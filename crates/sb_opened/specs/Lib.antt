@@ -5,6 +5,7 @@ pub use Rattle.sb_map.specs.declared.place.Place
 pub use Rattle.sb_standing.specs.Asked
 pub use Rattle.sb_standing.specs.AskedLaws
 pub use Rattle.sb_standing.specs.Instances
+pub use Rattle.sb_standing.specs.Lacking
 pub use Rattle.sb_standing.specs.Live
 pub use Rattle.sb_standing.specs.Paths
 pub use Rattle.sb_standing.specs.Standing

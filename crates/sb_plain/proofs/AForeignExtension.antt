@@ -27,7 +27,7 @@ extensions = record {
     } ∷ [];
   };
   methods = record { code = 1001; bound = λ n. n + 1; cost = λ n c. 10 } ∷ [];
-  attachments = record { code = 1000; bound = λ desc schema rows. 3; cost = λ desc schema rows c. 2 } ∷ [];
+  attachments = record { code = 1000; bound = λ desc schema rows buckets. 3; cost = λ desc schema rows buckets c. 2 } ∷ [];
 }
 
 abbrev opened : State

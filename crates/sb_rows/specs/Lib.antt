@@ -10,6 +10,7 @@ pub use Rattle.sb_treemethod.specs.MethodAnswers
 pub use Rattle.sb_treemethod.specs.Pages
 pub use Rattle.sb_treemethod.specs.Removes
 pub use Rattle.sb_treemethod.specs.View
+pub mod Lacking
 pub mod Live
 pub mod Placings
 pub mod Scans

@@ -9,6 +9,7 @@ ghost use Rattle.sb_registry.specs.Slots.{Slots};
 ghost use Rattle.sb_registry.specs.Spaces.{LeadsWithin, Wanted};
 ghost use Rattle.sb_registry.specs.Runs.{IsSound, Works};
 ghost use Rattle.sb_registry.specs.Live.{IsLive, MayTake};
+ghost use Rattle.sb_rows.specs.Lacking.{LacksFor, WhereShort};
 ghost use Rattle.sb_rows.specs.Live.{HasRows, IsNewIn, LeavesRows};
 ghost use Rattle.sb_rows.specs.Placings.{IsDoneOrNone, IsGone, IsPlaced, IsPlacing, IsReplaced, IsReplacing, OfKey};
 ghost use Rattle.sb_rows.specs.Placings.{is_gone, placing_in, replacing_in};
@@ -47,6 +48,9 @@ pub fn insert_row<S: PageSpace, B: Boxes>(
     ensures costs { (want : Wanted) (s : Slots) (rows : Rows) → S.has want s space.old
         → (has : HasRows (B.meanings boxes.now) s inst.now rows)
         → LeadsWithin S.leads (has.live.box.cost (Insert row) rows) space.old space.new }
+    ensures full { IfErr result (λ e. (want : Wanted) (s : Slots) (rows : Rows) → S.has want s space.old
+        → (has : HasRows (B.meanings boxes.now) s inst.now rows)
+        → WhereShort e (LacksFor has.live.box inst.now (Insert row) rows s)) }
     ensures works { Works S.has S.leads S.fails S.durable S.total inst.now.owner space.old space.new result }
     ensures undamaged { IfErr result (λ e. (want : Wanted) (s : Slots) (rows : Rows) → S.has want s space.old
         → HasRows (B.meanings boxes.now) s inst.now rows → IsSound e) }
@@ -88,6 +92,9 @@ pub fn delete_row<S: PageSpace, B: Boxes>(
     ensures costs { (want : Wanted) (s : Slots) (rows : Rows) → S.has want s space.old
         → (has : HasRows (B.meanings boxes.now) s inst.now rows)
         → LeadsWithin S.leads (has.live.box.cost (Delete key) rows) space.old space.new }
+    ensures full { IfErr result (λ e. (want : Wanted) (s : Slots) (rows : Rows) → S.has want s space.old
+        → (has : HasRows (B.meanings boxes.now) s inst.now rows)
+        → WhereShort e (LacksFor has.live.box inst.now (Delete key) rows s)) }
     ensures works { Works S.has S.leads S.fails S.durable S.total inst.now.owner space.old space.new result }
     ensures undamaged { IfErr result (λ e. (want : Wanted) (s : Slots) (rows : Rows) → S.has want s space.old
         → HasRows (B.meanings boxes.now) s inst.now rows → IsSound e) }
@@ -132,6 +139,9 @@ pub fn update_row<S: PageSpace, B: Boxes>(
     ensures costs { (want : Wanted) (s : Slots) (rows : Rows) → S.has want s space.old
         → (has : HasRows (B.meanings boxes.now) s inst.now rows)
         → LeadsWithin S.leads (has.live.box.cost (Update key row) rows) space.old space.new }
+    ensures full { IfErr result (λ e. (want : Wanted) (s : Slots) (rows : Rows) → S.has want s space.old
+        → (has : HasRows (B.meanings boxes.now) s inst.now rows)
+        → WhereShort e (LacksFor has.live.box inst.now (Update key row) rows s)) }
     ensures works { Works S.has S.leads S.fails S.durable S.total inst.now.owner space.old space.new result }
     ensures undamaged { IfErr result (λ e. (want : Wanted) (s : Slots) (rows : Rows) → S.has want s space.old
         → HasRows (B.meanings boxes.now) s inst.now rows → IsSound e) }
@@ -169,6 +179,8 @@ pub fn prepare_rows<S: PageSpace, B: Boxes>(
     ensures costs { (want : Wanted) (s : Slots) → S.has want s space.old → IsNewIn s inst.now
         → (live : IsLive (B.meanings boxes.now) inst.now)
         → LeadsWithin S.leads (live.box.cost Prepare []) space.old space.new }
+    ensures full { IfErr result (λ e. (want : Wanted) (s : Slots) → S.has want s space.old → IsNewIn s inst.now
+        → (live : IsLive (B.meanings boxes.now) inst.now) → WhereShort e (LacksFor live.box inst.now Prepare [] s)) }
     ensures works { Works S.has S.leads S.fails S.durable S.total inst.now.owner space.old space.new result }
     ensures undamaged { IfErr result (λ e. (want : Wanted) (s : Slots) → S.has want s space.old → IsNewIn s inst.now → IsSound e) }
     ensures ready { S.is_ready space.new }

@@ -33,16 +33,17 @@ use Rattle.sb_transactions.specs.Space.{Space}
 use Rattle.sb_transactions.specs.Tx.{Tx}
 use Rattle.sb_transactions.specs.declared.transactions.Transaction.{Transaction}
 use Rattle.sb_transactions.specs.Calls.{IsOnlyFault, Remains}
-use Rattle.sb_transactions.specs.Commits.{FailsOn, Finishes, IsDone, LeavesEither, LeavesOldOrFinished, Mounted, StaysOpen, StopsAt, is_wanting}
+use Rattle.sb_transactions.specs.Commits.{FailsOn, Finishes, IsDone, IsStoppedOn, LeavesEither, LeavesOldOrFinished, Mounted, StaysOpen, StopsAt, is_wanting}
 use Rattle.sb_transactions.specs.Transactions.{HasNothingLeft, IsAt, IsCommitted, IsPointOf, IsUsable, Rests, WasBegun}
 use Rattle.sb_session.specs.declared.session.Open.{Open}
 use Rattle.sb_session.specs.declared.session.Session.{Session}
 use Rattle.sb_session.specs.Ends.{Ends, IsFree, IsStep, ends_with, is_end}
-use Rattle.sb_session.specs.Sessions.{AreSavepoints, CanGoOn, CanRun, HasFailed, IsFor, IsInside, IsOpenFor, KeepsSession, Lacks, LeavesNext, LeavesOldOrNext, StandsBehind, StandsFor, going_in, parts_of, sizes_of}
+use Rattle.sb_session.specs.Sessions.{AreSavepoints, CanGoOn, CanRun, HasFailed, IsFor, IsInside, IsOpenFor, KeepsSession, Lacks, LeavesNext, LeavesOldOrNext, StandsBehind, StandsFor, going_in, parts_of, sizes_of, WantsPages}
 use Rattle.sb_transactions.proofs.RefusedLemmas.{of_fault}
 use Rattle.sb_session.proofs.Behind.{Ends-behind_for}
 use Rattle.sb_session.proofs.Carried.{CanRun-as, Carried, Ends-given, IsFor-as, end_of_given}
 use Rattle.sb_session.proofs.Commands.{inside_for}
+use Rattle.sb_session.proofs.PagesLemmas.{commit_pages}
 use Rattle.sb_session.proofs.CommitSteps.{Steps-committed, Steps-refused_commit, committed-push, going_on, with_committed, without_transaction}
 use Rattle.sb_session.proofs.OpenLemmas.{Inside, IsAt-same}
 use Rattle.sb_session.proofs.PointLemmas.{AreSavepoints-kept}
@@ -130,16 +131,16 @@ refused_run : {S : Type 0} (Stopped : Refusal → Trail → S → Type 0) (work 
     → RefusedFrom Stopped work g r there
 refused_run Stopped work g r there given stops = subst (λ (b : Bool). EndsBy Stopped b work g r there) given stops
 
-module _ {D : Type 0} (faults : D → ℕ) (work : Work (Unit {0})) (g : Going) where
+module _ {D : Type 0} (faults : D → ℕ) (m : Meanings) (work : Work (Unit {0})) (g : Going) where
   abbrev Stops : Refusal → Mounted D → Type 0
-  Stops r there = StopsFrom (λ refusal trail x. HasRefusalCause (FailsOn faults) refusal x) work g r there
+  Stops r there = StopsFrom (IsStoppedOn faults m) work g r there
 
   -- no page is damaged
   damage_stops : (page : ℕ) (r : Refusal) → r ≡ refusal.Damaged page → (there : Mounted D) → Stops r there → ⊥
-  damage_stops page r is there stops = let at : Stops (refusal.Damaged page) there = subst (λ (r : Refusal). Stops r there) is stops in at.stopped
+  damage_stops page r is there stops = let at : Stops (refusal.Damaged page) there = subst (λ (r : Refusal). Stops r there) is stops in at.stopped.cause
 
   room_stops : (room : Room) (r : Refusal) → r ≡ refusal.Room room → (there : Mounted D) → Stops r there → HasRefusalCause (FailsOn faults) (refusal.Room room) there
-  room_stops room r is there stops = let at : Stops (refusal.Room room) there = subst (λ (r : Refusal). Stops r there) is stops in at.stopped
+  room_stops room r is there stops = let at : Stops (refusal.Room room) there = subst (λ (r : Refusal). Stops r there) is stops in at.stopped.cause
 
 -- ---- a commit
 -- what is said of it
@@ -295,8 +296,16 @@ module _ {B D : Type 0} (meanings : B → Meanings) (told : D → Option Story) 
 
     -- ---- one that is refused
     module _ (T : Type 0) (r : Refusal) (remains : Remains {T = T} told len faults d e x.space.store space.store (Err r)) (down : y.down ≡ (x.down || is_end r))
-        (stopped : (want : Wanted) (g : Going) → IsAt m x.place want tx g p w → StopsAt told len faults ext tx g r (record { disk = d; store = x.space.store }))
+        (stopped : (want : Wanted) (g : Going) → IsAt m x.place want tx g p w → StopsAt told len faults m tx g r (record { disk = d; store = x.space.store }))
         (kept : (r ≡ refusal.Fault → ⊥) → LeavesWanted p q) (moments : (want : Wanted) (g : Going) → IsAt m x.place want tx g p w → LeavesOldOrFinished m x.place.root want g p q) where
+      -- where it is want of a page, the step reaches a point at which they may be wanting
+      pub WantsPages-commit : (want : Wanted) (s : State) → IsFor meanings told len want s d x → WantsPages m (sizes_of x).pages s command.Commit (reply.Refused r)
+      WantsPages-commit want s for =
+          let of = (within want s for).of in
+          let stops = stopped want (going_on of) (at_commit want s for) in
+          commit_pages faults m s of (within want s for).is (up_for want s for) stops.there (sizes_of x).pages r stops.stops
+          (λ not. ap (λ (g : Geometry). g.pages) (stops.led not).1.geometry)
+
       stays_up : (b : Bool) → space.store.book.down ≡ b → y.down ≡ false → space.store.book.down ≡ false
       stays_up false is on = is
       stays_up true is on =
@@ -318,9 +327,9 @@ module _ {B D : Type 0} (meanings : B → Meanings) (told : D → Option Story) 
           (out : space.store.book.down ≡ false → space.store.book.actives ≡ []) where
         given_step : is_free r ≡ false → (want : Wanted) (s : State) (for : IsFor meanings told len want s d x) → IsStep (Behind want s) ext s command.Commit (reply.Refused r)
         given_step given want s for =
-            let stops : StopsFrom (λ refusal trail x. HasRefusalCause (FailsOn faults) refusal x) (finish ext) (going_on (within want s for).of) r (stopped want (going_on (within want s for).of) (at_commit want s for)).there =
+            let stops : StopsFrom (IsStoppedOn faults m) (finish ext) (going_on (within want s for).of) r (stopped want (going_on (within want s for).of) (at_commit want s for)).there =
             (stopped want (going_on (within want s for).of) (at_commit want s for)).stops in
-            let run = refused_run (λ refusal trail x. HasRefusalCause (FailsOn faults) refusal x) (finish ext) (going_on (within want s for).of) r (stopped want (going_on (within want s for).of) (at_commit want s for)).there given stops in
+            let run = refused_run (IsStoppedOn faults m) (finish ext) (going_on (within want s for).of) r (stopped want (going_on (within want s for).of) (at_commit want s for)).there given stops in
             record {
               after = without_transaction s;
               steps = Steps-refused_commit ext s (within want s for).of (within want s for).is (up_for want s for) run.picks run.after r run.leads;
@@ -350,7 +359,7 @@ module _ {B D : Type 0} (meanings : B → Meanings) (told : D → Option Story) 
         over_ends want s for =
             let stops = stopped want (going_on (within want s for).of) (at_commit want s for) in
             over_by (Behind want s) (Lacks (sizes_of x)) (HasFailed faults d e) ext s r (kind_of r) over (λ given. given_step given want s for) (λ is. fault_free is want s for)
-            (λ page is. damage_stops faults (finish ext) (going_on (within want s for).of) page r is stops.there stops.stops)
+            (λ page is. damage_stops faults m (finish ext) (going_on (within want s for).of) page r is stops.there stops.stops)
 
         pub Committed-over : Committed meanings told len faults d e x y (reply.Refused r)
         Committed-over = record {
@@ -422,7 +431,7 @@ module _ {B D : Type 0} (meanings : B → Meanings) (told : D → Option Story) 
               up = up_for want s for;
               cause = (
                 Lacks-there faults (sizes_of x) stops.there (stops.led (λ fault. fault_wanting r fault wanting)).1.geometry a.0
-                    (room_stops faults (finish ext) (going_on (within want s for).of) a.0 r a.1 stops.there stops.stops),
+                    (room_stops faults m (finish ext) (going_on (within want s for).of) a.0 r a.1 stops.there stops.stops),
                 may_lack want s for a.0 a.1,
               );
               stands = still_for want s for;

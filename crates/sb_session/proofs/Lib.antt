@@ -3,10 +3,12 @@ pub use Rattle.sb_transactions.proofs.DrivenLemmas
 pub use Rattle.sb_transactions.proofs.EndLemmas
 pub use Rattle.sb_transactions.proofs.FinishLemmas
 pub use Rattle.sb_transactions.proofs.LentLemmas
+pub use Rattle.sb_transactions.proofs.LicenceLemmas
 pub use Rattle.sb_transactions.proofs.RunLemmas
 pub use Rattle.sb_transactions.proofs.WorkLemmas
 pub mod StepLemmas
 pub mod CommitSteps
+pub mod PagesLemmas
 pub mod OpenLemmas
 pub mod PointLemmas
 pub mod Stepped

@@ -1,28 +1,31 @@
 -- What a session stands for.
-use Rattle.std.specs.Prelude.{◌≡◌, ◌⊎◌, ◌||◌, ℕ, ◌+◌, ◌<◌, ◌≤◌, true, false, List, [], ◌∷◌, All, Option, Some, None}
-use Rattle.std.specs.List.{AllZip}
+use Rattle.std.specs.Prelude.{◌≡◌, ◌⊎◌, ◌||◌, ℕ, ◌+◌, ◌<◌, ◌≤◌, Bool, true, false, List, [], ◌∷◌, All, Option, Some, None}
+use Rattle.std.specs.List.{AllZip, Any}
 use Rattle.sb_disk.specs.Causes.{Rose}
 use Rattle.sb_disk.specs.Disk.{Story}
 use Rattle.sb_disk.specs.Moments.{LeavesOnly}
 use Rattle.sb_images.specs.Images.{IsOldOrNew, Restores}
 use Rattle.sb_log.specs.declared.geometry.Geometry.{Geometry}
-use Rattle.sb_fold.specs.declared.refusal.Refusal.TheVariants.{Fault}
-use Rattle.sb_fold.specs.declared.refusal.Room.{Room}
+use Rattle.sb_fold.specs.declared.refusal.Refusal.TheVariants.{Fault, Room}
+use Rattle.sb_fold.specs.declared.refusal.Room as fold
 use Rattle.sb_fold.specs.declared.refusal.Room.TheVariants.{Data, Temp, Log, Gates}
 use Rattle.sb_fold.specs.Extensions.{Extensions}
 use Rattle.sb_fold.specs.Outcome.{Going, begun}
 use Rattle.sb_plain.specs.declared.command.Command.{Command}
+use Rattle.sb_plain.specs.declared.command.Command.TheVariants as command
 use Rattle.sb_plain.specs.declared.reply.Reply.{Reply}
 use Rattle.sb_plain.specs.declared.reply.Reply.TheVariants.{Refused}
-use Rattle.sb_plain.specs.Step.{Steps}
+use Rattle.sb_plain.specs.Step.{Steps, step}
 use Rattle.sb_plain.specs.State.{Point as PlainPoint, State, Transaction as PlainTransaction, committed}
-use Rattle.sb_relation.specs.Db.{Db}
+use Rattle.sb_relation.specs.Db.{Db, Key}
 use Rattle.sb_registry.specs.Boxes.{Meanings, repeated_in}
 use Rattle.sb_drive.specs.Spaces.{Wanted}
 use Rattle.sb_transactions.specs.Place.{Place}
 use Rattle.sb_txn.specs.Clauses.{IsReady}
 use Rattle.sb_txn.specs.Parts.{Parts, parts}
+use Rattle.sb_transactions.specs.Table.{table_len}
 use Rattle.sb_transactions.specs.Work.{Work}
+use Rattle.sb_transactions.specs.Working.{IsShortOf, extensions_of}
 use Rattle.sb_transactions.specs.Transactions.{HasNothingLeft, IsAt, IsCommitted, IsNotBehind, IsPointOf, IsUsable, Rests, WasBegun, WasSo}
 use Rattle.sb_vectors.specs.Vectors.{live_codes, spare_codes}
 use Rattle.sb_session.specs.declared.session.Open.{Open}
@@ -133,11 +136,33 @@ HasFailed faults old new = Rose (faults old) (faults new)
 
 -- Room was wanting in a store of these sizes, by what is told as used and as the whole: all its pages are used; or a change wants more bytes than its
 -- log has left; or no gate of its log is left but the last.
-abbrev pub Lacks : Geometry → Room → Type 0
+abbrev pub Lacks : Geometry → fold.Room → Type 0
 Lacks g (Data used total) = (used ≡ total) × (total ≡ g.pages)
 Lacks g (Temp used total) = ⊥
 Lacks g (Log used more total) = (more ≤ 13424) × (total ≡ g.log) × (total < used + more)
 Lacks g (Gates used total) = (65534 < used) × (total ≡ 65536)
+
+-- ---- want of pages
+-- a command that wants a page by a licence alone: a new relation, a change of rows, or a commit, for the actions that wait
+abbrev pub needs_licence : Command → Bool
+needs_licence (command.Create relation method schema key) = true
+needs_licence (command.Insert relation values) = true
+needs_licence (command.Delete relation at) = true
+needs_licence (command.Update relation at values) = true
+needs_licence (command.Act action) = true
+needs_licence command.Commit = true
+needs_licence c = false
+
+-- With some picks the step of the command reaches a point at which the database needs so much that there are no more pages than that and those of the
+-- owner table, where nothing was dropped or detached before.
+abbrev pub IsShortFor : Meanings → ℕ → State → Command → ℕ → Type 0
+IsShortFor m pages s c total =
+    (picks : List Key) × Any (IsShortOf total (table_len pages) (extensions_of m)) (step (extensions_of m) s c picks).points
+
+-- so it is of a store of so many pages where want of a page is the reply to such a command
+abbrev pub WantsPages : Meanings → ℕ → State → Command → Reply → Type 0
+WantsPages m pages s c (Refused (Room (Data used total))) = needs_licence c ≡ true → IsShortFor m pages s c total
+WantsPages m pages s c reply = Unit {0}
 
 -- ---- what a crash leaves
 -- some step of the command leads to the state

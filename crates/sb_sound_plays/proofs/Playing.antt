@@ -6,7 +6,6 @@ use Rattle.std.proofs.lemmas.List.Elements.{All-nil, All-cons, All-head, All-tai
 use Rattle.sb_disk.specs.Disk.{Story}
 use Rattle.sb_disk.specs.Moments.{MayLeave, moment}
 use Rattle.sb_fold.specs.declared.refusal.Refusal.TheVariants as refusal
-use Rattle.sb_fold.specs.declared.refusal.Room.{Room}
 use Rattle.sb_plain.specs.declared.command.Command.{Command}
 use Rattle.sb_plain.specs.declared.reply.Reply.{Reply}
 use Rattle.sb_plain.specs.declared.reply.Reply.TheVariants.{Refused}
@@ -15,6 +14,8 @@ use Rattle.sb_grammar.specs.Columns.{Item, Says, Bad}
 use Rattle.sb_registry.specs.Boxes.{Meanings}
 use Rattle.sb_lawful_plays.specs.Working.{extensions_of}
 use Rattle.sb_lawful_plays.specs.Ends.{Ends}
+use Rattle.sb_lawful_plays.specs.Geometry.{Geometry}
+use Rattle.sb_lawful_plays.specs.Sessions.{Lacks}
 use Rattle.sb_lawful_plays.specs.World.{World}
 use Rattle.sb_lawful_plays.specs.Plays.{AreBoxesOf, MovesBy, Plays, last_state}
 use Rattle.sb_lawful_plays.specs.Crashes.{LeavesAlong, next_start}
@@ -25,10 +26,10 @@ use Rattle.sb_sound_said.proofs.Stepping.{down-sound}
 use Rattle.sb_sound_plays.specs.Laws.{IsSoundFor, HoldsSound, PlaysAreSound, PlayedAreSound, PlayedOutAreSound, RunsAreSound, MadeRunsAreSound}
 use Rattle.sb_sound_plays.proofs.Databases.{stepped, commits-sound, crashes-leave, nothing-over}
 
-module _ (m : Meanings) (Lacks : Room → Type 0) (HasFailed : Type 0) where
+module _ (m : Meanings) (g : Geometry) (HasFailed : Type 0) where
   -- ---- one command
   comes : (s : State) (c : Command) (boxes : Meanings) → AreBoxesOf m s boxes → IsWritten c → IsSoundFor m s → (reply : Reply) (t : State)
-      → Ends (λ u. t ≡ u) Lacks HasFailed (extensions_of boxes) s c reply → IsSoundFor m t
+      → Ends (λ u. t ≡ u) (Lacks g) HasFailed (extensions_of boxes) s c reply → IsSoundFor m t
   comes s c boxes are is sound (Refused (refusal.Room room)) t ends = subst (IsSoundFor m) (sym ends.stands) sound
   comes s c boxes are is sound (Refused refusal.NoMemory) t ends = subst (IsSoundFor m) (sym ends.stands) sound
   comes s c boxes are is sound (Refused refusal.Fault) t ends = subst (IsSoundFor m) (sym ends.stands) (down-sound (extensions_of m) s sound)
@@ -37,12 +38,12 @@ module _ (m : Meanings) (Lacks : Room → Type 0) (HasFailed : Type 0) where
   comes s c boxes are is sound reply t ends = subst (IsSoundFor m) (sym ends.stands) (stepped m s c boxes are reply ends.after ends.steps is sound)
 
   -- ---- one item
-  moved : (s : State) (item : Item) (reply : Reply) (t : State) → IsWrittenItem item → IsSoundFor m s → MovesBy m Lacks HasFailed s item reply t → IsSoundFor m t
+  moved : (s : State) (item : Item) (reply : Reply) (t : State) → IsWrittenItem item → IsSoundFor m s → MovesBy m g HasFailed s item reply t → IsSoundFor m t
   moved s (Bad column) reply t is sound by = subst (IsSoundFor m) (sym by.moves.1) sound
   moved s (Says c) reply t is sound by = comes s c by.boxes by.are is sound reply t by.moves
 
   -- ---- all of them
-  pub plays_sound : (s : State) (items : List Item) (replies : List Reply) (states : List State) → All IsWrittenItem items → IsSoundFor m s → Plays m Lacks HasFailed s items replies states
+  pub plays_sound : (s : State) (items : List Item) (replies : List Reply) (states : List State) → All IsWrittenItem items → IsSoundFor m s → Plays m g HasFailed s items replies states
       → All (IsSoundFor m) states
   plays_sound s [] [] [] are sound plays = All-nil (IsSoundFor m)
   plays_sound s (item ∷ items) (reply ∷ replies) (t ∷ states) are sound plays =

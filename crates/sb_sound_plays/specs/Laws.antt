@@ -12,7 +12,6 @@ use Rattle.sb_lawful_plays.specs.Working.{extensions_of}
 use Rattle.sb_vectors.specs.Vectors.{AreSameBoxes}
 use Rattle.sb_lawful_plays.specs.Opening.{opened}
 use Rattle.sb_lawful_plays.specs.Geometry.{Geometry}
-use Rattle.sb_lawful_plays.specs.Sessions.{Lacks}
 use Rattle.sb_lawful_plays.specs.DeclaredEnding.{Ending}
 use Rattle.sb_lawful_plays.specs.World.{World, At}
 use Rattle.sb_lawful_plays.specs.Plays.{Plays}
@@ -63,7 +62,7 @@ CrashesLeaveSound =
 abbrev pub PlaysAreSound : Type 0
 PlaysAreSound =
     (m : Meanings) (g : Geometry) (old new : ℕ) (s : State) (items : List Item) (replies : List Reply) (states : List State) → All IsWrittenItem items → IsSoundFor m s
-    → Plays m (Lacks g) (Rose old new) s items replies states → All (IsSoundFor m) states
+    → Plays m g (Rose old new) s items replies states → All (IsSoundFor m) states
 
 -- those of what a session has played
 abbrev pub PlayedAreSound : {B D : Type 0} → World B D → Type 0

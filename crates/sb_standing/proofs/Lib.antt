@@ -1,4 +1,5 @@
 pub use Rattle.sb_rows.proofs.CallsLemmas
+pub use Rattle.sb_rows.proofs.LackingLemmas
 pub use Rattle.sb_rows.proofs.Few
 pub use Rattle.sb_rows.proofs.Frames
 pub use Rattle.sb_rows.proofs.Reading

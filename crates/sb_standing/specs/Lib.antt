@@ -1,3 +1,4 @@
+pub use Rattle.sb_rows.specs.Lacking
 pub use Rattle.sb_rows.specs.Live
 pub use Rattle.sb_rows.specs.Paths
 pub use Rattle.sb_rows.specs.Placings

@@ -13,7 +13,7 @@ ghost use Rattle.sb_building.specs.Tables.{Kept, db_of};
 ghost use Rattle.sb_building.specs.Opened.{IsDurable, IsOpen};
 ghost use Rattle.sb_building.specs.Wished.{MayBeWished};
 ghost use Rattle.sb_building.specs.Opening.{IsKeeping};
-ghost use Rattle.sb_building.specs.Working.{AreOpened, GoesOpen, Grows, IsServing, IsStoppedBy, MayDo, MayWish, StandsFor};
+ghost use Rattle.sb_building.specs.Working.{AreOpened, GoesOpen, Grows, IsServing, IsStoppedFor, MayDo, MayWish, StandsFor};
 ghost use Rattle.sb_building.specs.Refusals.{HasFaultCause};
 
 use sb_building::{OpenRelation, Place, Running, open_at, open_named, prepare, refusal_of};
@@ -39,7 +39,7 @@ pub(crate) fn open_wish<B: Boxes, S: PageSpace>(
     ensures may { OnOk result (MayWish running.new.work.now.opened.items name.now (wish_of wish.now)) }
     ensures stands { OnOk result ((g : Going) → StandsFor S.has B.meanings g running.old → StandsFor S.has B.meanings g running.new) }
     ensures refused { IfErr result (λ r. (g : Going) → StandsFor S.has B.meanings g running.old → IsFittingWish g.db name.now (wish_of wish.now)
-        → LooksFrom (IsStoppedBy S.fails) g r running.new) }
+        → LooksFrom (IsStoppedFor S.has S.leads S.fails S.table B.meanings) g r running.new) }
     ensures fault { IfErr result (λ r. HasFaultCause S.fails r running.new.space.now) }
     ensures goes { GoesOpen S.leads running.old running.new }
     ensures ready { IsServing S.is_ready B.meanings running.new }
@@ -69,7 +69,7 @@ pub(crate) fn open_action<B: Boxes, S: PageSpace>(
     ensures may { OnOk result (MayDo running.new.work.now.opened.items action.now) }
     ensures stands { OnOk result ((g : Going) → StandsFor S.has B.meanings g running.old → StandsFor S.has B.meanings g running.new) }
     ensures refused { IfErr result (λ r. (g : Going) → StandsFor S.has B.meanings g running.old → IsFitting g.db action.now
-        → LooksFrom (IsStoppedBy S.fails) g r running.new) }
+        → LooksFrom (IsStoppedFor S.has S.leads S.fails S.table B.meanings) g r running.new) }
     ensures fault { IfErr result (λ r. HasFaultCause S.fails r running.new.space.now) }
     ensures goes { GoesOpen S.leads running.old running.new }
     ensures ready { IsServing S.is_ready B.meanings running.new }

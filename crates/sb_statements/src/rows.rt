@@ -8,7 +8,7 @@ ghost use Rattle.sb_plain.specs.Step.{plainly, with_key};
 ghost use Rattle.sb_cascade.specs.Fitting.{IsFittingWish};
 ghost use Rattle.sb_cascade.specs.Runs.{MadeFrom, StopsFrom};
 ghost use Rattle.sb_cascade.specs.Wishes.{wish_of};
-ghost use Rattle.sb_building.specs.Working.{Goes, GoesOpen, IsServing, IsStoppedBy, StandsFor, extensions_in, open_at};
+ghost use Rattle.sb_building.specs.Working.{Goes, GoesOpen, IsServing, IsStoppedFor, StandsFor, extensions_in, open_at};
 ghost use Rattle.sb_statements.specs.Statements.{IsDone, IsStopped, answer_of};
 ghost use Rattle.sb_building.specs.Refusals.{HasFaultCause};
 
@@ -34,7 +34,7 @@ pub(crate) fn insert<B: Boxes, S: PageSpace>(
     requires ready { IsServing S.is_ready B.meanings running.old }
 
     ensures done { IfOk result (λ x. IsDone S.has B.meanings (command.Insert relation.now values.now) running.old (answer_of x) running.new) }
-    ensures stopped { IfErr result (λ r. IsStopped S.has S.fails B.meanings (command.Insert relation.now values.now) running.old r running.new) }
+    ensures stopped { IfErr result (λ r. IsStopped S.has S.leads S.fails S.table B.meanings (command.Insert relation.now values.now) running.old r running.new) }
     ensures fault { IfErr result (λ r. HasFaultCause S.fails r running.new.space.now) }
     ensures goes { Goes S.leads running.old running.new }
     ensures ready { IsServing S.is_ready B.meanings running.new }
@@ -55,7 +55,7 @@ pub(crate) fn update<B: Boxes, S: PageSpace>(
     requires ready { IsServing S.is_ready B.meanings running.old }
 
     ensures done { IfOk result (λ x. IsDone S.has B.meanings (command.Update relation.now at.now values.now) running.old (answer_of x) running.new) }
-    ensures stopped { IfErr result (λ r. IsStopped S.has S.fails B.meanings (command.Update relation.now at.now values.now) running.old r running.new) }
+    ensures stopped { IfErr result (λ r. IsStopped S.has S.leads S.fails S.table B.meanings (command.Update relation.now at.now values.now) running.old r running.new) }
     ensures fault { IfErr result (λ r. HasFaultCause S.fails r running.new.space.now) }
     ensures goes { Goes S.leads running.old running.new }
     ensures ready { IsServing S.is_ready B.meanings running.new }
@@ -78,7 +78,7 @@ pub(crate) fn delete<B: Boxes, S: PageSpace>(
     requires ready { IsServing S.is_ready B.meanings running.old }
 
     ensures done { IfOk result (λ x. IsDone S.has B.meanings (command.Delete relation.now at.now) running.old (answer_of x) running.new) }
-    ensures stopped { IfErr result (λ r. IsStopped S.has S.fails B.meanings (command.Delete relation.now at.now) running.old r running.new) }
+    ensures stopped { IfErr result (λ r. IsStopped S.has S.leads S.fails S.table B.meanings (command.Delete relation.now at.now) running.old r running.new) }
     ensures fault { IfErr result (λ r. HasFaultCause S.fails r running.new.space.now) }
     ensures goes { Goes S.leads running.old running.new }
     ensures ready { IsServing S.is_ready B.meanings running.new }
@@ -102,7 +102,7 @@ fn change_keyed<B: Boxes, S: PageSpace>(
         → MadeFrom (StandsFor S.has B.meanings) (with_key name.now (first_change (extensions_in B.meanings running.old) name.now (wish_of wish.now)))
         g (answer_of x) running.new) }
     ensures refused { IfErr result (λ r. (g : Going) → StandsFor S.has B.meanings g running.old → IsFittingWish g.db name.now (wish_of wish.now)
-        → StopsFrom (IsStoppedBy S.fails) (with_key name.now (first_change (extensions_in B.meanings running.old) name.now (wish_of wish.now)))
+        → StopsFrom (IsStoppedFor S.has S.leads S.fails S.table B.meanings) (with_key name.now (first_change (extensions_in B.meanings running.old) name.now (wish_of wish.now)))
         g r running.new) }
     ensures fault { IfErr result (λ r. HasFaultCause S.fails r running.new.space.now) }
     ensures goes { Goes S.leads running.old running.new }
@@ -127,7 +127,7 @@ fn change_plainly<B: Boxes, S: PageSpace>(
         → MadeFrom (StandsFor S.has B.meanings) (plainly (first_change (extensions_in B.meanings running.old) name.now (wish_of wish.now)))
         g (answer_of x) running.new) }
     ensures refused { IfErr result (λ r. (g : Going) → StandsFor S.has B.meanings g running.old → IsFittingWish g.db name.now (wish_of wish.now)
-        → StopsFrom (IsStoppedBy S.fails) (plainly (first_change (extensions_in B.meanings running.old) name.now (wish_of wish.now)))
+        → StopsFrom (IsStoppedFor S.has S.leads S.fails S.table B.meanings) (plainly (first_change (extensions_in B.meanings running.old) name.now (wish_of wish.now)))
         g r running.new) }
     ensures fault { IfErr result (λ r. HasFaultCause S.fails r running.new.space.now) }
     ensures goes { Goes S.leads running.old running.new }
@@ -151,7 +151,7 @@ fn change_fitting<B: Boxes, S: PageSpace>(
     ensures made { IfOk result (λ key. (g : Going) → StandsFor S.has B.meanings g running.old → IsFittingWish g.db name.now (wish_of wish.now)
         → MadeFrom (StandsFor S.has B.meanings) (first_change (extensions_in B.meanings running.old) name.now (wish_of wish.now)) g key running.new) }
     ensures refused { IfErr result (λ r. (g : Going) → StandsFor S.has B.meanings g running.old → IsFittingWish g.db name.now (wish_of wish.now)
-        → StopsFrom (IsStoppedBy S.fails) (first_change (extensions_in B.meanings running.old) name.now (wish_of wish.now)) g r running.new) }
+        → StopsFrom (IsStoppedFor S.has S.leads S.fails S.table B.meanings) (first_change (extensions_in B.meanings running.old) name.now (wish_of wish.now)) g r running.new) }
     ensures fault { IfErr result (λ r. HasFaultCause S.fails r running.new.space.now) }
     ensures open { IfOk result (λ key. is_some (open_at running.new.work.now.opened.items name.now) ≡ true) }
     ensures goes { GoesOpen S.leads running.old running.new }

@@ -25,7 +25,7 @@ pub fn work<B: Boxes, S: Owners>(
     requires ready { IsServing S.is_ready B.meanings running.old }
 
     ensures done { IfOk result (λ x. IsDone S.has B.meanings command.now running.old (answer_of x) running.new) }
-    ensures stopped { IfErr result (λ r. IsStopped S.has S.fails B.meanings command.now running.old r running.new) }
+    ensures stopped { IfErr result (λ r. IsStopped S.has S.leads S.fails S.table B.meanings command.now running.old r running.new) }
     ensures fault { IfErr result (λ r. HasFaultCause S.fails r running.new.space.now) }
     ensures goes { Goes S.leads running.old running.new }
     ensures ready { IsServing S.is_ready B.meanings running.new }

@@ -14,7 +14,7 @@ use Rattle.sb_standing.specs.Tables.{Kept}
 use Rattle.sb_standing.proofs.FrameLemmas.{All-right}
 use Rattle.sb_standing.proofs.RelationLemmas.{Keeps-freed}
 use Rattle.sb_engine.specs.Opened.{IsDurable}
-use Rattle.sb_engine.specs.Refusals.{HasRefusalCause, IsRefusedBy, refusal_of}
+use Rattle.sb_engine.specs.Refusals.{HasPagesLeft, HasRefusalCause, IsRefusedBy, refusal_of}
 use Rattle.sb_tables.specs.Freeing.{LeavesGone}
 
 module _ {S : Type 0} (Has : Wanted → Slots → S → Type 0) (m : Meanings) (root : ℕ) (kept : List Kept) (want : Wanted) (s : Slots) (owner : ℕ) (gone : List ℕ) (old new : S)
@@ -63,3 +63,8 @@ refused_soundly Fails (fault.GatesFull used total) now refused sound = refused
 refused_soundly Fails (fault.Damaged page) now refused sound = absurd sound
 refused_soundly Fails fault.Down now refused sound = refused
 refused_soundly Fails fault.NoMemory now refused sound = tt
+
+-- what is stored doesn't want a page
+pub stored_left : (e : SpaceFault) → IsStoreFault e → HasPagesLeft (refusal_of e)
+stored_left (fault.DataFull used total) stored = absurd stored
+stored_left e stored = tt

@@ -7,6 +7,7 @@ pub mod WithoutLemmas
 pub mod PairsLemmas
 pub mod RemovalLemmas
 pub mod CreationLemmas
+pub mod LicenceLemmas
 pub mod KeepingLemmas
 pub mod DetachedLemmas
 pub mod StandsLemmas

@@ -22,7 +22,7 @@ use Rattle.sb_deferred.specs.Complete.{AreMirrored, IsComplete}
 use Rattle.sb_deferred.proofs.CatalogLemmas.{with-relation-complete}
 use Rattle.sb_deferred.proofs.RelationLemmas.{attachments_of, schema_of}
 use Rattle.sb_cascade.specs.Fitting.{AllFit, AllMayStand, IsFitting}
-use Rattle.sb_cascade.specs.Runs.{GoesOn, MadeFrom, StopsFrom, is_free}
+use Rattle.sb_cascade.specs.Runs.{EndsBy, GoesOn, MadeFrom, StopsFrom, is_free}
 use Rattle.sb_cascade.proofs.Commanding.{creating-stays}
 use Rattle.sb_cascade.proofs.Forward.{forward_change}
 use Rattle.sb_cascade.proofs.Stopping.{stops_free}
@@ -38,6 +38,7 @@ use Rattle.sb_engine.specs.Opened.{IsDurable}
 use Rattle.sb_engine.specs.declared.running.Work.{Work}
 use Rattle.sb_engine.specs.Working.{AreOpened, ArePaired, IsNoneGone, IsOpened, Stands, extensions_of, left_of}
 use Rattle.sb_engine.proofs.GoneLemmas.{with_gone-some}
+use Rattle.sb_engine.proofs.LackingLemmas.{goes_none}
 use Rattle.sb_tables.specs.Creation.{MayCreate, new_relation}
 use Rattle.sb_tables.specs.Freeing.{LeavesGone}
 use Rattle.sb_tables.specs.Keeping.{KeepsDb}
@@ -179,11 +180,17 @@ goes_further : (db : Db.Db) (aside : Gone) (cost : ℕ) (t : Trail) → GoesOn t
 goes_further db aside cost t =
     record { points = record { before = db; after = db; change = None; aside = aside; spent = t.spent + cost } ∷ []; more = refl; spent = omega arith }
 
+-- a new relation is stopped where the definition has come to its end
 pub create_stops : {R : Type 0} (Stopped : Refusal → Trail → R → Type 0) (x : R) (ext : Extensions) (name : Name) (method : ℕ) (schema : List Column) (key : List Name) (r : Refusal) (g : Going)
-    → is_free r ≡ true → Stopped r g.trail x → StopsFrom Stopped (create ext name method schema key) g r x
+    → is_free r ≡ true → Stopped r (create_step ext name method schema key g).trail x → StopsFrom Stopped (create ext name method schema key) g r x
 create_stops Stopped x ext name method schema key r g free stopped =
-    stops_free Stopped (create ext name method schema key) r x g free
-    (forward_change (create_step ext name method schema key) (λ h. goes_further (with_relation h.db name (new_relation method schema key)) h.gone (create_cost ext h.db method) h.trail)) stopped
+    subst (λ (b : Bool). EndsBy Stopped b (create ext name method schema key) g r x) (sym free)
+    (record {
+      picks = [];
+      trail = (create_step ext name method schema key g).trail;
+      comes = λ more. goes_none (create_step ext name method schema key g).trail;
+      stopped = stopped;
+    })
 
 pub drop_stops : {R : Type 0} (Stopped : Refusal → Trail → R → Type 0) (x : R) (ext : Extensions) (name : Name) (r : Refusal) (g : Going)
     → is_free r ≡ true → Stopped r g.trail x → StopsFrom Stopped (drop_relation ext name) g r x

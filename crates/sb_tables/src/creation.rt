@@ -5,13 +5,15 @@ ghost use Rattle.sb_relation.specs.Db.{Db, with_relation};
 ghost use Rattle.sb_fold.specs.Building as fold;
 ghost use Rattle.sb_fold.specs.Outcome.{Going};
 ghost use Rattle.sb_cascade.specs.Runs.{MadeFrom, StopsFrom};
+ghost use Rattle.sb_ctx.specs.declared.calls.MethodCall.TheVariants.{Prepare};
 ghost use Rattle.sb_drive.specs.Slots.{Slots};
 ghost use Rattle.sb_drive.specs.Spaces.{LeadsOn, Wanted};
 ghost use Rattle.sb_registry.specs.Live.{IsLive};
+ghost use Rattle.sb_standing.specs.Lacking.{LacksFor, WhereShort};
 ghost use Rattle.sb_standing.specs.Live.{IsNewIn, LeavesRows};
 ghost use Rattle.sb_standing.specs.Instances.{table_instance};
 ghost use Rattle.sb_engine.specs.Refusals.{HasFaultCause, HasRefusalCause, refusal_of};
-ghost use Rattle.sb_engine.specs.Working.{Goes, IsServing, IsStoppedBy, StandsFor, extensions_in};
+ghost use Rattle.sb_engine.specs.Working.{Goes, IsLicensed, IsNoneGone, IsServing, IsStoppedFor, StandsFor, extensions_in};
 ghost use Rattle.sb_tables.specs.Creation.{MayCreate, new_descriptor, new_relation};
 ghost use Rattle.sb_tables.specs.Keeping.{Closes, KeepsDb};
 
@@ -43,7 +45,8 @@ pub fn create<B: Boxes, S: Owners>(
         → MadeFrom (StandsFor S.has B.meanings) (fold.create (extensions_in B.meanings running.old) name.now method schema.now key.now) g tt running.new) }
     ensures refused { IfErr result (λ r. (g : Going) → StandsFor S.has B.meanings g running.old
         → MayCreate (B.meanings running.old.boxes.now) g.db name.now method schema.now key.now
-        → StopsFrom (IsStoppedBy S.fails) (fold.create (extensions_in B.meanings running.old) name.now method schema.now key.now) g r running.new) }
+        → StopsFrom (IsStoppedFor S.has S.leads S.fails S.table B.meanings)
+        (fold.create (extensions_in B.meanings running.old) name.now method schema.now key.now) g r running.new) }
     ensures fault { IfErr result (λ r. HasFaultCause S.fails r running.new.space.now) }
     ensures closes { Closes running.old running.new }
     ensures goes { Goes S.leads running.old running.new }
@@ -65,7 +68,8 @@ pub fn create<B: Boxes, S: Owners>(
     }
 }
 
-/// Gives a new relation pages of its own and its entry in the catalogue.
+/// Gives a new relation pages of its own and its entry in the catalogue. Where a page is wanting to it, the definitions' numbers allow that at the
+/// database with the relation.
 fn create_kept<S: Owners, B: Boxes>(
     space: &mut S,
     alloc: Global,
@@ -84,6 +88,11 @@ fn create_kept<S: Owners, B: Boxes>(
         → KeepsDb S.has (B.meanings boxes.now) place.root gone (with_relation db name.now (new_relation method schema.now key.now)) space.new) }
     ensures refused { IfErr result (λ e. (gone : List ℕ) (db : Db) → KeepsDb S.has (B.meanings boxes.now) place.root gone db space.old
         → MayCreate (B.meanings boxes.now) db name.now method schema.now key.now → HasRefusalCause S.fails (refusal_of e) space.new) }
+    ensures licensed { IfErr result (λ e. (gone : List ℕ) (g : Going) (cost : ℕ)
+        → KeepsDb S.has (B.meanings boxes.now) place.root gone g.db space.old → (IsNoneGone g.gone → gone ≡ [])
+        → MayCreate (B.meanings boxes.now) g.db name.now method schema.now key.now
+        → IsLicensed S.has S.leads S.table (B.meanings boxes.now) (refusal_of e)
+        (fold.at_point (with_relation g.db name.now (new_relation method schema.now key.now)) g.gone cost g.trail) space.new) }
     ensures fault { IfErr result (λ e. HasFaultCause S.fails (refusal_of e) space.new) }
     ensures leads { LeadsOn S.leads space.old space.new }
     ensures ready { S.is_ready space.new }
@@ -134,6 +143,9 @@ fn prepare_table<S: PageSpace, B: Boxes>(
         → LeavesRows S.has (B.meanings boxes.now) (table_instance true name.now descriptor.now) want s space.new []) }
     ensures refused { IfErr result (λ e. (want : Wanted) (s : Slots) → S.has want s space.old → IsNewIn s (table_instance true name.now descriptor.now)
         → IsLive (B.meanings boxes.now) (table_instance true name.now descriptor.now) → HasRefusalCause S.fails (refusal_of e) space.new) }
+    ensures full { IfErr result (λ e. (want : Wanted) (s : Slots) → S.has want s space.old → IsNewIn s (table_instance true name.now descriptor.now)
+        → (live : IsLive (B.meanings boxes.now) (table_instance true name.now descriptor.now))
+        → WhereShort e (LacksFor live.box (table_instance true name.now descriptor.now) Prepare [] s)) }
     ensures fault { IfErr result (λ e. HasFaultCause S.fails (refusal_of e) space.new) }
     ensures leads { LeadsOn S.leads space.old space.new }
     ensures ready { S.is_ready space.new }

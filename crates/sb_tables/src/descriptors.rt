@@ -1,6 +1,6 @@
 //! Descriptors in the catalogue.
 
-ghost use Rattle.std.specs.Prelude.{◌≡◌, ◌↔◌, IsTrue, All, List, Some, IfOk, IfErr, OnOk, map, not, bytes_eq, length, ◌≤◌};
+ghost use Rattle.std.specs.Prelude.{◌≡◌, ◌↔◌, IsTrue, All, List, Some, IfOk, IfErr, OnOk, map, not, bytes_eq, length, ◌*◌, ◌≤◌};
 ghost use Rattle.std.specs.List.{filter};
 ghost use Rattle.std.specs.FinMap.Entries.{put};
 ghost use Rattle.sb_node.specs.Entries.{Entry, key_cmp};
@@ -12,6 +12,7 @@ ghost use Rattle.sb_catalog.specs.Descriptors.{descriptor_spelling, IsConsistent
 ghost use Rattle.sb_engine.specs.Changes.{IsSmall};
 ghost use Rattle.sb_registry.specs.Runs.{IsSound};
 ghost use Rattle.sb_standing.specs.Instances.{owners_of};
+ghost use Rattle.sb_standing.specs.Lacking.{IsShort, WhereShort};
 ghost use Rattle.sb_standing.specs.Standing.{owners_named, without_described};
 ghost use Rattle.sb_engine.specs.Opened.{IsOwnFault};
 ghost use Rattle.sb_engine.specs.Refusals.{HasFaultCause, HasRefusalCause, refusal_of};
@@ -59,7 +60,8 @@ fn are_short_names(names: &[Str]) -> bool
     }
 }
 
-/// Gives the relation of a name this descriptor in the catalogue, in the place of another one.
+/// Gives the relation of a name this descriptor in the catalogue, in the place of another one. Where no page is left for it, the catalogue's pages with
+/// the fresh ones are fewer than twice its entries.
 pub fn enter<S: PageSpace>(
     space: &mut S,
     alloc: Global,
@@ -76,6 +78,8 @@ pub fn enter<S: PageSpace>(
     ensures storable { OnOk result (IsConsistent descriptor.now → IsStorableDescriptor descriptor.now) }
     ensures refused { IfErr result (λ e. (want : Wanted) (s : Slots) (es : List Entry) → S.has want s space.old → map_in place.root (owned s 2) ≡ Some es
         → IsSmall name.now (descriptor_spelling descriptor.now) → HasRefusalCause S.fails (refusal_of e) space.new) }
+    ensures full { IfErr result (λ e. (want : Wanted) (s : Slots) (es : List Entry) → S.has want s space.old → map_in place.root (owned s 2) ≡ Some es
+        → WhereShort e (IsShort s 2 (2 * length es))) }
     ensures fault { IfErr result (λ e. HasFaultCause S.fails (refusal_of e) space.new) }
     ensures leads { LeadsOn S.leads space.old space.new }
     ensures ready { S.is_ready space.new }

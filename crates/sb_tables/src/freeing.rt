@@ -3,13 +3,12 @@
 ghost use Rattle.std.specs.Prelude.{◌≡◌, ◌∷◌, [], ℕ, List, IfErr, OnErr, OnOk};
 ghost use Rattle.sb_fold.specs.Outcome.{Going};
 ghost use Rattle.sb_drive.specs.Slots.{Slots};
-ghost use Rattle.sb_drive.specs.Spaces.{LeadsOn, Wanted};
+ghost use Rattle.sb_drive.specs.Spaces.{IsStoreFault, LeadsOn, Wanted};
 ghost use Rattle.sb_registry.specs.Boxes.{Meanings};
-ghost use Rattle.sb_registry.specs.Runs.{IsSound};
 ghost use Rattle.sb_standing.specs.Standing.{Keeps};
 ghost use Rattle.sb_standing.specs.Tables.{Kept};
 ghost use Rattle.sb_engine.specs.Opened.{IsDurable};
-ghost use Rattle.sb_engine.specs.Refusals.{HasRefusalCause, IsRefusedBy, refusal_of};
+ghost use Rattle.sb_engine.specs.Refusals.{HasPagesLeft, HasRefusalCause, IsRefusedBy, refusal_of};
 ghost use Rattle.sb_engine.specs.Working.{IsServing, StandsFor};
 ghost use Rattle.sb_tables.specs.Freeing.{Frees, LeavesGone};
 
@@ -34,6 +33,7 @@ pub fn free_gone<B: Boxes, S: Owners>(
     ensures none { OnOk result (running.new.work.now.gone.items ≡ []) }
     ensures refused { IfErr result (λ r. IsRefusedBy S.fails r running.new.space.now) }
     ensures cause { IfErr result (λ r. HasRefusalCause S.fails r running.new.space.now) }
+    ensures pages { IfErr result HasPagesLeft }
     ensures frees { Frees S.leads running.old running.new }
     ensures kept { IfErr result (λ r. running.new.work.now.gone ≡ running.old.work.now.gone) }
     ensures idle { running.old.work.now.gone.items ≡ [] → OnErr result ⊥ }
@@ -53,7 +53,7 @@ fn free_all<S: Owners>(space: &mut S, alloc: Global, gone: &mut Vec<u16>) -> Res
         → Keeps m IsDurable root s gone.old.items kept → LeavesGone S.has m root kept want [] space.new) }
     ensures none { OnOk result (gone.new.items ≡ []) }
     ensures refused { IfErr result (λ e. IsRefusedBy S.fails (refusal_of e) space.new) }
-    ensures undamaged { IfErr result IsSound }
+    ensures stored { IfErr result IsStoreFault }
     ensures kept { IfErr result (λ e. gone.new ≡ gone.old) }
     ensures idle { gone.old.items ≡ [] → OnErr result ⊥ }
     ensures leads { LeadsOn S.leads space.old space.new }
@@ -71,7 +71,7 @@ fn free_owners<S: Owners>(space: &mut S, alloc: Global, owners: &[u16]) -> Resul
     ensures freed { OnOk result ((m : Meanings) (root : ℕ) (kept : List Kept) (want : Wanted) (s : Slots) → S.has want s space.old
         → Keeps m IsDurable root s owners.now kept → LeavesGone S.has m root kept want [] space.new) }
     ensures refused { IfErr result (λ e. IsRefusedBy S.fails (refusal_of e) space.new) }
-    ensures undamaged { IfErr result IsSound }
+    ensures stored { IfErr result IsStoreFault }
     ensures idle { owners.now ≡ [] → OnErr result ⊥ }
     ensures leads { LeadsOn S.leads space.old space.new }
     ensures ready { S.is_ready space.new }
@@ -89,7 +89,7 @@ fn free_owner<S: Owners>(space: &mut S, alloc: Global, owner: u16) -> Result<(),
     ensures freed { OnOk result ((m : Meanings) (root : ℕ) (kept : List Kept) (want : Wanted) (s : Slots) (gone : List ℕ) → S.has want s space.old
         → Keeps m IsDurable root s (owner ∷ gone) kept → LeavesGone S.has m root kept want gone space.new) }
     ensures refused { IfErr result (λ e. IsRefusedBy S.fails (refusal_of e) space.new) }
-    ensures undamaged { IfErr result IsSound }
+    ensures stored { IfErr result IsStoreFault }
     ensures leads { LeadsOn S.leads space.old space.new }
     ensures ready { S.is_ready space.new }
 {

@@ -35,9 +35,10 @@ use Rattle.sb_tables.specs.Tables.{db_of}
 use Rattle.sb_tables.proofs.RefusedLemmas.{of_fault, on_fault}
 use Rattle.sb_transactions.specs.Calls.{IsOnlyFault, KeepsWanted, Remains}
 use Rattle.sb_transactions.specs.declared.refusals.Uncommitted.{Uncommitted}
-use Rattle.sb_transactions.specs.Commits.{by_refusal, ComesTo, FailsOn, Finishes, IsFaulted, IsDone, IsLed, IsOrFaulted, IsEnded, LeavesEither, LeavesOldOrFinished, Mounted, StopsAt, ended}
+use Rattle.sb_transactions.specs.Commits.{by_refusal, ComesTo, FailsOn, Finishes, IsFaulted, IsDone, IsLed, IsOrFaulted, IsStoppedOn, IsEnded, LeavesEither, LeavesOldOrFinished, Mounted, StopsAt, ended}
 use Rattle.sb_transactions.specs.Transactions.{HasNothingLeft, IsAt, IsCommitted, IsFinished}
 use Rattle.sb_transactions.proofs.CallLemmas.{up-earlier}
+use Rattle.sb_transactions.proofs.LicenceLemmas.{fault_stops}
 use Rattle.sb_transactions.proofs.FinishLemmas.{StopsFrom-behind, StopsFrom-else, finish-at_once, finish-map}
 
 fault_free : (r : Refusal) → r ≡ Fault → is_free r ≡ true
@@ -102,17 +103,17 @@ module _ (m : Meanings) (place : Place) (tx : ℕ) (p q : Parts) (w : Work) (lef
 
 -- a fault of its commit
 pub StopsAt-left : {D : Type 0} (told : D → Option Story) (len faults : D → ℕ) (m : Meanings) (place : Place) (want : Wanted) (tx : ℕ) (g : Going) (p : Parts) (w : Work) (old new : Mounted D) (r : Refusal)
-    → IsAt m place want tx g p w → HasNothingLeft w → IsOnlyFault r new.store → HasRefusalCause (FailsOn faults) r new → StopsAt told len faults (extensions_of m) tx g r old
+    → IsAt m place want tx g p w → HasNothingLeft w → IsOnlyFault r new.store → HasRefusalCause (FailsOn faults) r new → StopsAt told len faults m tx g r old
 StopsAt-left told len faults m place want tx g p w old new r at left only cause = record {
   there = new;
   led = λ not. absurd (not only.is);
-  stops = StopsFrom-behind (λ h x. Unit {0}) (λ refusal trail x. HasRefusalCause (FailsOn faults) refusal x) (finish (extensions_of m)) g tt new r new (fault_free r only.is) (λ trail. cause)
+  stops = StopsFrom-behind (λ h x. Unit {0}) (IsStoppedOn faults m) (finish (extensions_of m)) g tt new r new (fault_free r only.is) (λ trail. fault_stops faults m r trail new only.is cause)
       (finished-left m place want tx g p w at left (λ h x. Unit {0}) new tt);
 }
 
 pub stops-left : {D T : Type 0} (told : D → Option Story) (len faults : D → ℕ) (m : Meanings) (place : Place) (tx : ℕ) (p : Parts) (w : Work) (old new : Mounted D) (r : Result T Refusal) → HasNothingLeft w
     → IfErr r (λ e. IsOnlyFault e new.store) → IfErr r (λ e. HasRefusalCause (FailsOn faults) e new)
-    → IfErr (ended r) (λ e. (want : Wanted) (g : Going) → IsAt m place want tx g p w → StopsAt told len faults (extensions_of m) tx g e.refusal old)
+    → IfErr (ended r) (λ e. (want : Wanted) (g : Going) → IsAt m place want tx g p w → StopsAt told len faults m tx g e.refusal old)
 stops-left told len faults m place tx p w old new (Ok x) left only cause = tt
 stops-left told len faults m place tx p w old new (Err e) left only cause = λ want g at. StopsAt-left told len faults m place want tx g p w old new e at left only cause
 
@@ -227,11 +228,12 @@ module _ {D : Type 0} (told : D → Option Story) (len faults : D → ℕ) (m : 
             (λ h holds comes. wider h (either m place want h (subst (λ (n : ℕ). IsAt m place want n h mid w) (sym same) (comes off)) (record { gone = none; holds = holds }))) finished)
 
     -- the disk failed in it
-    pub StopsAt-commit : (r : Refusal) → IsOnlyFault r u → HasRefusalCause (FailsOn faults) r (record { disk = f; store = u }) → StopsAt told len faults ext tx g r (record { disk = d; store = s })
+    pub StopsAt-commit : (r : Refusal) → IsOnlyFault r u → HasRefusalCause (FailsOn faults) r (record { disk = f; store = u }) → StopsAt told len faults m tx g r (record { disk = d; store = s })
     StopsAt-commit r only cause = record {
       there = record { disk = f; store = u };
       led = λ not. absurd (not only.is);
-      stops = StopsFrom-behind (ComesTo m place want tx w) (λ refusal trail x. HasRefusalCause (FailsOn faults) refusal x) (finish ext) g tt mid r (record { disk = f; store = u }) (fault_free r only.is) (λ trail. cause) finished;
+      stops = StopsFrom-behind (ComesTo m place want tx w) (IsStoppedOn faults m) (finish ext) g tt mid r (record { disk = f; store = u }) (fault_free r only.is)
+          (λ trail. fault_stops faults m r trail (record { disk = f; store = u }) only.is cause) finished;
     }
 
   -- ---- by what the commit of the pages answers
@@ -243,7 +245,7 @@ module _ {D : Type 0} (told : D → Option Story) (len faults : D → ℕ) (m : 
     done-commit (Err e) items tx' same up done = tt
 
     pub stops-commit : {T : Type 0} (r : Result T Refusal) → IfErr r (λ e. IsOnlyFault e u) → IfErr r (λ e. HasRefusalCause (FailsOn faults) e (record { disk = f; store = u }))
-        → IfErr (ended r) (λ e. (want : Wanted) (g : Going) → IsAt m place want tx g old v → StopsAt told len faults (extensions_of m) tx g e.refusal (record { disk = d; store = s }))
+        → IfErr (ended r) (λ e. (want : Wanted) (g : Going) → IsAt m place want tx g old v → StopsAt told len faults m tx g e.refusal (record { disk = d; store = s }))
     stops-commit (Ok x) only cause = tt
     stops-commit (Err e) only cause = λ want g at. StopsAt-commit want g (v, at) (finished want g at) none e only cause
 
@@ -252,27 +254,27 @@ module _ {D : Type 0} (told : D → Option Story) (len faults : D → ℕ) (m : 
     pub LeavesOldOrFinished-abort : {T : Type 0} (r : Result T Refusal) → Remains told len faults e f t u r → LeavesWanted mid new → LeavesOldOrFinished m place.root want g old new
     LeavesOldOrFinished-abort r remains leaves = inl ((LeavesWanted-stopped r remains leaves).each want at.1.has.now at.1.has.stands.store)
 
-  module _ (g : Going) (r : Refusal) (stops : StopsFrom (λ refusal trail x. HasRefusalCause (FailsOn faults) refusal x) (finish (extensions_of m)) g r (record { disk = e; store = t })) where
-    pub StopsAt-abort : StopsAt told len faults (extensions_of m) tx g r (record { disk = d; store = s })
+  module _ (g : Going) (r : Refusal) (stops : StopsFrom (IsStoppedOn faults m) (finish (extensions_of m)) g r (record { disk = e; store = t })) where
+    pub StopsAt-abort : StopsAt told len faults m tx g r (record { disk = d; store = s })
     StopsAt-abort = record { there = record { disk = e; store = t }; led = λ not. led; stops = stops }
 
     -- the disk failed in it
-    pub StopsAt-fault : (q : Refusal) → IsOnlyFault q u → HasRefusalCause (FailsOn faults) q (record { disk = f; store = u }) → StopsAt told len faults (extensions_of m) tx g q (record { disk = d; store = s })
+    pub StopsAt-fault : (q : Refusal) → IsOnlyFault q u → HasRefusalCause (FailsOn faults) q (record { disk = f; store = u }) → StopsAt told len faults m tx g q (record { disk = d; store = s })
     StopsAt-fault q only cause = record {
       there = record { disk = f; store = u };
       led = λ not. absurd (not only.is);
-      stops = StopsFrom-else (λ refusal trail x. HasRefusalCause (FailsOn faults) refusal x) (λ refusal trail x. HasRefusalCause (FailsOn faults) refusal x) (finish (extensions_of m)) g r q (record { disk = e; store = t })
-          (record { disk = f; store = u }) (fault_free q only.is) (λ trail. cause) stops;
+      stops = StopsFrom-else (IsStoppedOn faults m) (IsStoppedOn faults m) (finish (extensions_of m)) g r q (record { disk = e; store = t })
+          (record { disk = f; store = u }) (fault_free q only.is) (λ trail. fault_stops faults m q trail (record { disk = f; store = u }) only.is cause) stops;
     }
 
     -- by what is answered then
     abbrev answered : Refusal → Type 0
     answered q = IsOrFaulted faults r q (record { disk = f; store = u })
 
-    pub StopsAt-stopped : (q : Refusal) → answered q → StopsAt told len faults (extensions_of m) tx g q (record { disk = d; store = s })
+    pub StopsAt-stopped : (q : Refusal) → answered q → StopsAt told len faults m tx g q (record { disk = d; store = s })
     StopsAt-stopped q is =
         ⊎_elim
-        (λ (same : q ≡ r). subst (λ (x : Refusal). StopsAt told len faults (extensions_of m) tx g x (record { disk = d; store = s })) (sym same) StopsAt-abort)
+        (λ (same : q ≡ r). subst (λ (x : Refusal). StopsAt told len faults m tx g x (record { disk = d; store = s })) (sym same) StopsAt-abort)
         (λ (failed : IsFaulted faults q (record { disk = f; store = u })). StopsAt-fault q failed.only failed.cause)
         is
 

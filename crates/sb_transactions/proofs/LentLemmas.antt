@@ -22,13 +22,14 @@ use Rattle.sb_tables.specs.Refusals.{HasFaultCause, HasRefusalCause, IsRefusedBy
 use Rattle.sb_tables.specs.Working.{IsNoneGone, extensions_of}
 use Rattle.sb_tables.specs.Working as engine
 use Rattle.sb_tables.proofs.RefusedLemmas.{of_fault, on_fault}
-use Rattle.sb_transactions.specs.Commits.{ComesTo, FailsOn, Finishes, Mounted}
+use Rattle.sb_transactions.specs.Commits.{ComesTo, FailsOn, Finishes, IsStoppedOn, Mounted}
 use Rattle.sb_transactions.specs.declared.transactions.Point.{Point}
 use Rattle.sb_transactions.specs.Driven.{HasLent, IsServed, LeadsLent, WorksOn}
 use Rattle.sb_transactions.specs.Transactions.{IsAt, IsPointOf, WasBegun, WasSo}
 use Rattle.sb_transactions.proofs.CallLemmas.{Fault-down}
 use Rattle.sb_transactions.proofs.DrivenLemmas.{Stands-at, driven-begun, driven-each, driven-points, driven-stands}
 use Rattle.sb_transactions.proofs.FinishLemmas.{HasCause-map, StopsFrom-map, finish-map}
+use Rattle.sb_transactions.proofs.LicenceLemmas.{licensed-lent, table_of}
 
 -- what is lent
 pub record IsStoreLent {D : Type 0} (disk : D) (store : State) (tx : ℕ) (a : Durable D) : Type 0 where
@@ -74,13 +75,19 @@ module _ {D : Type 0} (told : D → Option Story) (len faults : D → ℕ) (m : 
   mount d = record { disk = d.disk.now; store = d.store.now }
 
   pub refused-lent : {T : Type 0} (r : Result T Refusal)
-      → IfErr r (λ r'. (g : Going) → engine.Stands (HasLent told len) m place.root g a v → StopsFrom (λ refusal trail x. HasRefusalCause (FailsLent faults) refusal x) (finish (extensions_of m)) g r' b)
+      → IfErr r (λ r'. (g : Going) → engine.Stands (HasLent told len) m place.root g a v
+      → StopsFrom (engine.IsStoppedIn (HasLent told len) (LeadsLent told len faults) (FailsLent faults) table_of m) (finish (extensions_of m)) g r' b)
       → IfErr r (λ r'. (want : Wanted) (g : Going) → IsAt m place want tx g (parts told len disk store) v
-      → StopsFrom (λ refusal trail x. HasRefusalCause (FailsOn faults) refusal x) (finish (extensions_of m)) g r' (record { disk = e; store = b.store.now }))
+      → StopsFrom (IsStoppedOn faults m) (finish (extensions_of m)) g r' (record { disk = e; store = b.store.now }))
   refused-lent (Ok x) stops = tt
   refused-lent (Err r) stops = λ want g at.
-      StopsFrom-map (λ refusal trail x. HasRefusalCause (FailsLent faults) refusal x) (λ refusal trail x. HasRefusalCause (FailsOn faults) refusal x) (finish (extensions_of m)) g r b (record { disk = e; store = b.store.now })
-      (λ trail cause. subst (λ (d : D). HasRefusalCause (FailsOn faults) r (record { disk = d; store = b.store.now })) (sym same) (HasCause-map (FailsLent faults) (FailsOn faults) mount (λ fault x y fails. fails) r b cause))
+      StopsFrom-map (engine.IsStoppedIn (HasLent told len) (LeadsLent told len faults) (FailsLent faults) table_of m) (IsStoppedOn faults m) (finish (extensions_of m)) g r b
+      (record { disk = e; store = b.store.now })
+      (λ trail stopped. record {
+        cause = subst (λ (d : D). HasRefusalCause (FailsOn faults) r (record { disk = d; store = b.store.now })) (sym same)
+            (HasCause-map (FailsLent faults) (FailsOn faults) mount (λ fault x y fails. fails) r b stopped.cause);
+        licensed = licensed-lent told len faults m b trail r serves.ready.few stopped.cause stopped.licensed;
+      })
       (stops g (stands_lent want g at))
 
   -- a fault is answered only where the store is down

@@ -9,4 +9,5 @@ pub mod DrivenLemmas
 pub mod EndLemmas
 pub mod OpenLemmas
 pub mod RunLemmas
+pub mod LicenceLemmas
 pub mod LentLemmas

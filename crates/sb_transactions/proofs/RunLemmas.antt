@@ -12,8 +12,9 @@ use Rattle.sb_drive.specs.declared.space.SpaceFault.{SpaceFault}
 use Rattle.sb_map.specs.declared.place.Place.{Place}
 use Rattle.sb_tables.specs.Running.{Running}
 use Rattle.sb_tables.specs.Work.{Work}
-use Rattle.sb_tables.specs.Refusals.{HasRefusalCause, IsRefusedBy}
-use Rattle.sb_tables.specs.Working.{IsNoneGone, IsStoppedBy, Stands, StandsFor, extensions_in, extensions_of}
+use Rattle.sb_tables.specs.Refusals.{HasPagesLeft, HasRefusalCause, IsRefusedBy}
+use Rattle.sb_tables.specs.Licensed.{paged_licence}
+use Rattle.sb_tables.specs.Working.{IsNoneGone, IsStoppedFor, IsStoppedIn, Stands, StandsFor, extensions_in, extensions_of}
 use Rattle.sb_transactions.specs.Driven.{WorksOn}
 use Rattle.sb_transactions.proofs.FinishLemmas.{StopsFrom-behind, StopsFrom-map, finish-gone, refusal-free}
 
@@ -61,12 +62,14 @@ module _ {B S : Type 0} (Has : Wanted → Slots → S → Type 0) (Fails : Space
   abbrev IsSo : Going → Meanings → Place → S → Work → Type 0
   IsSo g m q z u = Stands Has m q.root g z u
 
-  pub finish-stopped : (r : Refusal) → ((g : Going) → StandsFor Has meanings g a → StopsFrom (IsStoppedBy Fails) (finish (extensions_in meanings a)) g r b) → b.space.now ≡ y
-      → (g : Going) → Stands Has (meanings boxes) place.root g x w → StopsFrom (λ refusal trail z. HasRefusalCause Fails refusal z) (finish (extensions_of (meanings boxes))) g r y
-  finish-stopped r stopped same g stands =
-      subst (λ (c : B). StopsFrom (λ refusal trail z. HasRefusalCause Fails refusal z) (finish (extensions_of (meanings c))) g r y) lent.boxes_are
-      (StopsFrom-map (IsStoppedBy Fails) (λ refusal trail z. HasRefusalCause Fails refusal z) (finish (extensions_in meanings a)) g r b y
-      (λ trail is. subst (λ (z : S). HasRefusalCause Fails r z) same is) (stopped g (parts-to meanings boxes place x w a lent (IsSo g) stands)))
+  pub finish-stopped : (Leads : ℕ → S → S → Type 0) (table : S → ℕ) (r : Refusal)
+      → ((g : Going) → StandsFor Has meanings g a → StopsFrom (IsStoppedFor Has Leads Fails table meanings) (finish (extensions_in meanings a)) g r b) → b.boxes.now ≡ boxes → b.space.now ≡ y
+      → (g : Going) → Stands Has (meanings boxes) place.root g x w → StopsFrom (IsStoppedIn Has Leads Fails table (meanings boxes)) (finish (extensions_of (meanings boxes))) g r y
+  finish-stopped Leads table r stopped kept same g stands =
+      subst (λ (c : B). StopsFrom (IsStoppedIn Has Leads Fails table (meanings boxes)) (finish (extensions_of (meanings c))) g r y) lent.boxes_are
+      (StopsFrom-map (IsStoppedFor Has Leads Fails table meanings) (IsStoppedIn Has Leads Fails table (meanings boxes)) (finish (extensions_in meanings a)) g r b y
+      (λ trail is. subst (λ (c : B). IsStoppedIn Has Leads Fails table (meanings c) r trail y) kept
+      (subst (λ (z : S). IsStoppedIn Has Leads Fails table (meanings b.boxes.now) r trail z) same is)) (stopped g (parts-to meanings boxes place x w a lent (IsSo g) stands)))
 
   -- where no action waits it wants no room
   pub finish-roomless : (r : Refusal) → ((g : Going) → StandsFor Has meanings g a → g.queue.actions ≡ [] → is_room r ≡ false)
@@ -81,12 +84,13 @@ module _ {B S : Type 0} (Has : Wanted → Slots → S → Type 0) (Fails : Space
         subst (λ (d : B). MadeFrom (λ h z. Stands Has (meanings boxes) place.root h z v) (finish (extensions_of (meanings d))) g tt y) lent.boxes_are
         (record { picks = from.picks; after = from.after; leads = from.leads; stands = parts-from meanings boxes place y v c end (IsSo from.after) (freed from.after from.stands) })
 
-    pub finish-refused : (r : Refusal) → IsRefusedBy Fails r y → HasRefusalCause Fails r y
-        → (g : Going) → Stands Has (meanings boxes) place.root g x w → StopsFrom (λ refusal trail z. HasRefusalCause Fails refusal z) (finish (extensions_of (meanings boxes))) g r y
-    finish-refused r refused cause g stands =
-        subst (λ (d : B). StopsFrom (λ refusal trail z. HasRefusalCause Fails refusal z) (finish (extensions_of (meanings d))) g r y) lent.boxes_are
-        (StopsFrom-behind (StandsFor Has meanings) (λ refusal trail z. HasRefusalCause Fails refusal z) (finish (extensions_in meanings a)) g tt b r y
-        (subst (λ (q : Refusal). is_free q ≡ true) refused.is (refusal-free refused.fault)) (λ trail. cause)
+    pub finish-refused : (Leads : ℕ → S → S → Type 0) (table : S → ℕ) (r : Refusal) → IsRefusedBy Fails r y → HasRefusalCause Fails r y → HasPagesLeft r
+        → (g : Going) → Stands Has (meanings boxes) place.root g x w → StopsFrom (IsStoppedIn Has Leads Fails table (meanings boxes)) (finish (extensions_of (meanings boxes))) g r y
+    finish-refused Leads table r refused cause left g stands =
+        subst (λ (d : B). StopsFrom (IsStoppedIn Has Leads Fails table (meanings boxes)) (finish (extensions_of (meanings d))) g r y) lent.boxes_are
+        (StopsFrom-behind (StandsFor Has meanings) (IsStoppedIn Has Leads Fails table (meanings boxes)) (finish (extensions_in meanings a)) g tt b r y
+        (subst (λ (q : Refusal). is_free q ≡ true) refused.is (refusal-free refused.fault))
+        (λ trail. record { cause = cause; licensed = paged_licence Has Leads table (meanings boxes) r trail y left })
         (made g (parts-to meanings boxes place x w a lent (IsSo g) stands)))
 
     -- and behind it no owner is to go where nothing was gone

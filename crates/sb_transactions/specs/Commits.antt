@@ -1,15 +1,16 @@
 -- What a commit makes of the work of a transaction.
 use Rattle.std.specs.Prelude.{◌≡◌, ◌⊎◌, ℕ, Bool, true, false, List, Option, None, Result, Ok, Err}
+use Rattle.std.specs.List.{Any}
 use Rattle.sb_disk.specs.Disk.{Story}
 use Rattle.sb_disk.specs.Moments.{LeavesOnly}
 use Rattle.sb_images.specs.Images.{Restores, IsOldOrNew}
 use Rattle.sb_relation.specs.Db.{Db, Key}
-use Rattle.sb_fold.specs.Extensions.{Extensions}
 use Rattle.sb_fold.specs.Finish.{finish}
-use Rattle.sb_fold.specs.Outcome.{Going}
+use Rattle.sb_fold.specs.Outcome.{Going, Trail}
 use Rattle.sb_map.specs.declared.place.Place.{Place}
 use Rattle.sb_fold.specs.declared.refusal.Refusal.{Refusal}
 use Rattle.sb_fold.specs.declared.refusal.Refusal.TheVariants.{Room, Fault, NoMemory}
+use Rattle.sb_fold.specs.declared.refusal.Room.TheVariants.{Data}
 use Rattle.sb_cascade.specs.Runs.{MadeFrom, StopsFrom}
 use Rattle.sb_registry.specs.Boxes.{Meanings}
 use Rattle.sb_drive.specs.Spaces.{Wanted}
@@ -17,9 +18,10 @@ use Rattle.sb_drive.specs.declared.space.SpaceFault.{SpaceFault}
 use Rattle.sb_txn.specs.Clauses.{LeavesWanted}
 use Rattle.sb_txn.specs.Parts.{Parts}
 use Rattle.sb_txn.specs.State.{State}
+use Rattle.sb_space.specs.Table.{table_len}
 use Rattle.sb_space.specs.Works.{Fails, StaysWanted, Works}
 use Rattle.sb_tables.specs.Refusals.{HasRefusalCause}
-use Rattle.sb_tables.specs.Working.{extensions_of}
+use Rattle.sb_tables.specs.Working.{IsShortOf, extensions_of}
 use Rattle.sb_tables.specs.Work.{Work}
 use Rattle.sb_transactions.specs.declared.refusals.Uncommitted.{Uncommitted}
 use Rattle.sb_transactions.specs.declared.transactions.Point.{Point}
@@ -63,16 +65,26 @@ pub record Mounted (D : Type 0) : Type 0 where
 abbrev pub FailsOn : {D : Type 0} → (D → ℕ) → SpaceFault → Mounted D → Mounted D → Type 0
 FailsOn faults fault old new = Fails faults fault old.disk new.disk old.store new.store
 
+-- Where the refusal is want of a page of a store of so many, the database needs so much at some point of the trail.
+abbrev pub IsLicensedOn : Meanings → ℕ → Refusal → Trail → Type 0
+IsLicensedOn m pages (Room (Data used total)) trail = Any (IsShortOf total (table_len pages) (extensions_of m)) trail.points
+IsLicensedOn m pages r trail = Unit {0}
+
+-- the disk or the store has the cause of a refusal, and where it is want of a page, the work had come so far that pages may be wanting
+pub record IsStoppedOn {D : Type 0} (faults : D → ℕ) (m : Meanings) (r : Refusal) (trail : Trail) (now : Mounted D) : Type 0 where
+  pub cause : HasRefusalCause (FailsOn faults) r now
+  pub licensed : IsLicensedOn m now.store.pool.geometry.pages r trail
+
 -- calls of the transaction lead from one to the other
 abbrev pub IsLed : {D : Type 0} → (D → Option Story) → (D → ℕ) → (D → ℕ) → ℕ → Mounted D → Mounted D → Type 0
 IsLed told len faults tx old new = (k : ℕ) × Works told len faults tx k old.disk new.disk old.store new.store
 
 -- Finishing the transaction is refused: as the definition says; or the disk has failed; or room or memory is wanting at a moment behind calls of it.
 -- To a fault no such calls lead where it came in the commit of the pages, or on the way back from the work.
-pub record StopsAt {D : Type 0} (told : D → Option Story) (len faults : D → ℕ) (ext : Extensions) (tx : ℕ) (g : Going) (r : Refusal) (old : Mounted D) : Type 0 where
+pub record StopsAt {D : Type 0} (told : D → Option Story) (len faults : D → ℕ) (m : Meanings) (tx : ℕ) (g : Going) (r : Refusal) (old : Mounted D) : Type 0 where
   pub there : Mounted D
   pub led : (r ≡ Fault → ⊥) → IsLed told len faults tx old there
-  pub stops : StopsFrom (λ refusal trail x. HasRefusalCause (FailsOn faults) refusal x) (finish ext) g r there
+  pub stops : StopsFrom (IsStoppedOn faults m) (finish (extensions_of m)) g r there
 
 -- the refusal that led here, or a fault, since the disk failed on the way back
 pub record IsFaulted {D : Type 0} (faults : D → ℕ) (r : Refusal) (new : Mounted D) : Type 0 where

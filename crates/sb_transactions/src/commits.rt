@@ -12,7 +12,7 @@ ghost use Rattle.sb_txn.specs.Clauses.{CommitAsksNothing};
 ghost use Rattle.sb_txn.specs.Parts.{parts};
 ghost use Rattle.sb_space.specs.Works.{Serves};
 ghost use Rattle.sb_tables.specs.Refusals.{HasRefusalCause};
-ghost use Rattle.sb_tables.specs.Working.{IsNoneGone, extensions_of};
+ghost use Rattle.sb_tables.specs.Working.{IsNoneGone};
 ghost use Rattle.sb_transactions.specs.Calls.{IsOnlyFault, KeepsWanted, Remains};
 ghost use Rattle.sb_transactions.specs.Commits.{by_refusal, FailsOn, Finishes, IsDone, IsEnded, LeavesEither, LeavesOldOrFinished, StaysOpen, StopsAt, is_wanting};
 ghost use Rattle.sb_transactions.specs.Transactions.{HasNothingLeft, IsAt, IsFinished, IsUsable, Rests, WasBegun};
@@ -49,7 +49,7 @@ pub fn commit<B: Boxes, D: Disk>(
         (parts D.told D.len disk.new space.new.store)) }
     ensures refused { IfErr result (λ e. (want : Wanted) (g : Going)
         → IsAt (B.meanings boxes.now) place want transaction.tx.store.number g (parts D.told D.len disk.old space.old.store) transaction.work
-        → StopsAt D.told D.len D.faults (extensions_of (B.meanings boxes.now)) transaction.tx.store.number g e.refusal
+        → StopsAt D.told D.len D.faults (B.meanings boxes.now) transaction.tx.store.number g e.refusal
         (record { disk = disk.old; store = space.old.store })) }
     ensures fault { IfErr result (λ e. OnFault e.refusal (space.new.store.book.down ≡ true)) }
 

@@ -8,12 +8,12 @@ ghost use Rattle.sb_cascade.specs.Runs.{MadeFrom, OnFault, StopsFrom, is_room};
 ghost use Rattle.sb_registry.specs.Boxes.{Meanings};
 ghost use Rattle.sb_drive.specs.Spaces.{LeadsOn, Wanted};
 ghost use Rattle.sb_txn.specs.Parts.{parts};
-ghost use Rattle.sb_tables.specs.Refusals.{HasFaultCause, HasRefusalCause};
+ghost use Rattle.sb_tables.specs.Refusals.{HasFaultCause};
 ghost use Rattle.sb_tables.specs.Working.{IsNoneGone, extensions_of};
 ghost use Rattle.sb_tables.specs.Working as engine;
 ghost use Rattle.sb_map.specs.declared.place.Place.{Place};
 ghost use Rattle.sb_transactions.specs.declared.transactions.Point.{Point};
-ghost use Rattle.sb_transactions.specs.Commits.{ComesTo, FailsOn, Finishes, IsLed};
+ghost use Rattle.sb_transactions.specs.Commits.{ComesTo, Finishes, IsLed, IsStoppedOn};
 ghost use Rattle.sb_transactions.specs.Driven.{WorksOn};
 ghost use Rattle.sb_transactions.specs.Transactions.{HasNothingLeft, IsAt, IsPointOf, IsUsable, WasBegun, WasSo};
 
@@ -58,7 +58,7 @@ pub(crate) fn finish_work<B: Boxes, D: Disk>(
     ensures none { OnOk result (transaction.new.work.gone.items ≡ []) }
     ensures refused { IfErr result (λ r. (want : Wanted) (g : Going)
         → IsAt (B.meanings boxes.now) place want transaction.old.tx.store.number g (parts D.told D.len disk.old space.old.store) transaction.old.work
-        → StopsFrom (λ refusal trail x. HasRefusalCause (FailsOn D.faults) refusal x) (finish (extensions_of (B.meanings boxes.now))) g r
+        → StopsFrom (IsStoppedOn D.faults (B.meanings boxes.now)) (finish (extensions_of (B.meanings boxes.now))) g r
         (record { disk = disk.new; store = space.new.store })) }
     ensures fault { IfErr result (λ r. OnFault r (space.new.store.book.down ≡ true)) }
     ensures room { IfErr result (λ r. (want : Wanted) (g : Going)
@@ -96,7 +96,7 @@ fn finish_over<B: Boxes, S: Owners>(
         → MadeFrom (λ h x. engine.Stands S.has (B.meanings boxes.now) place.root h x work.new) (finish (extensions_of (B.meanings boxes.now))) g tt space.new) }
     ensures none { OnOk result (work.new.gone.items ≡ []) }
     ensures refused { IfErr result (λ r. (g : Going) → engine.Stands S.has (B.meanings boxes.now) place.root g space.old work.old
-        → StopsFrom (λ refusal trail x. HasRefusalCause S.fails refusal x) (finish (extensions_of (B.meanings boxes.now))) g r space.new) }
+        → StopsFrom (engine.IsStoppedIn S.has S.leads S.fails S.table (B.meanings boxes.now)) (finish (extensions_of (B.meanings boxes.now))) g r space.new) }
     ensures fault { IfErr result (λ r. HasFaultCause S.fails r space.new) }
     ensures room { IfErr result (λ r. (g : Going) → engine.Stands S.has (B.meanings boxes.now) place.root g space.old work.old
         → g.queue.actions ≡ [] → IsNoneGone g.gone → is_room r ≡ false) }

@@ -23,6 +23,7 @@ use Rattle.sb_forms.specs.Pages.{ArePages, page_count}
 use Rattle.sb_ctx.specs.declared.calls.AttachCall.TheVariants.{Changed}
 use Rattle.sb_ctx.specs.AttachAnswers.{content_after, content_over}
 use Rattle.sb_ctx.specs.Attachment.{Attachment}
+use Rattle.sb_ctx.specs.Laws.{IsAttachment}
 use Rattle.sb_registry.specs.Boxes.{Meanings, attachment_of}
 use Rattle.sb_drive.specs.Slots.{Slots, owned}
 use Rattle.sb_catalog.specs.declared.descriptor.Attached.{Attached}
@@ -36,7 +37,9 @@ use Rattle.sb_standing.proofs.KeptLemmas.{kept_at-all, kept_at-name, relation_at
 use Rattle.sb_standing.proofs.KeptChangedLemmas.{kept_at-with_changed, rising-before, with_changed}
 use Rattle.sb_standing.proofs.SplitLemmas.{EachRule-map, EachRule-weaker, SplitRules-weaker, no_joins}
 use Rattle.sb_standing.proofs.StandLemmas.{EachRule-split}
-use Rattle.sb_weights.specs.Weights.{AreBounded, AreMeant, AskedIsWithin, AskingIsWithin, changing, most_asked}
+use Rattle.sb_weights.specs.Rooms.{extensions_of}
+use Rattle.sb_weights.specs.Weights.{AreMeant, AskedIsWithin, AskingIsWithin, changing, most_asked}
+use Rattle.sb_weights.proofs.Bounded.{AreBounded, are-bounded}
 use Rattle.sb_weights.proofs.Catalogue.{catalogue_small}
 use Rattle.sb_weights.proofs.Changing.{changed_within}
 use Rattle.sb_weights.proofs.Lightness.{light_after, light_before, light_table, rules_after}
@@ -102,10 +105,11 @@ small_catalogue m durable root s gone before name c i asks =
     omega (arith, catalogue_small m durable root s (changed_kept name c before) asks.tables, length-map {B = Kept} before (change_kept name c))
 
 pub asked-is-within : AskedIsWithin
-asked-is-within m ext durable root s gone before aside spent name c i bounded meant are asks few =
+asked-is-within m durable root s gone before aside spent name c i meant are asks few =
+    let ext = extensions_of m in
     let at = changing (db_of before) name c aside spent in
     let after = changed_kept name c before in
-    let light = all_light m ext durable root s gone before aside spent name c i bounded meant are asks in
+    let light = all_light m ext durable root s gone before aside spent name c i (are-bounded m) meant are asks in
     let each = weighed_sum ext at s after (All-weaker (IsLight ext at s 0) (Weighs ext at s 0) (light_weighs ext at s 0) after light) in
     let catalogue = small_catalogue m durable root s gone before name c i asks in
     let rising = rising-before name c before asks.tables.rising in
@@ -170,9 +174,10 @@ within_weight m ext durable s before at name c k d a box pages bounded was becom
     let db = db_of before in
     let more = next_buckets a.rule c (changed_rows k.relation.rows c) a.buckets in
     let code = sym (kept.code ∙ kept.stands.spelled.coded) in
-    let old = bounded.attachments d.code box live db k.name a.rule a.buckets code kept.stands.spelled.limited none in
+    let law = subst IsAttachment (same_Some kept.box box (sym kept.live ∙ live)) kept.law in
+    let old = bounded.attachments d.code box live law db k.name a.rule a.buckets code kept.stands.spelled.limited none in
     let grows = bound_grows ext db k.name a.rule a.buckets more (buckets_grow a.rule c (changed_rows k.relation.rows c) a.buckets) in
-    let new = bounded.attachments d.code box live (changed db k.name c) k.name a.rule more code kept.stands.spelled.limited none in
+    let new = bounded.attachments d.code box live law (changed db k.name c) k.name a.rule more code kept.stands.spelled.limited none in
     let on = kept_at-name before name k there in
     let rows : rows_at db k.name ≡ k.relation.rows =
     rows_at-there db k.name k.relation (ap (relation_at db) on ∙ relation_at-there before name k there) in
@@ -185,7 +190,9 @@ within_weight m ext durable s before at name c k d a box pages bounded was becom
     omega (arith, room, most, old, grows, new, content, left, right, weighs)
 
 pub asking-is-within : AskingIsWithin
-asking-is-within m ext durable root s gone before aside spent name c i k d a box fresh bounded meant are asks few there at_d at_a live room =
+asking-is-within m durable root s gone before aside spent name c i k d a box fresh meant are asks few there at_d at_a live room =
+    let ext = extensions_of m in
+    let bounded = are-bounded m in
     let at = changing (db_of before) name c aside spent in
     let after = changed_kept name c before in
     let rows = changed_rows k.relation.rows c in

@@ -5,6 +5,7 @@ use Rattle.std.specs.FinMap.Entries.{is_sorted}
 use Rattle.std.specs.List.{sum_by}
 use Rattle.std.proofs.lemmas.List.{length-map}
 use Rattle.std.proofs.lemmas.List.Elements.{All-map, All-weaker}
+use Rattle.std.proofs.lemmas.Option.{same_Some}
 use Rattle.sb_value.specs.Equal.{bytes_same}
 use Rattle.sb_value.specs.Order.{bytes_cmp}
 use Rattle.sb_rule.specs.declared.change.Change.{Change}
@@ -17,6 +18,7 @@ use Rattle.sb_fold.specs.Extensions.{Extensions, is_durable_method}
 use Rattle.sb_fold.specs.Need.{bound_before, need}
 use Rattle.sb_fold.specs.Outcome.{Gone, Reached}
 use Rattle.sb_forms.specs.Pages.{ArePages, page_count}
+use Rattle.sb_ctx.specs.Laws.{IsMethod}
 use Rattle.sb_registry.specs.Boxes.{Meanings}
 use Rattle.sb_drive.specs.Slots.{Slots, owned}
 use Rattle.sb_room.specs.Owned.{pages_of}
@@ -26,11 +28,13 @@ use Rattle.sb_standing.specs.Tables.{Kept, KeepsTable, db_of}
 use Rattle.sb_standing.proofs.KeptLemmas.{kept_at-all, kept_at-name, relation_at-there}
 use Rattle.sb_standing.proofs.KeptChangedLemmas.{All-but, db_of-changed, kept_at-with_changed, owners_in-changed, with_changed}
 use Rattle.sb_standing.proofs.SplitLemmas.{EachRule-map}
-use Rattle.sb_weights.specs.Weights.{AreBounded, ChangeIsWithin, changing, owners_with}
+use Rattle.sb_weights.specs.Rooms.{extensions_of}
+use Rattle.sb_weights.specs.Weights.{ChangeIsWithin, changing, owners_with}
+use Rattle.sb_weights.proofs.Bounded.{AreBounded, are-bounded}
 use Rattle.sb_weights.proofs.Catalogue.{catalogue_small}
 use Rattle.sb_weights.proofs.Lightness.{light_table, rules_before}
 use Rattle.sb_weights.proofs.Summing.{more_sum, weighed_within}
-use Rattle.sb_weights.proofs.Weighing.{IsLight, IsLightRule, Weighs, buckets_grow, light_weighs, weight}
+use Rattle.sb_weights.proofs.Weighing.{IsLight, IsLightRule, Weighs, buckets_grow, grows_none, light_weighs, weight}
 
 -- ---- the whole
 -- with what the changed relations weigh, the pages are within the need of the change
@@ -55,7 +59,7 @@ light_other : (m : Meanings) (ext : Extensions) (durable : ℕ → Bool) (at : R
     → KeepsRules m durable s at.before k → IsLight ext at s 0 k
 light_other m ext durable at s k bounded are meant joinless table rules =
     light_table m ext durable at s k bounded are meant table
-    (rules_before m ext durable at s k (λ a. a.buckets) bounded are (λ a. omega arith) joinless rules)
+    (rules_before m ext durable at s k (λ a. a.buckets) bounded are (λ a. grows_none a.rule a.buckets) joinless rules)
 
 -- the changed one has its attachments as they were
 grown_rules : (m : Meanings) (ext : Extensions) (durable : ℕ → Bool) (at : Reached) (s : Slots) (c : Change) (k : Kept) → AreBounded m ext
@@ -71,13 +75,19 @@ light_less : (ext : Extensions) (at : Reached) (s : Slots) (more : ℕ) (k : Kep
 light_less ext at s more k light = record { meant = light.meant; rows = omega (arith, light.rows); rules = light.rules }
 
 pub change-is-within : ChangeIsWithin
-change-is-within m ext durable root s gone kept aside spent name k c box fresh bounded meant are keeps few there live room =
+change-is-within m durable root s gone kept aside spent name k c box fresh meant are keeps few there live room =
     let catalogue = catalogue_small m durable root s kept keeps.tables in
     let weighs = All-weaker (IsLight ext at s 0) (Weighs ext at s 0) (light_weighs ext at s 0) (changed_kept name c kept) each in
     let sum = more_sum ext at s fresh name (with_changed c k) (changed_kept name c kept) (kept_at-with_changed name c kept k there)
     (light_weighs ext at s fresh (with_changed c k) named) weighs in
     changed_within ext name c aside spent s fresh gone kept keeps.tables.rising catalogue few sum
   where
+    ext : Extensions
+    ext = extensions_of m
+
+    bounded : AreBounded m ext
+    bounded = are-bounded m
+
     at : Reached
     at = changing (db_of kept) name c aside spent
 
@@ -90,8 +100,9 @@ change-is-within m ext durable root s gone kept aside spent name k c box fresh b
     rows : page_count (owned s k.descriptor.owner) + fresh
         ≤ max (bound_before ext (relation_at (db_of kept) k.name)) (method_bound ext (with_changed c k).relation)
     rows =
-        let old = bounded.methods k.descriptor.method box live k.relation (sym table.is.method) in
-        let new = bounded.methods k.descriptor.method box live (with_changed c k).relation (sym table.is.method) in
+        let law = subst IsMethod (same_Some table.rows.live.box box (sym table.rows.live.live ∙ live)) table.rows.live.law in
+        let old = bounded.methods k.descriptor.method box live law k.relation (sym table.is.method) in
+        let new = bounded.methods k.descriptor.method box live law (with_changed c k).relation (sym table.is.method) in
         omega (arith, room, before, old, new)
 
     named : IsLight ext at s fresh (with_changed c k)

@@ -1,3 +1,4 @@
+pub mod Bounded
 pub mod Weighing
 pub mod Summing
 pub mod Catalogue
@@ -6,5 +7,7 @@ pub mod Resting
 pub mod Filling
 pub mod Changing
 pub mod Asking
-pub mod Ours
+pub mod Lacking
+pub mod Meant
+pub mod Coming
 mod WorkedStore

@@ -12,13 +12,13 @@ use Rattle.sb_drive.specs.Slots.{Slots, owned}
 use Rattle.sb_standing.specs.Standing.{EachRule, IsKept, KeepsRule, KeepsRules, has_no_join, is_join}
 use Rattle.sb_standing.specs.Tables.{Kept, KeepsTable, table_of}
 use Rattle.sb_standing.proofs.SplitLemmas.{EachRule-weaker, no_joins}
-use Rattle.sb_weights.specs.Weights.{AreBounded}
-use Rattle.sb_weights.proofs.Weighing.{IsLight, IsLightRule, bound_grows, row_pages, rule_pages, weight_is}
+use Rattle.sb_weights.proofs.Bounded.{AreBounded}
+use Rattle.sb_weights.proofs.Weighing.{Grows, IsLight, IsLightRule, bound_grows, row_pages, rule_pages, weight_is}
 
 -- ---- an attachment
 -- over the database before, in as many buckets or in more
 pub light_before : (m : Meanings) (ext : Extensions) (at : Reached) (s : Slots) (inst : Instance) (a : Db.Attached) (more : ℕ) → AreBounded m ext
-    → ArePages (owned s inst.owner) → is_join a.rule ≡ false → a.buckets ≤ more → KeepsRule m s inst a at.before
+    → ArePages (owned s inst.owner) → is_join a.rule ≡ false → Grows a.rule a.buckets more → KeepsRule m s inst a at.before
     → page_count (owned s inst.owner) ≤ rule_weight ext at inst.relation (record a { buckets = more }) a.rule
 light_before m ext at s inst a more bounded are none grows kept =
     let pages = rule_pages m ext s inst a at.before bounded are none kept in
@@ -47,7 +47,7 @@ light_table m ext durable at s k bounded are meant table rules =
 
 -- its attachments are kept over the database before, and weigh as much with any buckets that are no fewer
 pub rules_before : (m : Meanings) (ext : Extensions) (durable : ℕ → Bool) (at : Reached) (s : Slots) (k : Kept) (more : Db.Attached → ℕ)
-    → AreBounded m ext → ((o : ℕ) → ArePages (owned s o)) → ((a : Db.Attached) → a.buckets ≤ more a) → has_no_join k ≡ true
+    → AreBounded m ext → ((o : ℕ) → ArePages (owned s o)) → ((a : Db.Attached) → Grows a.rule a.buckets (more a)) → has_no_join k ≡ true
     → KeepsRules m durable s at.before k
     → EachRule (λ d a. IsLightRule ext at s k.name d (record a { buckets = more a })) k.descriptor.attachments k.relation.attachments
 rules_before m ext durable at s k more bounded are grows joinless rules =

@@ -8,7 +8,9 @@ use Rattle.sb_registry.specs.Boxes.{Meanings}
 use Rattle.sb_drive.specs.Slots.{Slots, owned}
 use Rattle.sb_standing.specs.Standing.{KeepsRules, has_no_join}
 use Rattle.sb_standing.specs.Tables.{Kept, KeepsTable, db_of}
-use Rattle.sb_weights.specs.Weights.{AreBounded, AreMeant, RestIsWithin, resting}
+use Rattle.sb_weights.specs.Rooms.{extensions_of}
+use Rattle.sb_weights.specs.Weights.{AreMeant, RestIsWithin, resting}
+use Rattle.sb_weights.proofs.Bounded.{AreBounded, are-bounded}
 use Rattle.sb_weights.proofs.Catalogue.{catalogue_small}
 use Rattle.sb_weights.proofs.Lightness.{light_table, rules_after}
 use Rattle.sb_weights.proofs.Summing.{weighed_sum, weighed_within}
@@ -24,9 +26,10 @@ light_rest m ext durable s kept aside spent bounded meant are tables rules joinl
     (rules_after m ext durable at s (get_or kept i d) bounded are (joinless i d in') (rules i d in'))
 
 pub rest-is-within : RestIsWithin
-rest-is-within m ext durable root s gone kept aside spent bounded meant are keeps few =
+rest-is-within m durable root s gone kept aside spent meant are keeps few =
+    let ext = extensions_of m in
     let at = resting (db_of kept) aside spent in
-    let light = light_rest m ext durable s kept aside spent bounded meant are keeps.tables.each keeps.rules keeps.joinless in
+    let light = light_rest m ext durable s kept aside spent (are-bounded m) meant are keeps.tables.each keeps.rules keeps.joinless in
     let weigh = All-weaker (IsLight ext at s 0) (Weighs ext at s 0) (light_weighs ext at s 0) kept light in
     let each = weighed_sum ext at s kept weigh in
     let within = weighed_within ext at s 0 gone kept

@@ -21,13 +21,13 @@ use Rattle.sb_ctx.specs.declared.instance.Instance.{Instance}
 use Rattle.sb_ctx.specs.AttachAnswers.{content_over}
 use Rattle.sb_registry.specs.Boxes.{Meanings}
 use Rattle.sb_drive.specs.Slots.{Slots, owned}
-use Rattle.sb_rows.specs.Live.{HasRows}
+use Rattle.sb_standing.specs.Live.{HasRows}
 use Rattle.sb_room.specs.Owned.{pages_of}
 use Rattle.sb_catalog.specs.declared.descriptor.Attached.{Attached}
 use Rattle.sb_standing.specs.Instances.{owners_of}
 use Rattle.sb_standing.specs.Standing.{EachRule, KeepsRule, is_join}
 use Rattle.sb_standing.specs.Tables.{Kept}
-use Rattle.sb_weights.specs.Weights.{AreBounded}
+use Rattle.sb_weights.proofs.Bounded.{AreBounded}
 
 -- ---- the pages of one instance
 -- those of a storage method
@@ -35,7 +35,7 @@ pub row_pages : (m : Meanings) (ext : Extensions) (s : Slots) (inst : Instance) 
     → r.method ≡ inst.code → HasRows m s inst r.rows → page_count (owned s inst.owner) ≤ method_bound ext r
 row_pages m ext s inst r bounded pages same has =
     let formed = has.live.law.formed inst (owned s inst.owner) r.rows has.holds in
-    omega (arith, formed.bound pages, bounded.methods inst.code has.live.box has.live.live r same)
+    omega (arith, formed.bound pages, bounded.methods inst.code has.live.box has.live.live has.live.law r same)
 
 -- those of an attachment
 pub rule_pages : (m : Meanings) (ext : Extensions) (s : Slots) (inst : Instance) (a : Db.Attached) (db : Db.Db) → AreBounded m ext
@@ -44,11 +44,27 @@ pub rule_pages : (m : Meanings) (ext : Extensions) (s : Slots) (inst : Instance)
 rule_pages m ext s inst a db bounded pages none kept =
     let formed = kept.law.formed inst (owned s inst.owner) (content_over kept.box inst a.rule db a.buckets) kept.holds in
     let coded = sym (kept.code ∙ kept.stands.spelled.coded) in
-    let bound = bounded.attachments inst.code kept.box kept.live db inst.relation a.rule a.buckets coded kept.stands.spelled.limited none in
+    let bound = bounded.attachments inst.code kept.box kept.live kept.law db inst.relation a.rule a.buckets coded kept.stands.spelled.limited none in
     omega (arith, formed.bound pages, bound)
 
--- ---- buckets, of which a change makes no fewer
-pub buckets_grow : (rule : Rule) (c : Change) (rows : Rows) (buckets : ℕ) → buckets ≤ next_buckets rule c rows buckets
+-- ---- buckets
+-- no fewer, and as many of a foreign rule, whose box may take fewer pages for more of them
+abbrev pub Grows : Rule → ℕ → ℕ → Type 0
+Grows (Foreign code desc) few more = few ≡ more
+Grows rule few more = few ≤ more
+
+pub grows_none : (rule : Rule) (buckets : ℕ) → Grows rule buckets buckets
+grows_none (TreeIndex columns unique) buckets = omega arith
+grows_none (HashIndex columns) buckets = omega arith
+grows_none (JoinIndex side columns other others) buckets = omega arith
+grows_none (Stats column low width) buckets = omega arith
+grows_none (Check pred deferred) buckets = omega arith
+grows_none (Refers side columns other others mode deferred) buckets = omega arith
+grows_none (Trigger on pred act deferred) buckets = omega arith
+grows_none (Foreign code desc) buckets = refl
+
+-- so it is with a change
+pub buckets_grow : (rule : Rule) (c : Change) (rows : Rows) (buckets : ℕ) → Grows rule buckets (next_buckets rule c rows buckets)
 buckets_grow (TreeIndex columns unique) c rows buckets = omega arith
 buckets_grow (HashIndex columns) (Insert key new) rows buckets =
     elim (nat_lt (8 * buckets) (length rows)) as (λ b. buckets ≤ cond b (buckets + 1) buckets) [ true ↦ omega arith | false ↦ omega arith ]
@@ -59,20 +75,20 @@ buckets_grow (Stats column low width) c rows buckets = omega arith
 buckets_grow (Check pred deferred) c rows buckets = omega arith
 buckets_grow (Refers side columns other others mode deferred) c rows buckets = omega arith
 buckets_grow (Trigger on pred act deferred) c rows buckets = omega arith
-buckets_grow (Foreign code desc) c rows buckets = omega arith
+buckets_grow (Foreign code desc) c rows buckets = refl
 
--- and more of them have no lesser bound
-pub bound_grows : (ext : Extensions) (db : Db.Db) (name : Name) (rule : Rule) (few more : ℕ) → few ≤ more
+-- and then the bound is no lesser
+pub bound_grows : (ext : Extensions) (db : Db.Db) (name : Name) (rule : Rule) (few more : ℕ) → Grows rule few more
     → rule_bound ext db name rule few ≤ rule_bound ext db name rule more
 bound_grows ext db name (TreeIndex columns unique) few more grows = omega arith
-bound_grows ext db name (HashIndex columns) few more grows = omega arith
+bound_grows ext db name (HashIndex columns) few more grows = omega (arith, grows)
 bound_grows ext db name (JoinIndex Main columns other others) few more grows = omega arith
 bound_grows ext db name (JoinIndex Mirror columns other others) few more grows = omega arith
 bound_grows ext db name (Stats column low width) few more grows = omega arith
 bound_grows ext db name (Check pred deferred) few more grows = omega arith
 bound_grows ext db name (Refers side columns other others mode deferred) few more grows = omega arith
 bound_grows ext db name (Trigger on pred act deferred) few more grows = omega arith
-bound_grows ext db name (Foreign code desc) few more grows = omega arith
+bound_grows ext db name (Foreign code desc) few more grows = omega (arith, ap (rule_bound ext db name (Foreign code desc)) grows)
 
 -- ---- what an attachment weighs
 -- where it is no join, the most of its pages before and after

@@ -1,1 +1,4 @@
+pub use Rattle.sb_room.specs.Owned
+pub mod Rooms
 pub mod Weights
+pub mod Coming

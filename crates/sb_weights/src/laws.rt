@@ -1,12 +1,7 @@
 //! Laws of how many pages a store has for its database.
 
-ghost use Rattle.sb_weights.specs.Weights.{OursAreBounded, RestIsWithin, FullIsNeeded, ChangeIsWithin, AskedIsWithin, AskingIsWithin};
-
-/// Boxes with codes of ours that are as each box is have bounds within those of the definitions. So only what is said of foreign codes is left
-/// to be shown.
-pub fn ours_are_bounded()
-    ensures bounded { OursAreBounded }
-{}
+ghost use Rattle.sb_weights.specs.Coming.{ComingIsFull};
+ghost use Rattle.sb_weights.specs.Weights.{RestIsWithin, FullIsNeeded, ChangeIsFull, ChangeIsWithin, AskedIsWithin, AskingIsFull, AskingIsWithin, LastingAreMeant};
 
 /// The pages of a store at rest are within the need of its database. Those that are held aside count as the most that each of them may be.
 pub fn rest_is_within()
@@ -19,9 +14,10 @@ pub fn full_is_needed()
 {}
 
 /// With the fresh pages of a call of the storage method that is within its room, the pages of a store are within the need of the change that
-/// the call makes.
+/// the call makes. So where no page is left for it, there are no more than those of the space itself and that need.
 pub fn change_is_within()
     ensures within { ChangeIsWithin }
+    ensures full { ChangeIsFull }
 {}
 
 /// While a relation's attachments are asked of a change, one after the other, the pages of the store are within the need of this change: each
@@ -30,4 +26,16 @@ pub fn change_is_within()
 pub fn asking_is_within()
     ensures asked { AskedIsWithin }
     ensures asking { AskingIsWithin }
+    ensures full { AskingIsFull }
+{}
+
+/// While a relation of a new name comes to a store, its owner's pages and those of the catalogue grow within their bounds. Where no page is left
+/// then, there are no more than those of the space itself and those that the database with the relation needs.
+pub fn coming_is_full()
+    ensures full { ComingIsFull }
+{}
+
+/// Relations outlive the run where no storage method of theirs counts its keys.
+pub fn lasting_are_meant()
+    ensures meant { LastingAreMeant }
 {}

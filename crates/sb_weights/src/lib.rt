@@ -4,5 +4,6 @@
 mod laws;
 
 pub use laws::{
-    asking_is_within, change_is_within, full_is_needed, ours_are_bounded, rest_is_within,
+    asking_is_within, change_is_within, coming_is_full, full_is_needed, lasting_are_meant,
+    rest_is_within,
 };

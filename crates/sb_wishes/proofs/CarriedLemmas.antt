@@ -12,12 +12,14 @@ use Rattle.sb_ctx.specs.declared.instance.Instance.{Instance}
 use Rattle.sb_drive.specs.Slots.{Slots}
 use Rattle.sb_drive.specs.Spaces.{Wanted}
 use Rattle.sb_registry.specs.Boxes.{Meanings}
+use Rattle.sb_drive.specs.declared.space.SpaceFault.{SpaceFault}
+use Rattle.sb_standing.specs.Lacking.{WhereShort}
 use Rattle.sb_standing.specs.Live.{HasRows}
 use Rattle.sb_catalog.specs.declared.descriptor.Attached.{Attached}
 use Rattle.sb_wishes.specs.declared.settling.Edit as code
 use Rattle.sb_wishes.specs.declared.settling.Outcome.{Outcome}
 use Rattle.sb_wishes.specs.Edits.{GivesEdit, edit_raised}
-use Rattle.sb_wishes.specs.Outcomes.{Comes}
+use Rattle.sb_wishes.specs.Outcomes.{Comes, LacksPage}
 use Rattle.sb_wishes.specs.Wished.{IsTableOf}
 
 -- this comes of the work on each relation of which something is so
@@ -28,6 +30,15 @@ ComesOf Has Ways m inst rules old new IsSo work out =
 abbrev pub ComesOfAll : {S : Type 0} → (Wanted → Slots → S → Type 0) → (ℕ → S → S → Type 0) → Meanings → Instance → List Attached → S → S → (Relation → Work Change) → Outcome → Type 0
 ComesOfAll Has Ways m inst rules old new work out =
     (want : Wanted) (s : Slots) (r : Relation) → Has want s old → IsTableOf inst rules r → (has : HasRows m s inst r.rows) → Comes Has Ways m inst want s old new r has (work r) out
+
+-- for work on each relation of which something is so no page was left
+abbrev pub LacksOf : {S : Type 0} → (Wanted → Slots → S → Type 0) → Meanings → Instance → List Attached → S → (Relation → Type 0) → (Relation → Work Change) → SpaceFault → Type 0
+LacksOf Has m inst rules old IsSo work e =
+    (want : Wanted) (s : Slots) (r : Relation) → Has want s old → IsTableOf inst rules r → (has : HasRows m s inst r.rows) → IsSo r → WhereShort e (LacksPage m s inst r has (work r))
+
+abbrev pub LacksOfAll : {S : Type 0} → (Wanted → Slots → S → Type 0) → Meanings → Instance → List Attached → S → (Relation → Work Change) → SpaceFault → Type 0
+LacksOfAll Has m inst rules old work e =
+    (want : Wanted) (s : Slots) (r : Relation) → Has want s old → IsTableOf inst rules r → (has : HasRows m s inst r.rows) → WhereShort e (LacksPage m s inst r has (work r))
 
 -- ---- the edit of a number more
 pub gives_raised : (name : Name) (r : Relation) (schema : List Column) (key : Key) (column : Name) (by : ℤ) (old : Row) (got : Result code.Edit Refusal) → r.schema ≡ schema → Some old ≡ row_at r.rows key

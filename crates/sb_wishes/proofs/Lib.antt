@@ -5,3 +5,4 @@ pub mod CountsLemmas
 pub mod WishedLemmas
 pub mod SettledLemmas
 pub mod CarriedLemmas
+pub mod LackingLemmas

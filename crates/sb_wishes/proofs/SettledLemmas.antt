@@ -38,7 +38,8 @@ use Rattle.sb_catalog.specs.declared.descriptor.Attached.{Attached}
 use Rattle.sb_wishes.specs.declared.settling.Outcome.{Outcome}
 use Rattle.sb_wishes.specs.declared.settling.Outcome.TheVariants.{Made, Refused}
 use Rattle.sb_wishes.specs.Edits.{added, settled, taken, turned}
-use Rattle.sb_wishes.specs.Outcomes.{Comes, Meets, Refuses, call_of}
+use Rattle.sb_ctx.specs.Method.{call_of}
+use Rattle.sb_wishes.specs.Outcomes.{Comes, Meets, Refuses}
 use Rattle.sb_wishes.specs.Wished.{HasCounts, IsTableOf, is_long_in}
 use Rattle.sb_wishes.proofs.CountsLemmas.{counts_free}
 
@@ -56,7 +57,7 @@ long-same inst rules r row t =
     ap (λ (b : Bool). is_long_row inst.schema row || (inst.code == tree && is_long_code inst.schema inst.key row) || b) same
     ∙ (λ i. is_long_row (schema i) row || ((sym t.method i) == tree && is_long_code (schema i) (sym t.key i) row) || list_any (λ a. is_long_for (schema i) row a.rule) r.attachments)
 
-keys-same : (inst : Instance) (rules : List Attached) (r : Relation) (own : Option Key) (row : Row) → IsTableOf inst rules r
+pub keys-same : (inst : Instance) (rules : List Attached) (r : Relation) (own : Option Key) (row : Row) → IsTableOf inst rules r
     → new_keys (keying_of inst.code) r.rows own (code_of inst row) ≡ new_keys (keying_of r.method) r.rows own (key_of r row)
 keys-same inst rules r own row t = λ i. new_keys (keying_of (sym t.method i)) r.rows own (ordered_code (values_in (sym t.schema i) row (sym t.key i)))
 
@@ -96,7 +97,7 @@ is_free-none rows (Some own) key is = by (bytes_eq own key) refl is
     by false e is = inr (is_none-none (row_at rows key) is)
 
 -- a key that a row got is its own, or no row has it
-free_placed : (keying : Keying) (rows : Rows) (own : Option Key) (code key : Key) (LeavesWith : Key → Type 0) (Same : Type 0)
+pub free_placed : (keying : Keying) (rows : Rows) (own : Option Key) (code key : Key) (LeavesWith : Key → Type 0) (Same : Type 0)
     → (keying ≡ Counted → greatest rows < 2 ^ 64 - 1 → row_at rows (to_be_bytes w64 (greatest rows + 1)) ≡ None)
     → IsPlaced (new_keys keying rows own code) (placing.Key key) LeavesWith Same → (own ≡ Some key) ⊎ (row_at rows key ≡ None)
 free_placed Picked rows own code key LeavesWith Same counts is =
@@ -120,7 +121,7 @@ GivesChange work c = (picks : List Key) × ((g : Going) → Leads work g picks (
 abbrev pub StopsWork : Work Change → Refusal → Type 0
 StopsWork work e = (g : Going) → Leads work g [] (refuse e) g
 
-settled-short : (name : Name) (r : Relation) (edit : Edit) → is_long_edit r edit ≡ false → settled name r edit ≡ change_of name r edit
+pub settled-short : (name : Name) (r : Relation) (edit : Edit) → is_long_edit r edit ≡ false → settled name r edit ≡ change_of name r edit
 settled-short name r edit short = ap (λ (b : Bool). refuse_if b (TooLong name) >>= λ _. change_of name r edit) short
 
 settled-long : (name : Name) (r : Relation) (edit : Edit) → is_long_edit r edit ≡ true → settled name r edit ≡ refuse (TooLong name)
@@ -130,15 +131,15 @@ pub stops_by : (work : Work Change) (e : Refusal) → work ≡ refuse e → Stop
 stops_by work e is g = record { leads = λ more. ap (λ (w : Work Change). w (with_picks g more)) is }
 
 -- the work of a row that wants a key, by what became of it
-abbrev Ends : Name → Work Change → (Key → Change) → (Key → Type 0) → Type 0 → Placing → Type 0
+abbrev pub Ends : Name → Work Change → (Key → Change) → (Key → Type 0) → Type 0 → Placing → Type 0
 Ends name work mk LeavesWith Same (placing.Key key) = GivesChange work (mk key) × LeavesWith key
 Ends name work mk LeavesWith Same placing.Duplicate = StopsWork work (Duplicate name) × Same
 Ends name work mk LeavesWith Same placing.Range = StopsWork work (Range name) × Same
 
-abbrev keyed : Name → NewKeys → (Key → Change) → Work Change
+abbrev pub keyed : Name → NewKeys → (Key → Change) → Work Change
 keyed name keys mk = take_key name keys >>= λ key. made (mk key)
 
-ends : (name : Name) (keys : NewKeys) (mk : Key → Change) (placed : Placing) (LeavesWith : Key → Type 0) (Same : Type 0) → IsPlaced keys placed LeavesWith Same → Ends name (keyed name keys mk) mk LeavesWith Same placed
+pub ends : (name : Name) (keys : NewKeys) (mk : Key → Change) (placed : Placing) (LeavesWith : Key → Type 0) (Same : Type 0) → IsPlaced keys placed LeavesWith Same → Ends name (keyed name keys mk) mk LeavesWith Same placed
 ends name (AnyOf may) mk (placing.Key key) LeavesWith Same is = ((key ∷ [], λ g. leads_next (λ k. made (mk k)) (leads_pick name may key g is.0)), is.1)
 ends name (Just given) mk (placing.Key key) LeavesWith Same is =
     (([], λ g. record { leads = λ more. λ i. made (mk (sym is.0 i)) (record (with_picks g more) { used = sym (append-nil g.used) i }) }), is.1)

@@ -1,9 +1,8 @@
 -- What comes of work on one row, over a space of pages.
-use Rattle.std.specs.Prelude.{◌≡◌, ℕ, false, List, [], ◌++◌, All, IfSome}
+use Rattle.std.specs.Prelude.{◌≡◌, ℕ, max, false, List, [], ◌++◌, length, All, IfSome}
 use Rattle.sb_value.specs.declared.schema.Column.{Column}
 use Rattle.sb_value.specs.Fits.{Fits}
 use Rattle.sb_rule.specs.declared.change.Change.{Change}
-use Rattle.sb_rule.specs.declared.change.Change.TheVariants as change
 use Rattle.sb_rule.specs.Bound.{row_before, row_after}
 use Rattle.sb_relation.specs.Changes.{changed_rows}
 use Rattle.sb_relation.specs.Db.{Key, Relation}
@@ -12,24 +11,18 @@ use Rattle.sb_fold.specs.declared.refusal.Refusal.{Refusal}
 use Rattle.sb_fold.specs.Outcome.{Going, Work, made, refuse, Leads}
 use Rattle.sb_cascade.specs.Runs.{IsQuiet}
 use Rattle.sb_ctx.specs.declared.instance.Instance.{Instance}
-use Rattle.sb_ctx.specs.declared.calls.MethodCall.{MethodCall}
-use Rattle.sb_ctx.specs.declared.calls.MethodCall.TheVariants as call
 use Rattle.sb_ctx.specs.Attachment.{AreKeys}
+use Rattle.sb_ctx.specs.Method.{call_of}
 use Rattle.sb_drive.specs.Slots.{Slots}
 use Rattle.sb_drive.specs.Spaces.{LeadsWithin, Wanted}
 use Rattle.sb_registry.specs.Boxes.{Meanings}
+use Rattle.sb_standing.specs.Lacking.{IsShort}
 use Rattle.sb_standing.specs.Live.{HasRows, LeavesRows}
 use Rattle.sb_catalog.specs.declared.descriptor.Attached.{Attached}
 use Rattle.sb_standing.specs.Asked.{Suits}
 use Rattle.sb_wishes.specs.declared.settling.Outcome.{Outcome}
 use Rattle.sb_wishes.specs.declared.settling.Outcome.TheVariants.{Made, Refused}
 use Rattle.sb_wishes.specs.Wished.{HasCounts}
-
--- the call of the storage method that makes a change
-abbrev pub call_of : Change → MethodCall
-call_of (change.Insert key new) = call.Insert new
-call_of (change.Delete key old) = call.Delete key
-call_of (change.Update from old to new) = call.Update from new
 
 -- With some picks, and whatever picks follow, the work gives this change of the relation's rows; the pages hold the changed ones, within the call's cost.
 pub record Makes {S : Type 0} (Has : Wanted → Slots → S → Type 0) (Ways : ℕ → S → S → Type 0) (m : Meanings) (inst : Instance)
@@ -50,6 +43,15 @@ abbrev pub Comes : {S : Type 0} (Has : Wanted → Slots → S → Type 0) (Ways 
     (want : Wanted) (s : Slots) (old new : S) (r : Relation) → HasRows m s inst r.rows → Work Change → Outcome → Type 0
 Comes Has Ways m inst want s old new r has work (Made c) = Makes Has Ways m inst want s old new r has work c
 Comes Has Ways m inst want s old new r has work (Refused e) = Refuses Has m inst want s new r work e
+
+-- ---- want of a page
+-- With some picks, and whatever picks follow, the work gives a change of the relation's rows; and for the call that makes it no page was left.
+pub record LacksPage (m : Meanings) (s : Slots) (inst : Instance) (r : Relation) (has : HasRows m s inst r.rows) (work : Work Change) (total : ℕ) : Type 0 where
+  pub change : Change
+  pub picks : List Key
+  pub wished : (g : Going) → Leads work g picks (made change) (record g { used = g.used ++ picks })
+  pub short : HasCounts r
+      → IsShort s inst.owner (max (has.live.box.bound (length r.rows)) (has.live.box.bound (length (changed_rows r.rows change)))) total
 
 -- ---- whatever the pages hold
 -- the change has record keys, and rows that the relation may have

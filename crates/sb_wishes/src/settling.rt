@@ -7,10 +7,11 @@ ghost use Rattle.sb_drive.specs.Spaces.{Wanted};
 ghost use Rattle.sb_fold.specs.Wishes.{Adds, Takes, Turns};
 ghost use Rattle.sb_registry.specs.Live.{IsLive};
 ghost use Rattle.sb_registry.specs.Runs.{IsSound, Works};
+ghost use Rattle.sb_standing.specs.Lacking.{WhereShort};
 ghost use Rattle.sb_standing.specs.Live.{HasRows};
 ghost use Rattle.sb_standing.specs.Tables.{IsWide};
 ghost use Rattle.sb_wishes.specs.Edits.{IsEditOf, MayBeEdit, added, edit_in, settled, taken, turned};
-ghost use Rattle.sb_wishes.specs.Outcomes.{Comes, Meets};
+ghost use Rattle.sb_wishes.specs.Outcomes.{Comes, LacksPage, Meets};
 ghost use Rattle.sb_wishes.specs.Wished.{IsTableOf};
 
 use crate::lengths::is_too_long;
@@ -61,6 +62,10 @@ pub(crate) fn settle<S: PageSpace, B: Boxes>(
     ensures works { Works S.has S.leads S.fails S.durable S.total table.now.owner space.old space.new result }
     ensures undamaged { IfErr result (λ e. (want : Wanted) (s : Slots) (rows : Rows) → S.has want s space.old
         → HasRows (B.meanings boxes.now) s table.now rows → IsSound e) }
+    ensures full { IfErr result (λ e. (want : Wanted) (s : Slots) (r : Relation) → S.has want s space.old
+        → IsTableOf table.now rules.now r → (has : HasRows (B.meanings boxes.now) s table.now r.rows)
+        → IsEditOf r.rows (edit_in edit)
+        → WhereShort e (LacksPage (B.meanings boxes.now) s table.now r has (settled table.now.relation r (edit_in edit)))) }
     ensures ready { S.is_ready space.new }
 {
     match edit {
@@ -92,6 +97,9 @@ fn add<S: PageSpace, B: Boxes>(
     ensures works { Works S.has S.leads S.fails S.durable S.total table.now.owner space.old space.new result }
     ensures undamaged { IfErr result (λ e. (want : Wanted) (s : Slots) (rows : Rows) → S.has want s space.old
         → HasRows (B.meanings boxes.now) s table.now rows → IsSound e) }
+    ensures full { IfErr result (λ e. (want : Wanted) (s : Slots) (r : Relation) → S.has want s space.old
+        → IsTableOf table.now rules.now r → (has : HasRows (B.meanings boxes.now) s table.now r.rows)
+        → WhereShort e (LacksPage (B.meanings boxes.now) s table.now r has (settled table.now.relation r (Adds new)))) }
     ensures ready { S.is_ready space.new }
 {
     let relation = table.relation.copy()?;
@@ -136,6 +144,10 @@ fn take<S: PageSpace, B: Boxes>(
     ensures works { Works S.has S.leads S.fails S.durable S.total table.now.owner space.old space.new result }
     ensures undamaged { IfErr result (λ e. (want : Wanted) (s : Slots) (rows : Rows) → S.has want s space.old
         → HasRows (B.meanings boxes.now) s table.now rows → IsSound e) }
+    ensures full { IfErr result (λ e. (want : Wanted) (s : Slots) (r : Relation) → S.has want s space.old
+        → (has : HasRows (B.meanings boxes.now) s table.now r.rows)
+        → IsEditOf r.rows (Takes key old)
+        → WhereShort e (LacksPage (B.meanings boxes.now) s table.now r has (settled table.now.relation r (Takes key old)))) }
     ensures ready { S.is_ready space.new }
 {
     let relation = table.relation.copy()?;
@@ -179,6 +191,10 @@ fn turn<S: PageSpace, B: Boxes>(
     ensures works { Works S.has S.leads S.fails S.durable S.total table.now.owner space.old space.new result }
     ensures undamaged { IfErr result (λ e. (want : Wanted) (s : Slots) (rows : Rows) → S.has want s space.old
         → HasRows (B.meanings boxes.now) s table.now rows → IsSound e) }
+    ensures full { IfErr result (λ e. (want : Wanted) (s : Slots) (r : Relation) → S.has want s space.old
+        → IsTableOf table.now rules.now r → (has : HasRows (B.meanings boxes.now) s table.now r.rows)
+        → IsEditOf r.rows (Turns key old new)
+        → WhereShort e (LacksPage (B.meanings boxes.now) s table.now r has (settled table.now.relation r (Turns key old new)))) }
     ensures ready { S.is_ready space.new }
 {
     let relation = table.relation.copy()?;

@@ -13,11 +13,12 @@ ghost use Rattle.sb_fold.specs.Wishes.{edit_of, wished};
 ghost use Rattle.sb_value.specs.declared.schema.Kind.TheVariants as kind;
 ghost use Rattle.sb_registry.specs.Live.{IsLive};
 ghost use Rattle.sb_registry.specs.Runs.{IsSound, Looks, Works};
+ghost use Rattle.sb_standing.specs.Lacking.{WhereShort};
 ghost use Rattle.sb_standing.specs.Live.{HasRows};
 ghost use Rattle.sb_standing.specs.Tables.{IsWide};
 ghost use Rattle.sb_value.specs.Fits.{Fits};
 ghost use Rattle.sb_wishes.specs.Edits.{GivesEdit, IsEditOf, MayBeEdit, edit_in, edit_raised};
-ghost use Rattle.sb_wishes.specs.Outcomes.{Comes, Meets};
+ghost use Rattle.sb_wishes.specs.Outcomes.{Comes, LacksPage, Meets};
 ghost use Rattle.sb_wishes.specs.Wished.{IsTableOf, MayBeWished, NamesKey, key_in, row_wished};
 ghost use Rattle.sb_cascade.specs.Runs.{IsQuiet};
 
@@ -59,6 +60,9 @@ pub fn carry_out<S: PageSpace, B: Boxes>(
     ensures works { Works S.has S.leads S.fails S.durable S.total table.now.owner space.old space.new result }
     ensures undamaged { IfErr result (λ e. (want : Wanted) (s : Slots) (rows : Rows) → S.has want s space.old
         → HasRows (B.meanings boxes.now) s table.now rows → IsSound e) }
+    ensures full { IfErr result (λ e. (want : Wanted) (s : Slots) (r : Relation) → S.has want s space.old
+        → IsTableOf table.now rules.now r → (has : HasRows (B.meanings boxes.now) s table.now r.rows)
+        → WhereShort e (LacksPage (B.meanings boxes.now) s table.now r has (wished table.now.relation r (wish_of wish.now)))) }
     ensures ready { S.is_ready space.new }
 {
     let old = find_old(space, alloc, boxes, table, wish)?;

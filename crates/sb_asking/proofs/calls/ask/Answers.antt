@@ -3,14 +3,16 @@ use Rattle.sb_ctx.specs.declared.moves.Move.{Move}
 use Rattle.sb_ctx.specs.declared.moves.Move.TheVariants.{Find}
 use Rattle.sb_ctx.specs.AttachAnswers.{Answers, AsksFor}
 use Rattle.sb_drive.specs.AttachCalls.{HandsUpIn}
+use Rattle.sb_drive.specs.declared.space.SpaceFault.TheVariants.{NoMemory}
 use Rattle.sb_drive.specs.Slots.{owned}
 use Rattle.sb_drive.specs.Turns.{OnFind}
 use Rattle.sb_drive.proofs.SpacesLemmas.{IfErr-passed, Leaves-so}
+use Rattle.sb_opened.proofs.LackingLemmas.{read_short}
 use Rattle.sb_opened.proofs.CallsLemmas.{Looks-later, Looks-no_memory, Looks-passed, Works-passed}
 use Rattle.sb_opened.specs.Tables.{db_of}
 use Rattle.sb_asking.specs.declared.calls.Answer.{Answer}
-use Rattle.sb_asking.specs.Calls.{IsAsked, knowing}
-use Rattle.sb_asking.proofs.CallsLemmas.{AreKeys, All-pushed, HoldsOf-known, IsAsked-known, IsClean-known, IsLast-end, IsOver, Works-later, Works-looked, Works-no_memory, few-known, fewer-left}
+use Rattle.sb_asking.specs.Calls.{IsAsked, LacksOver, knowing}
+use Rattle.sb_asking.proofs.CallsLemmas.{AreKeys, All-pushed, HoldsOf-known, IsAsked-known, IsClean-known, IsLast-end, IsOver, lacks_known, Works-later, Works-looked, Works-no_memory, few-known, fewer-left}
 use Rattle.sb_asking.proofs.calls.ask.Goals as goal
 
 -- ---- no memory for the Ctx
@@ -19,6 +21,9 @@ returns-in_err-ctx-clause-works g c =
     let before = c.finds.invariant in
     Works-no_memory g.S.PageSpace.has g.S.PageSpace.leads g.S.PageSpace.fails g.S.PageSpace.durable g.S.PageSpace.total c.args.inst.now.owner c.args.space.now c.finds.space c.from_residual.result c.from_residual.ensures.1
     (g.met.S.PageSpace.stays c.args.space.now) before.leads before.has
+
+pub returns-in_err-ctx-clause-full : goal.returns-in_err-ctx-clause-full
+returns-in_err-ctx-clause-full g c = IfErr-passed c.from_residual.result NoMemory _ c.from_residual.ensures.1 (λ live want s kept has tables. tt)
 
 -- ---- the call
 pub run_attachment-made-requires-clause-clean : goal.run_attachment-made-requires-clause-clean
@@ -48,7 +53,24 @@ returns-in_err-made-clause-undamaged_new g c =
     IfErr-passed c.from_residual-in_err-made.result c.in_err-made.field-0.0 _ c.from_residual-in_err-made.ensures.1
     (λ live want s kept has tables stand new. (c.in_err-made.ensures.runs live).sound_new want s (c.finds.invariant.has want s has) new)
 
+pub returns-in_err-made-clause-full : goal.returns-in_err-made-clause-full
+returns-in_err-made-clause-full g c =
+    IfErr-passed c.from_residual-in_err-made.result c.in_err-made.field-0.0 _ c.from_residual-in_err-made.ensures.1
+    (λ live want s kept has tables.
+    lacks_known g.S.PageSpace.leads g.S.PageSpace.durable g.S.PageSpace.total live.box c.args.inst.now c.args.call.now c.finds.answers.items c.in_ok-ctx.ctx (db_of kept) c.finds.space s
+    (c.in_ok-ctx.ensures ∙ ap knowing c.deref.ensures.value) (c.finds.invariant.over want s kept has tables) c.in_err-made.field-0.0
+    ((c.in_err-made.ensures.runs live).full want s (c.finds.invariant.has want s has)))
+
 -- ---- a find
+pub returns-in_err-keys-in-Find-clause-full : goal.returns-in_err-keys-in-Find-clause-full
+returns-in_err-keys-in-Find-clause-full g c =
+    IfErr-passed c.from_residual-in_err-keys-in-Find.result c.in_err-keys-in-Find.field-0.0 _ c.from_residual-in_err-keys-in-Find.ensures.1
+    (λ live want s kept has tables. read_short c.in_err-keys-in-Find.field-0.0 (LacksOver live.box c.args.inst.now c.args.call.now (db_of kept) s) c.in_err-keys-in-Find.ensures.looks.fault)
+
+pub returns-in_err-add_answer-in-Find-clause-full : goal.returns-in_err-add_answer-in-Find-clause-full
+returns-in_err-add_answer-in-Find-clause-full g c =
+    IfErr-passed c.from_residual-in_err-add_answer-in-Find.result NoMemory _ c.from_residual-in_err-add_answer-in-Find.ensures.1 (λ live want s kept has tables. tt)
+
 pub returns-in_err-keys-in-Find-clause-works : goal.returns-in_err-keys-in-Find-clause-works
 returns-in_err-keys-in-Find-clause-works g c =
     let before = c.finds.invariant in

@@ -6,14 +6,17 @@ use Rattle.sb_drive.specs.declared.space.SpaceFault.TheVariants.{NoMemory}
 use Rattle.sb_drive.specs.Slots.{owned}
 use Rattle.sb_drive.specs.Spaces.{Leaves}
 use Rattle.sb_drive.proofs.SpacesLemmas.{IfErr-passed}
+use Rattle.sb_opened.specs.Lacking.{WhereShort}
 use Rattle.sb_opened.proofs.CallsLemmas.{Works-made, Works-passed}
+use Rattle.sb_opened.proofs.LackingLemmas.{where_short}
 use Rattle.sb_opened.specs.Asked.{changed_kept}
 use Rattle.sb_opened.specs.Tables.{db_of}
 use Rattle.sb_opened.proofs.StandLemmas.{StandRules-asks}
 use Rattle.sb_opened.specs.Opened.{IsDurable}
-use Rattle.sb_asking.specs.Calls.{IsAsked}
+use Rattle.sb_asking.specs.Calls.{IsAsked, LacksOver}
+use Rattle.sb_asking.specs.Verdicts.{LacksAsked}
 use Rattle.sb_asking.proofs.CallsLemmas.{Works-no_memory}
-use Rattle.sb_asking.proofs.VerdictsLemmas.{Holds-next, IsVerdict-final, Says-asked}
+use Rattle.sb_asking.proofs.VerdictsLemmas.{Holds-next, IsVerdict-final, Says-asked, lacks_asked}
 use Rattle.sb_asking.proofs.verdicts.ask_rule.Goals as goal
 
 pub ask-made-requires-clause-fits : goal.ask-made-requires-clause-fits
@@ -32,7 +35,23 @@ returns-in_err-copy-clause-works g c =
 pub returns-in_err-copy-clause-undamaged : goal.returns-in_err-copy-clause-undamaged
 returns-in_err-copy-clause-undamaged g c = IfErr-passed c.from_residual.result NoMemory _ c.from_residual.ensures.1 (λ want s x has asks next. tt)
 
+pub returns-in_err-copy-clause-full : goal.returns-in_err-copy-clause-full
+returns-in_err-copy-clause-full g c = IfErr-passed c.from_residual.result NoMemory _ c.from_residual.ensures.1 (λ want s x has asks next. tt)
+
 -- ---- the call is refused
+pub returns-in_err-made-clause-full : goal.returns-in_err-made-clause-full
+returns-in_err-made-clause-full g c =
+    let m = g.B.Boxes.meanings c.args.boxes.now in
+    let inst = c.args.inst.now in
+    let change = c.args.change.now in
+    let live = c.requires.live in
+    IfErr-passed c.from_residual-in_err-made.result c.in_err-made.field-0.0 _ c.from_residual-in_err-made.ensures.1
+    (λ want s x has asks next.
+    where_short c.in_err-made.field-0.0 (LacksOver live.box inst (Changed change) (db_of (changed_kept x.name change x.before)) s) (LacksAsked m s x change)
+    (λ total lacks. lacks_asked m c.args.place.root s x change inst live.box total asks next live.live lacks)
+    (subst (λ (d : Change). WhereShort c.in_err-made.field-0.0 (LacksOver live.box inst (Changed d) (db_of (changed_kept x.name change x.before)) s)) c.in_ok-copy.ensures
+    (c.in_err-made.ensures.full live want s (changed_kept x.name change x.before) has asks.tables)))
+
 pub returns-in_err-made-clause-works : goal.returns-in_err-made-clause-works
 returns-in_err-made-clause-works g c =
     Works-passed g.S.PageSpace.has g.S.PageSpace.leads g.S.PageSpace.fails g.S.PageSpace.durable g.S.PageSpace.total c.args.inst.now.owner c.args.space.now c.ask-made.new.space c.from_residual-in_err-made.result c.in_err-made.field-0.0

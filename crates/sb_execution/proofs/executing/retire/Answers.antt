@@ -9,15 +9,16 @@ use Rattle.sb_fold.specs.declared.refusal.Refusal.TheVariants as refusal
 use Rattle.sb_engine.specs.Working.{extensions_of}
 use Rattle.sb_session.specs.declared.session.Session.{Session}
 use Rattle.sb_session.specs.Ends.{Ends, reply_of}
-use Rattle.sb_session.specs.Sessions.{HasFailed, IsFor, Lacks, sizes_of}
+use Rattle.sb_session.specs.Sessions.{HasFailed, IsFor, Lacks, sizes_of, needs_licence}
 use Rattle.sb_session.proofs.Carried.{IsSame-itself}
 use Rattle.sb_session.proofs.Commands.{Carried-misplaced}
 use Rattle.sb_session.proofs.SameBoxes.{same-boxes, same-stays}
 use Rattle.sb_statements.proofs.PassedLemmas.{passed}
 use Rattle.sb_execution.specs.Endings.{Executed}
 use Rattle.sb_execution.proofs.ExecLemmas.{Executed-kept, Executed-moved, leaves_still}
+use Rattle.sb_execution.proofs.PagesLemmas.{pages_roomless}
 use Rattle.sb_execution.proofs.RetireLemmas.{Executed-tested}
-use Rattle.sb_execution.proofs.SessionLemmas.{ends_alone, keeps_session, leaves_session, runs_alone}
+use Rattle.sb_execution.proofs.SessionLemmas.{ends_alone, keeps_session, leaves_session, pages_outside, runs_alone}
 use Rattle.sb_execution.proofs.executing.retire.Goals as goal
 
 -- in a transaction it has no place
@@ -32,7 +33,8 @@ returns-then-is_some-clause-ended g c =
     let k = c.args.command.now in
     let did = Carried-misplaced meanings told len faults d x c.requires.runs c.requires.up k x (IsSame-itself meanings x)
     (λ s inside. ap (λ (k : Command). is_misplaced s k) c.requires.retires ∙ inside ∙ sym c.is_some.ensures ∙ c.if-is_some.true) in
-    Executed-kept meanings told len faults k d d x x (Refused refusal.State) (same-boxes (meanings x.boxes)) did.keeps did.runs (λ want s for posed. did.ends want s for) (leaves_still told len d d x x refl refl)
+    Executed-kept meanings told len faults k d d x x (Refused refusal.State) (same-boxes (meanings x.boxes)) did.keeps did.runs (λ want s for posed. did.ends want s for)
+    (λ want s for posed. pages_roomless (meanings x.boxes) (sizes_of x).pages s k refusal.State refl) (leaves_still told len d d x x refl refl)
 
 -- no test refuses it
 pub returns-in-Ok-clause-ended : goal.returns-in-Ok-clause-ended
@@ -53,7 +55,7 @@ returns-in-Ok-clause-ended g c =
     let did = c.retire.ensures in
     let none = is_some-none x.open (sym c.is_some.ensures ∙ c.if-is_some.false) in
     subst (λ (r : Reply). Executed meanings told len faults k d f x z r) (sym c.reply_of.ensures)
-    (Executed-tested meanings told len faults k d e x y c.requires.runs c.requires.up none refl refl refl refl c.in-Ok.ensures.passes c.test_outside-tested.ensures.leaves f z (reply_of c.retire.result) did.disk did.space did.same did.keeps did.runs
+    (Executed-tested meanings told len faults k d e x y c.requires.runs c.requires.up none refl refl refl refl c.in-Ok.ensures.passes c.test_outside-tested.ensures.leaves (ap needs_licence c.requires.retires) f z (reply_of c.retire.result) did.disk did.space did.same did.keeps did.runs
     (λ want s for none.
     subst (λ (k : Command). Ends (λ t. IsFor meanings told len want t f z) (Lacks (sizes_of y)) (HasFailed faults e f) (extensions_of (meanings x.boxes)) s k (reply_of c.retire.result)) (sym c.requires.retires)
     (did.ends want s for
@@ -82,4 +84,5 @@ returns-in-Err-clause-ended g c =
     (keeps_session meanings told len faults k d e x y c.requires.runs c.requires.up space did.space did.boxes did.place result c.told.result did.reply did.down ended.remains ended.fault)
     (runs_alone meanings told len faults k d e x y c.requires.runs c.requires.up space did.space did.boxes did.place result c.told.result did.reply did.down ended.remains none still ended)
     (ends_alone meanings told len faults k d e x y c.requires.runs c.requires.up space did.space did.boxes did.place result c.told.result did.reply did.down ended.remains none still ended)
+    (pages_outside meanings told len faults k d e x y c.requires.runs c.requires.up space did.space did.boxes did.place result c.told.result did.reply did.down ended.remains none still ended)
     (λ never. leaves_session meanings told len faults k d e x y c.requires.runs c.requires.up space did.space did.boxes did.place result c.told.result did.reply did.down c.test_outside-tested.ensures.leaves)

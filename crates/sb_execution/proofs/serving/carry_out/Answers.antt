@@ -39,7 +39,7 @@ returns-in-Err-work_over-clause-refused g c = λ s h stands may.
 pub returns-in-Err-clause-refused : goal.returns-in-Err-clause-refused
 returns-in-Err-clause-refused g c = λ s h stands may.
     look_refused g.S.PageSpace.has (g.B.Boxes.meanings c.args.boxes.now) c.args.place.root c.args.space.now c.args.work.now c.args.command.now s h stands may
-    g.S.PageSpace.fails (g.S.PageSpace.leads 0 c.args.space.now c.read.new.space) c.read.new.space c.in-Err.fault c.refusal_of.result c.refusal_of.ensures c.in-Err.ensures.looks.fault c.in-Err.ensures.looks.refused c.in-Err.ensures.undamaged
+    g.S.PageSpace.leads g.S.PageSpace.fails g.S.PageSpace.table (g.S.PageSpace.leads 0 c.args.space.now c.read.new.space) c.read.new.space c.in-Err.fault c.refusal_of.result c.refusal_of.ensures c.in-Err.ensures.looks.fault c.in-Err.ensures.looks.refused c.in-Err.ensures.undamaged
 
 -- ---- what it reads
 pub returns-in-Ok-Some-clause-reads : goal.returns-in-Ok-Some-clause-reads

@@ -9,13 +9,13 @@ use Rattle.sb_execution.proofs.serving.serve.Goals as goal
 
 pub returns-in-Ok-None-clause-served : goal.returns-in-Ok-None-clause-served
 returns-in-Ok-None-clause-served g c =
-    tested_served g.S.PageSpace.has g.S.PageSpace.fails (g.B.Boxes.meanings c.args.boxes.now) c.args.place.root c.args.inside c.args.points.now c.args.command.now
+    tested_served g.S.PageSpace.has g.S.PageSpace.leads g.S.PageSpace.fails g.S.PageSpace.table (g.B.Boxes.meanings c.args.boxes.now) c.args.place.root c.args.inside c.args.points.now c.args.command.now
     c.args.space.now c.refusal_over.new.space c.carry_out.new.space c.args.work.now c.carry_out.new.work
     (λ s h stands seen. sym c.in-Ok-None.field-0-is ∙ c.in-Ok-None.ensures.refused s h stands seen) c.in-Ok-None.ensures.stands c.carry_out.result c.carry_out.ensures.served
 
 pub returns-in-Ok-None-clause-refused : goal.returns-in-Ok-None-clause-refused
 returns-in-Ok-None-clause-refused g c =
-    tested_unserved g.S.PageSpace.has g.S.PageSpace.fails (g.B.Boxes.meanings c.args.boxes.now) c.args.place.root c.args.inside c.args.points.now c.args.command.now
+    tested_unserved g.S.PageSpace.has g.S.PageSpace.leads g.S.PageSpace.fails g.S.PageSpace.table (g.B.Boxes.meanings c.args.boxes.now) c.args.place.root c.args.inside c.args.points.now c.args.command.now
     c.args.space.now c.refusal_over.new.space c.carry_out.new.space c.args.work.now c.carry_out.new.work
     (λ s h stands seen. sym c.in-Ok-None.field-0-is ∙ c.in-Ok-None.ensures.refused s h stands seen) c.in-Ok-None.ensures.stands c.carry_out.result c.carry_out.ensures.refused
 

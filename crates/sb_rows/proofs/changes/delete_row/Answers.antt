@@ -1,5 +1,7 @@
 use Rattle.sb_rows.proofs.PlacingsLemmas.{IsDoneOrNone-ended, IsGone-left}
+use Rattle.sb_treemethod.specs.MethodCall.TheVariants.{Delete}
 use Rattle.sb_registry.proofs.SpacesLemmas.{IfErr-passed}
+use Rattle.sb_rows.proofs.LackingLemmas.{lacks}
 use Rattle.sb_rows.proofs.CallsLemmas.{Works-made, Works-passed}
 use Rattle.sb_rows.proofs.changes.delete_row.Goals as goal
 
@@ -12,6 +14,12 @@ returns-in_err-made-clause-costs g c = λ want s rows has h. (c.in_err-made.ensu
 pub returns-in_err-made-clause-works : goal.returns-in_err-made-clause-works
 returns-in_err-made-clause-works g c =
     Works-passed g.S.PageSpace.has g.S.PageSpace.leads g.S.PageSpace.fails g.S.PageSpace.durable g.S.PageSpace.total c.args.inst.now.owner c.args.space.now c.run_method-made.new.space c.from_residual.result c.in_err-made.field-0.0 c.from_residual.ensures.1 c.in_err-made.ensures.works
+
+pub returns-in_err-made-clause-full : goal.returns-in_err-made-clause-full
+returns-in_err-made-clause-full g c =
+    IfErr-passed c.from_residual.result c.in_err-made.field-0.0 _ c.from_residual.ensures.1 (λ want s rows has h.
+    lacks g.S.PageSpace.leads g.S.PageSpace.durable g.S.PageSpace.total h.live.box c.args.inst.now (Delete c.args.key) c.args.space.now s rows _ _ (λ ctx room. room rows h.holds) c.in_err-made.field-0.0
+    ((c.in_err-made.ensures.runs h.live).full want s has))
 
 pub returns-in_err-made-clause-undamaged : goal.returns-in_err-made-clause-undamaged
 returns-in_err-made-clause-undamaged g c =

@@ -1,7 +1,9 @@
 use Rattle.std.proofs.Common.{[], refl}
+use Rattle.sb_treemethod.specs.MethodCall.TheVariants.{Prepare}
 use Rattle.sb_registry.specs.Slots.{owned}
 use Rattle.sb_registry.proofs.SpacesLemmas.{IfErr-passed}
 use Rattle.sb_rows.proofs.CallsLemmas.{Works-made, Works-passed}
+use Rattle.sb_rows.proofs.LackingLemmas.{lacks}
 use Rattle.sb_rows.proofs.PlacingsLemmas.{LeavesRows-own, prepared}
 use Rattle.sb_rows.proofs.changes.prepare_rows.Goals as goal
 
@@ -11,6 +13,12 @@ returns-in_err-made-clause-costs g c = λ want s has new live. (c.in_err-made.en
 pub returns-in_err-made-clause-works : goal.returns-in_err-made-clause-works
 returns-in_err-made-clause-works g c =
     Works-passed g.S.PageSpace.has g.S.PageSpace.leads g.S.PageSpace.fails g.S.PageSpace.durable g.S.PageSpace.total c.args.inst.now.owner c.args.space.now c.run_method-made.new.space c.from_residual.result c.in_err-made.field-0.0 c.from_residual.ensures.1 c.in_err-made.ensures.works
+
+pub returns-in_err-made-clause-full : goal.returns-in_err-made-clause-full
+returns-in_err-made-clause-full g c =
+    IfErr-passed c.from_residual.result c.in_err-made.field-0.0 _ c.from_residual.ensures.1 (λ want s has new live.
+    lacks g.S.PageSpace.leads g.S.PageSpace.durable g.S.PageSpace.total live.box c.args.inst.now Prepare c.args.space.now s [] _ _ (λ ctx room. room [] (new, refl)) c.in_err-made.field-0.0
+    ((c.in_err-made.ensures.runs live).full want s has))
 
 pub returns-in_err-made-clause-undamaged : goal.returns-in_err-made-clause-undamaged
 returns-in_err-made-clause-undamaged g c =

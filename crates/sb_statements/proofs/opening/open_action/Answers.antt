@@ -1,6 +1,6 @@
 use Rattle.std.proofs.Common.{[], append-nil, refl, sym}
 use Rattle.sb_building.specs.Goings.{front_none}
-use Rattle.sb_building.proofs.RefusedLemmas.{free_refusal, refused_cause}
+use Rattle.sb_building.proofs.RefusedLemmas.{free_refusal, read_stop, refused_cause}
 use Rattle.sb_building.proofs.StandingLemmas.{keeping_of, rules_of}
 use Rattle.sb_statements.proofs.OpenLemmas.{action_kept, stands_opened}
 use Rattle.sb_statements.proofs.opening.open_action.Goals as goal
@@ -26,7 +26,8 @@ returns-in-Err-clause-refused g c = λ h stands fits.
     let may = action_kept has m a.place.root h a.space.now new w stands c.args.action.now fits in
     rw c.refusal_of.ensures (record {
       free = free_refusal c.in-Err.fault;
-      stopped = refused_cause g.S.PageSpace.fails _ a.space.now new c.in-Err.fault c.in-Err.ensures.looks.refused (c.in-Err.ensures.undamaged stands.want stands.slots stands.kept keeping rules may);
+      stopped = read_stop has g.S.PageSpace.leads g.S.PageSpace.fails g.S.PageSpace.table _ c.in-Err.fault h.trail _ c.in-Err.ensures.looks.fault
+          (refused_cause g.S.PageSpace.fails _ a.space.now new c.in-Err.fault c.in-Err.ensures.looks.refused (c.in-Err.ensures.undamaged stands.want stands.slots stands.kept keeping rules may));
     })
 
 pub returns-in-Ok-clause-goes : goal.returns-in-Ok-clause-goes

@@ -7,7 +7,7 @@ use Rattle.sb_cascade.proofs.Forward.{forward_within}
 use Rattle.sb_cascade.proofs.Stopping.{stops_looking}
 use Rattle.sb_building.specs.OpenRelation.{OpenRelation}
 use Rattle.sb_building.specs.Goings.{goes_on, open_at-grows, same_extensions}
-use Rattle.sb_building.specs.Working.{IsStoppedBy, StandsFor, extensions_in}
+use Rattle.sb_building.specs.Working.{IsStoppedFor, StandsFor, extensions_in}
 use Rattle.sb_statements.proofs.AnswerLemmas.{made_over, ok_always, stopped_over}
 use Rattle.sb_statements.proofs.rows.change_fitting.Goals as goal
 
@@ -36,7 +36,7 @@ returns-in-Ok-clause-refused g c =
     let wish = wish_of c.args.wish.now in
     IfErr-weaker c.change.result _ _
     (λ r stops h stands fits.
-    stopped_over (IsStoppedBy g.S.PageSpace.fails) (λ (ext : Extensions). change_within ext 16 name wish) (extensions_in meanings old) (extensions_in meanings mid) h r new
+    stopped_over (IsStoppedFor g.S.PageSpace.has g.S.PageSpace.leads g.S.PageSpace.fails g.S.PageSpace.table g.B.Boxes.meanings) (λ (ext : Extensions). change_within ext 16 name wish) (extensions_in meanings old) (extensions_in meanings mid) h r new
     (same_extensions meanings g.S.PageSpace.leads old mid c.open_wish.ensures.goes) (stops h (c.in-Ok.ensures.stands h stands)))
     c.change.ensures.refused
 
@@ -58,4 +58,4 @@ returns-in-Err-clause-refused g c = λ h stands fits.
     let ext = extensions_in g.B.Boxes.meanings c.args.running.now in
     let name = c.args.name.now in
     let wish = wish_of c.args.wish.now in
-    stops_looking (IsStoppedBy g.S.PageSpace.fails) (change_within ext 16 name wish) c.in-Err.refusal c.open_wish.new.running h (forward_within ext 16 name wish) (c.in-Err.ensures.refused h stands fits)
+    stops_looking (IsStoppedFor g.S.PageSpace.has g.S.PageSpace.leads g.S.PageSpace.fails g.S.PageSpace.table g.B.Boxes.meanings) (change_within ext 16 name wish) c.in-Err.refusal c.open_wish.new.running h (forward_within ext 16 name wish) (c.in-Err.ensures.refused h stands fits)

@@ -2,7 +2,7 @@ use Rattle.std.proofs.Common.{IfErr, IfOk, subst}
 use Rattle.sb_relation.specs.Db.{Key, Row}
 use Rattle.sb_fold.specs.Wishes.{Replace}
 use Rattle.sb_building.specs.Goings.{goes_none}
-use Rattle.sb_building.specs.Working.{IsStoppedBy, extensions_in}
+use Rattle.sb_building.specs.Working.{IsStoppedFor, extensions_in}
 use Rattle.sb_plain.specs.declared.command.Command.TheVariants as command
 use Rattle.sb_statements.specs.Statements.{IsDone, IsStopped, answer_of}
 use Rattle.sb_statements.proofs.AnswerLemmas.{wanting_keyed}
@@ -12,7 +12,7 @@ pub returns-in_default-clause-stopped : goal.returns-in_default-clause-stopped
 returns-in_default-clause-stopped g c = λ h stands fits.
     let ext = extensions_in g.B.Boxes.meanings c.args.running.now in
     let relation = c.args.relation.now in
-    wanting_keyed (IsStoppedBy g.S.PageSpace.fails) ext relation (Replace c.args.at.now c.args.values.now) h c.args.running.now tt
+    wanting_keyed (IsStoppedFor g.S.PageSpace.has g.S.PageSpace.leads g.S.PageSpace.fails g.S.PageSpace.table g.B.Boxes.meanings) ext relation (Replace c.args.at.now c.args.values.now) h c.args.running.now (record { cause = tt; licensed = tt })
 
 pub returns-in_default-clause-goes : goal.returns-in_default-clause-goes
 returns-in_default-clause-goes g c = goes_none g.S.PageSpace.leads g.met.S.PageSpace.stays c.args.running.now
@@ -21,7 +21,7 @@ pub returns-in_default-copy-clause-stopped : goal.returns-in_default-copy-clause
 returns-in_default-copy-clause-stopped g c = λ h stands fits.
     let ext = extensions_in g.B.Boxes.meanings c.args.running.now in
     let relation = c.args.relation.now in
-    wanting_keyed (IsStoppedBy g.S.PageSpace.fails) ext relation (Replace c.args.at.now c.args.values.now) h c.args.running.now tt
+    wanting_keyed (IsStoppedFor g.S.PageSpace.has g.S.PageSpace.leads g.S.PageSpace.fails g.S.PageSpace.table g.B.Boxes.meanings) ext relation (Replace c.args.at.now c.args.values.now) h c.args.running.now (record { cause = tt; licensed = tt })
 
 pub returns-in_default-copy-clause-goes : goal.returns-in_default-copy-clause-goes
 returns-in_default-copy-clause-goes g c = goes_none g.S.PageSpace.leads g.met.S.PageSpace.stays c.args.running.now
@@ -34,6 +34,6 @@ returns-clause-done g c =
 
 pub returns-clause-stopped : goal.returns-clause-stopped
 returns-clause-stopped g c =
-    subst (λ (x : Row). IfErr c.change_keyed.result (λ r. IsStopped g.S.PageSpace.has g.S.PageSpace.fails g.B.Boxes.meanings (command.Update c.args.relation.now c.args.at.now x) c.args.running.now r c.change_keyed.new.running)) c.in-Ok.ensures
-    (subst (λ (x : Key). IfErr c.change_keyed.result (λ r. IsStopped g.S.PageSpace.has g.S.PageSpace.fails g.B.Boxes.meanings (command.Update c.args.relation.now x c.in-Ok.row) c.args.running.now r c.change_keyed.new.running)) c.in-Ok-copy.ensures
+    subst (λ (x : Row). IfErr c.change_keyed.result (λ r. IsStopped g.S.PageSpace.has g.S.PageSpace.leads g.S.PageSpace.fails g.S.PageSpace.table g.B.Boxes.meanings (command.Update c.args.relation.now c.args.at.now x) c.args.running.now r c.change_keyed.new.running)) c.in-Ok.ensures
+    (subst (λ (x : Key). IfErr c.change_keyed.result (λ r. IsStopped g.S.PageSpace.has g.S.PageSpace.leads g.S.PageSpace.fails g.S.PageSpace.table g.B.Boxes.meanings (command.Update c.args.relation.now x c.in-Ok.row) c.args.running.now r c.change_keyed.new.running)) c.in-Ok-copy.ensures
     (c.change_keyed.ensures.refused))

@@ -1,4 +1,5 @@
 use Rattle.std.proofs.Common.{[], refl, sym, append-nil}
+use Rattle.sb_fold.specs.Costs.{create_cost}
 use Rattle.sb_engine.specs.Goings.{front_none}
 use Rattle.sb_engine.specs.Working.{extensions_of}
 use Rattle.sb_engine.proofs.RefusedLemmas.{free_refusal}
@@ -30,9 +31,14 @@ returns-in-Err-clause-refused g c = λ h stands may.
     let a = c.args.running.now in
     let m = g.B.Boxes.meanings a.boxes.now in
     let w = a.work.now in
+    let ext = extensions_of m in
+    let keeps = keeps_of g.S.PageSpace.has m a.place.root h a.space.now w stands in
     rw c.refusal_of.ensures
-    (create_stops _ _ (extensions_of m) c.args.name.now c.args.method c.args.schema.now c.args.key.now _ h (free_refusal c.in-Err.fault)
-    (c.in-Err.ensures.refused w.gone.items h.db (keeps_of g.S.PageSpace.has m a.place.root h a.space.now w stands) may))
+    (create_stops _ _ ext c.args.name.now c.args.method c.args.schema.now c.args.key.now _ h (free_refusal c.in-Err.fault)
+    (record {
+      cause = c.in-Err.ensures.refused w.gone.items h.db keeps may;
+      licensed = c.in-Err.ensures.licensed w.gone.items h (create_cost ext h.db c.args.method) keeps stands.gone may;
+    }))
 
 pub returns-in-Err-clause-goes : goal.returns-in-Err-clause-goes
 returns-in-Err-clause-goes g c = record {

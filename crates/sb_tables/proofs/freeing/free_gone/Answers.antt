@@ -1,5 +1,5 @@
 use Rattle.std.proofs.Common.{refl}
-use Rattle.sb_tables.proofs.FreedLemmas.{refused_soundly}
+use Rattle.sb_tables.proofs.FreedLemmas.{refused_soundly, sound_store, stored_left}
 use Rattle.sb_tables.proofs.StandsLemmas.{stands_freed}
 use Rattle.sb_tables.proofs.freeing.free_gone.Goals as goal
 
@@ -19,7 +19,10 @@ pub returns-in-Err-clause-refused : goal.returns-in-Err-clause-refused
 returns-in-Err-clause-refused g c = rw c.refusal_of.ensures c.in-Err.ensures.refused
 
 pub returns-in-Err-clause-cause : goal.returns-in-Err-clause-cause
-returns-in-Err-clause-cause g c = rw c.refusal_of.ensures (refused_soundly g.S.PageSpace.fails c.in-Err.fault c.free_all.new.space c.in-Err.ensures.refused c.in-Err.ensures.undamaged)
+returns-in-Err-clause-cause g c = rw c.refusal_of.ensures (refused_soundly g.S.PageSpace.fails c.in-Err.fault c.free_all.new.space c.in-Err.ensures.refused (sound_store c.in-Err.fault c.in-Err.ensures.stored))
+
+pub returns-in-Err-clause-pages : goal.returns-in-Err-clause-pages
+returns-in-Err-clause-pages g c = rw c.refusal_of.ensures (stored_left c.in-Err.fault c.in-Err.ensures.stored)
 
 pub returns-in-Err-clause-idle : goal.returns-in-Err-clause-idle
 returns-in-Err-clause-idle g c = c.in-Err.ensures.idle

@@ -14,7 +14,7 @@ returns-in_err-finish-clause-refused g c =
     let end = c.in_err-finish.space-1-own.given.1 (sym (goes.same_space ∙ c.new-running.ensures.same_space)) in
     passed c.from_residual.result c.in_err-finish.field-0.0 _ c.from_residual.ensures.1
     (finish-stopped g.S.PageSpace.has g.S.PageSpace.fails g.B.Boxes.meanings c.args.boxes.now c.args.place c.args.space.now _ c.args.work.now c.args.work.now c.new-running.result c.finish.new.layer lent
-    c.in_err-finish.field-0.0 c.in_err-finish.ensures.refused (sym end))
+    g.S.PageSpace.leads g.S.PageSpace.table c.in_err-finish.field-0.0 c.in_err-finish.ensures.refused (goes.boxes ∙ lent.boxes_are) (sym end))
 
 pub returns-in_err-free_gone-clause-refused : goal.returns-in_err-free_gone-clause-refused
 returns-in_err-free_gone-clause-refused g c =
@@ -25,9 +25,10 @@ returns-in_err-free_gone-clause-refused g c =
     let end = c.space-2-1.given.1 (sym (frees.same_space ∙ (goes.same_space ∙ c.new-running.ensures.same_space))) in
     let r = c.in_err-free_gone.field-0.0 in
     passed c.from_residual-in_err-free_gone.result r _ c.from_residual-in_err-free_gone.ensures.1
-    (finish-refused g.S.PageSpace.has g.S.PageSpace.fails g.B.Boxes.meanings c.args.boxes.now c.args.place c.args.space.now _ c.args.work.now c.args.work.now c.new-running.result c.finish.new.layer lent c.in_ok-finish.ensures.made r
+    (finish-refused g.S.PageSpace.has g.S.PageSpace.fails g.B.Boxes.meanings c.args.boxes.now c.args.place c.args.space.now _ c.args.work.now c.args.work.now c.new-running.result c.finish.new.layer lent c.in_ok-finish.ensures.made
+    g.S.PageSpace.leads g.S.PageSpace.table r
     (subst (λ z. IsRefusedBy g.S.PageSpace.fails r z) (sym end) c.in_err-free_gone.ensures.refused)
-    (subst (λ z. HasRefusalCause g.S.PageSpace.fails r z) (sym end) c.in_err-free_gone.ensures.cause))
+    (subst (λ z. HasRefusalCause g.S.PageSpace.fails r z) (sym end) c.in_err-free_gone.ensures.cause) c.in_err-free_gone.ensures.pages)
 
 pub returns-in_err-free_gone-clause-leads : goal.returns-in_err-free_gone-clause-leads
 returns-in_err-free_gone-clause-leads g c =

@@ -5,6 +5,10 @@ use Rattle.sb_fold.specs.Wishes.{Adds}
 use Rattle.sb_wishes.specs.declared.settling.Outcome.{Outcome}
 use Rattle.sb_wishes.specs.Edits.{settled}
 use Rattle.sb_wishes.specs.Outcomes.{Meets, Refuses}
+use Rattle.sb_drive.specs.declared.space.SpaceFault.TheVariants.{NoMemory}
+use Rattle.sb_drive.proofs.SpacesLemmas.{IfErr-passed}
+use Rattle.sb_standing.proofs.LackingLemmas.{where_short}
+use Rattle.sb_wishes.proofs.LackingLemmas.{lacks_add}
 use Rattle.sb_wishes.proofs.WorksLemmas.{Works-no_memory}
 use Rattle.sb_wishes.proofs.SettledLemmas.{Comes-add, Comes-long, Meets-added}
 use Rattle.sb_wishes.proofs.settling.add.Goals as goal
@@ -24,6 +28,21 @@ pub returns-in_err-row-clause-works : goal.returns-in_err-row-clause-works
 returns-in_err-row-clause-works g c =
     Works-no_memory g.S.PageSpace.has g.S.PageSpace.leads g.S.PageSpace.fails g.S.PageSpace.durable g.S.PageSpace.total c.args.table.now.owner c.args.space.now c.args.space.now c.from_residual-in_err-row.result c.from_residual-in_err-row.ensures.1
     (g.met.S.PageSpace.stays c.args.space.now) (g.met.S.PageSpace.stays c.args.space.now) (λ want s has. has)
+
+pub returns-in_err-relation-clause-full : goal.returns-in_err-relation-clause-full
+returns-in_err-relation-clause-full g c = IfErr-passed c.from_residual.result NoMemory _ c.from_residual.ensures.1 (λ want s r has t h. tt)
+
+pub returns-in_err-row-clause-full : goal.returns-in_err-row-clause-full
+returns-in_err-row-clause-full g c = IfErr-passed c.from_residual-in_err-row.result NoMemory _ c.from_residual-in_err-row.ensures.1 (λ want s r has t h. tt)
+
+pub returns-in_err-placed-clause-full : goal.returns-in_err-placed-clause-full
+returns-in_err-placed-clause-full g c =
+    IfErr-passed c.from_residual-in_err-placed.result c.in_err-placed.field-0.0 _ c.from_residual-in_err-placed.ensures.1
+    (λ want s r has t h.
+    where_short c.in_err-placed.field-0.0 _ _
+    (λ total lacks. lacks_add (g.B.Boxes.meanings c.args.boxes.now) s c.args.table.now r h total c.args.rules.now c.args.new c.in_ok-row.row c.in_ok-row.ensures t
+    (sym c.is_too_long.ensures.is ∙ c.if-is_too_long.false) lacks)
+    (c.in_err-placed.ensures.full want s r.rows has h))
 
 pub returns-clause-comes : goal.returns-clause-comes
 returns-clause-comes g c = λ want s r has t h.

@@ -1,3 +1,7 @@
+use Rattle.sb_drive.specs.declared.space.SpaceFault.TheVariants.{NoMemory}
+use Rattle.sb_drive.proofs.SpacesLemmas.{IfErr-passed}
+use Rattle.sb_standing.proofs.LackingLemmas.{where_short}
+use Rattle.sb_wishes.proofs.LackingLemmas.{lacks_take}
 use Rattle.sb_wishes.proofs.WorksLemmas.{Works-no_memory}
 use Rattle.sb_wishes.proofs.SettledLemmas.{Comes-take}
 use Rattle.sb_wishes.proofs.settling.take.Goals as goal
@@ -11,6 +15,20 @@ pub returns-in_err-at-clause-works : goal.returns-in_err-at-clause-works
 returns-in_err-at-clause-works g c =
     Works-no_memory g.S.PageSpace.has g.S.PageSpace.leads g.S.PageSpace.fails g.S.PageSpace.durable g.S.PageSpace.total c.args.table.now.owner c.args.space.now c.args.space.now c.from_residual-in_err-at.result c.from_residual-in_err-at.ensures.1
     (g.met.S.PageSpace.stays c.args.space.now) (g.met.S.PageSpace.stays c.args.space.now) (λ want s has. has)
+
+pub returns-in_err-relation-clause-full : goal.returns-in_err-relation-clause-full
+returns-in_err-relation-clause-full g c = IfErr-passed c.from_residual.result NoMemory _ c.from_residual.ensures.1 (λ want s r has h there. tt)
+
+pub returns-in_err-at-clause-full : goal.returns-in_err-at-clause-full
+returns-in_err-at-clause-full g c = IfErr-passed c.from_residual-in_err-at.result NoMemory _ c.from_residual-in_err-at.ensures.1 (λ want s r has h there. tt)
+
+pub returns-in_err-gone-clause-full : goal.returns-in_err-gone-clause-full
+returns-in_err-gone-clause-full g c =
+    IfErr-passed c.from_residual-in_err-gone.result c.in_err-gone.field-0.0 _ c.from_residual-in_err-gone.ensures.1
+    (λ want s r has h there.
+    where_short c.in_err-gone.field-0.0 _ _
+    (λ total lacks. lacks_take (g.B.Boxes.meanings c.args.boxes.now) s c.args.table.now r h total c.args.key c.in_ok-at.at c.args.old c.in_ok-at.ensures there lacks)
+    (c.in_err-gone.ensures.full want s r.rows has h))
 
 pub returns-clause-comes : goal.returns-clause-comes
 returns-clause-comes g c = λ want s r has h there.

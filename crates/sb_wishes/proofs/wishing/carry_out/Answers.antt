@@ -13,7 +13,11 @@ use Rattle.sb_wishes.specs.declared.settling.Edit as code
 use Rattle.sb_wishes.specs.declared.settling.Outcome.{Outcome}
 use Rattle.sb_wishes.specs.Wished.{row_wished}
 use Rattle.sb_wishes.specs.Edits.{GivesEdit, IsEditOf, edit_in, settled}
-use Rattle.sb_wishes.proofs.CarriedLemmas.{ComesOf, ComesOfAll}
+use Rattle.sb_drive.specs.declared.space.SpaceFault.TheVariants.{NoMemory}
+use Rattle.sb_drive.proofs.SpacesLemmas.{IfErr-passed}
+use Rattle.sb_standing.proofs.LackingLemmas.{read_short, where_short}
+use Rattle.sb_wishes.proofs.LackingLemmas.{lacks_wished}
+use Rattle.sb_wishes.proofs.CarriedLemmas.{ComesOf, ComesOfAll, LacksOf, LacksOfAll}
 use Rattle.sb_wishes.proofs.SettledLemmas.{Comes-later, Comes-unwished, Comes-wished}
 use Rattle.sb_wishes.proofs.WorksLemmas.{Works-later, Works-looked, Works-no_memory}
 use Rattle.sb_wishes.proofs.wishing.carry_out.Goals as goal
@@ -52,6 +56,31 @@ returns-in-Ok-clause-undamaged g c =
     (λ e. (want : Wanted) (s : Slots) (rows : Rows) → g.S.PageSpace.has want s c.args.space.now → HasRows (g.B.Boxes.meanings c.args.boxes.now) s c.args.table.now rows → IsSound e)
     (λ e is want s rows has h. is want s rows (c.in_ok-old.ensures.looks.same want s has) h)
     c.settle.ensures.undamaged
+
+pub returns-in_err-old-clause-full : goal.returns-in_err-old-clause-full
+returns-in_err-old-clause-full g c =
+    IfErr-passed c.from_residual.result c.in_err-old.field-0.0 _ c.from_residual.ensures.1 (λ want s r has t h. read_short c.in_err-old.field-0.0 _ c.in_err-old.ensures.looks.fault)
+
+pub returns-in_err-edit-clause-full : goal.returns-in_err-edit-clause-full
+returns-in_err-edit-clause-full g c = IfErr-passed c.from_residual-in_err-edit.result NoMemory _ c.from_residual-in_err-edit.ensures.1 (λ want s r has t h. tt)
+
+pub returns-in-Ok-clause-full : goal.returns-in-Ok-clause-full
+returns-in-Ok-clause-full g c =
+    let m = g.B.Boxes.meanings c.args.boxes.now in
+    let table = c.args.table.now in
+    let wish = wish_of c.args.wish.now in
+    let edit = edit_in c.in-Ok.edit in
+    IfErr-weaker {T = Outcome} {E = SpaceFault} c.settle.result
+    (λ e. LacksOf g.S.PageSpace.has m table c.args.rules.now c.find_old.new.space (λ r. IsEditOf r.rows edit) (λ r. settled table.relation r edit) e)
+    (λ e. LacksOfAll g.S.PageSpace.has m table c.args.rules.now c.args.space.now (λ r. wished table.relation r wish) e)
+    (λ e full want s r has t h.
+    let old = c.in_ok-old.ensures.old want s r.rows has h in
+    where_short e _ _
+    (λ total lacks. lacks_wished m s table r h total wish edit
+    (subst (λ (x : Result code.Edit Refusal). GivesEdit (edit_of table.relation r wish) x) c.in-Ok.is (c.in_ok-edit.ensures.gives r t.schema old)) lacks)
+    (full want s r (c.in_ok-old.ensures.looks.same want s has) t h
+    (subst (λ (x : Result code.Edit Refusal). IfOk x (λ edit. (rows : Rows) → c.in_ok-old.old ≡ row_wished rows wish → IsEditOf rows (edit_in edit))) c.in-Ok.is c.in_ok-edit.ensures.of r.rows old)))
+    c.settle.ensures.full
 
 pub returns-in-Err-clause-comes : goal.returns-in-Err-clause-comes
 returns-in-Err-clause-comes g c = λ want s r has t h.

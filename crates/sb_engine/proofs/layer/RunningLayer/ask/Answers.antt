@@ -17,10 +17,11 @@ use Rattle.sb_asking.specs.Opened.{IsOpen}
 use Rattle.sb_wishes.specs.Outcomes.{MayBeMade}
 use Rattle.sb_engine.specs.Goings.{front_none, grows_none, stays}
 use Rattle.sb_engine.specs.Working.{MayDo, extensions_of, open_at}
-use Rattle.sb_engine.proofs.AskLemmas.{as_many, asked_all, asked_more, asked_veto, few_rules, is_asked, is_next, keeping_asked, live_rule, meets_rule, no_rule, now_fit, rule_at, rules_asked, situation}
+use Rattle.sb_engine.proofs.AskLemmas.{as_many, asked_all, asked_full, asked_more, asked_veto, few_rules, is_asked, is_next, keeping_asked, live_rule, meets_rule, no_rule, now_fit, rule_at, rules_asked, situation}
 use Rattle.sb_engine.proofs.LateLemmas.{leads_more, within_front}
 use Rattle.sb_engine.proofs.OpenedLemmas.{open_at-all}
-use Rattle.sb_engine.proofs.RefusedLemmas.{not_admitted, not_asked, refused_cause}
+use Rattle.sb_drive.proofs.SpacesLemmas.{ArePages-few}
+use Rattle.sb_engine.proofs.RefusedLemmas.{not_admitted, not_asked, read_stop, refused_cause}
 use Rattle.sb_engine.proofs.layer.RunningLayer.ask.Goals as goal
 
 pub unreachable-requires-in_default-get-2 : goal.unreachable-requires-in_default-get-2
@@ -99,7 +100,7 @@ returns-in_default-get-clause-leads g c =
 
 pub returns-in_default-copy-clause-refused : goal.returns-in_default-copy-clause-refused
 returns-in_default-copy-clause-refused g c =
-    λ h asking. record { vetoed = tt; stopped = tt }
+    λ h asking. record { vetoed = tt; stopped = record { cause = tt; licensed = tt } }
 
 pub returns-in_default-copy-clause-leads : goal.returns-in_default-copy-clause-leads
 returns-in_default-copy-clause-leads g c =
@@ -185,7 +186,7 @@ returns-in-Ok-put_left-clause-ready g c = record {
 
 pub returns-in-Err-put_left-clause-refused : goal.returns-in-Err-put_left-clause-refused
 returns-in-Err-put_left-clause-refused g c =
-    λ h asking. record { vetoed = tt; stopped = tt }
+    λ h asking. record { vetoed = tt; stopped = record { cause = tt; licensed = tt } }
 
 pub returns-in-Err-put_left-clause-leads : goal.returns-in-Err-put_left-clause-leads
 returns-in-Err-put_left-clause-leads g c = record {
@@ -243,8 +244,9 @@ returns-in-Err-prepare_all-clause-refused g c = λ h asking.
     let fit_all : AllFit (db_of (changed_kept name change asking.before)) c.deref-in-Ok-Admitted.result.now =
     subst (λ (l : List Action). AllFit (db_of (changed_kept name change asking.before)) l) (sym c.into_vec-now.ensures ∙ sym c.deref-in-Ok-Admitted.ensures.value) fit in
     rw c.refusal_of.ensures (not_asked _ (extensions_of m) name change c.args.i h c.in-Err-prepare_all.fault _
+    (read_stop g.S.PageSpace.has g.S.PageSpace.leads g.S.PageSpace.fails g.S.PageSpace.table _ c.in-Err-prepare_all.fault h.trail _ c.in-Err-prepare_all.ensures.looks.fault
     (refused_cause g.S.PageSpace.fails _ mid c.prepare_all.new.space c.in-Err-prepare_all.fault c.in-Err-prepare_all.ensures.looks.refused
-    (c.in-Err-prepare_all.ensures.undamaged asking.want says.leaves.slots (changed_kept name change asking.before) keeping rules fit_all)))
+    (c.in-Err-prepare_all.ensures.undamaged asking.want says.leaves.slots (changed_kept name change asking.before) keeping rules fit_all))))
 
 pub returns-in-Err-prepare_all-clause-leads : goal.returns-in-Err-prepare_all-clause-leads
 returns-in-Err-prepare_all-clause-leads g c = record {
@@ -287,7 +289,7 @@ returns-in-Ok-Vetoed-clause-refused g c = λ h asking.
     subst (λ (v : Verdict). Says has m a.place.root asking.want asking.slots x change mid v) c.in-Ok-Vetoed.field-0-is
     (c.in-Ok-Vetoed.ensures.says asking.want asking.slots x asking.has asking.asks next) in
     not_admitted _ (extensions_of m) name change c.args.i h c.in-Ok.label c.veto.result _ c.veto.ensures
-    (asked_veto has m a.place.root name change c.args.i h a.space.now w one asking at d asked says.box c.in-Ok.label says.live says.judges c.in-Ok.ensures) tt tt
+    (asked_veto has m a.place.root name change c.args.i h a.space.now w one asking at d asked says.box c.in-Ok.label says.live says.judges c.in-Ok.ensures) (record { cause = tt; licensed = tt }) (record { cause = tt; licensed = tt })
 
 pub returns-in-Ok-Vetoed-clause-leads : goal.returns-in-Ok-Vetoed-clause-leads
 returns-in-Ok-Vetoed-clause-leads g c = record {
@@ -326,8 +328,15 @@ returns-in-Err-clause-refused g c = λ h asking.
     let x = situation has m a.place.root name change c.args.i h a.space.now w one asking at d asked in
     let next = is_next has m a.place.root name change c.args.i h a.space.now w one asking at d inst asked (rule_at m one c.args.i inst d is inst_at here) in
     let mid = c.ask_rule.new.space in
+    let cause = refused_cause g.S.PageSpace.fails _ a.space.now mid c.in-Err.fault c.in-Err.ensures.works.refused (c.in-Err.ensures.undamaged asking.want asking.slots x asking.has asking.asks next) in
     rw c.refusal_of-in-Err.ensures (not_asked _ (extensions_of m) name change c.args.i h c.in-Err.fault _
-    (refused_cause g.S.PageSpace.fails _ a.space.now mid c.in-Err.fault c.in-Err.ensures.works.refused (c.in-Err.ensures.undamaged asking.want asking.slots x asking.has asking.asks next)))
+    (record {
+      cause = cause;
+      licensed = asked_full has m a.place.root name change c.args.i h a.space.now w one asking at g.S.PageSpace.leads g.S.PageSpace.table mid c.in-Err.fault d asked
+          (λ n. ArePages-few asking.slots n (g.met.S.PageSpace.whole asking.want asking.slots a.space.now asking.has) (g.met.S.PageSpace.few asking.want asking.slots a.space.now asking.has))
+          (g.met.S.PageSpace.tabled asking.want asking.slots a.space.now asking.has) c.in-Err.ensures.works.leads
+          (c.in-Err.ensures.full asking.want asking.slots x asking.has asking.asks next);
+    }))
 
 pub returns-in-Err-clause-leads : goal.returns-in-Err-clause-leads
 returns-in-Err-clause-leads g c = record {

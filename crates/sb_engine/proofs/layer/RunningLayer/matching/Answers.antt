@@ -6,7 +6,7 @@ use Rattle.sb_fold.specs.Fold.{matching}
 use Rattle.sb_engine.specs.Goings.{front_none, grows_none}
 use Rattle.sb_engine.specs.Opening.{IsKeeping}
 use Rattle.sb_engine.specs.Working.{MayDo}
-use Rattle.sb_engine.proofs.RefusedLemmas.{free_refusal, refused_cause}
+use Rattle.sb_engine.proofs.RefusedLemmas.{free_refusal, read_stop, refused_cause}
 use Rattle.sb_engine.proofs.StandingLemmas.{keeping_of, stands_later}
 use Rattle.sb_engine.proofs.layer.RunningLayer.matching.Goals as goal
 
@@ -35,7 +35,8 @@ returns-in-Err-clause-refused g c = λ h stands.
     (keeping_of g.S.PageSpace.has m a.place.root h a.space.now a.space.now a.work.now stands) in
     rw c.refusal_of.ensures (record {
       free = free_refusal c.in-Err.fault;
-      stopped = refused_cause g.S.PageSpace.fails _ a.space.now c.keys_matching.new.space c.in-Err.fault c.in-Err.ensures.looks.refused (c.in-Err.ensures.undamaged stands.want stands.slots stands.kept keeping);
+      stopped = read_stop g.S.PageSpace.has g.S.PageSpace.leads g.S.PageSpace.fails g.S.PageSpace.table _ c.in-Err.fault h.trail _ c.in-Err.ensures.looks.fault
+          (refused_cause g.S.PageSpace.fails _ a.space.now c.keys_matching.new.space c.in-Err.fault c.in-Err.ensures.looks.refused (c.in-Err.ensures.undamaged stands.want stands.slots stands.kept keeping));
     })
 
 pub returns-in-Ok-clause-leads : goal.returns-in-Ok-clause-leads

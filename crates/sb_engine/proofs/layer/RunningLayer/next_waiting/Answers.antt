@@ -3,7 +3,7 @@ use Rattle.std.specs.List.{slice_get}
 use Rattle.std.specs.Option.{option_copied}
 use Rattle.sb_rule.specs.declared.action.Action.{Action}
 use Rattle.sb_engine.specs.Goings.{front_none, stays}
-use Rattle.sb_engine.proofs.RefusedLemmas.{free_refusal, refused_cause, roomless_refusal}
+use Rattle.sb_engine.proofs.RefusedLemmas.{free_refusal, read_stop, refused_cause, roomless_refusal}
 use Rattle.sb_engine.proofs.StandingLemmas.{first_fits, keeping_of, rules_of, stands_taken}
 use Rattle.sb_engine.proofs.layer.RunningLayer.next_waiting.Goals as goal
 
@@ -34,7 +34,8 @@ returns-in-Err-clause-refused g c = λ h stands.
     let fits = first_fits has m a.place.root h a.space.now new w stands c.in-Ok.action at in
     rw c.refusal_of.ensures (record {
       free = free_refusal c.in-Err.fault;
-      stopped = refused_cause g.S.PageSpace.fails _ a.space.now new c.in-Err.fault c.in-Err.ensures.looks.refused (c.in-Err.ensures.undamaged stands.want stands.slots stands.kept keeping rules fits);
+      stopped = read_stop g.S.PageSpace.has g.S.PageSpace.leads g.S.PageSpace.fails g.S.PageSpace.table _ c.in-Err.fault h.trail _ c.in-Err.ensures.looks.fault
+          (refused_cause g.S.PageSpace.fails _ a.space.now new c.in-Err.fault c.in-Err.ensures.looks.refused (c.in-Err.ensures.undamaged stands.want stands.slots stands.kept keeping rules fits));
     })
 
 pub returns-in-Err-clause-room : goal.returns-in-Err-clause-room
