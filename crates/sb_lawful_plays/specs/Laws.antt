@@ -1,15 +1,17 @@
 -- Plays lead through lawful states.
-use Rattle.std.specs.Prelude.{ℕ, suc, ◌≤◌, List, [], Option, All}
+use Rattle.std.specs.Prelude.{ℕ, suc, ◌≤◌, false, List, [], ◌∷◌, map, Option, All}
+use Rattle.std.specs.List.{flat_map}
 use Rattle.sb_disk.specs.Causes.{Rose}
 use Rattle.sb_disk.specs.Disk.{Story}
 use Rattle.sb_disk.specs.Moments.{MayLeave, moment}
-use Rattle.sb_relation.specs.Db.{Db}
+use Rattle.sb_relation.specs.Db.{Attached, Relation, Db}
 use Rattle.sb_plain.specs.declared.reply.Reply.{Reply}
 use Rattle.sb_plain.specs.State.{State, committed}
 use Rattle.sb_grammar.specs.Columns.{Item}
 use Rattle.sb_registry.specs.Boxes.{Meanings}
 use Rattle.sb_kernel.specs.Working.{extensions_of}
-use Rattle.sb_vectors.specs.Vectors.{AreSameBoxes}
+use Rattle.sb_kernel.specs.Named.{Named}
+use Rattle.sb_kernel.specs.Naming.{HasSameNamed, named_in, named_method}
 use Rattle.sb_kernel.specs.Opening.{opened}
 use Rattle.sb_kernel.specs.Geometry.{Geometry}
 use Rattle.sb_kernel.specs.declared.ending.Ending.{Ending}
@@ -18,6 +20,7 @@ use Rattle.sb_kernel.specs.Plays.{Plays}
 use Rattle.sb_kernel.specs.Crashes.{HoldsDatabase, IsLeft, next_start}
 use Rattle.sb_kernel.specs.Runs.{HasPlayed, HasPlayedOut}
 use Rattle.sb_kernel.specs.Serving.{AnswersItems}
+use Rattle.sb_lawful_steps.specs.Spelling.{rule_code}
 use Rattle.sb_said.specs.Laws.{IsLawfulWithin}
 use Rattle.sb_said.specs.Written.{IsWrittenItem}
 
@@ -46,10 +49,6 @@ CommitsAreLawful = (m : Meanings) (s : State) → IsLawfulFor m s → HasLawfulC
 abbrev pub NothingIsLawful : Type 0
 NothingIsLawful = (m : Meanings) → IsLawfulOver m []
 
--- so it is with the same boxes in another order, of which others may be live
-abbrev pub SameBoxesAreLawful : Type 0
-SameBoxesAreLawful = (m n : Meanings) (db : Db) → AreSameBoxes m n → IsLawfulOver m db → IsLawfulOver n db
-
 -- the image holds such a database
 pub record HoldsLawful (m : Meanings) (image : List ℕ) : Type 0 where
   pub db : Db
@@ -61,6 +60,29 @@ abbrev pub CrashesLeaveLawful : Type 0
 CrashesLeaveLawful =
     (m : Meanings) (s t : State) (item : Item) (image : List ℕ) → IsWrittenItem item → IsLawfulFor m s → IsLawfulFor m t → IsLeft m s item t image
     → HoldsLawful m image
+
+-- ---- other boxes
+-- the code of an attachment
+abbrev pub named_rule : Attached → Named
+named_rule a = record { method = false; code = rule_code a.rule }
+
+-- the codes that a relation names: that of its storage method, and then those of its attachments
+abbrev pub named_at : Relation → List Named
+named_at r = named_method r.method ∷ map named_rule r.attachments
+
+-- those of all relations, in their order
+abbrev pub named_of : Db → List Named
+named_of db = flat_map (λ e. named_at e.1) db
+
+-- a database that is lawful with some boxes is so with any others, of which those are the same ones that its relations name
+abbrev pub SameBoxesAreLawful : Type 0
+SameBoxesAreLawful = (m n : Meanings) (db : Db) → HasSameNamed (named_of db) m n → IsLawfulOver m db → IsLawfulOver n db
+
+-- so it is where those are the same that the descriptors in the store name that holds it
+abbrev pub HeldBoxesAreLawful : Type 0
+HeldBoxesAreLawful =
+    (m n : Meanings) (image : List ℕ) (db : Db) (held : HoldsDatabase m image db) → HasSameNamed (named_in held.committed.kept) m n
+    → IsLawfulOver m db → IsLawfulOver n db
 
 -- ---- plays
 -- the states of a play from a lawful state

@@ -17,5 +17,4 @@ pub use Rattle.sb_kernel.specs.Table
 pub use Rattle.sb_kernel.specs.Working
 pub use Rattle.sb_kernel.specs.World
 pub use Rattle.sb_kernel.specs.declared.ending.Ending as DeclaredEnding
-pub use Rattle.sb_lawful_steps.specs.Laws as LawfulStepsLaws
 pub mod Laws

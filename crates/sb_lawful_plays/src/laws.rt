@@ -2,7 +2,8 @@
 
 ghost use Rattle.sb_kernel.specs.World.{world};
 ghost use Rattle.sb_lawful_plays.specs.Laws.{AnswersAreWritten, PlaysAreLawful, PlayedAreLawful, PlayedOutAreLawful};
-ghost use Rattle.sb_lawful_plays.specs.Laws.{RunsAreLawful, MadeRunsAreLawful, CommitsAreLawful, CrashesLeaveLawful, NothingIsLawful, SameBoxesAreLawful};
+ghost use Rattle.sb_lawful_plays.specs.Laws.{RunsAreLawful, MadeRunsAreLawful, CommitsAreLawful, CrashesLeaveLawful, NothingIsLawful};
+ghost use Rattle.sb_lawful_plays.specs.Laws.{SameBoxesAreLawful, HeldBoxesAreLawful};
 
 use sb_disk::Disk;
 use sb_vectors::Vectors;
@@ -29,9 +30,13 @@ pub fn runs_are_lawful<D: Disk>()
 
 /// A state that is opened over a database of a lawful state's commits is lawful, with whichever boxes live, and so is one that is opened over the empty
 /// database. What a crash leaves while an item is answered, from a lawful state to a lawful one, is such a database.
+///
+/// It is one with any other boxes too, in whichever order and with whichever others beside, of which those are the same ones that its relations name: the
+/// storage method of each, and each attachment's. So it is where those are the same that the descriptors in its store name, as the next run asks for them.
 pub fn databases_are_lawful()
     ensures commits { CommitsAreLawful }
     ensures crashes { CrashesLeaveLawful }
     ensures nothing { NothingIsLawful }
     ensures boxes { SameBoxesAreLawful }
+    ensures held { HeldBoxesAreLawful }
 {}

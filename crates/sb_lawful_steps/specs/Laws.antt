@@ -1,7 +1,9 @@
 -- Each step of a lawful state leaves a lawful state.
-use Rattle.std.specs.Prelude.{◌≡◌, ℕ, false, List, [], ◌∷◌, All, None}
+use Rattle.std.specs.Prelude.{◌≡◌, ℕ, ◌==◌, Bool, true, false, List, [], ◌∷◌, All, None}
+use Rattle.std.specs.List.{list_any}
 use Rattle.sb_codec.specs.Tuples.{IsTuple}
-use Rattle.sb_relation.specs.Db.{Key}
+use Rattle.sb_rule.specs.Spelling.{rule_code}
+use Rattle.sb_relation.specs.Db.{Key, Db}
 use Rattle.sb_relation.specs.Foreign.{attach_rules}
 use Rattle.sb_fold.specs.Extensions.{Extensions, method_of}
 use Rattle.sb_plain.specs.declared.command.Command.{Command}
@@ -67,14 +69,23 @@ PlaysFromNothing =
     → All (IsLawfulAlong ext) (passed ext (beginning live spare) play)
 
 -- ---- what doesn't matter
--- each code has the same extension, in whichever order they stand
-pub record AreAlike (ext other : Extensions) : Type 0 where
-  pub methods : (code : ℕ) → method_of ext code ≡ method_of other code
-  pub attachments : (code : ℕ) → attach_rules code ext.boxes.attachments ≡ attach_rules code other.boxes.attachments
+-- a relation of the database has this storage method
+abbrev pub names_method : ℕ → Db → Bool
+names_method code db = list_any (λ e. e.1.method == code) db
+
+-- an attachment of one of its relations has this code
+abbrev pub names_rule : ℕ → Db → Bool
+names_rule code db = list_any (λ e. list_any (λ a. rule_code a.rule == code) e.1.attachments) db
+
+-- each code that one of the databases names has the same extension, in whichever order they stand, and whichever others stand beside
+pub record AreAlikeOn (dbs : List Db) (ext other : Extensions) : Type 0 where
+  pub methods : (code : ℕ) → list_any (names_method code) dbs ≡ true → method_of ext code ≡ method_of other code
+  pub attachments : (code : ℕ) → list_any (names_rule code) dbs ≡ true
+      → attach_rules code ext.boxes.attachments ≡ attach_rules code other.boxes.attachments
 
 -- a state that is lawful with the ones is so with the others
 abbrev pub AlikeAreLawful : Type 0
-AlikeAreLawful = (ext other : Extensions) (s : State) → AreAlike ext other → IsLawfulAlong ext s → IsLawfulAlong other s
+AlikeAreLawful = (ext other : Extensions) (s : State) → AreAlikeOn (databases s) ext other → IsLawfulAlong ext s → IsLawfulAlong other s
 
 -- a lawful state is so when a fault or damage has ended the kernel
 abbrev pub DownIsLawful : Type 0

@@ -1,1 +1,2 @@
+pub use Rattle.sb_rule.specs.Spelling
 pub mod Laws

@@ -17,8 +17,9 @@ pub fn plays_stay_lawful()
     ensures nothing { PlaysFromNothing }
 {}
 
-/// A lawful state stays so where the same extensions stand in another order, as they do once some became live or spare, and when a fault or damage has
-/// ended the kernel.
+/// A lawful state stays so with any extensions of which those are the same that its databases name: the storage method of each relation, and the code of
+/// each attachment. They may stand in another order, as they do once some became live or spare, and others may stand beside. It also stays so when a fault
+/// or damage has ended the kernel.
 pub fn lawful_states_stay()
     ensures order { AlikeAreLawful }
     ensures down { DownIsLawful }

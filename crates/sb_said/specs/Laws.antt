@@ -8,7 +8,7 @@ use Rattle.sb_plain.specs.Step.{step}
 use Rattle.sb_grammar.specs.Columns.{Item, IsCommand}
 use Rattle.sb_lines.specs.Lines.{AreItems, AreFirstItems}
 use Rattle.sb_lawful.specs.Laws.{databases, IsWellNamed}
-use Rattle.sb_lawful_steps.specs.Laws.{IsLawfulAlong, AreAlike, beginning}
+use Rattle.sb_lawful_steps.specs.Laws.{IsLawfulAlong, AreAlikeOn, beginning}
 use Rattle.sb_said.specs.Written.{IsLimited, IsWritten, IsWrittenItem}
 
 -- ---- lines
@@ -46,9 +46,9 @@ DatabasesAreLawful = (ext : Extensions) (s : State) → IsLawfulWithin ext s →
 abbrev pub NothingIsLawful : Type 0
 NothingIsLawful = (ext : Extensions) (live spare : Codes) → IsLawfulWithin ext (beginning live spare)
 
--- a state that is such with the ones is so with the others
+-- a state that is such with the ones is so with any others, of which those are the same that its databases name
 abbrev pub AlikeAreLawful : Type 0
-AlikeAreLawful = (ext other : Extensions) (s : State) → AreAlike ext other → IsLawfulWithin ext s → IsLawfulWithin other s
+AlikeAreLawful = (ext other : Extensions) (s : State) → AreAlikeOn (databases s) ext other → IsLawfulWithin ext s → IsLawfulWithin other s
 
 -- such a state is one when a fault or damage has ended the kernel
 abbrev pub DownIsLawful : Type 0

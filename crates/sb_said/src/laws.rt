@@ -20,8 +20,8 @@ pub fn written_steps_leave_lawful()
     ensures databases { DatabasesAreLawful }
 {}
 
-/// Such a state is that of a new kernel, whose only commit is the empty database. It stays one where the same extensions stand in another order, and when
-/// a fault or damage has ended the kernel.
+/// Such a state is that of a new kernel, whose only commit is the empty database. It stays one with any extensions of which those are the same that its
+/// databases name, in whichever order, and when a fault or damage has ended the kernel.
 pub fn lawful_states_stay()
     ensures nothing { NothingIsLawful }
     ensures order { AlikeAreLawful }

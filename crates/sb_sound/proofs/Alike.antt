@@ -1,4 +1,4 @@
--- Which rules hold doesn't depend on the order of the extensions.
+-- Which rules with codes of ours hold doesn't depend on the extensions.
 use Rattle.std.proofs.Common.{◌≡◌, Bool, true, false, not, ◌&&◌, [], Option, Some, None}
 use Rattle.std.specs.Prelude.{All}
 use Rattle.std.proofs.lemmas.List.Elements.{All-weaker}

@@ -6,7 +6,8 @@ use Rattle.sb_plain.specs.declared.command.Command.{Command}
 use Rattle.sb_plain.specs.Lawful.{IsLawfulState}
 use Rattle.sb_plain.specs.State.{Codes, State, downed}
 use Rattle.sb_plain.specs.Step.{step}
-use Rattle.sb_lawful_steps.specs.Laws.{IsSaid, IsLawfulAlong, Said, passed, beginning, AreAlike}
+use Rattle.sb_lawful.specs.Laws.{databases}
+use Rattle.sb_lawful_steps.specs.Laws.{IsSaid, IsLawfulAlong, Said, passed, beginning, AreAlikeOn}
 
 -- Each database of the state is lawful, its triggers and what waits there put into rows what can be stored, and its names have no dot. All rules
 -- of the commits hold, and those of the open database and of the savepoints, but for what is deferred.
@@ -31,9 +32,9 @@ PlaysFromNothingSound =
     (ext : Extensions) (live spare : Codes) (play : List Said) → All (λ said. IsSaid said.0) play
     → All (IsSoundAlong ext) (passed ext (beginning live spare) play)
 
--- a state that is sound with extensions is so with the same ones in another order
+-- a state that is sound with extensions is so with any others, of which those are the same that its databases name
 abbrev pub AlikeAreSound : Type 0
-AlikeAreSound = (ext other : Extensions) (s : State) → AreAlike ext other → IsSoundAlong ext s → IsSoundAlong other s
+AlikeAreSound = (ext other : Extensions) (s : State) → AreAlikeOn (databases s) ext other → IsSoundAlong ext s → IsSoundAlong other s
 
 -- and when a fault or damage has ended the kernel
 abbrev pub DownIsSound : Type 0

@@ -15,7 +15,8 @@ pub fn plays_stay_sound()
     ensures nothing { PlaysFromNothingSound }
 {}
 
-/// A sound state stays so where the same extensions stand in another order, and when a fault or damage has ended the kernel.
+/// A sound state stays so with any extensions of which those are the same that its databases name, in whichever order, and when a fault or damage has ended
+/// the kernel.
 pub fn sound_states_stay()
     ensures order { AlikeAreSound }
     ensures down { DownIsSound }

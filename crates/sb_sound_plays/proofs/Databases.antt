@@ -1,56 +1,37 @@
--- Databases of sound states, and steps with boxes in another order.
-use Rattle.std.proofs.Common.{◌≡◌, ℕ, ◌==◌, inl, inr, true, false, cond, List, [], ◌∷◌, ◌++◌, map, Some, option_map, refl, sym, ap, subst, ◌∙◌}
+-- Databases of sound states, and steps with other boxes.
+use Rattle.std.proofs.Common.{inl, inr, List, [], sym, subst}
 use Rattle.std.specs.Prelude.{All}
 use Rattle.std.proofs.lemmas.List.Elements.{All-nil, All-cons, All-append}
 use Rattle.sb_relation.specs.Db.{Db}
-use Rattle.sb_relation.specs.Foreign.{method_rules}
 use Rattle.sb_plain.specs.declared.command.Command.{Command}
 use Rattle.sb_plain.specs.declared.reply.Reply.{Reply}
 use Rattle.sb_plain.specs.State.{State, committed, ended}
 use Rattle.sb_plain.specs.Step.{Steps}
 use Rattle.sb_grammar.specs.Columns.{Says, Bad}
-use Rattle.sb_ctx.specs.Method.{Method}
-use Rattle.sb_registry.specs.Boxes.{Meanings, method_of}
+use Rattle.sb_registry.specs.Boxes.{Meanings}
 use Rattle.sb_lawful_plays.specs.Working.{extensions_of}
-use Rattle.sb_vectors.specs.Vectors.{AreSameBoxes}
-use Rattle.sb_lawful_plays.proofs.MoveBoxes.{SameRules-same}
+use Rattle.sb_lawful_plays.specs.Named.{Named}
+use Rattle.sb_lawful_plays.specs.Naming.{HasSameNamed}
+use Rattle.sb_lawful_plays.specs.Opening.{opened}
 use Rattle.sb_lawful_plays.specs.Plays.{AreBoxesOf}
 use Rattle.sb_lawful_plays.specs.Crashes.{IsMade}
 use Rattle.sb_plain.specs.Lawful.{IsLawful, IsSound}
+use Rattle.sb_lawful.specs.Laws.{databases}
 use Rattle.sb_lawful.proofs.Steps.{of_view}
-use Rattle.sb_lawful_plays.specs.LawfulStepsLaws.{AreAlike}
 use Rattle.sb_lawful_plays.specs.Laws.{IsLawfulOver}
-use Rattle.sb_lawful_plays.proofs.Databases.{commits-lawful}
+use Rattle.sb_lawful_plays.proofs.Databases.{alike, alike_named, commits-lawful, held_names, turned}
 use Rattle.sb_sound_said.specs.Laws.{IsSoundWithin}
 use Rattle.sb_sound_said.specs.Written.{IsWritten}
 use Rattle.sb_sound_said.proofs.Stepping.{written-steps, nothing-sound, alike-sound}
-use Rattle.sb_sound_plays.specs.Laws.{IsSoundFor, IsSoundOver, CommitsAreSound, NothingIsSound, SameBoxesAreSound, CrashesLeaveSound}
-
--- ---- the same boxes have the same rules
-methods_of : (code : ℕ) (methods : List Method) → method_rules code (map (λ x. x.rules) methods) ≡ option_map (λ x. x.rules) (method_of code methods)
-methods_of code [] = refl
-methods_of code (m ∷ methods) =
-    elim (m.rules.code == code)
-    as (λ t. cond t (Some m.rules) (method_rules code (map (λ x. x.rules) methods)) ≡ option_map (λ x. x.rules) (cond t (Some m) (method_of code methods)))
-    [ true ↦ refl | false ↦ methods_of code methods ]
-
-alike : (m n : Meanings) → AreSameBoxes m n → AreAlike (extensions_of m) (extensions_of n)
-alike m n same = record {
-  methods = λ code.
-      methods_of code (m.methods ++ m.spare_methods) ∙ ap (option_map (λ (x : Method). x.rules)) (sym (same.methods code)) ∙ sym (methods_of code (n.methods ++ n.spare_methods));
-  attachments = λ code. sym (SameRules-same m n same code);
-}
-
-turned : (m n : Meanings) → AreSameBoxes m n → AreSameBoxes n m
-turned m n same = record { methods = λ code. sym (same.methods code); attachments = λ code. sym (same.attachments code) }
+use Rattle.sb_sound_plays.specs.Laws.{IsSoundFor, IsSoundOver, CommitsAreSound, NothingIsSound, SameBoxesAreSound, HeldBoxesAreSound, CrashesLeaveSound}
 
 -- ---- a step with the boxes in the order of the state's codes
 pub stepped : (m : Meanings) (s : State) (c : Command) (boxes : Meanings) → AreBoxesOf m s boxes → (reply : Reply) (t : State) → Steps (extensions_of boxes) s c reply t → IsWritten c → IsSoundFor m s
     → IsSoundFor m t
 stepped m s c boxes are reply t steps is sound =
-    alike-sound (extensions_of boxes) (extensions_of m) t (alike boxes m (turned m boxes are.same))
+    alike-sound (extensions_of boxes) (extensions_of m) t (alike boxes m (databases t) (turned m boxes are.same))
     (subst (IsSoundWithin (extensions_of boxes)) steps.leads
-    (written-steps (extensions_of boxes) s c steps.picks is (alike-sound (extensions_of m) (extensions_of boxes) s (alike m boxes are.same) sound)))
+    (written-steps (extensions_of boxes) s c steps.picks is (alike-sound (extensions_of m) (extensions_of boxes) s (alike m boxes (databases s) are.same) sound)))
 
 -- ---- databases
 over : (m : Meanings) (db : Db) → IsLawfulOver m db → IsLawful (extensions_of m) db → IsSound (extensions_of m) db → IsSoundOver m db
@@ -67,7 +48,10 @@ pub nothing-over : NothingIsSound
 nothing-over m boxes = nothing-sound (extensions_of m) _ _
 
 pub same-sound : SameBoxesAreSound
-same-sound m n db same sound boxes = alike-sound (extensions_of m) (extensions_of n) _ (alike m n same) (sound boxes)
+same-sound m n db same sound boxes = alike-sound (extensions_of m) (extensions_of n) (opened boxes db) (alike_named m n db same) (sound boxes)
+
+pub held-sound : HeldBoxesAreSound
+held-sound m n image db held same sound = same-sound m n db (subst (λ (named : List Named). HasSameNamed named m n) (sym (held_names m image db held)) same) sound
 
 pub commits-sound : CommitsAreSound
 commits-sound m s sound =

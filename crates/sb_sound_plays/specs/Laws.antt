@@ -9,7 +9,8 @@ use Rattle.sb_plain.specs.State.{State, committed}
 use Rattle.sb_grammar.specs.Columns.{Item}
 use Rattle.sb_registry.specs.Boxes.{Meanings}
 use Rattle.sb_lawful_plays.specs.Working.{extensions_of}
-use Rattle.sb_vectors.specs.Vectors.{AreSameBoxes}
+use Rattle.sb_lawful_plays.specs.Laws.{named_of}
+use Rattle.sb_lawful_plays.specs.Naming.{HasSameNamed, named_in}
 use Rattle.sb_lawful_plays.specs.Opening.{opened}
 use Rattle.sb_lawful_plays.specs.Geometry.{Geometry}
 use Rattle.sb_lawful_plays.specs.DeclaredEnding.{Ending}
@@ -41,10 +42,6 @@ CommitsAreSound = (m : Meanings) (s : State) → IsSoundFor m s → HasSoundComm
 abbrev pub NothingIsSound : Type 0
 NothingIsSound = (m : Meanings) → IsSoundOver m []
 
--- so it is with the same boxes in another order, of which others may be live
-abbrev pub SameBoxesAreSound : Type 0
-SameBoxesAreSound = (m n : Meanings) (db : Db) → AreSameBoxes m n → IsSoundOver m db → IsSoundOver n db
-
 -- the image holds such a database
 pub record HoldsSound (m : Meanings) (image : List ℕ) : Type 0 where
   pub db : Db
@@ -56,6 +53,17 @@ abbrev pub CrashesLeaveSound : Type 0
 CrashesLeaveSound =
     (m : Meanings) (s t : State) (item : Item) (image : List ℕ) → IsWrittenItem item → IsSoundFor m s → IsSoundFor m t → IsLeft m s item t image
     → HoldsSound m image
+
+-- ---- other boxes
+-- a database that is sound with some boxes is so with any others, of which those are the same ones that its relations name
+abbrev pub SameBoxesAreSound : Type 0
+SameBoxesAreSound = (m n : Meanings) (db : Db) → HasSameNamed (named_of db) m n → IsSoundOver m db → IsSoundOver n db
+
+-- so it is where those are the same that the descriptors in the store name that holds it
+abbrev pub HeldBoxesAreSound : Type 0
+HeldBoxesAreSound =
+    (m n : Meanings) (image : List ℕ) (db : Db) (held : HoldsDatabase m image db) → HasSameNamed (named_in held.committed.kept) m n
+    → IsSoundOver m db → IsSoundOver n db
 
 -- ---- plays
 -- the states of a play from a sound state

@@ -2,7 +2,8 @@
 
 ghost use Rattle.sb_lawful_plays.specs.World.{world};
 ghost use Rattle.sb_sound_plays.specs.Laws.{PlaysAreSound, PlayedAreSound, PlayedOutAreSound};
-ghost use Rattle.sb_sound_plays.specs.Laws.{RunsAreSound, MadeRunsAreSound, CommitsAreSound, CrashesLeaveSound, NothingIsSound, SameBoxesAreSound};
+ghost use Rattle.sb_sound_plays.specs.Laws.{RunsAreSound, MadeRunsAreSound, CommitsAreSound, CrashesLeaveSound, NothingIsSound};
+ghost use Rattle.sb_sound_plays.specs.Laws.{SameBoxesAreSound, HeldBoxesAreSound};
 
 use sb_disk::Disk;
 use sb_vectors::Vectors;
@@ -25,9 +26,13 @@ pub fn runs_are_sound<D: Disk>()
 
 /// A state that is opened over a database of a sound state's commits is sound, with whichever boxes live, and so is one that is opened over the empty
 /// database. What a crash leaves while an item is answered, from a sound state to a sound one, is such a database.
+///
+/// It is one with any other boxes too, in whichever order and with whichever others beside, of which those are the same ones that its relations name: the
+/// storage method of each, and each attachment's. So it is where those are the same that the descriptors in its store name, as the next run asks for them.
 pub fn databases_are_sound()
     ensures commits { CommitsAreSound }
     ensures crashes { CrashesLeaveSound }
     ensures nothing { NothingIsSound }
     ensures boxes { SameBoxesAreSound }
+    ensures held { HeldBoxesAreSound }
 {}

@@ -6,7 +6,8 @@ use Rattle.sb_plain.specs.declared.command.Command.{Command}
 use Rattle.sb_plain.specs.Lawful.{IsLawfulState}
 use Rattle.sb_plain.specs.State.{Codes, State, downed}
 use Rattle.sb_plain.specs.Step.{step}
-use Rattle.sb_said.specs.LawfulStepsLaws.{AreAlike, beginning}
+use Rattle.sb_lawful.specs.Laws.{databases}
+use Rattle.sb_said.specs.LawfulStepsLaws.{AreAlikeOn, beginning}
 use Rattle.sb_said.specs.Laws.{IsLawfulWithin}
 use Rattle.sb_said.specs.Written.{IsWritten}
 
@@ -25,9 +26,9 @@ WrittenStepsLeaveSound =
 abbrev pub NothingIsSound : Type 0
 NothingIsSound = (ext : Extensions) (live spare : Codes) → IsSoundWithin ext (beginning live spare)
 
--- a state that is such with extensions is so with the same ones in another order
+-- a state that is such with extensions is so with any others, of which those are the same that its databases name
 abbrev pub AlikeAreSound : Type 0
-AlikeAreSound = (ext other : Extensions) (s : State) → AreAlike ext other → IsSoundWithin ext s → IsSoundWithin other s
+AlikeAreSound = (ext other : Extensions) (s : State) → AreAlikeOn (databases s) ext other → IsSoundWithin ext s → IsSoundWithin other s
 
 -- and when a fault or damage has ended the kernel
 abbrev pub DownIsSound : Type 0

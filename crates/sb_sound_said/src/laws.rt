@@ -8,8 +8,8 @@ pub fn written_steps_are_sound()
     ensures { WrittenStepsLeaveSound }
 {}
 
-/// The state of a new kernel is sound, with any codes. A sound state stays so where the same extensions stand in another order, and when a fault or damage
-/// has ended the kernel.
+/// The state of a new kernel is sound, with any codes. A sound state stays so with any extensions of which those are the same that its databases name, in
+/// whichever order, and when a fault or damage has ended the kernel.
 pub fn sound_states_stay()
     ensures nothing { NothingIsSound }
     ensures order { AlikeAreSound }

@@ -1,4 +1,4 @@
-use Rattle.sb_lawful_plays.proofs.Databases.{commits-lawful, crashes-leave, nothing-over, same-lawful}
+use Rattle.sb_lawful_plays.proofs.Databases.{commits-lawful, crashes-leave, held-lawful, nothing-over, same-lawful}
 use Rattle.sb_lawful_plays.proofs.laws.databases_are_lawful.Goals as goal
 
 pub returns-clause-commits : goal.returns-clause-commits
@@ -12,3 +12,6 @@ returns-clause-nothing c = nothing-over
 
 pub returns-clause-boxes : goal.returns-clause-boxes
 returns-clause-boxes c = same-lawful
+
+pub returns-clause-held : goal.returns-clause-held
+returns-clause-held c = held-lawful
