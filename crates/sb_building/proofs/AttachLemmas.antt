@@ -1,5 +1,6 @@
 -- Attaching a rule without a mirror, on an engine at work.
-use Rattle.std.proofs.Common.{◌≡◌, ℕ, ◌<◌, ◌≤◌, ◌==◌, nat_le, nat_lt, Bool, true, false, cond, ◌||◌, List, [], ◌∷◌, ◌++◌, length, map, Option, Some, None, is_none, bytes_eq, arith, refl, sym, ap, subst, ◌∙◌}
+use Rattle.std.proofs.Common.{◌≡◌, ℕ, sum, ◌+◌, ◌<◌, ◌≤◌, ◌==◌, nat_le, nat_lt, Bool, true, false, cond, ◌||◌, List, [], ◌∷◌, ◌++◌, length, map, Option, Some, None, is_none, bytes_eq, arith, refl, sym, ap, subst, ◌∙◌}
+use Rattle.std.specs.List.{Any}
 use Rattle.std.proofs.lemmas.Bool.Decides.{nat_tests}
 use Rattle.std.proofs.lemmas.List.Elements.{All-weaker}
 use Rattle.std.proofs.lemmas.Option.{same_Some}
@@ -16,6 +17,7 @@ use Rattle.sb_relation.specs.Rules.{holds}
 use Rattle.sb_fold.specs.declared.refusal.Refusal.TheVariants.{TooLong as LongRow, Veto}
 use Rattle.sb_fold.specs.Building.{build, has_long_row}
 use Rattle.sb_fold.specs.Extensions.{Extensions, box_of}
+use Rattle.sb_fold.specs.Need.{need}
 use Rattle.sb_fold.specs.Outcome.{Going, Gone}
 use Rattle.sb_deferred.specs.Complete.{AreMirrored}
 use Rattle.sb_deferred.proofs.CatalogLemmas.{with-rule-complete}
@@ -25,19 +27,35 @@ use Rattle.sb_cascade.proofs.Attaching.{attached-may-stand}
 use Rattle.sb_cascade.proofs.Commanding.{attaching-stays}
 use Rattle.sb_ctx.specs.Attachment.{Attachment}
 use Rattle.sb_registry.specs.Boxes.{Meanings, attachment_of}
-use Rattle.sb_drive.specs.Slots.{Slots}
+use Rattle.sb_drive.specs.declared.space.SpaceFault.{SpaceFault}
+use Rattle.sb_drive.specs.declared.space.SpaceFault.TheVariants.{DataFull}
+use Rattle.sb_drive.specs.Slots.{AreWhole, Slots, owned}
 use Rattle.sb_drive.specs.Spaces.{Wanted}
+use Rattle.sb_drive.proofs.SpacesLemmas.{ArePages-few}
+use Rattle.sb_forms.specs.Pages.{page_count}
+use Rattle.sb_standing.specs.Lacking.{WhereShort}
 use Rattle.sb_standing.specs.Tables.{db_of}
 use Rattle.sb_standing.proofs.KeptLemmas.{IsThere, kept_at-relation}
 use Rattle.sb_standing.proofs.RuleLemmas.{with_rule-alone}
 use Rattle.sb_tables.specs.Work.{Work as Beside}
-use Rattle.sb_tables.specs.Working.{ArePaired, IsNoneGone, Stands, extensions_of}
+use Rattle.sb_tables.specs.Opened.{IsDurable}
+use Rattle.sb_tables.specs.Working.{AreNamedApart, ArePaired, IsLicensed, IsNoneGone, IsShortOf, Stands, extensions_of}
+use Rattle.sb_tables.specs.Owned.{IsTabled, pages_of}
+use Rattle.sb_tables.specs.Refusals.{refusal_of}
+use Rattle.sb_tables.specs.Weights.{resting}
+use Rattle.sb_tables.proofs.Beside.{beside-is-full, rest-has-room}
+use Rattle.sb_tables.proofs.LackingLemmas.{all_meant}
+use Rattle.sb_tables.proofs.StandsLemmas.{durable-kept}
 use Rattle.sb_tables.specs.Keeping.{KeepsDb}
+use Rattle.sb_tables.proofs.DetachedLemmas.{keeps-more}
 use Rattle.sb_building.specs.declared.attaching.Attaching.TheVariants.{TooLarge, TooLong, Vetoed, Attached}
 use Rattle.sb_building.specs.Attaching.{HasEnded, MayAdd, MayAttach, Stores, new_attached}
 use Rattle.sb_building.specs.Instances.{Site}
+use Rattle.sb_building.specs.Lacking.{IsShortBuilding, IsWithinBuild}
+use Rattle.sb_building.proofs.NameLemmas.{apart-attached}
 use Rattle.sb_building.proofs.PairLemmas.{mirrored-alone, paired-alone}
-use Rattle.sb_building.proofs.WorkLemmas.{Comes, IsClosed, IsRefusedSo, Stands-other, leads_attached, leads_long, leads_vetoed, reached_db, reached_gone, reached_queue, reached_used}
+use Rattle.sb_building.proofs.PointLemmas.{at_build, need-aside}
+use Rattle.sb_building.proofs.WorkLemmas.{Comes, IsClosed, IsRefusedSo, Stands-other, leads_attached, leads_long, leads_vetoed, reached, reached_db, reached_gone, reached_queue, reached_used}
 
 -- ---- the extension of the rule is the live box
 attach_rules-live : (code : ℕ) (live spare : List Attachment) (box : Attachment) → attachment_of code live ≡ Some box → attach_rules code (map (λ x. x.rules) (live ++ spare)) ≡ Some box.rules
@@ -167,9 +185,12 @@ module _ {S : Type 0} (Has : Wanted → Slots → S → Type 0) (m : Meanings) (
     leads = leads_attached ext relation name rule g (short_rows ended.0) (holds_as true ended.1);
     stands =
         Stands-other Has m root g _ after old new w v stands (ap (λ (d : Db). with_rule d relation name rule) (reached_db ext relation name rule g)) (reached_queue ext relation name rule g) (reached_used ext relation name rule g) closed
-        (subst (λ (l : List ℕ). KeepsDb Has m root l after new) (sym gone) (subst (λ (d : Db). KeepsDb Has m root w.gone.items d new) (ap (λ (d : Db). with_attached d relation name rule) (sym stands.db) ∙ sym alone) ended.2))
+        (subst (λ (l : List ℕ). KeepsDb Has m root l (sum (reached ext relation name rule g).gone.durable) after new) (sym gone)
+        (keeps-more Has m root w.gone.items (pages_of stands.slots w.gone.items) _ after new held
+        (subst (λ (d : Db). KeepsDb Has m root w.gone.items (pages_of stands.slots w.gone.items) d new) (ap (λ (d : Db). with_attached d relation name rule) (sym stands.db) ∙ sym alone) ended.2)))
         (subst AreMirrored (sym alone) (mirrored-alone g.db relation name rule may.own may.there may.new may.single stands.mirrored))
         (subst ArePaired (sym alone) (paired-alone g.db relation name rule may.own may.there may.new may.main stands.paired))
+        (subst AreNamedApart (sym alone) (apart-attached g.db relation name rule may.own may.there may.new stands.apart))
         (with-rule-complete (box_of ext rule) g.db g.queue relation name rule (holds_as true ended.1) stands.complete)
         (attached-may-stand (box_of ext) g.db relation name rule stands.rules missing may_stand)
         (All-weaker (IsFitting g.db) (IsFitting after) (λ a fits. (attaching-stays g.db relation name rule a).1 fits) g.queue.actions stands.fit)
@@ -182,6 +203,9 @@ module _ {S : Type 0} (Has : Wanted → Slots → S → Type 0) (m : Meanings) (
       alone : with_rule g.db relation name rule ≡ with_attached g.db relation name rule
       alone = with_rule-alone g.db relation name rule may.single
 
+      held : pages_of stands.slots w.gone.items ≤ sum (reached ext relation name rule g).gone.durable
+      held = omega (arith, stands.aside, ap (λ (x : Gone). sum x.durable) (reached_gone ext relation name rule g))
+
       missing : first_missing g.db (relation ∷ []) ≡ None
       missing = ap (λ (o : Option Relation). cond (is_none o) (Some relation) None) may.there
 
@@ -189,3 +213,24 @@ module _ {S : Type 0} (Has : Wanted → Slots → S → Type 0) (m : Meanings) (
       may_stand =
           subst (λ (b : Option AttachRules). MayStand b g.db (schema_at g.db relation) rule) (sym (box_of-live m rule may.box may.live))
           (subst (λ (c : List Column). MayStand (Some may.box.rules) g.db c rule) (sym (ap (λ (o : Option Relation). elim o as (λ _. List Column) [ None ↦ [] | Some r ↦ r.schema ]) may.there)) may.stands)
+
+  -- ---- want of a page
+  module _ (Leads : ℕ → S → S → Type 0) (table : S → ℕ) (whole : (want : Wanted) (s : Slots) (a : S) → Has want s a → AreWhole s) (few : (want : Wanted) (s : Slots) (a : S) → Has want s a → (n : ℕ) → 65536 ≤ n → (s n).0 ≡ 0)
+      (tabled : (want : Wanted) (s : Slots) (a : S) → Has want s a → IsTabled (table a) s) where
+    -- there are no more pages than are needed at a point of the build
+    short_point : (total : ℕ) (new : S) → total ≤ 65536 → (it : IsShortBuilding Has Leads ext site_of relation rule new total)
+        → Any (IsShortOf total (table it.space + page_count (owned it.slots 1)) ext) (reached ext relation name rule g).trail.points
+    short_point total new small it =
+        let pages = λ (o : ℕ). ArePages-few stands.slots o (whole stands.want stands.slots old stands.has) (few stands.want stands.slots old stands.has) in
+        let within = rest-has-room m IsDurable root stands.slots w.gone.items stands.kept g.gone 0 (all_meant m root stands.slots stands.kept stands.lasting stands.keeps.tables) pages stands.keeps stands.aside in
+        let full = beside-is-full m IsDurable root stands.slots it.slots w.gone.items stands.kept it.owner it.pages (table it.space) total (need ext true (resting (db_of stands.kept) g.gone 0)) stands.keeps within small
+        (tabled stands.want it.slots it.space it.has) it.short in
+        let same = ap (λ (d : Db). need ext true (resting d g.gone 0)) stands.db in
+        at_build ext relation rule (IsShortOf total (table it.space + page_count (owned it.slots 1)) ext) g it.pages
+        (durable-kept m root stands.slots w.gone.items stands.kept stands.keeps stands.lasting g.db stands.db relation)
+        (subst (λ (d : Db). IsWithinBuild ext d relation rule it.pages) (sym stands.db) it.within)
+        (λ most more spent. omega (arith, full, more, same, need-aside ext g.db most spent 0 g.gone))
+
+    pub attach_licensed : (e : SpaceFault) (new : S) → WhereShort e (IsShortBuilding Has Leads ext site_of relation rule new) → IsLicensed Has Leads table m (refusal_of e) (reached ext relation name rule g).trail new
+    attach_licensed (DataFull used total) new it = λ small. record { space = it.space; leads = it.leads; want = stands.want; slots = it.slots; has = it.has; short = short_point total new small it }
+    attach_licensed e new it = tt

@@ -1,5 +1,5 @@
 -- A content that is built row by row, so far.
-use Rattle.std.proofs.Common.{◌≡◌, ℕ, ◌+◌, ◌≤◌, ◌^◌, Bool, true, false, true≢false, ◌&&◌, ◌||◌, List, [], ◌∷◌, ◌++◌, T, Option, Some, None, append_assoc, refl, sym, ap, subst, ◌∙◌}
+use Rattle.std.proofs.Common.{◌≡◌, inr, ℕ, ◌+◌, ◌≤◌, ◌^◌, Bool, true, false, true≢false, ◌&&◌, ◌||◌, List, [], ◌∷◌, ◌++◌, T, Option, Some, None, append_assoc, refl, sym, ap, subst, ◌∙◌, arith}
 use Rattle.std.specs.FinMap.Entries.{is_sorted}
 use Rattle.std.specs.List.{list_any}
 use Rattle.std.proofs.lemmas.List.Folds.{list_any-append}
@@ -13,18 +13,24 @@ use Rattle.sb_ctx.specs.Attachment.{Attachment}
 use Rattle.sb_ctx.specs.AttachAnswers.{Holds}
 use Rattle.sb_ctx.specs.MethodAnswers.{row_above}
 use Rattle.sb_registry.specs.Boxes.{Meanings}
+use Rattle.sb_drive.specs.declared.space.SpaceFault.{SpaceFault}
 use Rattle.sb_drive.specs.Slots.{Slots, owned}
-use Rattle.sb_drive.specs.Spaces.{Leaves, Wanted}
+use Rattle.sb_drive.specs.Spaces.{Leaves, LeadsOn, Wanted}
 use Rattle.sb_rows.specs.Live.{HasRows}
+use Rattle.sb_standing.specs.Lacking.{IsShort, WhereShort}
 use Rattle.sb_standing.specs.Tables.{KeepsOthers, db_of, table_of}
 use Rattle.sb_tables.specs.Opened.{IsDurable}
+use Rattle.sb_tables.specs.Working.{extensions_of}
+use Rattle.sb_building.specs.Attaching.{HasBegun}
 use Rattle.sb_building.specs.Building.{HasNoLong, HoldsBuilt, IsBuilt, IsBuiltOver, IsNext, content_built}
 use Rattle.sb_building.specs.Held.{holds_of}
 use Rattle.sb_building.specs.Instances.{IsSite, Site}
+use Rattle.sb_building.specs.Lacking.{IsShortBuilding, bound_with}
 use Rattle.sb_building.proofs.ContentLemmas.{IsOver-next}
 use Rattle.sb_building.proofs.HeldLemmas.{IsOver, holds_of-more, holds_of-none, holds_of-vetoed}
+use Rattle.sb_building.proofs.LackingLemmas.{short_own}
 use Rattle.sb_building.proofs.RowsLemmas.{IsNext-read, IsRead, IsRead-all, IsRead-few, IsRead-next, IsRead-none}
-use Rattle.sb_building.proofs.SiteLemmas.{IsSite-on, relation_there, rows_are, table_there}
+use Rattle.sb_building.proofs.SiteLemmas.{IsSite-on, relation_there, rows_are, rows_there, table_there}
 
 -- the rows up to a key are built and admitted, and the pages hold the content over them
 pub record IsBuildingUp {S : Type 0} (Has : Wanted → Slots → S → Type 0) (m : Meanings) (root : ℕ) (x : Site) (inst : Instance) (rule : Rule) (box : Attachment) (last : Option Key) (count : ℕ) (space : S) : Type 0 where
@@ -138,3 +144,17 @@ module _ {S : Type 0} (Has : Wanted → Slots → S → Type 0) (m : Meanings) (
     -- no more rows than there are
     pub building-few : 2 ^ 48 ≤ count → ⊥
     building-few many = IsRead-few x.one.relation.rows up.built last count (2 ^ 48) (rows_are Has m root here inst rule box space up.site).few many up.read
+
+-- ---- want of a page
+-- where no page is left for the next row, none is left beside the owner that has come
+pub building-short : {S : Type 0} (Has : Wanted → Slots → S → Type 0) (Leads : ℕ → S → S → Type 0) (m : Meanings) (root : ℕ) (x : Site) (inst : Instance) (rule : Rule) (box : Attachment) (old : S)
+    → (begun : HasBegun Has m root x inst rule box old) → (last : Option Key) (count : ℕ) (space : S) → (up : IsBuildingUp Has m root (record x { slots = begun.slots }) inst rule box last count space)
+    → (row : Key × Row) (new : S) → row_above last x.one.relation.rows ≡ Some row → LeadsOn Leads space new → (e : SpaceFault)
+    → WhereShort e (IsShort up.slots inst.owner (bound_with (extensions_of m) (db_of x.kept) inst.relation rule up.built row))
+    → WhereShort e (IsShortBuilding Has Leads (extensions_of m) x inst.relation rule new)
+building-short Has Leads m root x inst rule box old begun last count space up row new is leads e short =
+    let next = next_of Has m root (record x { slots = begun.slots }) inst rule box last count space up row is in
+    let there = rows_there Has m root (record x { slots = up.slots }) inst rule box space up.site in
+    short_own Has Leads m root x inst.relation rule inst.owner (bound_with (extensions_of m) (db_of x.kept) inst.relation rule up.built row) space new up.slots up.site.has
+    (record { is = begun.is; none = begun.none; others = λ o other two. up.others o other ∙ begun.others o other })
+    leads (inr (record { built = up.built; row = row; next = subst (λ (rows : Rows). IsNext rows up.built row) (sym there) next; within = omega arith })) e up.site.tables short

@@ -1,7 +1,8 @@
 -- Taking an attachment off, on an engine at work.
-use Rattle.std.proofs.Common.{◌≡◌, ℕ, ◌+◌, ◌*◌, Bool, true, false, cond, List, [], ◌∷◌, map, drop, Option, Some, None, option_and_then, option_map, bytes_eq, arith, refl, sym, ap, subst, ◌∙◌}
+use Rattle.std.proofs.Common.{◌≡◌, ℕ, sum, ◌≤◌, ◌+◌, ◌*◌, Bool, true, false, cond, List, [], ◌∷◌, ◌++◌, length, map, drop, Option, Some, None, option_and_then, option_map, bytes_eq, arith, refl, sym, ap, subst, ◌∙◌}
 use Rattle.std.specs.List.{find}
 use Rattle.std.proofs.lemmas.List.Elements.{All-weaker}
+use Rattle.std.proofs.lemmas.List.Sums.{sum_by-cons}
 use Rattle.std.proofs.lemmas.Option.{same_Some}
 use Rattle.sb_value.specs.Equal.{bytes_same}
 use Rattle.sb_rule.specs.declared.rule.Rule.{Rule}
@@ -12,13 +13,14 @@ use Rattle.sb_fold.specs.Building.{at_point, detach, detach_one, rule_at, withou
 use Rattle.sb_fold.specs.Costs.{descriptor_cost, descriptors_of, free_cost}
 use Rattle.sb_fold.specs.Extensions.{Extensions, is_durable_at}
 use Rattle.sb_fold.specs.Fold.{attachments_at}
-use Rattle.sb_fold.specs.Outcome.{Gone, Going, Leads, Trail, Work, made, with_picks}
+use Rattle.sb_fold.specs.Outcome.{Going, Leads, Trail, Work, made, with_picks}
+use Rattle.sb_fold.specs.declared.refusal.Refusal.{Refusal}
+use Rattle.sb_deferred.specs.Complete.{AreMirrored}
 use Rattle.sb_deferred.proofs.CatalogLemmas.{without-rule-complete}
 use Rattle.sb_deferred.proofs.RelationLemmas.{attachments_of}
 use Rattle.sb_cascade.specs.Fitting.{IsFitting}
-use Rattle.sb_cascade.specs.Runs.{GoesOn, MadeFrom}
+use Rattle.sb_cascade.specs.Runs.{EndsBy, GoesOn, MadeFrom, StopsFrom, is_free}
 use Rattle.sb_cascade.proofs.Commanding.{detaching-stays}
-use Rattle.sb_cascade.proofs.Forward.{IsForward, forward_change, goes_here}
 use Rattle.sb_registry.specs.Boxes.{Meanings}
 use Rattle.sb_catalog.specs.declared.descriptor.Attached.{Attached as Described}
 use Rattle.sb_catalog.specs.declared.descriptor.Descriptor.{Descriptor}
@@ -26,17 +28,26 @@ use Rattle.sb_catalog.specs.Descriptors.{described, standing}
 use Rattle.sb_drive.specs.Slots.{Slots}
 use Rattle.sb_drive.specs.Spaces.{Wanted}
 use Rattle.sb_tables.specs.Place.{Place}
+use Rattle.sb_standing.specs.Standing.{owners_in}
 use Rattle.sb_standing.specs.Tables.{Kept, KeepsTable, db_of, kept_at}
 use Rattle.sb_standing.proofs.KeptLemmas.{kept_at-all, relation_at-none, relation_at-there}
 use Rattle.sb_standing.proofs.RuleLemmas.{heads, tails}
 use Rattle.sb_tables.specs.Opened.{IsDurable}
+use Rattle.sb_tables.specs.Owned.{pages_of}
 use Rattle.sb_tables.specs.Running.{Running}
 use Rattle.sb_tables.specs.Work.{Work as Beside}
-use Rattle.sb_tables.specs.Working.{Stands, StandsFor, extensions_in, extensions_of, left_of}
+use Rattle.sb_tables.specs.Working.{AreNamedApart, Stands, StandsFor, extensions_in, extensions_of, left_of}
 use Rattle.sb_tables.proofs.GoneLemmas.{with_gone-some}
-use Rattle.sb_tables.specs.Keeping.{Closes, KeepsDb, KeepsIn}
-use Rattle.sb_tables.proofs.StandsLemmas.{stands_on}
-use Rattle.sb_building.specs.Detaching.{MayDetach, mirror_among, mirror_named, without_both}
+use Rattle.sb_tables.proofs.LackingLemmas.{goes_none}
+use Rattle.sb_tables.specs.Keeping.{Closes, KeepsDb, KeepsIn, KeepsWithinIn}
+use Rattle.sb_tables.specs.Removal.{taken_bound}
+use Rattle.sb_tables.proofs.ApartLemmas.{apart-mirror, apart-without}
+use Rattle.sb_tables.proofs.DetachedLemmas.{keeps-more}
+use Rattle.sb_tables.proofs.StandsLemmas.{durable-kept, held-aside, stands_on}
+use Rattle.sb_tables.proofs.TakenLemmas.{mirror-none, taken-one}
+use Rattle.sb_tables.proofs.WithinLemmas.{within-itself}
+use Rattle.sb_tables.proofs.WithoutLemmas.{IfTied}
+use Rattle.sb_building.specs.Detaching.{MayDetach, both_bound, mirror_among, mirror_named, without_both}
 use Rattle.sb_building.proofs.PairLemmas.{mirrored-without, paired-without}
 
 -- what is found under a name has that name
@@ -91,9 +102,9 @@ pub record IsKeptFound (kept : List Kept) (relation name : Name) (a : Attached) 
   pub there : kept_at kept relation ≡ Some k
   pub found : IsAlsoFound name k.descriptor.attachments a
 
-pub kept-found : {S : Type 0} (Has : Wanted → Slots → S → Type 0) (m : Meanings) (root : ℕ) (gone : List ℕ) (db : Db) (space : S) (relation name : Name) (a : Attached) → (keeps : KeepsDb Has m root gone db space)
+pub kept-found : {S : Type 0} (Has : Wanted → Slots → S → Type 0) (m : Meanings) (root : ℕ) (gone : List ℕ) (aside : ℕ) (db : Db) (space : S) (relation name : Name) (a : Attached) → (keeps : KeepsDb Has m root gone aside db space)
     → rule_at db relation name ≡ Some a → IsKeptFound keeps.kept relation name a
-kept-found Has m root gone db space relation name a keeps is = by (kept_at keeps.kept relation) refl
+kept-found Has m root gone aside db space relation name a keeps is = by (kept_at keeps.kept relation) refl
   where
     found : rule_at (db_of keeps.kept) relation name ≡ Some a
     found = ap (λ (d : Db). rule_at d relation name) (sym keeps.is) ∙ is
@@ -111,10 +122,10 @@ kept-found Has m root gone db space relation name a keeps is = by (kept_at keeps
 
 -- ---- mirrors
 -- an attachment has the mirror that it has in the database
-pub mirror_kept : {S : Type 0} (Has : Wanted → Slots → S → Type 0) (m : Meanings) (root : ℕ) (gone : List ℕ) (db : Db) (space : S) (relation name : Name) (a : Attached) (d : Descriptor) → (keeps : KeepsDb Has m root gone db space)
+pub mirror_kept : {S : Type 0} (Has : Wanted → Slots → S → Type 0) (m : Meanings) (root : ℕ) (gone : List ℕ) (aside : ℕ) (db : Db) (space : S) (relation name : Name) (a : Attached) (d : Descriptor) → (keeps : KeepsDb Has m root gone aside db space)
     → rule_at db relation name ≡ Some a → Some d ≡ option_map (λ (k : Kept). k.descriptor) (kept_at keeps.kept relation) → mirror_among d.attachments relation name ≡ mirror_named relation name a.rule
-mirror_kept Has m root gone db space relation name a d keeps at is =
-    let it = kept-found Has m root gone db space relation name a keeps at in
+mirror_kept Has m root gone aside db space relation name a d keeps at is =
+    let it = kept-found Has m root gone aside db space relation name a keeps at in
     let same : d ≡ it.k.descriptor = same_Some d it.k.descriptor (is ∙ ap (option_map (λ (k : Kept). k.descriptor)) it.there) in
     ap (λ (x : Descriptor). mirror_among x.attachments relation name) same
     ∙ ap (option_and_then (λ (x : Described). mirror_named relation x.name x.rule)) it.found.at
@@ -141,24 +152,43 @@ both_are_rule db relation name a named =
     by None = refl
     by (Some (other, rule)) = refl
 
--- ---- runs
-pub forward_detach : (ext : Extensions) (relation name : Name) → IsForward (detach ext relation name)
-forward_detach ext relation name = forward_change (λ g. detach_one ext relation (rule_at g.db relation name) g) (λ g. of_one g (rule_at g.db relation name))
+-- and no more is held aside for them than its bound
+both-within : (ext : Extensions) (db : Db) (relation name : Name) (a : Attached) → AreMirrored db → AreNamedApart db → rule_at db relation name ≡ Some a
+    → both_bound ext db relation name (mirror_named relation name a.rule) ≤ attached_bound ext db relation a
+both-within ext db relation name a mirrored apart there = by (mirror_of relation a.rule) (mirror-none ext db relation name a mirrored apart there)
   where
-    goes_further : (db : Db) (aside : Gone) (cost : ℕ) (t : Trail) → GoesOn t (at_point db aside cost t)
-    goes_further db aside cost t =
-        record { points = record { before = db; after = db; change = None; aside = aside; spent = t.spent + cost } ∷ []; more = refl; spent = omega arith }
+    by : (m : Option (Name × Rule)) → IfTied (λ other rule. taken_bound ext (without_attached db relation name) other (mirror_name relation name) ≡ 0) m
+        → both_bound ext db relation name (option_map (λ (p : Name × Rule). (p.0, mirror_name relation name)) m) ≤ attached_bound ext db relation a
+    by None none = omega (arith, taken-one ext db relation name a apart there)
+    by (Some (other, rule)) none = omega (arith, none, taken-one ext db relation name a apart there)
 
-    of_one : (g : Going) (o : Option Attached) → GoesOn g.trail (detach_one ext relation o g).trail
-    of_one g None = goes_here g.trail
-    of_one g (Some a) =
-        goes_further g.db g.gone (cond (is_durable_at ext g.db relation) (free_cost (attached_bound ext g.db relation a ∷ []) + descriptors_of a.rule * descriptor_cost ext g.db) 0) g.trail
+-- ---- runs
+-- what the definition has it cost
+abbrev pub detach_cost : Extensions → Name → Attached → Db → ℕ
+detach_cost ext relation a db = cond (is_durable_at ext db relation) (free_cost (attached_bound ext db relation a ∷ []) + descriptors_of a.rule * descriptor_cost ext db) 0
+
+-- an engine stops at the database before
+pub detach_stops : {R : Type 0} (Stopped : Refusal → Trail → R → Type 0) (x : R) (ext : Extensions) (relation name : Name) (a : Attached) (r : Refusal) (g : Going) → rule_at g.db relation name ≡ Some a
+    → is_free r ≡ true → Stopped r (at_point g.db g.gone (detach_cost ext relation a g.db) g.trail) x → StopsFrom Stopped (detach ext relation name) g r x
+detach_stops Stopped x ext relation name a r g there free stopped =
+    subst (λ (b : Bool). EndsBy Stopped b (detach ext relation name) g r x) (sym free)
+    (record {
+      picks = [];
+      trail = (detach_one ext relation (Some a) g).trail;
+      comes = λ more. subst (λ (o : Option Attached). GoesOn (detach_one ext relation (Some a) g).trail (detach_one ext relation o (with_picks g more)).trail) (sym there) (goes_none (detach_one ext relation (Some a) g).trail);
+      stopped = stopped;
+    })
 
 -- an attachment that is there is taken off
 leads_detached : (ext : Extensions) (relation name : Name) (a : Attached) (g : Going) → rule_at g.db relation name ≡ Some a → Leads (detach ext relation name) g [] (made tt) (detach_one ext relation (Some a) g)
 leads_detached ext relation name a g there = record { leads = λ more. ap (λ (o : Option Attached). made tt (detach_one ext relation o (with_picks g more))) there }
 
 -- ---- what an engine stands for
+-- what it keeps, it keeps within the pages that it has
+pub itself : {B S : Type 0} (Has : Wanted → Slots → S → Type 0) (meanings : B → Meanings) (aside : ℕ) (db : Db) (a : Running B S) → (keeps : KeepsIn Has meanings aside db a)
+    → KeepsWithinIn Has meanings aside (pages_of keeps.slots (owners_in keeps.kept ++ a.work.now.gone.items) + 2 * length keeps.kept + 3) db a
+itself Has meanings aside db a keeps = within-itself Has (meanings a.boxes.now) a.place.root a.work.now.gone.items aside db a.space.now keeps
+
 -- the work comes to an end without picks, and there it stands
 record Comes {S : Type 0} (Has : Wanted → Slots → S → Type 0) (m : Meanings) (root : ℕ) (work : Work (Unit {0})) (g : Going) (new : S) (v : Beside) : Type 0 where
   after : Going
@@ -166,20 +196,27 @@ record Comes {S : Type 0} (Has : Wanted → Slots → S → Type 0) (m : Meaning
   stands : Stands Has m root after new v
 
 detach_comes : {S : Type 0} (Has : Wanted → Slots → S → Type 0) (m : Meanings) (root : ℕ) (g : Going) (old new : S) (w v : Beside) → (stands : Stands Has m root g old w) → (relation name : Name) (may : MayDetach g.db relation name)
-    → v.opened.items ≡ [] → left_of v ≡ left_of w → v.picks.items ≡ w.picks.items → KeepsDb Has m root v.gone.items (without_both g.db relation name (mirror_named relation name may.one.rule)) new
+    → v.opened.items ≡ [] → left_of v ≡ left_of w → v.picks.items ≡ w.picks.items → KeepsDb Has m root v.gone.items (sum g.gone.durable + both_bound (extensions_of m) g.db relation name (mirror_named relation name may.one.rule))
+    (without_both g.db relation name (mirror_named relation name may.one.rule)) new
     → Comes Has m root (detach (extensions_of m) relation name) g new v
 detach_comes Has m root g old new w v stands relation name may closed left picks keeps =
     let named : may.one.name ≡ name = found-name name (attachments_at g.db relation) may.one may.there in
     let there : rule_at g.db relation may.one.name ≡ Some may.one = ap (rule_at g.db relation) named ∙ may.there in
     let after = without_rule g.db relation may.one in
+    let bound = attached_bound (extensions_of m) g.db relation may.one in
+    let held = held-aside (is_durable_at (extensions_of m) g.db relation)
+    (durable-kept m root stands.slots w.gone.items stands.kept stands.keeps stands.lasting g.db stands.db relation) (bound ∷ []) g.gone in
+    let both = both-within (extensions_of m) g.db relation name may.one stands.mirrored stands.apart may.there in
     record {
       after = detach_one (extensions_of m) relation (Some may.one) g;
       leads = leads_detached (extensions_of m) relation name may.one g may.there;
       stands =
           stands_on Has m root (detach_one (extensions_of m) relation (Some may.one) g) new v
-          (subst (λ (d : Db). KeepsDb Has m root v.gone.items d new) (both_are_rule g.db relation name may.one named) keeps)
+          (subst (λ (d : Db). KeepsDb Has m root v.gone.items (sum (detach_one (extensions_of m) relation (Some may.one) g).gone.durable) d new) (both_are_rule g.db relation name may.one named)
+          (keeps-more Has m root v.gone.items _ _ (without_both g.db relation name (mirror_named relation name may.one.rule)) new (omega (arith, held, both, sum_by-cons (λ n. n) bound [])) keeps))
           (mirrored-without g.db relation may.one there may.main stands.mirrored)
           (paired-without g.db relation may.one there may.main stands.mirrored stands.paired)
+          (apart-mirror (without_attached g.db relation may.one.name) relation may.one.name (mirror_of relation may.one.rule) (apart-without g.db relation may.one.name stands.apart))
           (without-rule-complete g.db g.queue relation may.one stands.complete)
           closed (left ∙ stands.waits) (picks ∙ stands.picked)
           (λ none. absurd (with_gone-some (is_durable_at (extensions_of m) g.db relation) (attached_bound (extensions_of m) g.db relation may.one) [] g.gone none))
@@ -188,12 +225,14 @@ detach_comes Has m root g old new w v stands relation name may closed left picks
 
 -- the same of an engine at work
 pub detached_in : {B S : Type 0} (Has : Wanted → Slots → S → Type 0) (meanings : B → Meanings) (g : Going) (old new : Running B S) (relation name : Name) → StandsFor Has meanings g old → (may : MayDetach g.db relation name)
-    → new.boxes.now ≡ old.boxes.now → new.place ≡ old.place → Closes old new → KeepsIn Has meanings (without_both g.db relation name (mirror_named relation name may.one.rule)) new
+    → new.boxes.now ≡ old.boxes.now → new.place ≡ old.place → Closes old new → KeepsIn Has meanings (sum g.gone.durable + both_bound (extensions_in meanings old) g.db relation name (mirror_named relation name may.one.rule))
+    (without_both g.db relation name (mirror_named relation name may.one.rule)) new
     → MadeFrom (StandsFor Has meanings) (detach (extensions_in meanings old) relation name) g tt new
 detached_in {B = B} Has meanings g old new relation name stands may boxes place closes keeps =
     let same : (new.boxes.now, new.place) ≡ (old.boxes.now, old.place) = λ i. (boxes i, place i) in
     let both = without_both g.db relation name (mirror_named relation name may.one.rule) in
-    let here = subst (λ (q : B × Place). KeepsDb Has (meanings q.0) q.1.root new.work.now.gone.items both new.space.now) same keeps in
+    let held = sum g.gone.durable + both_bound (extensions_in meanings old) g.db relation name (mirror_named relation name may.one.rule) in
+    let here = subst (λ (q : B × Place). KeepsDb Has (meanings q.0) q.1.root new.work.now.gone.items held both new.space.now) same keeps in
     let left : left_of new.work.now ≡ left_of old.work.now =
     λ i. record { actions = drop (closes.done i) (closes.queue i).actions; entries = (closes.queue i).entries } in
     let made =

@@ -11,7 +11,7 @@ use Rattle.sb_relation.specs.Build.{main_of, with_attached, with_instance}
 use Rattle.sb_relation.specs.Buckets.{standing_buckets}
 use Rattle.sb_relation.specs.Content.{Content}
 use Rattle.sb_relation.specs.Db
-use Rattle.sb_relation.specs.Db.{Name, Rows, Relation, Db, relation_at, rows_at, schema_at}
+use Rattle.sb_relation.specs.Db.{Name, Rows, Relation, Db, relation_at}
 use Rattle.sb_relation.specs.Lawful.{is_long_for}
 use Rattle.sb_relation.specs.Limits.{descriptor_len}
 use Rattle.sb_relation.specs.Rules.{holds}
@@ -28,7 +28,7 @@ use Rattle.sb_drive.specs.Spaces.{Leaves, Wanted}
 use Rattle.sb_catalog.specs.declared.descriptor.Attached.{Attached}
 use Rattle.sb_catalog.specs.Descriptors.{described, descriptor_spelling, standing, IsDescriptorOf, IsStorableDescriptor}
 use Rattle.sb_catalog.proofs.Described.{is_as_long}
-use Rattle.sb_standing.specs.Standing.{IsKept, IsOwner, KeepsRule, attached_kept, with_described}
+use Rattle.sb_standing.specs.Standing.{IsKept, IsOwner, KeepsRule, attached_kept, owners_in, with_described}
 use Rattle.sb_standing.specs.Instances.{table_instance}
 use Rattle.sb_standing.specs.TableLaws.{Attaches}
 use Rattle.sb_standing.specs.Tables.{Kept, KeepsOthers, KeepsTable, db_of, entry_of, kept_at, put_kept, table_of}
@@ -40,8 +40,10 @@ use Rattle.sb_standing.proofs.StandLemmas.{StandRules-keeps}
 use Rattle.sb_rows.specs.Live.{HasRows}
 use Rattle.sb_tables.specs.OpenRelation.{OpenRelation}
 use Rattle.sb_tables.specs.Opened.{IsDurable, IsOpen, rule_of}
+use Rattle.sb_tables.specs.Owned.{pages_of}
 use Rattle.sb_tables.specs.Working.{IsLasting}
 use Rattle.sb_tables.specs.Keeping.{KeepsDb}
+use Rattle.sb_tables.proofs.TakenLemmas.{gone-beside}
 use Rattle.sb_building.specs.Attaching.{HasBegun, IsEntryOf, IsRoomy, IsStore, MayAdd, Stores, new_attached}
 use Rattle.sb_building.specs.Building.{content_built}
 use Rattle.sb_building.specs.Held.{holds_of}
@@ -146,7 +148,7 @@ module _ {S : Type 0} (Has : Wanted → Slots → S → Type 0) (m : Meanings) (
           → IsStorableDescriptor (record x.one.descriptor { attachments = with_described d x.one.descriptor.attachments })
           → Leaves Has 2 x.want pages new_space
           (λ after. map_in root after ≡ Some (put key_cmp name (descriptor_spelling (record x.one.descriptor { attachments = with_described d x.one.descriptor.attachments })) (map entry_of x.kept)))
-          → KeepsDb Has m root x.gone (with_attached (db_of x.kept) name label rule) new_space
+          → KeepsDb Has m root x.gone (pages_of x.slots x.gone) (with_attached (db_of x.kept) name label rule) new_space
       KeepsDb-attached pages new_space others holds storable left =
           let one = attached_kept d new x.one in
           let kept = put_kept one x.kept in
@@ -172,6 +174,11 @@ module _ {S : Type 0} (Has : Wanted → Slots → S → Type 0) (m : Meanings) (
             kept = kept;
             has = left.has;
             is = sym (db_of-attached x.kept x.one d new there_by_name refl ∙ ap (λ (n : Name). with_attached (db_of x.kept) n label rule) one_named);
+            few = omega (
+              arith,
+              gone-beside x.slots left.slots (owners_in x.kept) x.gone inst.owner begun.none stores.keeps.own
+                  (λ o other catalogue. left.others o catalogue ∙ others o other ∙ begun.others o other),
+            );
             keeps = Keeps-attached m IsDurable root x.slots left.slots x.gone x.kept x.one d new stores.keeps attaches;
             lasting =
                 let IsOf : Kept → Type 0 = λ k. IsLasting k.descriptor in

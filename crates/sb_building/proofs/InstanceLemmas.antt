@@ -7,7 +7,7 @@ use Rattle.sb_rule.specs.declared.rule.Rule.TheVariants.{TreeIndex, HashIndex, J
 use Rattle.sb_rule.specs.Spelling.{rule_code, rule_spelling}
 use Rattle.sb_relation.specs.Content.{Content}
 use Rattle.sb_relation.specs.Db
-use Rattle.sb_relation.specs.Db.{Name, Relation, Db, relation_at}
+use Rattle.sb_relation.specs.Db.{Name, Relation, Db}
 use Rattle.sb_relation.specs.Fits.{MayStand}
 use Rattle.sb_forms.specs.Pages.{Pages, new_pages}
 use Rattle.sb_ctx.specs.declared.instance.Instance.{Instance}
@@ -19,20 +19,24 @@ use Rattle.sb_registry.specs.Live.{IsLiveRule}
 use Rattle.sb_registry.specs.Runs.{IsSound}
 use Rattle.sb_drive.specs.declared.space.SpaceFault.{SpaceFault}
 use Rattle.sb_drive.specs.Slots.{Slots, owned}
-use Rattle.sb_drive.specs.Spaces.{Leaves, Wanted}
+use Rattle.sb_drive.specs.Spaces.{Leaves, LeadsOn, Wanted}
 use Rattle.sb_catalog.specs.declared.descriptor.Attached.{Attached}
 use Rattle.sb_catalog.specs.declared.descriptor.Descriptor.{Descriptor}
 use Rattle.sb_catalog.specs.Descriptors.{IsCountedRule}
 use Rattle.sb_owners.specs.Instances.{HasCome}
+use Rattle.sb_standing.specs.Lacking.{IsShort, WhereShort}
 use Rattle.sb_standing.specs.Standing.{IsOwner, StandsRule, is_join}
 use Rattle.sb_standing.specs.Tables.{Kept, KeepsTable, Tables, db_of, kept_at}
 use Rattle.sb_standing.proofs.KeptLemmas.{kept_at-all, relation_at-there}
 use Rattle.sb_standing.proofs.LawfulLemmas.{AreLawful-tables, roots-tables}
 use Rattle.sb_tables.specs.Opened.{IsDurable, OwnsPages, rule_of}
 use Rattle.sb_tables.specs.Refusals.{HasRefusalCause, refusal_of}
+use Rattle.sb_tables.specs.Working.{extensions_of}
 use Rattle.sb_building.specs.Attaching.{HasBegun, IsEntered, IsEntryOf, IsStore, MayAdd}
 use Rattle.sb_building.specs.Instances.{HasNewPages, HoldsFirst, IsApart, IsPlaced, IsSite, Site}
+use Rattle.sb_building.specs.Lacking.{IsShortBuilding, bound_over}
 use Rattle.sb_building.proofs.ContentLemmas.{content-first}
+use Rattle.sb_building.proofs.LackingLemmas.{short_own}
 use Rattle.sb_building.proofs.SiteLemmas.{Tables-apart}
 
 -- ---- its owner is none of the others
@@ -280,3 +284,22 @@ module _ {S : Type 0} (Has : Wanted → Slots → S → Type 0) (m : Meanings) (
       prepared_refused Fails e refused =
           refused live (record x { slots = placed_own.slots }) rule (site-begun Has m root x name label rule d old mid later store may new_entry placed_own looks inst inst_is live)
           (pages-begun Has m root x name label rule d old mid later store may new_entry placed_own looks inst inst_is live)
+
+      -- where no page is left for it, none is left beside its owner
+      pub prepared_short : (Leads : ℕ → S → S → Type 0) (e : SpaceFault)
+          → ((own : IsLiveRule m inst) (y : Site) (r : Rule) → IsSite Has m root y inst r own.box later → HasNewPages y own.box inst → is_join r ≡ false
+          → WhereShort e (IsShort y.slots inst.owner (bound_over (extensions_of m) (db_of y.kept) inst.relation r [])))
+          → LeadsOn Leads later after → WhereShort e (IsShortBuilding Has Leads (extensions_of m) x name rule after)
+      prepared_short Leads e full leads =
+          let owner_is : inst.owner ≡ d.owner = ap (λ (i : Instance). i.owner) is in
+          subst (λ (n : Name). WhereShort e (IsShortBuilding Has Leads (extensions_of m) x n rule after)) (ap (λ (i : Instance). i.relation) is)
+          (short_own Has Leads m root x inst.relation rule inst.owner (bound_over (extensions_of m) (db_of x.kept) inst.relation rule []) later after placed_own.slots (looks x.want placed_own.slots placed_own.has)
+          (record {
+            is = subst IsOwner (sym owner_is) placed_own.is;
+            none = λ n. ap (λ (o : ℕ). owned x.slots o n) owner_is ∙ placed_own.none n;
+            others = λ o other two. placed_own.others o (λ same_owner. other (same_owner ∙ sym owner_is));
+          })
+          leads (inl (omega arith)) e
+          (tables-begun Has m root x name label rule d old mid later store may new_entry placed_own looks)
+          (full live (record x { slots = placed_own.slots }) rule (site-begun Has m root x name label rule d old mid later store may new_entry placed_own looks inst inst_is live)
+          (pages-begun Has m root x name label rule d old mid later store may new_entry placed_own looks inst inst_is live) may.joinless))

@@ -6,6 +6,8 @@ pub mod RowsLemmas
 pub mod HeldLemmas
 pub mod ContentLemmas
 pub mod SiteLemmas
+pub mod LackingLemmas
+pub mod BoundLemmas
 pub mod InstanceLemmas
 pub mod PlaceLemmas
 pub mod EndedLemmas
@@ -16,5 +18,6 @@ pub mod LengthLemmas
 pub mod CallLemmas
 pub mod BuildLemmas
 pub mod WorkLemmas
+pub mod PointLemmas
 pub mod AttachLemmas
 pub mod DetachLemmas

@@ -1,5 +1,5 @@
 -- Attachments by their names, when some come and go.
-use Rattle.std.proofs.Common.{◌≡◌, Bool, true, false, cond, not, true≢false, List, [], ◌∷◌, All, get_or, Option, Some, None, bytes_eq, refl, sym, ap, subst, ◌∙◌}
+use Rattle.std.proofs.Common.{◌≡◌, ℕ, suc, ◌≤◌, arith, length, Bool, true, false, cond, not, true≢false, List, [], ◌∷◌, All, get_or, Option, Some, None, bytes_eq, refl, sym, ap, subst, ◌∙◌}
 use Rattle.std.specs.Prelude.{filter, nat_le}
 use Rattle.std.specs.List.{find}
 use Rattle.std.proofs.lemmas.List.Elements.{All-cons, All-filter, All-head, All-tail, filter_passes}
@@ -13,6 +13,7 @@ use Rattle.sb_relation.specs.Db.{Name, Attached, Relation, Db, relation_at, with
 use Rattle.sb_fold.specs.Building.{rule_at, without_attached}
 use Rattle.sb_fold.specs.Fold.{attachments_at}
 use Rattle.sb_deferred.proofs.RelationLemmas.{attachments_of, relation_other, relation_same}
+use Rattle.sb_tables.specs.Working.{AreNamedApart}
 use Rattle.sb_building.specs.Attaching.{new_attached}
 
 -- ---- names
@@ -117,6 +118,60 @@ module _ (db : Db) (name label : Name) (rule : Rule) (r : Relation) (there : rel
             let on : n ≡ name = names_same n name same in
             ap (λ (x : Name). rule_at after x l) on ∙ rule_at-own l ∙ own (bytes_eq label l) refl (ap (λ (x : Name). rule_at db x l) (sym on) ∙ is)
         by false other = ap (find (λ a. bytes_eq a.name l)) (attachments-other n other) ∙ is
+
+-- ---- names are apart
+-- how many have a name
+abbrev named_in : Name → List Attached → ℕ
+named_in l items = length (filter (λ a. bytes_eq a.name l) items)
+
+none_named : (l : Name) (items : List Attached) → find (λ a. bytes_eq a.name l) items ≡ None → named_in l items ≡ 0
+none_named l [] none = refl
+none_named l (x ∷ items) none = by (bytes_eq x.name l) none (none_named l items)
+  where
+    by : (b : Bool) → cond b (Some x) (find (λ a. bytes_eq a.name l) items) ≡ None → (find (λ a. bytes_eq a.name l) items ≡ None → named_in l items ≡ 0)
+        → length (cond b (x ∷ filter (λ a. bytes_eq a.name l) items) (filter (λ a. bytes_eq a.name l) items)) ≡ 0
+    by true is rest = absurd (cc)
+    by false is rest = rest is
+
+-- one more among them
+named-with : (l : Name) (new : Attached) (items : List Attached) → named_in l (with_instance new items) ≡ named_in l (new ∷ items)
+named-with l new [] = refl
+named-with l new (x ∷ items) = by (nat_le (rule_code x.rule) (rule_code new.rule)) (named-with l new items)
+  where
+    swapped : (b c : Bool) → length (cond b (x ∷ cond c (new ∷ filter (λ a. bytes_eq a.name l) items) (filter (λ a. bytes_eq a.name l) items)) (cond c (new ∷ filter (λ a. bytes_eq a.name l) items) (filter (λ a. bytes_eq a.name l) items)))
+        ≡ length (cond c (new ∷ cond b (x ∷ filter (λ a. bytes_eq a.name l) items) (filter (λ a. bytes_eq a.name l) items)) (cond b (x ∷ filter (λ a. bytes_eq a.name l) items) (filter (λ a. bytes_eq a.name l) items)))
+    swapped true true = refl
+    swapped true false = refl
+    swapped false true = refl
+    swapped false false = refl
+
+    behind : (b : Bool) → named_in l (with_instance new items) ≡ named_in l (new ∷ items)
+        → length (cond b (x ∷ filter (λ a. bytes_eq a.name l) (with_instance new items)) (filter (λ a. bytes_eq a.name l) (with_instance new items)))
+        ≡ length (cond b (x ∷ filter (λ a. bytes_eq a.name l) (new ∷ items)) (filter (λ a. bytes_eq a.name l) (new ∷ items)))
+    behind true rest = ap suc rest
+    behind false rest = rest
+
+    by : (t : Bool) → named_in l (with_instance new items) ≡ named_in l (new ∷ items) → named_in l (cond t (x ∷ with_instance new items) (new ∷ x ∷ items)) ≡ named_in l (new ∷ x ∷ items)
+    by true rest = behind (bytes_eq x.name l) rest ∙ swapped (bytes_eq x.name l) (bytes_eq new.name l)
+    by false rest = refl
+
+-- a new name is its own alone
+pub apart-attached : (db : Db) (name label : Name) (rule : Rule) (r : Relation) → relation_at db name ≡ Some r → rule_at db name label ≡ None → AreNamedApart db
+    → AreNamedApart (with_attached db name label rule)
+apart-attached db name label rule r there free apart n l = by (bytes_eq n name) refl
+  where
+    added : (b : Bool) → bytes_eq label l ≡ b
+        → length (cond b (new db name label rule r there ∷ filter (λ a. bytes_eq a.name l) r.attachments) (filter (λ a. bytes_eq a.name l) r.attachments)) ≤ 1
+    added true same = omega (arith, none_named l r.attachments (none_of db name label rule r there free l same))
+    added false other = subst (λ (items : List Attached). named_in l items ≤ 1) (own_items db name label rule r there) (apart name l)
+
+    by : (b : Bool) → bytes_eq n name ≡ b → named_in l (attachments_at (with_attached db name label rule) n) ≤ 1
+    by true same =
+        let on : n ≡ name = names_same n name same in
+        let count = ap (λ (x : Name). named_in l (attachments_at (with_attached db name label rule) x)) on ∙ ap (named_in l) (attachments-own db name label rule r there)
+        ∙ named-with l (new db name label rule r there) r.attachments in
+        omega (arith, count, added (bytes_eq label l) refl)
+    by false other = subst (λ (items : List Attached). named_in l items ≤ 1) (sym (attachments-other db name label rule r there n other)) (apart n l)
 
 -- ---- those of a name go
 find-without : (label l : Name) (items : List Attached) → (l ≡ label → ⊥) → find (λ a. bytes_eq a.name l) (filter (λ a. not (bytes_eq a.name label)) items) ≡ find (λ a. bytes_eq a.name l) items

@@ -1,5 +1,5 @@
 -- Attaching to a relation that is open.
-use Rattle.std.proofs.Common.{◌≡◌, ℕ, Bool, true, false, List, map, Option, Some, None, option_map, refl, sym, ap, subst, ◌∙◌}
+use Rattle.std.proofs.Common.{◌≡◌, ℕ, ◌*◌, ◌≤◌, Bool, true, false, List, length, map, Option, Some, None, option_map, refl, sym, ap, subst, ◌∙◌}
 use Rattle.std.specs.FinMap.Entries.{put}
 use Rattle.std.specs.List.{list_any}
 use Rattle.std.proofs.lemmas.Option.{same_Some}
@@ -17,24 +17,30 @@ use Rattle.sb_registry.specs.Boxes.{Meanings, attachment_of}
 use Rattle.sb_registry.specs.Live.{IsLiveRule}
 use Rattle.sb_registry.specs.Runs.{IsSound}
 use Rattle.sb_drive.specs.declared.space.SpaceFault.{SpaceFault}
-use Rattle.sb_drive.specs.Slots.{Slots, owned}
-use Rattle.sb_drive.specs.Spaces.{Leaves, Wanted}
+use Rattle.sb_drive.specs.Slots.{AreWhole, Slots, owned}
+use Rattle.sb_drive.specs.Spaces.{Leaves, LeadsOn, Wanted}
+use Rattle.sb_drive.proofs.SpacesLemmas.{ArePages-few}
 use Rattle.sb_rows.specs.Live.{HasRows}
 use Rattle.sb_catalog.specs.declared.descriptor.Attached.{Attached}
 use Rattle.sb_catalog.specs.declared.descriptor.Descriptor.{Descriptor}
 use Rattle.sb_catalog.specs.Descriptors.{descriptor_spelling, IsStorableAttached, IsStorableDescriptor}
+use Rattle.sb_standing.specs.Lacking.{IsShort, WhereShort}
 use Rattle.sb_standing.specs.Standing.{with_described}
 use Rattle.sb_standing.specs.Tables.{Kept, db_of, entry_of, kept_at, table_of}
 use Rattle.sb_tables.specs.OpenRelation.{OpenRelation}
 use Rattle.sb_tables.specs.Opened.{IsDurable, IsOpen, rule_of}
+use Rattle.sb_tables.specs.Working.{extensions_of}
 use Rattle.sb_building.specs.declared.attaching.Attaching.{Attaching}
 use Rattle.sb_building.specs.declared.attaching.Attaching.TheVariants.{TooLong, Vetoed, Attached as Done}
 use Rattle.sb_building.specs.Attaching.{HasBegun, HasEnded, IsEntryOf, IsRoomy, MayAdd, Stores}
 use Rattle.sb_building.specs.Building.{HasNoLong, IsBuiltOver}
 use Rattle.sb_building.specs.Held.{holds_of}
 use Rattle.sb_building.specs.Instances.{Site}
+use Rattle.sb_building.specs.Lacking.{IsShortBuilding, bound_over}
+use Rattle.sb_building.proofs.BoundLemmas.{pages-built}
 use Rattle.sb_building.proofs.EndedLemmas.{IsRoomy-may, KeepsDb-attached, has_long_row-is, holds-is, rows_opened, table_opened, whole_content}
-use Rattle.sb_building.proofs.SiteLemmas.{Tables-apart}
+use Rattle.sb_building.proofs.LackingLemmas.{short_entry, within-all}
+use Rattle.sb_building.proofs.SiteLemmas.{Tables-apart, rows_there}
 
 -- ---- rows that are too long
 module _ {S : Type 0} (Has : Wanted → Slots → S → Type 0) (m : Meanings) (root : ℕ) (x : Site) (o : OpenRelation) (stores : Stores m root x o.name) (same : x.one.descriptor ≡ o.descriptor) (open_it : IsOpen m o)
@@ -176,3 +182,18 @@ module _ {S : Type 0} (Has : Wanted → Slots → S → Type 0) (m : Meanings) (
     pub placed_refused : (Cause : Type 0) → ((y : Site) → Has y.want y.slots built → map_in root (owned y.slots 2) ≡ Some (map entry_of y.kept) → IsRoomy o.name o.descriptor d → Cause) → Cause
     placed_refused Cause refused =
         refused there left.has catalogue_there (subst (λ (q : Descriptor). IsRoomy o.name q d) same (IsRoomy-may Has m root x o.name stores d.name d.rule may d own_entry))
+
+    -- where no page is left for its descriptor, none is left beside its owner
+    pub placed_short : (Leads : ℕ → S → S → Type 0) (e : SpaceFault) → ((want : Wanted) (s : Slots) (a : S) → Has want s a → AreWhole s)
+        → ((want : Wanted) (s : Slots) (a : S) → Has want s a → (n : ℕ) → 65536 ≤ n → (s n).0 ≡ 0)
+        → ((y : Site) → Has y.want y.slots built → map_in root (owned y.slots 2) ≡ Some (map entry_of y.kept) → WhereShort e (IsShort y.slots 2 (2 * length (map entry_of y.kept))))
+        → LeadsOn Leads built new → WhereShort e (IsShortBuilding Has Leads (extensions_of m) x o.name d.rule new)
+    placed_short Leads e whole few full leads =
+        let rows = x.one.relation.rows in
+        let pages = ArePages-few left.slots inst.owner (whole x.want left.slots built left.has) (few x.want left.slots built left.has) in
+        subst (λ (n : Name). WhereShort e (IsShortBuilding Has Leads (extensions_of m) x n d.rule new)) (ap (λ (i : Instance). i.relation) is)
+        (short_entry Has Leads m root x inst.relation d.rule inst.owner (bound_over (extensions_of m) (db_of x.kept) inst.relation d.rule rows) built new left.slots left.has
+        (record { is = begun.is; none = begun.none; others = λ q other two. left.others q other ∙ begun.others q other })
+        leads (within-all (extensions_of m) (db_of x.kept) inst.relation d.rule rows (rows_there Has m root here inst d.rule live.box mid begun.site)) e
+        (pages-built m inst live d.rule (db_of x.kept) begun.site.stands may.joinless left.slots rows pages (left.own.keeps passes))
+        (full there left.has catalogue_there))

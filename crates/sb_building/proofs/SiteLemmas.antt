@@ -15,7 +15,7 @@ use Rattle.sb_ctx.specs.declared.instance.Instance.{Instance}
 use Rattle.sb_ctx.specs.declared.calls.AttachCall.TheVariants as call
 use Rattle.sb_ctx.specs.declared.moves.Move.{Move}
 use Rattle.sb_ctx.specs.declared.moves.Move.TheVariants.{Done, Acts, Need, Fresh, After, Find, Veto, NoRecord, Duplicate, Range, Key as Keyed, Row as Rowed, Entry, Sums, Hits, End, Broken, NoMemory}
-use Rattle.sb_ctx.specs.View.{View}
+use Rattle.sb_ctx.specs.View.{FoundIn, View}
 use Rattle.sb_ctx.specs.Attachment.{Attachment, MayHold, StandsOn}
 use Rattle.sb_ctx.specs.AttachAnswers.{AreBuilt as AreSome, Answers, BeforeBuild, Built, Holds, admits_built, content_with, first_content, pages_of_new}
 use Rattle.sb_registry.specs.Boxes.{Meanings}
@@ -172,6 +172,20 @@ has_built box inst rule db built row after End is made = absurd is
 has_built box inst rule db built row after (Broken page) is made = absurd is
 has_built box inst rule db built row after NoMemory is made = absurd is
 
+-- what a build of the next row is called on
+pub BeforeBuild-site : {S : Type 0} (Has : Wanted → Slots → S → Type 0) (m : Meanings) (root : ℕ) (x : Site) (inst : Instance) (rule : Rule) (box : Attachment) (space : S) (built : Rows) (row : Key × Row) (view : View)
+    → IsSite Has m root x inst rule box space → IsNext x.one.relation.rows built row → HoldsBuilt x box inst rule built → FoundIn view (db_of x.kept)
+    → BeforeBuild box inst rule (db_of x.kept) built (standing_buckets rule built) row.0 row.1 view (owned x.slots inst.owner)
+unfolding content_built
+BeforeBuild-site Has m root x inst rule box space built row view site next over found =
+    let are = rows_are Has m root x inst rule box space site in
+    record {
+      of = subst (λ (rows : Rows). AreSome rows built row.0 row.1) (sym (rows_there Has m root x inst rule box space site)) (AreBuilt-next inst.schema x.one.relation.rows built row are next);
+      lawful = AreRows-built inst.schema x.one.relation.rows built row are next;
+      found = found;
+      content = over;
+    }
+
 pub IsBuilt-asked : {S : Type 0} (Has : Wanted → Slots → S → Type 0) (m : Meanings) (root : ℕ) (x : Site) (inst : Instance) (rule : Rule) (box : Attachment) (space : S) (built : Rows) (row : Key × Row) (after : Pages) (move : Move)
     → IsSite Has m root x inst rule box space → IsNext x.one.relation.rows built row → HoldsBuilt x box inst rule built → IsFinal (call.Build row.0 row.1) move
     → IsAsked box inst (call.Build row.0 row.1) (db_of x.kept) (owned x.slots inst.owner) after move → IsBuilt box inst rule (db_of x.kept) built row (is_done move) after
@@ -181,12 +195,7 @@ IsBuilt-asked Has m root x inst rule box space built row after move site next ov
     let P = owned x.slots inst.owner in
     let are = rows_are Has m root x inst rule box space site in
     let is = IsBuilding-final row.0 row.1 move final in
-    let before : BeforeBuild box inst rule db built (standing_buckets rule built) row.0 row.1 asked.view P = record {
-      of = subst (λ (rows : Rows). AreSome rows built row.0 row.1) (sym (rows_there Has m root x inst rule box space site)) (AreBuilt-next inst.schema x.one.relation.rows built row are next);
-      lawful = AreRows-built inst.schema x.one.relation.rows built row are next;
-      found = asked.found;
-      content = over;
-    } in
+    let before = BeforeBuild-site Has m root x inst rule box space built row asked.view site next over asked.found in
     let made = has_built box inst rule db built row after move is (Built-answers box inst rule db built (standing_buckets rule built) row.0 row.1 asked.view P after move is site.stands before asked.answers) in
     record {
       says = made.says;

@@ -1,5 +1,5 @@
 -- Attaching and detaching by the definitions, and what an engine stands for then.
-use Rattle.std.proofs.Common.{◌≡◌, ◌⊎◌, inl, inr, ℕ, ◌+◌, ◌≤◌, Bool, true, false, not, List, [], ◌∷◌, drop, Option, Some, None, arith, refl, sym, ap, subst, ◌∙◌}
+use Rattle.std.proofs.Common.{◌≡◌, ◌⊎◌, inl, inr, ℕ, sum, ◌+◌, ◌≤◌, Bool, true, false, not, List, [], ◌∷◌, drop, Option, Some, None, arith, refl, sym, ap, subst, ◌∙◌}
 use Rattle.std.proofs.lemmas.List.Elements.{All-nil}
 use Rattle.sb_rule.specs.declared.rule.Rule.{Rule}
 use Rattle.sb_relation.specs.Build.{with_rule}
@@ -9,7 +9,7 @@ use Rattle.sb_fold.specs.declared.refusal.Refusal.{Refusal}
 use Rattle.sb_fold.specs.declared.refusal.Refusal.TheVariants.{NoMemory, TooLong, Veto}
 use Rattle.sb_fold.specs.Building.{at_point, build, build_rows, detach, detach_one, has_long_row, reach_build, rule_at}
 use Rattle.sb_fold.specs.Extensions.{Extensions, box_of}
-use Rattle.sb_fold.specs.Outcome.{Gone, Going, Queue, Trail, Work, change_to, made, refuse, refuse_if, with_db, with_picks, ◌>>=◌, Leads}
+use Rattle.sb_fold.specs.Outcome.{Gone, Going, Queue, Trail, Work, change_to, made, refuse, refuse_if, trail_of, with_db, with_picks, ◌>>=◌, Leads}
 use Rattle.sb_fold.proofs.LeadsLemmas.{leads_change, leads_on, leads_refused}
 use Rattle.sb_deferred.specs.Complete.{AreMirrored, IsComplete}
 use Rattle.sb_cascade.specs.Fitting.{AllFit, AllMayStand}
@@ -21,7 +21,7 @@ use Rattle.sb_drive.specs.Slots.{Slots}
 use Rattle.sb_drive.specs.Spaces.{Wanted}
 use Rattle.sb_tables.specs.OpenRelation.{OpenRelation}
 use Rattle.sb_tables.specs.Work.{Work as Beside}
-use Rattle.sb_tables.specs.Working.{AreOpened, ArePaired, IsNoneGone, IsOpened, Stands, extensions_of}
+use Rattle.sb_tables.specs.Working.{AreNamedApart, AreOpened, ArePaired, IsNoneGone, IsOpened, Stands, extensions_of}
 use Rattle.sb_tables.specs.Keeping.{KeepsDb}
 
 -- ---- trails
@@ -31,7 +31,7 @@ goes_at db aside cost t = record { points = _; more = refl; spent = at_least t.s
     at_least : (m n : ℕ) → m ≤ m + n
     at_least m n = omega arith
 
-goes_rows : (ext : Extensions) (name : Name) (rule : Rule) (rows : Rows) (buckets : ℕ) (built : Rows) (g : Going) → GoesOn g.trail (build_rows ext name rule buckets built rows g).trail
+pub goes_rows : (ext : Extensions) (name : Name) (rule : Rule) (rows : Rows) (buckets : ℕ) (built : Rows) (g : Going) → GoesOn g.trail (build_rows ext name rule buckets built rows g).trail
 goes_rows ext name rule [] buckets built g = goes_here g.trail
 goes_rows ext name rule (row ∷ rows) buckets built g = goes_then (goes_at _ _ _ g.trail) (goes_rows ext name rule rows _ _ _)
 
@@ -42,12 +42,25 @@ forward_if : (b : Bool) (r : Refusal) → IsForward (refuse_if b r)
 forward_if true r = forward_refuse r
 forward_if false r = forward_made tt
 
-pub forward_build : (ext : Extensions) (relation name : Name) (rule : Rule) → IsForward (build ext relation name rule)
-forward_build ext relation name rule =
-    forward_next _ _ (forward_change (reach_build ext relation rule) (goes_build ext relation rule)) (λ _.
+abbrev third : Extensions → Name → Name → Rule → Unit {0} → Work (Unit {0})
+third ext relation name rule u = change_to (λ going. with_db (with_rule going.db relation name rule) going)
+
+abbrev second : Extensions → Name → Name → Rule → Unit {0} → Work (Unit {0})
+second ext relation name rule u = (λ going. refuse_if (not (holds (box_of ext rule) going.db relation rule)) (Veto relation name) going) >>= third ext relation name rule
+
+abbrev first : Extensions → Name → Name → Rule → Unit {0} → Work (Unit {0})
+first ext relation name rule u = (λ going. refuse_if (has_long_row going.db relation rule) (TooLong relation) going) >>= second ext relation name rule
+
+-- what follows the points of a build
+forward_first : (ext : Extensions) (relation name : Name) (rule : Rule) → IsForward (first ext relation name rule tt)
+forward_first ext relation name rule =
     forward_next _ _ (forward_at (λ g. refuse_if (has_long_row g.db relation rule) (TooLong relation)) (λ g. forward_if _ _)) (λ _.
     forward_next _ _ (forward_at (λ g. refuse_if (not (holds (box_of ext rule) g.db relation rule)) (Veto relation name)) (λ g. forward_if _ _)) (λ _.
-    forward_change (λ g. with_db (with_rule g.db relation name rule) g) (λ g. goes_here g.trail))))
+    forward_change (λ g. with_db (with_rule g.db relation name rule) g) (λ g. goes_here g.trail)))
+
+pub forward_build : (ext : Extensions) (relation name : Name) (rule : Rule) → IsForward (build ext relation name rule)
+forward_build ext relation name rule =
+    forward_next _ _ (forward_change (reach_build ext relation rule) (goes_build ext relation rule)) (λ _. forward_first ext relation name rule)
 
 pub forward_detach : (ext : Extensions) (relation name : Name) → IsForward (detach ext relation name)
 forward_detach ext relation name = forward_change (λ g. detach_one ext relation (rule_at g.db relation name) g) (λ g. of_one g (rule_at g.db relation name))
@@ -104,20 +117,25 @@ module _ (ext : Extensions) (relation name : Name) (rule : Rule) (g : Going) whe
   is_vetoed : Going → Bool
   is_vetoed going = not (holds (box_of ext rule) going.db relation rule)
 
-abbrev third : Extensions → Name → Name → Rule → Unit {0} → Work (Unit {0})
-third ext relation name rule u = change_to (λ going. with_db (with_rule going.db relation name rule) going)
-
-abbrev second : Extensions → Name → Name → Rule → Unit {0} → Work (Unit {0})
-second ext relation name rule u = (λ going. refuse_if (not (holds (box_of ext rule) going.db relation rule)) (Veto relation name) going) >>= third ext relation name rule
-
-abbrev first : Extensions → Name → Name → Rule → Unit {0} → Work (Unit {0})
-first ext relation name rule u = (λ going. refuse_if (has_long_row going.db relation rule) (TooLong relation) going) >>= second ext relation name rule
-
 passes_if : (test : Going → Bool) (r : Refusal) (h : Going) → ((left : List Key) → test (with_picks h left) ≡ false) → Leads (λ going. refuse_if (test going) r going) h [] (made tt) h
 passes_if test r h against = record { leads = λ left. ap (λ b. refuse_if b r (with_picks h left)) (against left) }
 
 stops_if : (test : Going → Bool) (r : Refusal) (h : Going) → ((left : List Key) → test (with_picks h left) ≡ true) → Leads (λ going. refuse_if (test going) r going) h [] (refuse r) h
 stops_if test r h for_it = record { leads = λ left. ap (λ b. refuse_if b r (with_picks h left)) (for_it left) }
+
+-- the layer stops once all rows are built, at the furthest
+pub build_stops : {R : Type 0} (Stopped : Refusal → Trail → R → Type 0) (new : R) (ext : Extensions) (relation name : Name) (rule : Rule) (r : Refusal) (g : Going) → is_free r ≡ true
+    → Stopped r (reached ext relation name rule g).trail new → StopsFrom Stopped (build ext relation name rule) g r new
+build_stops Stopped new ext relation name rule r g free stopped =
+    subst (λ (b : Bool). EndsBy Stopped b (build ext relation name rule) g r new) (sym free)
+    (record {
+      picks = [];
+      trail = (reached ext relation name rule g).trail;
+      comes = λ more.
+          let mid = reach_build ext relation rule (with_picks g more) in
+          subst (λ (t : Trail). GoesOn t (trail_of (first ext relation name rule tt mid))) (ap (λ (h : Going). h.trail) (same_picks ext relation name rule g more)) ((forward_first ext relation name rule).goes mid);
+      stopped = stopped;
+    })
 
 -- the rule is attached
 pub leads_attached : (ext : Extensions) (relation name : Name) (rule : Rule) (g : Going) → has_long_row g.db relation rule ≡ false → holds (box_of ext rule) g.db relation rule ≡ true
@@ -162,9 +180,9 @@ pub record IsClosed (w v : Beside) : Type 0 where
 
 -- it stands for another database, once nothing is open
 pub Stands-other : {S : Type 0} (Has : Wanted → Slots → S → Type 0) (m : Meanings) (root : ℕ) (g h : Going) (db : Db) (old new : S) (w v : Beside) → Stands Has m root g old w → h.db ≡ db → h.queue ≡ g.queue → h.used ≡ g.used → IsClosed w v
-    → KeepsDb Has m root v.gone.items db new → AreMirrored db → ArePaired db → IsComplete db g.queue → AllMayStand (box_of (extensions_of m)) db → AllFit db g.queue.actions
+    → KeepsDb Has m root v.gone.items (sum h.gone.durable) db new → AreMirrored db → ArePaired db → AreNamedApart db → IsComplete db g.queue → AllMayStand (box_of (extensions_of m)) db → AllFit db g.queue.actions
     → (IsNoneGone h.gone → v.gone.items ≡ []) → Stands Has m root h new v
-Stands-other Has m root g h db old new w v stands is queue used closed keeps mirrored paired complete rules fit gone = record {
+Stands-other Has m root g h db old new w v stands is queue used closed keeps mirrored paired apart complete rules fit gone = record {
   want = keeps.want;
   slots = keeps.slots;
   kept = keeps.kept;
@@ -174,6 +192,8 @@ Stands-other Has m root g h db old new w v stands is queue used closed keeps mir
   lasting = keeps.lasting;
   mirrored = subst AreMirrored (sym is) mirrored;
   paired = subst ArePaired (sym is) paired;
+  aside = keeps.few;
+  apart = subst AreNamedApart (sym is) apart;
   complete = subst (IsComplete h.db) (sym queue) (subst (λ (d : Db). IsComplete d g.queue) (sym is) complete);
   opened = subst (λ (l : List OpenRelation). AreOpened m keeps.kept l) (sym closed.opened) (All-nil (IsOpened m keeps.kept));
   waits = (λ i. record { actions = drop (closed.done i) (closed.queue i).actions; entries = (closed.queue i).entries }) ∙ stands.waits ∙ sym queue;

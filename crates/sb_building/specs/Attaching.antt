@@ -23,6 +23,7 @@ use Rattle.sb_catalog.specs.Descriptors.{descriptor_spelling, IsCountedRule, IsS
 use Rattle.sb_standing.specs.Tables.{KeepsOthers, Tables, db_of, kept_at}
 use Rattle.sb_standing.specs.Standing.{IsOwner, Keeps, StandRules, is_join, with_described}
 use Rattle.sb_tables.specs.Opened.{IsDurable, OwnsPages}
+use Rattle.sb_tables.specs.Owned.{pages_of}
 use Rattle.sb_tables.specs.Working.{AreLasting}
 use Rattle.sb_tables.specs.Keeping.{KeepsDb}
 use Rattle.sb_building.specs.declared.attaching.Attaching.{Attaching}
@@ -111,7 +112,8 @@ pub record Stores (m : Meanings) (root : ℕ) (x : Site) (name : Name) : Type 0 
   pub lasting : AreLasting x.kept
   pub there : kept_at x.kept name ≡ Some x.one
 
--- a rule that can be stored isn't too large; some row is too long for it; or else the rule doesn't hold; or else the space keeps the database with it
+-- a rule that can be stored isn't too large; some row is too long for it; or else the rule doesn't hold; or else the space keeps the database with it,
+-- and the owners that are to go have no more pages than they had
 unfoldable pub HasEnded : {S : Type 0} → (Wanted → Slots → S → Type 0) → Meanings → ℕ → Site → Name → Name → Rule → AttachRules → S → Attaching → Type 0
 HasEnded Has m root x relation name rule box new TooLarge = ⊥
 HasEnded Has m root x relation name rule box new TooLong = has_long_row (db_of x.kept) relation rule ≡ true
@@ -119,4 +121,4 @@ HasEnded Has m root x relation name rule box new Vetoed =
     (has_long_row (db_of x.kept) relation rule ≡ false) × (holds (Some box) (db_of x.kept) relation rule ≡ false)
 HasEnded Has m root x relation name rule box new Done =
     (has_long_row (db_of x.kept) relation rule ≡ false) × (holds (Some box) (db_of x.kept) relation rule ≡ true)
-    × KeepsDb Has m root x.gone (with_attached (db_of x.kept) relation name rule) new
+    × KeepsDb Has m root x.gone (pages_of x.slots x.gone) (with_attached (db_of x.kept) relation name rule) new

@@ -1,10 +1,12 @@
 -- Rules that go.
-use Rattle.std.specs.Prelude.{◌≡◌, List, Option, Some, None, bytes_eq, option_and_then, option_map}
+use Rattle.std.specs.Prelude.{◌≡◌, ℕ, ◌+◌, List, Option, Some, None, bytes_eq, option_and_then, option_map}
 use Rattle.std.specs.List.{find}
 use Rattle.sb_rule.specs.declared.rule.Rule.{Rule}
 use Rattle.sb_relation.specs.Build.{main_of, mirror_name, mirror_of}
 use Rattle.sb_relation.specs.Db.{Name, Attached, Db}
 use Rattle.sb_fold.specs.Building.{rule_at, without_attached}
+use Rattle.sb_fold.specs.Extensions.{Extensions}
+use Rattle.sb_tables.specs.Removal.{taken_bound}
 use Rattle.sb_catalog.specs.declared.descriptor.Attached.{Attached as Described}
 
 -- An attachment can be taken off: it is there, and is no mirror.
@@ -25,3 +27,9 @@ mirror_among ds relation name = option_and_then (λ d. mirror_named relation d.n
 abbrev pub without_both : Db → Name → Name → Option (Name × Name) → Db
 without_both db relation name None = without_attached db relation name
 without_both db relation name (Some (other, label)) = without_attached (without_attached db relation name) other label
+
+-- the most pages of both
+abbrev pub both_bound : Extensions → Db → Name → Name → Option (Name × Name) → ℕ
+both_bound ext db relation name None = taken_bound ext db relation name
+both_bound ext db relation name (Some (other, label)) =
+    taken_bound ext db relation name + taken_bound ext (without_attached db relation name) other label

@@ -15,4 +15,5 @@ pub mod Held
 pub mod Instances
 pub mod Building
 pub mod Attaching
+pub mod Lacking
 pub mod Detaching

@@ -10,13 +10,15 @@ ghost use Rattle.sb_cascade.specs.Runs.{MadeFrom, StopsFrom};
 ghost use Rattle.sb_drive.specs.Spaces.{LeadsOn};
 ghost use Rattle.sb_catalog.specs.Descriptors.{IsCountedRule, IsStorableAttached};
 ghost use Rattle.sb_registry.specs.Live.{IsLiveRule};
+ghost use Rattle.sb_standing.specs.Lacking.{WhereShort};
 ghost use Rattle.sb_standing.specs.Tables.{db_of};
 ghost use Rattle.sb_tables.specs.Opened.{IsOpen, rule_of};
 ghost use Rattle.sb_tables.specs.Refusals.{HasFaultCause, HasRefusalCause, refusal_of};
-ghost use Rattle.sb_tables.specs.Working.{Goes, IsServing, IsStoppedBy, StandsFor, extensions_in};
+ghost use Rattle.sb_tables.specs.Working.{Goes, IsServing, IsStoppedFor, StandsFor, extensions_in, extensions_of};
 ghost use Rattle.sb_tables.specs.Keeping.{Closes};
 ghost use Rattle.sb_building.specs.Attaching.{HasBegun, HasEnded, MayAdd, MayAttach, Stores};
 ghost use Rattle.sb_building.specs.Instances.{Site};
+ghost use Rattle.sb_building.specs.Lacking.{IsShortBuilding};
 
 use crate::building::build_rows;
 use crate::instances::begin;
@@ -59,7 +61,8 @@ pub fn attach<B: Boxes, S: Owners>(
         → MadeFrom (StandsFor S.has B.meanings) (build (extensions_in B.meanings running.old) relation.now name.now rule.now) g tt running.new) }
     ensures refused { IfErr result (λ r. (g : Going) → StandsFor S.has B.meanings g running.old
         → MayAttach (B.meanings running.old.boxes.now) g.db relation.now name.now rule.now
-        → StopsFrom (IsStoppedBy S.fails) (build (extensions_in B.meanings running.old) relation.now name.now rule.now) g r running.new) }
+        → StopsFrom (IsStoppedFor S.has S.leads S.fails S.table B.meanings)
+        (build (extensions_in B.meanings running.old) relation.now name.now rule.now) g r running.new) }
     ensures fault { IfErr result (λ r. HasFaultCause S.fails r running.new.space.now) }
     ensures closes { Closes running.old running.new }
     ensures goes { Goes S.leads running.old running.new }
@@ -83,7 +86,8 @@ pub fn attach<B: Boxes, S: Owners>(
     }
 }
 
-/// The same over the parts of an engine.
+/// The same over the parts of an engine. Where a page is wanting, none was left beside the new instance, which had no more than its content
+/// takes while it is built.
 #[tactic(none)]
 fn attach_copy<S: Owners, B: Boxes>(
     space: &mut S,
@@ -104,6 +108,9 @@ fn attach_copy<S: Owners, B: Boxes>(
     ensures refused { IfErr result (λ e. (x : Site) → S.has x.want x.slots space.old → Stores (B.meanings boxes.now) place.root x relation.now
         → MayAdd (B.meanings boxes.now) (db_of x.kept) relation.now name.now rule.now
         → HasRefusalCause S.fails (refusal_of e) space.new) }
+    ensures full { IfErr result (λ e. (x : Site) → S.has x.want x.slots space.old → Stores (B.meanings boxes.now) place.root x relation.now
+        → MayAdd (B.meanings boxes.now) (db_of x.kept) relation.now name.now rule.now
+        → WhereShort e (IsShortBuilding S.has S.leads (extensions_of (B.meanings boxes.now)) x relation.now rule.now space.new)) }
     ensures fault { IfErr result (λ e. HasFaultCause S.fails (refusal_of e) space.new) }
     ensures leads { LeadsOn S.leads space.old space.new }
     ensures ready { S.is_ready space.new }
@@ -135,6 +142,9 @@ fn attach_rule<S: Owners, B: Boxes>(
     ensures refused { IfErr result (λ e. (x : Site) → S.has x.want x.slots space.old → Stores (B.meanings boxes.now) place.root x relation.now
         → MayAdd (B.meanings boxes.now) (db_of x.kept) relation.now name.now rule
         → HasRefusalCause S.fails (refusal_of e) space.new) }
+    ensures full { IfErr result (λ e. (x : Site) → S.has x.want x.slots space.old → Stores (B.meanings boxes.now) place.root x relation.now
+        → MayAdd (B.meanings boxes.now) (db_of x.kept) relation.now name.now rule
+        → WhereShort e (IsShortBuilding S.has S.leads (extensions_of (B.meanings boxes.now)) x relation.now rule space.new)) }
     ensures fault { IfErr result (λ e. HasFaultCause S.fails (refusal_of e) space.new) }
     ensures leads { LeadsOn S.leads space.old space.new }
     ensures ready { S.is_ready space.new }
@@ -181,6 +191,10 @@ fn attach_to<S: Owners, B: Boxes>(
         → x.one.descriptor ≡ one.descriptor
         → MayAdd (B.meanings boxes.now) (db_of x.kept) one.name label.now rule
         → HasRefusalCause S.fails (refusal_of e) space.new) }
+    ensures full { IfErr result (λ e. (x : Site) → S.has x.want x.slots space.old → Stores (B.meanings boxes.now) place.root x one.name
+        → x.one.descriptor ≡ one.descriptor
+        → MayAdd (B.meanings boxes.now) (db_of x.kept) one.name label.now rule
+        → WhereShort e (IsShortBuilding S.has S.leads (extensions_of (B.meanings boxes.now)) x one.name rule space.new)) }
     ensures fault { IfErr result (λ e. HasFaultCause S.fails (refusal_of e) space.new) }
     ensures leads { LeadsOn S.leads space.old space.new }
     ensures ready { S.is_ready space.new }
@@ -241,6 +255,12 @@ fn build_on<S: PageSpace, B: Boxes>(
         → HasBegun S.has (B.meanings boxes.now) place.root x inst.now attached.rule live.box space.old
         → has_long_row (db_of x.kept) one.name attached.rule ≡ false
         → HasRefusalCause S.fails (refusal_of e) space.new) }
+    ensures full { IfErr result (λ e. (live : IsLiveRule (B.meanings boxes.now) inst.now) (x : Site)
+        → Stores (B.meanings boxes.now) place.root x one.name → x.one.descriptor ≡ one.descriptor
+        → MayAdd (B.meanings boxes.now) (db_of x.kept) one.name attached.name attached.rule
+        → HasBegun S.has (B.meanings boxes.now) place.root x inst.now attached.rule live.box space.old
+        → has_long_row (db_of x.kept) one.name attached.rule ≡ false
+        → WhereShort e (IsShortBuilding S.has S.leads (extensions_of (B.meanings boxes.now)) x one.name attached.rule space.new)) }
     ensures fault { IfErr result (λ e. HasFaultCause S.fails (refusal_of e) space.new) }
     ensures leads { LeadsOn S.leads space.old space.new }
     ensures ready { S.is_ready space.new }

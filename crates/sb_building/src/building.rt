@@ -1,6 +1,6 @@
 //! Contents of new instances, built over the rows of their relation.
 
-ghost use Rattle.std.specs.Prelude.{◌≡◌, [], true, IfErr, IfOk, OnOk};
+ghost use Rattle.std.specs.Prelude.{◌≡◌, [], false, true, IfErr, IfOk, OnOk};
 ghost use Rattle.sb_rule.specs.declared.rule.Rule.{Rule as Policy};
 ghost use Rattle.sb_rule.specs.Spelling.{SpellsRule};
 ghost use Rattle.sb_relation.specs.Db.{Rows};
@@ -8,11 +8,16 @@ ghost use Rattle.sb_relation.specs.Keys.{is_record_key};
 ghost use Rattle.sb_ctx.specs.Attachment.{MayHold};
 ghost use Rattle.sb_drive.specs.Spaces.{LeadsOn, Leaves};
 ghost use Rattle.sb_registry.specs.Live.{IsLive, IsLiveRule};
+ghost use Rattle.sb_standing.specs.Lacking.{IsShort, WhereShort};
+ghost use Rattle.sb_standing.specs.Standing.{is_join};
 ghost use Rattle.sb_standing.specs.Tables.{db_of, table_of};
 ghost use Rattle.sb_tables.specs.Opened.{IsDurable};
 ghost use Rattle.sb_tables.specs.Refusals.{HasFaultCause, HasRefusalCause, refusal_of};
+ghost use Rattle.sb_tables.specs.Working.{extensions_of};
+ghost use Rattle.sb_building.specs.Attaching.{HasBegun};
 ghost use Rattle.sb_building.specs.Building.{HasNoLong, HoldsBuilt, IsBuilt, IsBuiltOver, IsNext, is_done};
 ghost use Rattle.sb_building.specs.Instances.{HasNewPages, HoldsFirst, IsSite, Site};
+ghost use Rattle.sb_building.specs.Lacking.{IsShortBuilding, bound_over, bound_with};
 
 use sb_ctx::{AttachCall, Instance, Move};
 use sb_drive::{PageSpace, SpaceFault};
@@ -44,6 +49,10 @@ pub(crate) fn prepare<S: PageSpace, B: Boxes>(
     ensures refused { IfErr result (λ e. (live : IsLiveRule (B.meanings boxes.now) inst.now) (x : Site) (rule : Policy)
         → IsSite S.has (B.meanings boxes.now) place.root x inst.now rule live.box space.old → HasNewPages x live.box inst.now
         → HasRefusalCause S.fails (refusal_of e) space.new) }
+    ensures full { IfErr result (λ e. (live : IsLiveRule (B.meanings boxes.now) inst.now) (x : Site) (rule : Policy)
+        → IsSite S.has (B.meanings boxes.now) place.root x inst.now rule live.box space.old → HasNewPages x live.box inst.now
+        → is_join rule ≡ false
+        → WhereShort e (IsShort x.slots inst.now.owner (bound_over (extensions_of (B.meanings boxes.now)) (db_of x.kept) inst.now.relation rule []))) }
     ensures fault { IfErr result (λ e. HasFaultCause S.fails (refusal_of e) space.new) }
     ensures leads { LeadsOn S.leads space.old space.new }
     ensures ready { S.is_ready space.new }
@@ -86,6 +95,10 @@ pub(crate) fn build_rows<S: PageSpace, B: Boxes>(
         → IsSite S.has (B.meanings boxes.now) place.root x inst.now rule.now live.box space.old → table.now ≡ table_of IsDurable x.one
         → HoldsBuilt x live.box inst.now rule.now [] → HasNoLong x rule.now
         → HasRefusalCause S.fails (refusal_of e) space.new) }
+    ensures full { IfErr result (λ e. (live : IsLiveRule (B.meanings boxes.now) inst.now) (x : Site)
+        → HasBegun S.has (B.meanings boxes.now) place.root x inst.now rule.now live.box space.old → table.now ≡ table_of IsDurable x.one
+        → is_join rule.now ≡ false
+        → WhereShort e (IsShortBuilding S.has S.leads (extensions_of (B.meanings boxes.now)) x inst.now.relation rule.now space.new)) }
     ensures fault { IfErr result (λ e. HasFaultCause S.fails (refusal_of e) space.new) }
     ensures leads { LeadsOn S.leads space.old space.new }
     ensures ready { S.is_ready space.new }
@@ -131,6 +144,11 @@ fn build_row<S: PageSpace, B: Boxes>(
     ensures refused { IfErr result (λ e. (live : IsLiveRule (B.meanings boxes.now) inst.now) (x : Site) (rule : Policy) (built : Rows)
         → IsSite S.has (B.meanings boxes.now) place.root x inst.now rule live.box space.old → HoldsBuilt x live.box inst.now rule built
         → HasRefusalCause S.fails (refusal_of e) space.new) }
+    ensures full { IfErr result (λ e. (live : IsLiveRule (B.meanings boxes.now) inst.now) (x : Site) (rule : Policy) (built : Rows)
+        → IsSite S.has (B.meanings boxes.now) place.root x inst.now rule live.box space.old
+        → IsNext x.one.relation.rows built (key.now, row) → HoldsBuilt x live.box inst.now rule built → is_join rule ≡ false
+        → WhereShort e (IsShort x.slots inst.now.owner
+        (bound_with (extensions_of (B.meanings boxes.now)) (db_of x.kept) inst.now.relation rule built (key.now, row)))) }
     ensures fault { IfErr result (λ e. HasFaultCause S.fails (refusal_of e) space.new) }
     ensures leads { LeadsOn S.leads space.old space.new }
     ensures ready { S.is_ready space.new }

@@ -1,16 +1,16 @@
 //! Rules that go.
 
-ghost use Rattle.std.specs.Prelude.{◌≡◌, ℕ, IfErr, IfOk, List, OnOk, Some, bytes_eq, option_copied, true};
+ghost use Rattle.std.specs.Prelude.{◌≡◌, ℕ, ◌+◌, IfErr, IfOk, List, OnOk, Some, bytes_eq, option_copied, true};
 ghost use Rattle.std.specs.List.{find};
 ghost use Rattle.sb_relation.specs.Db.{Attached as Standing, Db};
 ghost use Rattle.sb_fold.specs.Building as fold;
 ghost use Rattle.sb_fold.specs.Outcome.{Going};
 ghost use Rattle.sb_cascade.specs.Runs.{MadeFrom, StopsFrom, is_free};
 ghost use Rattle.sb_tables.specs.Refusals.{HasFaultCause, HasRefusalCause, refusal_of};
-ghost use Rattle.sb_tables.specs.Working.{Goes, IsServing, IsStoppedBy, StandsFor, extensions_in};
+ghost use Rattle.sb_tables.specs.Working.{Goes, IsServing, IsStoppedFor, StandsFor, extensions_in};
 ghost use Rattle.sb_registry.specs.Runs.{Looks};
-ghost use Rattle.sb_tables.specs.Keeping.{Closes, KeepsDb, KeepsIn};
-ghost use Rattle.sb_building.specs.Detaching.{MayDetach, mirror_among, mirror_named, without_both};
+ghost use Rattle.sb_tables.specs.Keeping.{Closes, IsFullBy, KeepsDb, KeepsIn, KeepsWithinIn};
+ghost use Rattle.sb_building.specs.Detaching.{MayDetach, both_bound, mirror_among, mirror_named, without_both};
 
 use sb_catalog::Attached;
 use sb_drive::{PageSpace, SpaceFault};
@@ -32,7 +32,7 @@ pub fn detach<B: Boxes, S: PageSpace>(
     ensures made { OnOk result ((g : Going) → StandsFor S.has B.meanings g running.old → MayDetach g.db relation.now name.now
         → MadeFrom (StandsFor S.has B.meanings) (fold.detach (extensions_in B.meanings running.old) relation.now name.now) g tt running.new) }
     ensures refused { IfErr result (λ r. (g : Going) → StandsFor S.has B.meanings g running.old → MayDetach g.db relation.now name.now
-        → StopsFrom (IsStoppedBy S.fails) (fold.detach (extensions_in B.meanings running.old) relation.now name.now) g r running.new) }
+        → StopsFrom (IsStoppedFor S.has S.leads S.fails S.table B.meanings) (fold.detach (extensions_in B.meanings running.old) relation.now name.now) g r running.new) }
     ensures fault { IfErr result (λ r. HasFaultCause S.fails r running.new.space.now) }
     ensures closes { Closes running.old running.new }
     ensures goes { Goes S.leads running.old running.new }
@@ -62,9 +62,13 @@ fn detach_both<B: Boxes, S: PageSpace>(
 ) -> Result<(), Refusal>
     requires ready { IsServing S.is_ready B.meanings running.old }
 
-    ensures detached { OnOk result ((db : Db) → KeepsIn S.has B.meanings db running.old
-        → KeepsIn S.has B.meanings (without_both db relation.now name.now mirror) running.new) }
-    ensures refused { IfErr result (λ r. (db : Db) → KeepsIn S.has B.meanings db running.old → HasRefusalCause S.fails r running.new.space.now) }
+    ensures detached { OnOk result ((aside : ℕ) (db : Db) → KeepsIn S.has B.meanings aside db running.old
+        → KeepsIn S.has B.meanings (aside + both_bound (extensions_in B.meanings running.old) db relation.now name.now mirror)
+        (without_both db relation.now name.now mirror) running.new) }
+    ensures refused { IfErr result (λ r. (aside : ℕ) (db : Db) → KeepsIn S.has B.meanings aside db running.old
+        → HasRefusalCause S.fails r running.new.space.now) }
+    ensures licensed { IfErr result (λ r. (aside most : ℕ) (db : Db) → KeepsWithinIn S.has B.meanings aside most db running.old
+        → IsFullBy S.has S.leads S.table most r running.new.space.now) }
     ensures fault { IfErr result (λ r. HasFaultCause S.fails r running.new.space.now) }
     ensures free { IfErr result (λ r. is_free r ≡ true) }
     ensures closes { Closes running.old running.new }
@@ -99,10 +103,10 @@ fn mirror_at<S: PageSpace, B: Boxes>(
     requires ready { S.is_ready space.old }
     requires owner { place.owner ≡ 2 }
 
-    ensures mirror { IfOk result (λ mirror. (gone : List ℕ) (db : Db) (a : Standing)
-        → KeepsDb S.has (B.meanings boxes.now) place.root gone db space.old → fold.rule_at db relation.now name.now ≡ Some a
+    ensures mirror { IfOk result (λ mirror. (gone : List ℕ) (aside : ℕ) (db : Db) (a : Standing)
+        → KeepsDb S.has (B.meanings boxes.now) place.root gone aside db space.old → fold.rule_at db relation.now name.now ≡ Some a
         → mirror ≡ mirror_named relation.now name.now a.rule) }
-    ensures refused { IfErr result (λ e. (gone : List ℕ) (db : Db) → KeepsDb S.has (B.meanings boxes.now) place.root gone db space.old
+    ensures refused { IfErr result (λ e. (gone : List ℕ) (aside : ℕ) (db : Db) → KeepsDb S.has (B.meanings boxes.now) place.root gone aside db space.old
         → HasRefusalCause S.fails (refusal_of e) space.new) }
     ensures looks { Looks S.has S.leads S.fails space.old space.new result }
     ensures ready { S.is_ready space.new }

@@ -4,17 +4,22 @@ ghost use Rattle.std.specs.Prelude.{◌≡◌, ◌≤◌, IfErr, IfOk, IsUtf8, l
 ghost use Rattle.sb_rule.specs.Spelling.{rule_code};
 ghost use Rattle.sb_relation.specs.Db as db;
 ghost use Rattle.sb_ctx.specs.Attachment.{keeps_pages};
+ghost use Rattle.sb_ctx.specs.View.{nothing};
 ghost use Rattle.sb_drive.specs.Slots.{Slots};
-ghost use Rattle.sb_drive.specs.Spaces.{LeadsOn, Wanted};
+ghost use Rattle.sb_drive.specs.Spaces.{IsFull, LeadsOn, Wanted};
+ghost use Rattle.sb_drive.specs.declared.turns.Ask.TheVariants.{Fresh};
 ghost use Rattle.sb_catalog.specs.Descriptors.{IsCountedRule, IsInstance, IsStorableAttached};
 ghost use Rattle.sb_registry.specs.Live.{IsLiveRule};
 ghost use Rattle.sb_registry.specs.Runs.{IsSound, Looks};
+ghost use Rattle.sb_standing.specs.Lacking.{WhereShort};
 ghost use Rattle.sb_standing.specs.Standing.{StandsRule};
 ghost use Rattle.sb_standing.specs.Tables.{db_of};
 ghost use Rattle.sb_tables.specs.Opened.{OverTables, OwnsPages, rule_of};
 ghost use Rattle.sb_tables.specs.Refusals.{HasFaultCause, HasRefusalCause, refusal_of};
+ghost use Rattle.sb_tables.specs.Working.{extensions_of};
 ghost use Rattle.sb_building.specs.Attaching.{HasBegun, IsEntered, IsEntryOf, IsStore, MayAdd};
 ghost use Rattle.sb_building.specs.Instances.{IsPlaced, Site};
+ghost use Rattle.sb_building.specs.Lacking.{IsShortBuilding};
 
 use crate::building::prepare;
 use crate::rules::code_of;
@@ -55,6 +60,10 @@ pub(crate) fn begin<S: Owners, B: Boxes>(
         → IsStore S.has (B.meanings boxes.now) place.root x opened.now.name space.old → x.one.descriptor ≡ opened.now.descriptor
         → MayAdd (B.meanings boxes.now) (db_of x.kept) opened.now.name label.now rule
         → HasRefusalCause S.fails (refusal_of e) space.new) }
+    ensures full { IfErr result (λ e. (x : Site)
+        → IsStore S.has (B.meanings boxes.now) place.root x opened.now.name space.old → x.one.descriptor ≡ opened.now.descriptor
+        → MayAdd (B.meanings boxes.now) (db_of x.kept) opened.now.name label.now rule
+        → WhereShort e (IsShortBuilding S.has S.leads (extensions_of (B.meanings boxes.now)) x opened.now.name rule space.new)) }
     ensures fault { IfErr result (λ e. HasFaultCause S.fails (refusal_of e) space.new) }
     ensures leads { LeadsOn S.leads space.old space.new }
     ensures ready { S.is_ready space.new }
@@ -92,6 +101,8 @@ fn new_entry<S: Owners>(
 
     ensures entered { IfOk result (λ d. IsEntered S.has label.now rule d space.old space.new) }
     ensures refused { IfErr result (λ e. HasRefusalCause S.fails (refusal_of e) space.new) }
+    ensures full { IfErr result (λ e. (want : Wanted) (s : Slots) → S.has want s space.old
+        → IsFull (S.durable space.old) (S.total space.old) s nothing Fresh e) }
     ensures leads { LeadsOn S.leads space.old space.new }
     ensures ready { S.is_ready space.new }
 {
@@ -148,6 +159,8 @@ fn new_place<S: Owners>(space: &mut S, alloc: Global, code: u16) -> Result<(u16,
     ensures placed { IfOk result (λ made. (want : Wanted) (s : Slots) → S.has want s space.old
         → IsPlaced S.has (keeps_pages code) want s made.0 made.1 space.new) }
     ensures refused { IfErr result (λ e. HasRefusalCause S.fails (refusal_of e) space.new) }
+    ensures full { IfErr result (λ e. (want : Wanted) (s : Slots) → S.has want s space.old
+        → IsFull (S.durable space.old) (S.total space.old) s nothing Fresh e) }
     ensures leads { LeadsOn S.leads space.old space.new }
     ensures ready { S.is_ready space.new }
 {

@@ -1,6 +1,6 @@
 //! An attachment's place in the descriptor of its relation.
 
-ghost use Rattle.std.specs.Prelude.{◌≡◌, ◌<◌, ◌≤◌, ◌↔◌, IsTrue, Some, IfErr, IfOk, OnOk, length, map, nat_lt, position};
+ghost use Rattle.std.specs.Prelude.{◌≡◌, ◌*◌, ◌<◌, ◌≤◌, ◌↔◌, IsTrue, Some, IfErr, IfOk, OnOk, length, map, nat_lt, position};
 ghost use Rattle.std.specs.FinMap.Entries.{put};
 ghost use Rattle.std.specs.List.{position_or_len};
 ghost use Rattle.sb_node.specs.Entries.{key_cmp};
@@ -8,6 +8,7 @@ ghost use Rattle.sb_forms.specs.Maps.{map_in};
 ghost use Rattle.sb_drive.specs.Slots.{owned};
 ghost use Rattle.sb_drive.specs.Spaces.{LeadsOn, Leaves};
 ghost use Rattle.sb_catalog.specs.Descriptors.{descriptor_spelling, IsStorableAttached, IsStorableDescriptor};
+ghost use Rattle.sb_standing.specs.Lacking.{IsShort, WhereShort};
 ghost use Rattle.sb_standing.specs.Standing.{with_described};
 ghost use Rattle.sb_standing.specs.Tables.{entry_of};
 ghost use Rattle.sb_tables.specs.Refusals.{HasFaultCause, HasRefusalCause, refusal_of};
@@ -51,6 +52,9 @@ pub(crate) fn place_rule<S: PageSpace>(
     ensures refused { IfErr result (λ e. (x : Site) → S.has x.want x.slots space.old
         → map_in place.root (owned x.slots 2) ≡ Some (map entry_of x.kept)
         → IsRoomy name.now descriptor attached → HasRefusalCause S.fails (refusal_of e) space.new) }
+    ensures full { IfErr result (λ e. (x : Site) → S.has x.want x.slots space.old
+        → map_in place.root (owned x.slots 2) ≡ Some (map entry_of x.kept)
+        → WhereShort e (IsShort x.slots 2 (2 * length (map entry_of x.kept)))) }
     ensures fault { IfErr result (λ e. HasFaultCause S.fails (refusal_of e) space.new) }
     ensures leads { LeadsOn S.leads space.old space.new }
     ensures ready { S.is_ready space.new }

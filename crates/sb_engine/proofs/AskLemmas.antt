@@ -1,5 +1,5 @@
 -- What comes of an attachment that is asked, as the engine stands for it.
-use Rattle.std.proofs.Common.{◌≡◌, ℕ, zero, suc, ◌+◌, ◌<◌, ◌≤◌, Bool, true, false, cond, List, [], ◌∷◌, ◌++◌, length, map, All, Option, Some, None, option_map, IfSome, refl, sym, ap, ◌∙◌, subst, arith, ◌==◌}
+use Rattle.std.proofs.Common.{◌≡◌, ℕ, zero, suc, ◌+◌, ◌<◌, ◌≤◌, Bool, true, false, cond, List, [], ◌∷◌, ◌++◌, length, map, All, Option, Some, None, option_map, IfSome, inr, refl, sym, ap, ◌∙◌, subst, arith, ◌==◌}
 use Rattle.std.specs.List.{Any, slice_get}
 use Rattle.std.proofs.lemmas.List.Elements.{All-append, All-head, All-tail}
 use Rattle.std.proofs.lemmas.Option.{same_Some, slice_get-map, slice_get_past}
@@ -50,7 +50,8 @@ use Rattle.sb_catalog.proofs.Parts.{one_rule}
 use Rattle.sb_standing.specs.Instances.{rule_instance}
 use Rattle.sb_standing.specs.Tables.{Kept, db_of, kept_at}
 use Rattle.sb_standing.specs.Lacking.{WhereShort}
-use Rattle.sb_standing.specs.Standing.{StandRules}
+use Rattle.sb_standing.specs.Standing.{IsAmong, StandRules, owners_in}
+use Rattle.sb_standing.proofs.OwnersLemmas.{attached_among, owners_of-among}
 use Rattle.sb_standing.specs.Asked.{changed_kept}
 use Rattle.sb_standing.proofs.AskedLaws.{CanAsk-next}
 use Rattle.sb_standing.proofs.AskedLemmas.{Keeps-asked}
@@ -64,11 +65,12 @@ use Rattle.sb_engine.specs.declared.running.Work.{Work}
 use Rattle.sb_engine.specs.Asking.{with_late}
 use Rattle.sb_engine.specs.Opening.{IsKeeping}
 use Rattle.sb_engine.specs.Refusals.{refusal_of}
-use Rattle.sb_engine.specs.Working.{AreOpened, ArePaired, IsLicensed, IsShortOf, Stands, StandsAsking, extensions_of, open_at, queue_first}
+use Rattle.sb_engine.specs.Working.{AreNamedApart, AreOpened, ArePaired, IsLicensed, IsShortOf, Stands, StandsAsking, extensions_of, open_at, queue_first}
 use Rattle.sb_engine.proofs.LateLemmas.{left-late, queue_first-all, queue_first-more}
 use Rattle.sb_engine.proofs.OpenedLemmas.{has_open}
-use Rattle.sb_engine.proofs.PairedLemmas.{changed-paired}
-use Rattle.sb_engine.proofs.LackingLemmas.{all_meant, any_last, meant_before, none_aside}
+use Rattle.sb_engine.proofs.PairedLemmas.{changed-apart, changed-paired}
+use Rattle.sb_engine.proofs.GoneLemmas.{aside-others}
+use Rattle.sb_engine.proofs.LackingLemmas.{all_meant, any_last, meant_before}
 use Rattle.sb_engine.proofs.RowLemmas.{lasting-changed}
 use Rattle.sb_standing.proofs.StandLemmas.{StandRules-asks}
 
@@ -287,6 +289,8 @@ module _ {S : Type 0} (Has : Wanted → Slots → S → Type 0) (m : Meanings) (
           waits = asking.waits ∙ queue_first-all i name c g all;
           picked = asking.picked;
           gone = asking.gone;
+          aside = asking.aside;
+          apart = subst AreNamedApart (sym db_changed) (changed-apart (db_of asking.before) name c asking.apart);
           rules = asking.rules;
           fit = All-append (IsFitting g.db) g.queue.actions (waiting_actions g.db name c) asking.fit (all-waiting-fits (box_of (extensions_of m)) g.db name c asking.rules (change_fits made));
         },
@@ -296,6 +300,13 @@ module _ {S : Type 0} (Has : Wanted → Slots → S → Type 0) (m : Meanings) (
       change_of rows (change.Insert key new) of = of
       change_of rows (change.Delete key old) of = of
       change_of rows (change.Update from old to new) of = of
+
+  -- its owner is one of those that are kept
+  its_owner : (d : Attached) (asked : IsAsked m asking.before name c one i d g.db) → IsAmong d.owner (owners_in asking.before)
+  its_owner d asked =
+      owners_of-among asking.before name asked.k d.owner asked.at
+      (inr (All-at (λ (x : Attached). IsAmong x.owner (map (λ a. a.owner) asked.k.descriptor.attachments)) asked.k.descriptor.attachments i d
+      (attached_among asked.k.descriptor.attachments) asked.described))
 
   -- ---- one attachment more was asked
   -- whom it is asked of
@@ -387,6 +398,12 @@ module _ {S : Type 0} (Has : Wanted → Slots → S → Type 0) (m : Meanings) (
               ∙ queue_first-more i name c g asked.after asked.there;
           picked = asking.picked;
           gone = asking.gone;
+          aside = omega (
+            arith,
+            asking.aside,
+            aside-others asking.slots leaves.slots (owners_in asking.before) w.gone.items d.owner (its_owner d asked) leaves.others asking.asks.own,
+          );
+          apart = asking.apart;
           come = asking.come;
           rules = asking.rules;
           fit = asking.fit;
@@ -406,8 +423,8 @@ module _ {S : Type 0} (Has : Wanted → Slots → S → Type 0) (m : Meanings) (
     short = subst (λ (points : List Reached). Any (IsShortOf total (table space + page_count (owned asking.slots 1)) (extensions_of m)) points) (sym asking.come.is)
         (any_last (IsShortOf total (table space + page_count (owned asking.slots 1)) (extensions_of m)) asking.come.points
         (changing (db_of asking.before) name c g.gone asking.come.spent)
-        (λ none. asking-is-full m IsDurable root asking.slots w.gone.items asking.before g.gone asking.come.spent name c i asked.k d asked.a
-        lacks.box (table space) total meant pages asking.asks (none_aside asking.slots w.gone.items g.gone (asking.gone none)) asked.at asked.described
+        (asking-is-full m IsDurable root asking.slots w.gone.items asking.before g.gone asking.come.spent name c i asked.k d asked.a
+        lacks.box (table space) total meant pages asking.asks asking.aside asked.at asked.described
         asked.attached lacks.live small tabled lacks.short));
   }
     where

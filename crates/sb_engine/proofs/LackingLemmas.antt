@@ -1,11 +1,11 @@
 -- Points, relations that outlive the run, and owners, where no page is left.
-use Rattle.std.proofs.Common.{◌≡◌, ℕ, ◌≤◌, true, List, [], ◌∷◌, ◌++◌, length, length-append, sum, append-nil, refl, sym, ap, ◌∙◌, arith}
+use Rattle.std.proofs.Common.{◌≡◌, ℕ, zero, suc, true, List, [], ◌∷◌, ◌++◌, length, length-append, append-nil, refl, sym, ap, subst, ◌∙◌, arith}
 use Rattle.std.specs.List.{Any, slice_index_or}
 use Rattle.std.proofs.lemmas.List.Elements.{All-weaker}
 use Rattle.sb_rule.specs.declared.change.Change.{Change}
 use Rattle.sb_relation.specs.Db.{Name}
 use Rattle.sb_fold.specs.Extensions.{Extensions, is_durable_method}
-use Rattle.sb_fold.specs.Outcome.{Gone, Trail}
+use Rattle.sb_fold.specs.Outcome.{Reached, Trail}
 use Rattle.sb_cascade.specs.Runs.{GoesOn}
 use Rattle.sb_drive.specs.Slots.{Slots}
 use Rattle.sb_registry.specs.Boxes.{Meanings}
@@ -14,7 +14,6 @@ use Rattle.sb_standing.specs.Tables.{Kept, Tables}
 use Rattle.sb_standing.proofs.FrameLemmas.{All-unmap}
 use Rattle.sb_standing.proofs.KeptChangedLemmas.{change_kept-same}
 use Rattle.sb_asking.specs.Opened.{IsDurable}
-use Rattle.sb_weights.specs.Owned.{pages_of}
 use Rattle.sb_weights.specs.Weights.{AreMeant}
 use Rattle.sb_weights.proofs.Meant.{lasting-are-meant}
 use Rattle.sb_engine.specs.Working.{AreLasting, IsLasting, extensions_of}
@@ -26,6 +25,16 @@ at_end (y ∷ xs) x = at_end xs x
 
 pub any_last : {X : Type 0} (P : X → Type 0) (xs : List X) (x : X) → P x → Any P (xs ++ x ∷ [])
 any_last P xs x is = (length xs, x, omega (arith, length-append xs (x ∷ [])), at_end xs x, is)
+
+any_front : {X : Type 0} (P : X → Type 0) (xs ys : List X) → Any P xs → Any P (xs ++ ys)
+any_front P [] ys (k, x, below, is, p) = absurd (omega (arith, below))
+any_front P (y ∷ xs) ys (zero, x, below, is, p) = (zero, x, omega arith, is, p)
+any_front P (y ∷ xs) ys (suc k, x, below, is, p) =
+    let rest = any_front P xs ys (k, x, omega (arith, below), is, p) in
+    (suc rest.0, rest.1, omega (arith, rest.2), rest.3, rest.4)
+
+pub any_along : (P : Reached → Type 0) (from to : Trail) → GoesOn from to → Any P from.points → Any P to.points
+any_along P from to goes any = subst (Any P) (sym goes.more) (any_front P from.points goes.points any)
 
 pub goes_none : (trail : Trail) → GoesOn trail trail
 goes_none trail = record { points = []; more = sym (append-nil trail.points); spent = omega arith }
@@ -41,8 +50,3 @@ meant_before ext name c before all =
     All-weaker (λ k. is_durable_method ext (change_kept name c k).relation.method ≡ true) (λ k. is_durable_method ext k.relation.method ≡ true)
     (λ k is. ap (is_durable_method ext) (sym (change_kept-same (λ x. x.relation.method) name c (λ x. refl) k)) ∙ is) before
     (All-unmap (λ (k : Kept). is_durable_method ext k.relation.method ≡ true) (change_kept name c) before all)
-
--- ---- what is to go
--- where nothing is, its pages are within whatever is held aside
-pub none_aside : (s : Slots) (gone : List ℕ) (aside : Gone) → gone ≡ [] → pages_of s gone ≤ sum aside.durable
-none_aside s gone aside none = omega (arith, ap (pages_of s) none)

@@ -1,4 +1,5 @@
 pub use Rattle.sb_asking.proofs.Faults
+pub use Rattle.sb_weights.proofs.Beside
 pub use Rattle.sb_weights.proofs.Bounded
 pub use Rattle.sb_weights.proofs.Catalogue
 pub use Rattle.sb_weights.proofs.Coming

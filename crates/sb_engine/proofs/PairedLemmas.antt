@@ -1,6 +1,7 @@
 -- Mirrors have their main instances after a change of a relation's rows.
-use Rattle.std.proofs.Common.{◌≡◌, Bool, true, false, cond, List, [], ◌∷◌, map, All, Option, Some, None, option_map, bytes_eq, refl, sym, ap, ◌∙◌, subst}
+use Rattle.std.proofs.Common.{◌≡◌, ℕ, suc, ◌≤◌, length, Bool, true, false, cond, List, [], ◌∷◌, map, All, Option, Some, None, option_map, bytes_eq, refl, sym, ap, ◌∙◌, subst}
 use Rattle.std.specs.List.{find}
+use Rattle.std.specs.Prelude.{filter}
 use Rattle.std.proofs.lemmas.List.Elements.{All-map, All-weaker}
 use Rattle.std.proofs.lemmas.Option.{same_Some}
 use Rattle.sb_rule.specs.declared.change.Change.{Change}
@@ -13,7 +14,7 @@ use Rattle.sb_fold.specs.Building.{rule_at}
 use Rattle.sb_fold.specs.Fold.{attachments_at}
 use Rattle.sb_cascade.proofs.Staying.{after_put, changed_in}
 use Rattle.sb_standing.proofs.FrameLemmas.{All-unmap}
-use Rattle.sb_engine.specs.Working.{ArePaired, HasMainOf}
+use Rattle.sb_engine.specs.Working.{AreNamedApart, ArePaired, HasMainOf}
 
 -- ---- names and rules
 abbrev head : Attached → Name × Rule
@@ -97,3 +98,22 @@ changed-paired db name c paired = λ relation.
     (λ a has. same_name after a (with_head (head a)) refl (main_of relation a.rule) (main_stays db name c a (main_of relation a.rule) has)) (attachments_at db relation) (paired relation) in
     All-weaker (λ (a : Attached). IsPaired (head a)) (λ (a : Attached). HasMainOf after a (main_of relation a.rule)) (λ a has. same_name after (with_head (head a)) a refl (main_of relation a.rule) has)
     (attachments_at after relation) (All-unmap IsPaired head (attachments_at after relation) (subst (All IsPaired) heads (All-map IsPaired head (attachments_at db relation) stay)))
+
+-- ---- names
+named-grown : (label : Name) (c : Change) (rows : Rows) (items : List Attached)
+    → length (filter (λ a. bytes_eq a.name label) (map (grown c rows) items)) ≡ length (filter (λ a. bytes_eq a.name label) items)
+named-grown label c rows [] = refl
+named-grown label c rows (a ∷ items) = of_test (bytes_eq a.name label) (named-grown label c rows items)
+  where
+    of_test : (b : Bool) → length (filter (λ x. bytes_eq x.name label) (map (grown c rows) items)) ≡ length (filter (λ x. bytes_eq x.name label) items)
+        → length (cond b (grown c rows a ∷ filter (λ x. bytes_eq x.name label) (map (grown c rows) items)) (filter (λ x. bytes_eq x.name label) (map (grown c rows) items)))
+        ≡ length (cond b (a ∷ filter (λ x. bytes_eq x.name label) items) (filter (λ x. bytes_eq x.name label) items))
+    of_test true rest = ap suc rest
+    of_test false rest = rest
+
+-- no name comes to stand twice by a change of rows
+pub changed-apart : (db : Db) (name : Name) (c : Change) → AreNamedApart db → AreNamedApart (changed db name c)
+changed-apart db name c apart relation label =
+    subst (λ (n : ℕ). n ≤ 1)
+    (seen (λ o. length (filter (λ a. bytes_eq a.name label) (items_of o))) (λ r d rows. sym (named-grown label d rows r.attachments)) db name c relation)
+    (apart relation label)

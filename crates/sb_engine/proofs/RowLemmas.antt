@@ -1,5 +1,5 @@
 -- A change of one row, as the engine makes it.
-use Rattle.std.proofs.Common.{◌≡◌, ℕ, ◌+◌, ◌≤◌, Bool, true, false, List, [], ◌∷◌, ◌++◌, map, All, Option, Some, None, option_map, refl, sym, ap, ◌∙◌, subst}
+use Rattle.std.proofs.Common.{◌≡◌, ℕ, ◌+◌, ◌≤◌, Bool, true, false, List, [], ◌∷◌, ◌++◌, map, All, Option, Some, None, option_map, inl, refl, sym, ap, ◌∙◌, subst, arith}
 use Rattle.std.proofs.lemmas.List.Elements.{All-weaker}
 use Rattle.std.specs.declared.vec.Vec.{Vec}
 use Rattle.std.specs.declared.alloc.Global.{Global}
@@ -38,7 +38,9 @@ use Rattle.sb_catalog.specs.declared.descriptor.Descriptor.{Descriptor}
 use Rattle.sb_catalog.specs.Descriptors.{described, standing}
 use Rattle.sb_standing.specs.Tables.{Kept, table_of}
 use Rattle.sb_standing.specs.Asked.{change_kept, changed_kept}
+use Rattle.sb_standing.specs.Standing.{owners_in}
 use Rattle.sb_standing.proofs.AskedLaws.{Asks-put}
+use Rattle.sb_standing.proofs.OwnersLemmas.{owners_of-among}
 use Rattle.sb_standing.proofs.FrameLemmas.{All-unmap}
 use Rattle.sb_standing.proofs.KeptChangedLemmas.{change_kept-same, db_of-changed, descriptors-changed, kept_at-changed}
 use Rattle.sb_standing.proofs.KeptLemmas.{kept_at-all}
@@ -50,8 +52,9 @@ use Rattle.sb_wishes.specs.Wished.{HasCounts, IsTableOf}
 use Rattle.sb_engine.specs.declared.running.Work.{Work as Kept_work}
 use Rattle.sb_engine.specs.Picks.{picks_of}
 use Rattle.sb_engine.specs.Refusals.{refusal_of}
-use Rattle.sb_engine.specs.Working.{AreLasting, AreOpened, ArePaired, IsLasting, IsLicensed, IsOpened, IsShortOf, Stands, StandsAsking, extensions_of, open_at}
-use Rattle.sb_engine.proofs.LackingLemmas.{all_meant, any_last, goes_none, none_aside}
+use Rattle.sb_engine.specs.Working.{AreLasting, AreNamedApart, AreOpened, ArePaired, IsLasting, IsLicensed, IsOpened, IsShortOf, Stands, StandsAsking, extensions_of, open_at}
+use Rattle.sb_engine.proofs.GoneLemmas.{aside-others}
+use Rattle.sb_engine.proofs.LackingLemmas.{all_meant, any_last, goes_none}
 use Rattle.sb_engine.proofs.RefusedLemmas.{free_refusal}
 use Rattle.sb_engine.proofs.LateLemmas.{queue_first-none}
 use Rattle.sb_engine.proofs.OpenedLemmas.{HasOpen, has_open}
@@ -166,6 +169,13 @@ module _ {S : Type 0} (Has : Wanted → Slots → S → Type 0) (Ways : ℕ → 
               ∙ ap (λ (method : ℕ). g.used ++ picks_of method c) (sym table.method)
               ∙ sym (leads-picks name k.relation wish g it.picks c run);
           gone = stands.gone;
+          aside = omega (
+            arith,
+            stands.aside,
+            aside-others stands.slots leaves.slots (owners_in stands.kept) w.gone.items k.descriptor.owner
+                (owners_of-among stands.kept name k k.descriptor.owner h.at (inl refl)) leaves.others stands.keeps.own,
+          );
+          apart = subst AreNamedApart stands.db stands.apart;
           come = record {
             points = g.trail.points;
             spent = after.trail.spent;
@@ -210,10 +220,10 @@ module _ {S : Type 0} (Has : Wanted → Slots → S → Type 0) (Ways : ℕ → 
           slots = stands.slots;
           has = stands.has;
           short = any_last (IsShortOf total (table old + page_count (owned stands.slots 1)) ext) g.trail.points (changing g.db name it.change g.gone after.trail.spent)
-              (λ none. subst (λ (db : Db). total ≤ table old + page_count (owned stands.slots 1) + need ext true (changing db name it.change g.gone after.trail.spent)) (sym stands.db)
+              (subst (λ (db : Db). total ≤ table old + page_count (owned stands.slots 1) + need ext true (changing db name it.change g.gone after.trail.spent)) (sym stands.db)
               (change-is-full m IsDurable root stands.slots w.gone.items stands.kept g.gone after.trail.spent name k it.change box (table old) total
               (all_meant m root stands.slots stands.kept stands.lasting stands.keeps.tables) pages stands.keeps
-              (none_aside stands.slots w.gone.items g.gone (stands.gone none)) h.at live small tabled short));
+              stands.aside h.at live small tabled short));
         });
       }
   row_full table Stopped x g w e stands at pages tabled leads lacks stop =

@@ -47,6 +47,8 @@ module _ {S : Type 0} (Has : Wanted → Slots → S → Type 0) (m : Meanings) (
     waits = stands.waits;
     picked = stands.picked;
     gone = stands.gone;
+    aside = stands.aside;
+    apart = stands.apart;
     rules = stands.rules;
     fit = stands.fit;
   }
@@ -87,6 +89,8 @@ module _ {S : Type 0} (Has : Wanted → Slots → S → Type 0) (m : Meanings) (
           waits = λ i. record { actions = rest; entries = ap (λ (q : Queue). q.entries) stands.waits i };
           picked = stands.picked;
           gone = stands.gone;
+          aside = stands.aside;
+          apart = stands.apart;
           rules = stands.rules;
           fit = All-tail (IsFitting g.db) a rest (subst (λ (l : List Action). AllFit g.db l) waits stands.fit);
         },

@@ -1,5 +1,5 @@
 -- What an engine at work on a transaction stands for.
-use Rattle.std.specs.Prelude.{◌≡◌, ℕ, ◌+◌, ◌≤◌, List, [], ◌∷◌, ◌++◌, length, map, drop, take, All, Option, Some, None, bytes_eq}
+use Rattle.std.specs.Prelude.{◌≡◌, ℕ, ◌+◌, ◌≤◌, List, [], ◌∷◌, ◌++◌, length, map, filter, drop, take, All, Option, Some, None, sum, bytes_eq}
 use Rattle.std.specs.List.{Any, find, flat_map}
 use Rattle.sb_pred.specs.Typing.{term_kind}
 use Rattle.std.specs.Prelude.{true, false}
@@ -42,6 +42,7 @@ use Rattle.sb_engine.specs.declared.running.Running.{Running}
 use Rattle.sb_engine.specs.declared.running.Work.{Work}
 use Rattle.sb_engine.specs.Refusals.{HasRefusalCause}
 pub use Rattle.sb_weights.specs.Rooms.{extensions_of}
+use Rattle.sb_weights.specs.Owned.{pages_of}
 use Rattle.sb_weights.specs.Weights.{changing}
 
 -- ---- what is open
@@ -117,6 +118,11 @@ HasMainOf db a (Some (other, rule)) = HasMain db a other rule
 abbrev pub ArePaired : Db → Type 0
 ArePaired db = (relation : Name) → All (λ a. HasMainOf db a (main_of relation a.rule)) (attachments_at db relation)
 
+-- ---- names of attachments
+-- no two attachments of a relation have one name
+abbrev pub AreNamedApart : Db → Type 0
+AreNamedApart db = (relation label : Name) → length (filter (λ a. bytes_eq a.name label) (attachments_at db relation)) ≤ 1
+
 -- ---- what the engine stands for
 -- no storage method of the relations counts its keys, since they outlive the run
 abbrev pub IsLasting : Descriptor → Type 0
@@ -138,8 +144,8 @@ pub record Serves {S : Type 0} (IsReady : S → Type 0) (m : Meanings) (place : 
   pub opened : All (IsOpen m) w.opened.items
   pub within : w.done ≤ length w.queue.actions
 
--- Work has come so far: the pages keep its database, whose deferred rules are told by what waits, and what waits fits; what was picked is noted; and
--- no owner is to go where nothing was dropped or detached.
+-- Work has come so far: the pages keep its database, whose deferred rules are told by what waits, and what waits fits; what was picked is noted; no
+-- owner is to go where nothing was dropped or detached, and those that are to go have no more pages than are held aside.
 pub record Stands {S : Type 0} (Has : Wanted → Slots → S → Type 0) (m : Meanings) (root : ℕ) (g : Going) (space : S) (w : Work) : Type 0 where
   pub want : Wanted
   pub slots : Slots
@@ -155,6 +161,8 @@ pub record Stands {S : Type 0} (Has : Wanted → Slots → S → Type 0) (m : Me
   pub waits : left_of w ≡ g.queue
   pub picked : w.picks.items ≡ g.used
   pub gone : IsNoneGone g.gone → w.gone.items ≡ []
+  pub aside : pages_of slots w.gone.items ≤ sum g.gone.durable
+  pub apart : AreNamedApart g.db
   pub rules : AllMayStand (box_of (extensions_of m)) g.db
   pub fit : AllFit g.db g.queue.actions
 
@@ -177,15 +185,16 @@ pub record StandsAsking {S : Type 0} (Has : Wanted → Slots → S → Type 0) (
   pub waits : left_of w ≡ queue_first i name c g
   pub picked : w.picks.items ≡ g.used
   pub gone : IsNoneGone g.gone → w.gone.items ≡ []
+  pub aside : pages_of slots w.gone.items ≤ sum g.gone.durable
+  pub apart : AreNamedApart (db_of before)
   pub come : HasCome g.trail (db_of before) name c g.gone
   pub rules : AllMayStand (box_of (extensions_of m)) g.db
   pub fit : AllFit g.db g.queue.actions
 
 -- ---- want of a page
--- the database needs so much at this point that there are no more pages than that and those that the space takes for itself; where nothing was dropped or
--- detached
+-- the database needs so much at this point that there are no more pages than that and those that the space takes for itself
 abbrev pub IsShortOf : ℕ → ℕ → Extensions → Reached → Type 0
-IsShortOf total own ext at = IsNoneGone at.aside → total ≤ own + need ext true at
+IsShortOf total own ext at = total ≤ own + need ext true at
 
 -- So it is at some point of the trail, by the pages of the space at a moment on the way.
 pub record IsShortAt {S : Type 0} (Has : Wanted → Slots → S → Type 0) (Leads : ℕ → S → S → Type 0) (table : S → ℕ) (ext : Extensions) (trail : Trail)

@@ -374,7 +374,7 @@ module _ {D : Type 0} (told : D → Option Story) (len faults : D → ℕ) (m : 
               broken.stopped.cause;
           sizes = λ room. size want x of posed room;
           lacks = λ room. may_want_room-works (extensions_of m) x c why.work why.is;
-          pages = pages_finished faults m s.pool.geometry.pages x c has.works of.up why.work why.is why.passed stop.there r
+          pages = pages_finished faults m s.pool.geometry.pages x c of.up why.work why.is why.passed stop.there r
               (λ room. ap (λ (g : Geometry). g.pages) (size want x of posed room)) (none_in want x of) (λ h p. IsAt m place want tx h p w) answer here why.run stop.stops;
         }
 

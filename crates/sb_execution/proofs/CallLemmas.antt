@@ -10,7 +10,7 @@ use Rattle.sb_images.specs.Images.{Restores}
 use Rattle.sb_log.specs.declared.geometry.Geometry.{Geometry}
 use Rattle.sb_fold.specs.declared.refusal.Refusal.{Refusal}
 use Rattle.sb_fold.specs.declared.refusal.Refusal.TheVariants as refusal
-use Rattle.sb_txn.specs.Clauses.{HoldsPages, IsReady, Leads, LeavesWanted}
+use Rattle.sb_txn.specs.Clauses.{HoldsPages, IsReady, Leads}
 use Rattle.sb_txn.specs.Parts.{Parts, parts}
 use Rattle.sb_txn.specs.State.{State}
 use Rattle.sb_txn.proofs.KeepsLemmas.{LeavesWanted-then}

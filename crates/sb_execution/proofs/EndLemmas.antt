@@ -7,7 +7,7 @@ use Rattle.sb_fold.specs.declared.refusal.Refusal.TheVariants as refusal
 use Rattle.sb_fold.specs.declared.refusal.Room.{Room}
 use Rattle.sb_fold.specs.Extensions.{Extensions}
 use Rattle.sb_fold.specs.Finish.{finish}
-use Rattle.sb_fold.specs.Outcome.{Going, Queue, Trail, Work, made, ◌>>=◌}
+use Rattle.sb_fold.specs.Outcome.{Going, Gone, Queue, Trail, Work, made, ◌>>=◌}
 use Rattle.sb_fold.proofs.LeadsLemmas.{leads_refused}
 use Rattle.sb_cascade.specs.Runs.{EndsBy, StopsFrom, is_free, is_room}
 use Rattle.sb_engine.specs.Refusals.{HasRefusalCause}
@@ -20,7 +20,7 @@ use Rattle.sb_plain.specs.Licences.{may_want_memory, may_want_room}
 use Rattle.sb_plain.specs.State.{downed}
 use Rattle.sb_plain.specs.Step.{Steps}
 use Rattle.sb_plain.specs.Reading.{read}
-use Rattle.sb_plain.specs.State.{Point as PlainPoint, State, Transaction, committed, no_queue, view}
+use Rattle.sb_plain.specs.State.{Point as PlainPoint, State, Transaction, committed, no_queue, none_gone, view}
 use Rattle.sb_plain.specs.Step.{Answer, work_of}
 use Rattle.sb_registry.specs.Boxes.{Meanings}
 use Rattle.sb_drive.specs.Spaces.{Wanted}
@@ -32,12 +32,11 @@ use Rattle.sb_session.specs.declared.session.Open.{Open}
 use Rattle.sb_session.specs.declared.session.Savepoint.{Savepoint}
 use Rattle.sb_session.specs.Ends.{Ends, IsFree, IsStep, ends_with}
 use Rattle.sb_session.specs.Sessions.{AreSavepoints, IsInside, WantsPages}
-use Rattle.sb_statements.specs.Statements.{is_licensed}
 use Rattle.sb_session.proofs.Carried.{Ends-given, end_of_given}
 use Rattle.sb_session.proofs.CommitSteps.{going_on}
 use Rattle.sb_reads.specs.Reads.{is_reading}
 use Rattle.sb_execution.specs.Endings.{IsOf, going_alone}
-use Rattle.sb_execution.specs.Serving.{IsSeenIn, IsUnservedOn, Looked, StopsOn, Tested, Worked, is_managing, can_commit, may_have_changed, may_have_committed}
+use Rattle.sb_execution.specs.Serving.{IsSeenIn, IsUnservedOn, Looked, Tested, Worked, is_managing, can_commit, may_have_changed, may_have_committed}
 use Rattle.sb_execution.proofs.PagesLemmas.{pages_inside, pages_roomless, pages_worked}
 use Rattle.sb_execution.proofs.ReplyLemmas.{is_free_reply, refused_given}
 use Rattle.sb_execution.proofs.StepsOf.{Steps-refused_alone, Steps-refused_inside, Steps-stopped_alone, Steps-stopped_inside, with_open, with_spent_in}
@@ -135,11 +134,7 @@ module _ {D : Type 0} (faults : D → ℕ) (m : Meanings) (s : State) (c : Comma
   ext = extensions_of m
 
   abbrev Stopped : Refusal → Trail → Mounted D → Type 0
-  Stopped = StopsOn faults m (is_licensed c)
-
-  caused : (licensed : Bool) (trail : Trail) → StopsOn faults m licensed r trail new → HasRefusalCause (FailsOn faults) r new
-  caused true trail stopped = stopped.cause
-  caused false trail cause = cause
+  Stopped = IsStoppedOn faults m
 
   -- for want of room or memory, or by a fault: what has the cause
   pub unserved_cause : (g : Going) → IsUnservedOn faults m s c g r new → is_free r ≡ true → HasRefusalCause (FailsOn faults) r new
@@ -148,7 +143,7 @@ module _ {D : Type 0} (faults : D → ℕ) (m : Meanings) (s : State) (c : Comma
       let there = work_there ext (view s) c works none in
       let stop : StopsFrom Stopped there.0 g r new = at_some (work_of ext c) there.0 (λ work. StopsFrom Stopped work g r new) there.1 stops in
       let broken : EndsBy Stopped true there.0 g r new = subst (λ (b : Bool). EndsBy Stopped b there.0 g r new) free stop in
-      caused (is_licensed c) broken.trail broken.stopped
+      broken.stopped.cause
   unserved_cause g (Looked free none cause) also = cause
 
   -- for want of room only where it may be wanting
@@ -178,17 +173,14 @@ module _ {D : Type 0} (faults : D → ℕ) (m : Meanings) (s : State) (c : Comma
         Steps-stopped_alone ext s c up outside there.0 there.1 run.picks run.after r passed (leads_refused (λ (answer : Answer). finish ext >>= λ _. made answer) run.leads)
     unserved_alone outside (Looked free none cause) = absurd (false≢true (sym given ∙ free))
 
-  -- for want of a page to a command that is licensed only where its step comes so far that pages may be wanting
+  -- for want of a page only where its step comes so far that pages may be wanting
   module _ (up : s.down ≡ false) (pages : ℕ) (size : is_room r ≡ true → new.store.pool.geometry.pages ≡ pages) where
-    on_licence : (work : Work Answer) (g : Going) → StopsFrom Stopped work g r new → is_licensed c ≡ true → StopsFrom (IsStoppedOn faults m) work g r new
-    on_licence work g stops on = subst (λ (b : Bool). StopsFrom (StopsOn faults m b) work g r new) on stops
-
     pub unserved_pages_inside : (t : Transaction) → s.transaction ≡ Some t → IsUnservedOn faults m s c (going_on t) r new → WantsPages m pages s c (reply.Refused r)
     unserved_pages_inside t inside (Tested is) = pages_roomless m pages s c r (roomless r (refused_given ext s c r is))
     unserved_pages_inside t inside (Worked passed none stops) =
         let there = work_there ext (view s) c works none in
         let stop : StopsFrom Stopped there.0 (going_on t) r new = at_some (work_of ext c) there.0 (λ work. StopsFrom Stopped work (going_on t) r new) there.1 stops in
-        pages_inside faults m pages s c works up there.0 there.1 passed new r size t inside (on_licence there.0 (going_on t) stop)
+        pages_inside faults m pages s c up there.0 there.1 passed new r size t inside stop
     unserved_pages_inside t inside (Looked free none cause) = pages_roomless m pages s c r none
 
     pub unserved_pages_alone : s.transaction ≡ None → IsUnservedOn faults m s c (going_alone s) r new → WantsPages m pages s c (reply.Refused r)
@@ -196,7 +188,7 @@ module _ {D : Type 0} (faults : D → ℕ) (m : Meanings) (s : State) (c : Comma
     unserved_pages_alone outside (Worked passed none stops) =
         let there = work_there ext (view s) c works none in
         let stop : StopsFrom Stopped there.0 (going_alone s) r new = at_some (work_of ext c) there.0 (λ work. StopsFrom Stopped work (going_alone s) r new) there.1 stops in
-        pages_worked faults m pages s c works up there.0 there.1 passed new r size outside (on_licence there.0 (going_alone s) stop)
+        pages_worked faults m pages s c up there.0 there.1 passed new r size outside stop
     unserved_pages_alone outside (Looked free none cause) = pages_roomless m pages s c r none
 
 -- ---- what is seen of a transaction
@@ -216,6 +208,7 @@ module _ (m : Meanings) (place : Place) (want : Wanted) where
       up = of.up;
       db = ap (λ (t : Option Transaction). elim t as (λ c. Db) [ None ↦ committed s | Some t ↦ t.db ]) is;
       queue = ap (λ (t : Option Transaction). elim t as (λ c. Queue) [ None ↦ no_queue | Some t ↦ t.queue ]) is;
+      gone = ap (λ (t : Option Transaction). elim t as (λ c. Gone) [ None ↦ none_gone | Some t ↦ t.gone ]) is;
       live = of.live;
       spare = of.spare;
       inside = sym (ap (λ (t : Option Transaction). is_some t) is);
@@ -229,6 +222,7 @@ module _ (m : Meanings) (place : Place) (want : Wanted) where
       up = of.up;
       db = ap (λ (t : Option Transaction). elim t as (λ c. Db) [ None ↦ committed s | Some t ↦ t.db ]) is;
       queue = ap (λ (t : Option Transaction). elim t as (λ c. Queue) [ None ↦ no_queue | Some t ↦ t.queue ]) is;
+      gone = ap (λ (t : Option Transaction). elim t as (λ c. Gone) [ None ↦ none_gone | Some t ↦ t.gone ]) is;
       live = of.live;
       spare = of.spare;
       inside = sym (ap (λ (t : Option Transaction). is_some t) is);

@@ -1,5 +1,5 @@
 -- A command that is tested or served over a store, which is lent.
-use Rattle.std.proofs.Common.{◌≡◌, ℕ, Bool, true, false, List, Option, Result, Ok, Err, IfErr, IfOk, sym, subst}
+use Rattle.std.proofs.Common.{◌≡◌, ℕ, Bool, false, List, Option, Result, Ok, Err, IfErr, IfOk, sym, subst}
 use Rattle.sb_disk.specs.Disk.{Story}
 use Rattle.sb_relation.specs.Db.{Db}
 use Rattle.sb_fold.specs.Outcome.{Going, Trail}
@@ -20,10 +20,10 @@ use Rattle.sb_space.specs.Works.{Works}
 use Rattle.sb_space.specs.Works as space
 use Rattle.sb_engine.specs.declared.running.Work.{Work}
 use Rattle.sb_engine.specs.Refusals.{HasRefusalCause}
-use Rattle.sb_engine.specs.Working.{extensions_of}
+use Rattle.sb_engine.specs.Working.{IsStoppedIn, extensions_of}
 use Rattle.sb_engine.specs.Working as engine
 use Rattle.sb_session.specs.Point.{Point}
-use Rattle.sb_session.specs.Commits.{FailsOn, IsLed, Mounted}
+use Rattle.sb_session.specs.Commits.{FailsOn, IsLed, IsStoppedOn, Mounted}
 use Rattle.sb_session.specs.Driven.{HasLent, IsServed as IsReadyLent, LeadsLent, WorksOn}
 use Rattle.sb_execution.proofs.CallLemmas.{KeepsWanted-works}
 use Rattle.sb_session.specs.Transactions.{IsAt, IsPointOf, IsUsable, WasBegun, WasSo}
@@ -32,8 +32,7 @@ use Rattle.sb_session.proofs.FinishLemmas.{HasCause-map}
 use Rattle.sb_session.proofs.LentLemmas.{FailsLent, IsStoreLent}
 use Rattle.sb_session.proofs.LicenceLemmas.{licensed-lent, table_of}
 use Rattle.sb_session.specs.declared.session.Savepoint.{Savepoint}
-use Rattle.sb_execution.specs.Serving.{IsPosedIn, IsSeenIn, IsServed, IsUnservedIn, IsUnservedOn, StopsIn, StopsOn}
-use Rattle.sb_statements.specs.Statements.{is_licensed}
+use Rattle.sb_execution.specs.Serving.{IsPosedIn, IsSeenIn, IsServed, IsUnservedIn, IsUnservedOn}
 use Rattle.sb_execution.specs.declared.serving.Served.{Served}
 use Rattle.sb_execution.proofs.WorkLemmas.{IsServed-map, IsUnserved-map}
 
@@ -98,10 +97,9 @@ module _ {D : Type 0} (told : D → Option Story) (len faults : D → ℕ) (m : 
         subst (λ (d : D). HasRefusalCause (FailsOn faults) r (record { disk = d; store = b.store.now })) (sym same)
         (HasCause-map (FailsLent faults) (FailsOn faults) mount (λ fault x y fails. fails) r b cause)
 
-    stops_lent : (licensed : Bool) (r : Refusal) (trail : Trail) → StopsIn (HasLent told len) (LeadsLent told len faults) (FailsLent faults) table_of m licensed r trail b
-        → StopsOn faults m licensed r trail (record { disk = e; store = b.store.now })
-    stops_lent true r trail stopped = record { cause = caused r stopped.cause; licensed = licensed-lent told len faults m b trail r serves.ready.few stopped.cause stopped.licensed }
-    stops_lent false r trail cause = caused r cause
+    stops_lent : (r : Refusal) (trail : Trail) → IsStoppedIn (HasLent told len) (LeadsLent told len faults) (FailsLent faults) table_of m r trail b
+        → IsStoppedOn faults m r trail (record { disk = e; store = b.store.now })
+    stops_lent r trail stopped = record { cause = caused r stopped.cause; licensed = licensed-lent told len faults m b trail r serves.ready.few stopped.cause stopped.licensed }
 
     pub unserved-lent : (r : Result Served Refusal)
         → IfErr r (λ r'. (s : State) (g : Going) → StandsLent g a v → IsSeenIn m inside points s g → IsPosedIn m s c → IsUnservedIn (HasLent told len) (LeadsLent told len faults) (FailsLent faults) table_of m s c g r' b)
@@ -109,8 +107,8 @@ module _ {D : Type 0} (told : D → Option Story) (len faults : D → ℕ) (m : 
         → IsUnservedOn faults m s c g r' (record { disk = e; store = b.store.now }))
     unserved-lent (Ok x) unserved = tt
     unserved-lent (Err r) unserved = λ want s g at seen posed.
-        IsUnserved-map (FailsLent faults) (FailsOn faults) (StopsIn (HasLent told len) (LeadsLent told len faults) (FailsLent faults) table_of m (is_licensed c))
-        (StopsOn faults m (is_licensed c)) m s c g r b (record { disk = e; store = b.store.now }) (caused r) (stops_lent (is_licensed c) r)
+        IsUnserved-map (FailsLent faults) (FailsOn faults) (IsStoppedIn (HasLent told len) (LeadsLent told len faults) (FailsLent faults) table_of m)
+        (IsStoppedOn faults m) m s c g r b (record { disk = e; store = b.store.now }) (caused r) (stops_lent r)
         (unserved s g (stands_lent want g at) seen posed)
 
     -- ---- tests

@@ -13,7 +13,6 @@ use Rattle.sb_cascade.specs.Runs.{MadeFrom, StopsFrom, is_room}
 use Rattle.sb_cascade.proofs.Forward.{forward_finish, forward_made, forward_next}
 use Rattle.sb_cascade.proofs.Stopping.{stops_next, stops_then}
 use Rattle.sb_plain.specs.declared.command.Command.{Command}
-use Rattle.sb_plain.specs.declared.command.Command.TheVariants as command
 use Rattle.sb_plain.specs.declared.reply.Reply.{Reply}
 use Rattle.sb_plain.specs.declared.reply.Reply.TheVariants.{Refused}
 use Rattle.sb_plain.specs.Refusing.{refused}
@@ -22,13 +21,12 @@ use Rattle.sb_plain.specs.Step.{Answer, Turn, commit_of, finished, step, work_of
 use Rattle.sb_registry.specs.Boxes.{Meanings}
 use Rattle.sb_engine.specs.Working.{IsShortOf, extensions_of}
 use Rattle.sb_space.specs.Table.{table_len}
-use Rattle.sb_statements.specs.Statements.{is_licensed}
+use Rattle.sb_engine.proofs.LackingLemmas.{any_along}
 use Rattle.sb_session.specs.Commits.{IsStoppedOn, Mounted}
 use Rattle.sb_session.specs.Sessions.{WantsPages, needs_licence}
 use Rattle.sb_session.proofs.CommitSteps.{going_on}
-use Rattle.sb_session.proofs.PagesLemmas.{any_along, turn_points}
+use Rattle.sb_session.proofs.PagesLemmas.{turn_points}
 use Rattle.sb_execution.specs.Endings.{going_alone}
-use Rattle.sb_execution.specs.Serving.{is_managing}
 use Rattle.sb_execution.proofs.ReplyLemmas.{is_free_reply}
 use Rattle.sb_execution.proofs.StepsOf.{alone, by_fields, by_none, whole, whole_alone, within}
 
@@ -46,24 +44,18 @@ pages_roomless m pages s c (refusal.Room (Data used total)) none = absurd (false
 pages_roomless m pages s c r none = tt
 
 -- ---- want of a page
--- a command that needs a licence, other than a commit, has it of its work
-work_licensed : (c : Command) → is_managing c ≡ false → needs_licence c ≡ true → is_licensed c ≡ true
-work_licensed command.Commit works on = absurd (false≢true (sym works))
-work_licensed c works on = on
-
 -- where its step reaches all points of the work, and the work had come so far when it was stopped
-wants_pages : {D A : Type 0} (faults : D → ℕ) (m : Meanings) (pages : ℕ) (s : State) (c : Command) → is_managing c ≡ false → (w : Work A) (g : Going) (there : Mounted D) (r : Refusal)
+wants_pages : {D A : Type 0} (faults : D → ℕ) (m : Meanings) (pages : ℕ) (s : State) (c : Command) → (w : Work A) (g : Going) (there : Mounted D) (r : Refusal)
     → ((P : Reached → Type 0) (picks : List Key) → Any P (trail_of (w (with_picks g picks))).points → Any P (step (extensions_of m) s c picks).points)
-    → (is_licensed c ≡ true → StopsFrom (IsStoppedOn faults m) w g r there) → (is_room r ≡ true → there.store.pool.geometry.pages ≡ pages) → WantsPages m pages s c (Refused r)
-wants_pages faults m pages s c works w g there (refusal.Room (Data used total)) reaches stops size = λ on.
-    let stop = stops (work_licensed c works on) in
+    → StopsFrom (IsStoppedOn faults m) w g r there → (is_room r ≡ true → there.store.pool.geometry.pages ≡ pages) → WantsPages m pages s c (Refused r)
+wants_pages faults m pages s c w g there (refusal.Room (Data used total)) reaches stop size = λ _.
     let picks = stop.picks ++ [] in
     let short = IsShortOf total (table_len pages) (extensions_of m) in
     let any : Any short stop.trail.points = subst (λ n. Any (IsShortOf total (table_len n) (extensions_of m)) stop.trail.points) (size refl) stop.stopped.licensed in
     (picks, reaches short picks (any_along short stop.trail _ (stop.comes []) any))
-wants_pages faults m pages s c works w g there r reaches stops size = tt
+wants_pages faults m pages s c w g there r reaches stop size = tt
 
-module _ {D : Type 0} (faults : D → ℕ) (m : Meanings) (pages : ℕ) (s : State) (c : Command) (works : is_managing c ≡ false) (up : s.down ≡ false)
+module _ {D : Type 0} (faults : D → ℕ) (m : Meanings) (pages : ℕ) (s : State) (c : Command) (up : s.down ≡ false)
     (work : Work Answer) (is : work_of (extensions_of m) c ≡ Some work) (passed : refused (extensions_of m) s c ≡ None) (there : Mounted D) (r : Refusal)
     (size : is_room r ≡ true → there.store.pool.geometry.pages ≡ pages) where
   -- ---- in an open transaction
@@ -78,8 +70,8 @@ module _ {D : Type 0} (faults : D → ℕ) (m : Meanings) (pages : ℕ) (s : Sta
         ∙ turn_points (kept (paid here) t.points) (paid here) (work (with_picks (going_on t) picks)))) any)
         passed
 
-    pub pages_inside : (is_licensed c ≡ true → StopsFrom (IsStoppedOn faults m) work (going_on t) r there) → WantsPages m pages s c (Refused r)
-    pages_inside stops = wants_pages faults m pages s c works work (going_on t) there r reaches_inside stops size
+    pub pages_inside : StopsFrom (IsStoppedOn faults m) work (going_on t) r there → WantsPages m pages s c (Refused r)
+    pages_inside stops = wants_pages faults m pages s c work (going_on t) there r reaches_inside stops size
 
   -- ---- in a transaction of its own
   module _ (outside : s.transaction ≡ None) where
@@ -98,20 +90,18 @@ module _ {D : Type 0} (faults : D → ℕ) (m : Meanings) (pages : ℕ) (s : Sta
     rest answer = finish (extensions_of m) >>= λ _. made answer
 
     -- its work was stopped
-    pub pages_worked : (is_licensed c ≡ true → StopsFrom (IsStoppedOn faults m) work (going_alone s) r there) → WantsPages m pages s c (Refused r)
+    pub pages_worked : StopsFrom (IsStoppedOn faults m) work (going_alone s) r there → WantsPages m pages s c (Refused r)
     pages_worked stops =
-        wants_pages faults m pages s c works (finished (extensions_of m) work) (going_alone s) there r reaches_alone
-        (λ on.
-        stops_next (IsStoppedOn faults m) work r there (going_alone s) rest
-        (λ answer. forward_next (finish (extensions_of m)) (λ _. made answer) (forward_finish (extensions_of m)) (λ _. forward_made answer)) (stops on)) size
+        wants_pages faults m pages s c (finished (extensions_of m) work) (going_alone s) there r reaches_alone
+        (stops_next (IsStoppedOn faults m) work r there (going_alone s) rest
+        (λ answer. forward_next (finish (extensions_of m)) (λ _. made answer) (forward_finish (extensions_of m)) (λ _. forward_made answer)) stops) size
 
     -- it went through, and what waits was stopped
     pub pages_finished : {N : Type 0} (IsSo : Going → N → Type 0) (answer : Answer) (mid : N) (run : MadeFrom IsSo work (going_alone s) answer mid)
         → StopsFrom (IsStoppedOn faults m) (finish (extensions_of m)) run.after r there → WantsPages m pages s c (Refused r)
     pages_finished IsSo answer mid run stops =
-        wants_pages faults m pages s c works (finished (extensions_of m) work) (going_alone s) there r reaches_alone
-        (λ on.
-        stops_then (IsStoppedOn faults m) (finish (extensions_of m) >>= λ _. made answer) r there
+        wants_pages faults m pages s c (finished (extensions_of m) work) (going_alone s) there r reaches_alone
+        (stops_then (IsStoppedOn faults m) (finish (extensions_of m) >>= λ _. made answer) r there
         {M = Unit {0}} {Stands = λ h u. run.after ≡ h} {mid = tt} (finished (extensions_of m) work)
         (record { picks = run.picks ++ []; after = run.after; leads = leads_on rest run.leads (leads_here (rest answer) run.after); stands = refl })
         (λ h same. subst (λ (h : Going). StopsFrom (IsStoppedOn faults m) (rest answer) h r there) same

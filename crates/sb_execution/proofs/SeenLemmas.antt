@@ -1,5 +1,5 @@
 -- What is seen is what the definitions say.
-use Rattle.std.proofs.Common.{◌≡◌, ℕ, ◌||◌, Bool, true, false, true≢false, cond, List, [], ◌∷◌, map, All, Option, Some, None, is_some, option_map, bytes_eq, length, drop, refl, sym, ap, ◌∙◌, subst}
+use Rattle.std.proofs.Common.{◌≡◌, ℕ, ◌||◌, Bool, true, false, true≢false, cond, List, [], ◌∷◌, map, All, Option, Some, None, is_some, option_map, bytes_eq, ◌≤◌, sum, length, drop, refl, sym, ap, ◌∙◌, subst}
 use Rattle.std.specs.List.{list_any, slice_get}
 use Rattle.std.proofs.lemmas.List.{length-map}
 use Rattle.std.proofs.lemmas.List.Elements.{All-head, All-tail}
@@ -20,7 +20,7 @@ use Rattle.sb_engine.specs.Opened.{IsDurable, kept_header}
 use Rattle.sb_vectors.specs.Vectors.{codes_in, has_box, live_codes, spare_codes}
 use Rattle.sb_vectors.proofs.BoxLemmas.{has_box-codes}
 use Rattle.sb_fold.specs.Extensions.{box_of}
-use Rattle.sb_fold.specs.Outcome.{Going, Queue}
+use Rattle.sb_fold.specs.Outcome.{Going, Gone, Queue}
 use Rattle.sb_deferred.specs.Complete.{AreMirrored, IsComplete}
 use Rattle.sb_cascade.specs.Fitting.{AllFit, AllMayStand}
 use Rattle.sb_cascade.specs.Runs.{is_room}
@@ -29,7 +29,8 @@ use Rattle.sb_session.specs.declared.session.Savepoint.{Savepoint}
 use Rattle.sb_engine.specs.declared.running.Work.{Work}
 use Rattle.sb_engine.specs.Refusals.{refusal_of}
 use Rattle.sb_engine.specs.OpenRelation.{OpenRelation}
-use Rattle.sb_engine.specs.Working.{AreOpened, ArePaired, IsNoneGone, IsOpened, Stands, extensions_of, left_of, open_at}
+use Rattle.sb_engine.specs.Owned.{pages_of}
+use Rattle.sb_engine.specs.Working.{AreNamedApart, AreOpened, ArePaired, IsNoneGone, IsOpened, Stands, extensions_of, left_of, open_at}
 use Rattle.sb_engine.proofs.OpenedLemmas.{open_at-all, open_at-name}
 use Rattle.sb_engine.proofs.LateLemmas.{drop_first, drop_none}
 use Rattle.sb_execution.specs.Serving.{IsSeenIn, waiting_in}
@@ -155,13 +156,15 @@ module _ {S : Type 0} (Has : Wanted → Slots → S → Type 0) (m : Meanings) (
     waits = stands.waits;
     picked = stands.picked;
     gone = stands.gone;
+    aside = stands.aside;
+    apart = stands.apart;
     rules = stands.rules;
     fit = stands.fit;
   }
 
-  -- it tells what is gone only where nothing is, and not what was spent
-  stands-going : (g h : Going) (a : S) (w : Work) → g.db ≡ h.db → g.queue ≡ h.queue → g.used ≡ h.used
-      → (IsNoneGone h.gone → w.gone.items ≡ []) → Stands Has m root g a w → Stands Has m root h a w
+  -- it doesn't tell what was spent
+  stands-going : (g h : Going) (a : S) (w : Work) → g.db ≡ h.db → g.queue ≡ h.queue → g.used ≡ h.used → g.gone ≡ h.gone
+      → Stands Has m root g a w → Stands Has m root h a w
   stands-going g h a w db queue used gone stands = record {
     want = stands.want;
     slots = stands.slots;
@@ -176,7 +179,9 @@ module _ {S : Type 0} (Has : Wanted → Slots → S → Type 0) (m : Meanings) (
     opened = stands.opened;
     waits = stands.waits ∙ queue;
     picked = stands.picked ∙ used;
-    gone = gone;
+    gone = λ none. stands.gone (subst (λ (x : Gone). IsNoneGone x) (sym gone) none);
+    aside = subst (λ (x : Gone). pages_of stands.slots w.gone.items ≤ sum x.durable) gone stands.aside;
+    apart = subst (λ (d : Db). AreNamedApart d) db stands.apart;
     rules = subst (λ (d : Db). AllMayStand (box_of (extensions_of m)) d) db stands.rules;
     fit = subst (λ (d : Db). AllFit d h.queue.actions) db (subst (λ (q : Queue). AllFit g.db q.actions) queue stands.fit);
   }
@@ -187,8 +192,7 @@ module _ {S : Type 0} (Has : Wanted → Slots → S → Type 0) (m : Meanings) (
   stands-seen inside other points others s g h a b v w same seen stands again then =
       subst (λ (x : Work). Stands Has m root g b x) same
       (stands-going h g b w (sym again.db ∙ seen.db) (sym again.queue ∙ seen.queue)
-      (sym then.picked ∙ ap (λ (x : Work). x.picks.items) same ∙ stands.picked)
-      (λ none. ap (λ (x : Work). x.gone.items) same ∙ stands.gone none) then)
+      (sym then.picked ∙ ap (λ (x : Work). x.picks.items) same ∙ stands.picked) (sym again.gone ∙ seen.gone) then)
 
 -- ---- refusals
 -- no definition gives it

@@ -1,5 +1,5 @@
 -- What goes on standing of a transaction while a command works in it.
-use Rattle.std.proofs.Common.{◌≡◌, ℕ, ◌≤◌, List, length, take, get_or, All, Some, sym, ap, ◌∙◌, subst, arith}
+use Rattle.std.proofs.Common.{◌≡◌, ℕ, ◌≤◌, List, sum, length, take, get_or, All, Some, sym, ap, ◌∙◌, subst, arith}
 use Rattle.sb_relation.specs.Db.{Db}
 use Rattle.sb_fold.specs.Outcome.{Going, Queue}
 use Rattle.sb_deferred.specs.Waiting.{IsWithin}
@@ -11,6 +11,7 @@ use Rattle.sb_engine.specs.OpenRelation.{OpenRelation}
 use Rattle.sb_engine.specs.Opened.{IsDurable, IsOpen}
 use Rattle.sb_txn.specs.Parts.{Parts}
 use Rattle.sb_engine.specs.declared.running.Work.{Work}
+use Rattle.sb_engine.specs.Owned.{pages_of}
 use Rattle.sb_engine.specs.Working.{AreOpened}
 use Rattle.sb_session.specs.Point.{Point}
 use Rattle.sb_session.specs.Transactions.{IsAt, IsPointOf, IsUsable, WasBegun, WasSo, unused, waited_at}
@@ -44,6 +45,7 @@ module _ (m : Meanings) (place : Place) where
     settled = so.settled;
     waited = ap (waited_at point) queue ∙ so.waited;
     gone = λ none. ap (take point.gone) gone ∙ so.gone none;
+    aside = subst (λ (xs : List ℕ). pages_of so.slots (take point.gone xs) ≤ sum g.gone.durable) (sym gone) so.aside;
   }
 
   -- its picks were taken
@@ -68,6 +70,7 @@ module _ (m : Meanings) (place : Place) where
     waits = left_same v w taken.done taken.queue ∙ at.waits;
     picked = taken.picks;
     gone = λ none. taken.gone ∙ at.gone none;
+    aside = subst (λ (xs : List ℕ). pages_of at.slots xs ≤ sum g.gone.durable) (sym taken.gone) at.aside;
   }
 
   -- ---- what goes on standing

@@ -1,5 +1,5 @@
 -- A command's work on an engine that is lent a space and what is kept beside it.
-use Rattle.std.proofs.Common.{◌≡◌, ℕ, ◌+◌, Bool, true, false, [], append-nil, Option, Some, None, Result, Ok, Err, IfErr, IfOk, sym, subst}
+use Rattle.std.proofs.Common.{◌≡◌, ℕ, ◌+◌, [], append-nil, Option, Some, None, Result, Ok, Err, IfErr, IfOk, sym, subst}
 use Rattle.std.specs.Prelude.{IfSome}
 use Rattle.sb_fold.specs.declared.refusal.Refusal.{Refusal}
 use Rattle.sb_fold.specs.Outcome.{Going, Trail}
@@ -16,15 +16,15 @@ use Rattle.sb_engine.specs.declared.running.Running.{Running}
 use Rattle.sb_engine.specs.declared.running.Work.{Work}
 use Rattle.sb_engine.specs.Goings.{front_none}
 use Rattle.sb_engine.specs.Refusals.{HasFaultCause, HasRefusalCause}
-use Rattle.sb_engine.specs.Working.{IsStoppedIn, Stands, StandsFor, extensions_of}
+use Rattle.sb_engine.specs.Working.{IsStoppedFor, IsStoppedIn, Stands, StandsFor, extensions_of}
 use Rattle.sb_session.specs.Driven.{WorksOn}
 use Rattle.sb_session.proofs.FinishLemmas.{StopsFrom-map}
 use Rattle.sb_session.proofs.RunLemmas.{IsLent, parts-from, parts-to}
 use Rattle.sb_statements.specs.declared.answers.Answer.{Answer as Answered}
-use Rattle.sb_statements.specs.Statements.{IsDone, IsStopped, MayWork, StopsBy, answer_of, is_licensed}
+use Rattle.sb_statements.specs.Statements.{IsDone, IsStopped, MayWork, answer_of}
 use Rattle.sb_execution.specs.declared.serving.Served.{Served}
 use Rattle.sb_execution.specs.declared.serving.Served.TheVariants as served
-use Rattle.sb_execution.specs.Serving.{IsRefusedIn, IsServed, IsUnserved, Looked, Makes, StopsIn, Tested, Worked}
+use Rattle.sb_execution.specs.Serving.{IsRefusedIn, IsServed, IsUnserved, Looked, Makes, Tested, Worked}
 
 if_some : {A : Type 0} (o : Option A) (P Q : A → Type 0) → ((x : A) → P x → Q x) → IfSome o P → IfSome o Q
 if_some None P Q gives so = tt
@@ -61,22 +61,21 @@ module _ {B S : Type 0} (Has : Wanted → Slots → S → Type 0) (Leads : ℕ �
       (subst (λ (d : B). Makes (λ h e. StandsFor Has meanings h e) (meanings d) c g answer b) lent.boxes_are (done g (stands_in g stands) (may_in g may)))
 
   abbrev By : Refusal → Trail → Running B S → Type 0
-  By = StopsBy Has Leads Fails table meanings (is_licensed c)
+  By = IsStoppedFor Has Leads Fails table meanings
 
   abbrev In : Refusal → Trail → S → Type 0
-  In = StopsIn Has Leads Fails table (meanings boxes) (is_licensed c)
+  In = IsStoppedIn Has Leads Fails table (meanings boxes)
 
-  stops-in : (licensed : Bool) (r : Refusal) (trail : Trail) → StopsBy Has Leads Fails table meanings licensed r trail b → StopsIn Has Leads Fails table (meanings boxes) licensed r trail y
-  stops-in true r trail is =
+  stops_in : (r : Refusal) (trail : Trail) → By r trail b → In r trail y
+  stops_in r trail is =
       subst (λ (d : B). IsStoppedIn Has Leads Fails table (meanings d) r trail y) end.boxes_are
       (subst (λ (z : S). IsStoppedIn Has Leads Fails table (meanings b.boxes.now) r trail z) end.space_is is)
-  stops-in false r trail is = subst (λ (z : S). HasRefusalCause Fails r z) end.space_is is
 
   work-stopped : (r : Refusal) → IsStopped Has Leads Fails table meanings c a r b → (g : Going) → Stands Has (meanings boxes) place.root g x w → MayWork (meanings boxes) g c
       → IsRefusedIn In (meanings boxes) c g r y
   work-stopped r stopped g stands may =
       if_some (work_of (extensions_of (meanings boxes)) c) (λ work. StopsFrom By work g r b) (λ work. StopsFrom In work g r y)
-      (λ work stops. StopsFrom-map By In work g r b y (λ trail is. stops-in (is_licensed c) r trail is) stops)
+      (λ work stops. StopsFrom-map By In work g r b y (stops_in r) stops)
       (subst (λ (d : B). IfSome (work_of (extensions_of (meanings d)) c) (λ work. StopsFrom By work g r b)) lent.boxes_are (stopped g (stands_in g stands) (may_in g may)))
 
   pub works-made : (r : Result Answered Refusal) → IfOk r (λ answer. IsDone Has meanings c a (answer_of answer) b)

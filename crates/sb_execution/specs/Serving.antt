@@ -2,14 +2,14 @@
 use Rattle.std.specs.Prelude.{◌≡◌, ℕ, Bool, true, false, not, ◌||◌, ◌&&◌, List, map, Some, None, IfSome}
 use Rattle.sb_fold.specs.declared.refusal.Refusal.{Refusal}
 use Rattle.sb_fold.specs.declared.refusal.Refusal.TheVariants as refusal
-use Rattle.sb_fold.specs.Outcome.{Going, Queue, Trail}
+use Rattle.sb_fold.specs.Outcome.{Going, Gone, Queue, Trail}
 use Rattle.sb_plain.specs.declared.command.Command.{Command}
 use Rattle.sb_plain.specs.declared.command.Command.TheVariants as command
 use Rattle.sb_plain.specs.declared.reply.Reply.{Reply}
 use Rattle.sb_plain.specs.declared.reply.Reply.TheVariants.{Count, Done, Refused}
 use Rattle.sb_plain.specs.Reading.{read}
 use Rattle.sb_plain.specs.Refusing.{refused}
-use Rattle.sb_plain.specs.State.{State, is_inside, no_queue, points_of, view}
+use Rattle.sb_plain.specs.State.{State, is_inside, no_queue, none_gone, points_of, view}
 use Rattle.sb_plain.specs.Step.{Answer, work_of}
 use Rattle.sb_cascade.specs.Runs.{MadeFrom, StopsFrom, is_free, is_room}
 use Rattle.sb_registry.specs.Boxes.{Meanings}
@@ -23,7 +23,7 @@ use Rattle.sb_session.specs.Commits.{FailsOn, IsStoppedOn, Mounted}
 use Rattle.sb_session.specs.declared.session.Savepoint.{Savepoint}
 use Rattle.sb_reads.specs.Reads.{IsAnswer, is_reading}
 use Rattle.sb_statements.specs.Posed.{IsPosed, IsWhere}
-use Rattle.sb_statements.specs.Statements.{answer_of, is_licensed}
+use Rattle.sb_statements.specs.Statements.{answer_of}
 use Rattle.sb_execution.specs.declared.serving.Served.{Served}
 use Rattle.sb_execution.specs.declared.serving.Served.TheVariants as served
 
@@ -59,11 +59,16 @@ may_have_committed c inside reply = can_commit c inside && may_have_changed repl
 abbrev pub waiting_in : State → Queue
 waiting_in s = elim s.transaction [ None ↦ no_queue | Some t ↦ t.queue ]
 
+-- what was dropped and detached there
+abbrev pub gone_in : State → Gone
+gone_in s = elim s.transaction [ None ↦ none_gone | Some t ↦ t.gone ]
+
 -- The work is that of a state that isn't down, of whose transaction this is told.
 pub record IsSeenIn (m : Meanings) (within : Bool) (named : List Savepoint) (s : State) (g : Going) : Type 0 where
   pub up : s.down ≡ false
   pub db : view s ≡ g.db
   pub queue : waiting_in s ≡ g.queue
+  pub gone : gone_in s ≡ g.gone
   pub live : s.live ≡ live_codes m
   pub spare : s.spare ≡ spare_codes m
   pub inside : within ≡ is_inside s
@@ -86,18 +91,6 @@ Makes IsSo m c g answer new = IfSome (work_of (extensions_of m) c) (λ work. Mad
 -- or which is refused so, where this stops it
 abbrev pub IsRefusedIn : {S : Type 0} → (Refusal → Trail → S → Type 0) → Meanings → Command → Going → Refusal → S → Type 0
 IsRefusedIn Stopped m c g r new = IfSome (work_of (extensions_of m) c) (λ work. StopsFrom Stopped work g r new)
-
--- What stops the work of a command: the space has the cause; and where that is want of a page to a command that is licensed, the work had come so
--- far that pages may be wanting.
-abbrev pub StopsIn : {S : Type 0} → (Wanted → Slots → S → Type 0) → (ℕ → S → S → Type 0) → (SpaceFault → S → S → Type 0) → (S → ℕ) → Meanings → (licensed : Bool)
-    → Refusal → Trail → S → Type 0
-StopsIn Has Leads Fails table m true r trail x = IsStoppedIn Has Leads Fails table m r trail x
-StopsIn Has Leads Fails table m false r trail x = HasRefusalCause Fails r x
-
--- so it is of a store and its disk
-abbrev pub StopsOn : {D : Type 0} → (D → ℕ) → Meanings → (licensed : Bool) → Refusal → Trail → Mounted D → Type 0
-StopsOn faults m true r trail x = IsStoppedOn faults m r trail x
-StopsOn faults m false r trail x = HasRefusalCause (FailsOn faults) r x
 
 -- what came of a command was read
 abbrev pub is_read : Served → Bool
@@ -127,7 +120,7 @@ pub data IsUnserved {S : Type 0} (Fails : SpaceFault → S → S → Type 0) (St
 -- of a command over a space of pages, and of one over a store
 abbrev pub IsUnservedIn : {S : Type 0} → (Wanted → Slots → S → Type 0) → (ℕ → S → S → Type 0) → (SpaceFault → S → S → Type 0) → (S → ℕ) → Meanings → State
     → Command → Going → Refusal → S → Type 0
-IsUnservedIn Has Leads Fails table m s c g r new = IsUnserved Fails (StopsIn Has Leads Fails table m (is_licensed c)) m s c g r new
+IsUnservedIn Has Leads Fails table m s c g r new = IsUnserved Fails (IsStoppedIn Has Leads Fails table m) m s c g r new
 
 abbrev pub IsUnservedOn : {D : Type 0} → (D → ℕ) → Meanings → State → Command → Going → Refusal → Mounted D → Type 0
-IsUnservedOn faults m s c g r new = IsUnserved (FailsOn faults) (StopsOn faults m (is_licensed c)) m s c g r new
+IsUnservedOn faults m s c g r new = IsUnserved (FailsOn faults) (IsStoppedOn faults m) m s c g r new

@@ -8,13 +8,13 @@ ghost use Rattle.sb_fold.specs.Outcome.{Going};
 ghost use Rattle.sb_drive.specs.Spaces.{Wanted};
 ghost use Rattle.sb_cascade.specs.Runs.{OnFault, is_free, is_room};
 ghost use Rattle.sb_engine.specs.Refusals.{HasFaultCause, HasRefusalCause};
-ghost use Rattle.sb_engine.specs.Working.{extensions_of};
+ghost use Rattle.sb_engine.specs.Working.{IsStoppedIn, extensions_of};
 ghost use Rattle.sb_engine.specs.Working as engine;
 ghost use Rattle.sb_plain.specs.Refusing.{refused};
 ghost use Rattle.sb_plain.specs.State.{State};
 ghost use Rattle.sb_reads.specs.Reads.{is_reading};
-ghost use Rattle.sb_execution.specs.Serving.{IsAnswered, IsPosedIn, IsRefusedIn, IsSeenIn, IsServed, IsUnservedIn, IsUnservedOn, Makes, MayServe, StopsIn, is_read};
-ghost use Rattle.sb_statements.specs.Statements.{MayWork, answer_of, is_licensed};
+ghost use Rattle.sb_execution.specs.Serving.{IsAnswered, IsPosedIn, IsRefusedIn, IsSeenIn, IsServed, IsUnservedIn, IsUnservedOn, Makes, MayServe, is_read};
+ghost use Rattle.sb_statements.specs.Statements.{MayWork, answer_of};
 ghost use Rattle.sb_session.specs.Driven.{WorksOn};
 ghost use Rattle.sb_session.specs.Calls.{KeepsWanted};
 ghost use Rattle.sb_txn.specs.Parts.{parts};
@@ -59,7 +59,7 @@ fn work_over<B: Boxes, S: Owners>(
         → MayWork (B.meanings boxes.now) g command.now
         → Makes (λ h y. engine.Stands S.has (B.meanings boxes.now) place.root h y work.new) (B.meanings boxes.now) command.now g (answer_of x) space.new) }
     ensures refused { IfErr result (λ r. (g : Going) → engine.Stands S.has (B.meanings boxes.now) place.root g space.old work.old
-        → MayWork (B.meanings boxes.now) g command.now → IsRefusedIn (StopsIn S.has S.leads S.fails S.table (B.meanings boxes.now) (is_licensed command.now)) (B.meanings boxes.now)
+        → MayWork (B.meanings boxes.now) g command.now → IsRefusedIn (IsStoppedIn S.has S.leads S.fails S.table (B.meanings boxes.now)) (B.meanings boxes.now)
         command.now g r space.new) }
     ensures fault { IfErr result (λ r. HasFaultCause S.fails r space.new) }
     ensures works { WorksOn S.leads space.old space.new work.old work.new }

@@ -1,10 +1,13 @@
 -- Plays: what a plain database replies to items, one after the other, and the states that they lead to.
-use Rattle.std.specs.Prelude.{◌≡◌, ℕ, List, [], ◌∷◌}
+use Rattle.std.specs.Prelude.{◌≡◌, List, [], ◌∷◌}
 use Rattle.sb_fold.specs.declared.refusal.Refusal.TheVariants.{Syntax}
+use Rattle.sb_fold.specs.declared.refusal.Refusal.TheVariants as refusal
 use Rattle.sb_fold.specs.declared.refusal.Room.{Room}
+use Rattle.sb_fold.specs.declared.refusal.Room.TheVariants.{Data}
 use Rattle.sb_fold.specs.Extensions.{Extensions}
 use Rattle.sb_plain.specs.declared.reply.Reply.{Reply}
 use Rattle.sb_plain.specs.declared.reply.Reply.TheVariants.{Refused}
+use Rattle.sb_plain.specs.Licences.{LacksRoom, Sizes}
 use Rattle.sb_plain.specs.State.{State}
 use Rattle.sb_grammar.specs.Columns.{Item, Says, Bad}
 use Rattle.sb_registry.specs.Boxes.{Meanings}
@@ -12,7 +15,7 @@ use Rattle.sb_execution.specs.Working.{extensions_of}
 use Rattle.sb_vectors.specs.Vectors.{AreSameBoxes, live_codes, spare_codes}
 use Rattle.sb_log.specs.declared.geometry.Geometry.{Geometry}
 use Rattle.sb_opening.specs.Ends.{Ends}
-use Rattle.sb_opening.specs.Sessions.{Lacks, WantsPages}
+use Rattle.sb_opening.specs.Sessions.{Lacks}
 
 -- The reply to an item, and the state after it: a bad line is answered by the column of its fault, and the state stays. A command ends as a step, or
 -- for want of room or memory, or because the disk has failed.
@@ -26,17 +29,21 @@ pub record AreBoxesOf (m : Meanings) (s : State) (now : Meanings) : Type 0 where
   pub live : s.live ≡ live_codes now
   pub spare : s.spare ≡ spare_codes now
 
--- Want of a page of a store of so many pages is the reply to a command only where its step comes so far; a bad line wants none.
-abbrev pub MayWantPages : Meanings → ℕ → State → Item → Reply → Type 0
-MayWantPages m pages s (Bad column) reply = Unit {0}
-MayWantPages m pages s (Says c) reply = WantsPages m pages s c reply
+-- the sizes of a store, as licences have them
+abbrev pub sizes_in : Geometry → Sizes
+sizes_in g = record { pages = g.pages; log = g.log }
+
+-- want of a page is the reply to an item only where it is a command that has the licence
+abbrev pub MayWantPages : Meanings → Geometry → State → Item → Reply → Type 0
+MayWantPages m g s (Says c) (Refused (refusal.Room (Data used total))) = LacksRoom (extensions_of m) (sizes_in g) s c (Data used total)
+MayWantPages m g s item reply = Unit {0}
 
 -- so it is with the boxes in that order, in a store of these sizes
 pub record MovesBy (m : Meanings) (g : Geometry) (HasFailed : Type 0) (s : State) (item : Item) (reply : Reply) (t : State) : Type 0 where
   pub boxes : Meanings
   pub are : AreBoxesOf m s boxes
   pub moves : Moves (Lacks g) HasFailed (extensions_of boxes) s item reply t
-  pub pages : MayWantPages boxes g.pages s item reply
+  pub pages : MayWantPages boxes g s item reply
 
 -- the replies to items, and the state after each
 abbrev pub Plays : Meanings → Geometry → (HasFailed : Type 0) → State → List Item → List Reply → List State → Type 0

@@ -53,6 +53,7 @@ IsCommitted-still m n root pages want db of same still = record {
     lasting = of.settled.lasting;
     mirrored = of.settled.mirrored;
     paired = of.settled.paired;
+    apart = of.settled.apart;
     complete = of.settled.complete;
     rules = λ name i d h. let a = slice_index_or (attachments_at (db_of of.kept) name) i d in
         subst (λ (box : Option AttachRules). MayStand box (db_of of.kept) (schema_at (db_of of.kept) name) a.rule) (sym (same name i d h)) (of.settled.rules name i d h);

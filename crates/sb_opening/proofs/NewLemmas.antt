@@ -63,6 +63,7 @@ committed-new m g sizes =
         lasting = All-nil _;
         mirrored = λ name. All-nil _;
         paired = λ name. All-nil _;
+        apart = λ name label. omega arith;
         complete = λ name. All-nil _;
         rules = λ name. All-nil _;
         fit = All-nil _;

@@ -66,6 +66,7 @@ Rests-still m n root want db p same still rests =
           lasting = of.settled.lasting;
           mirrored = of.settled.mirrored;
           paired = of.settled.paired;
+          apart = of.settled.apart;
           complete = of.settled.complete;
           rules = λ name i d h. let a = slice_index_or (attachments_at (db_of of.kept) name) i d in
               subst (λ (box : Option AttachRules). MayStand box (db_of of.kept) (schema_at (db_of of.kept) name) a.rule) (sym (same (rule_code a.rule))) (of.settled.rules name i d h);

@@ -1,5 +1,5 @@
 -- Open transactions and what they stand for.
-use Rattle.std.proofs.Common.{◌≡◌, ℕ, List, Option, Some, None, refl, sym, ◌∙◌, subst}
+use Rattle.std.proofs.Common.{◌≡◌, ℕ, ◌≤◌, List, sum, Option, Some, None, refl, sym, ◌∙◌, subst}
 use Rattle.sb_relation.specs.Db.{Db}
 use Rattle.sb_fold.specs.Outcome.{Going, Gone, Queue}
 use Rattle.sb_plain.specs.State.{Transaction as PlainTransaction}
@@ -8,6 +8,7 @@ use Rattle.sb_drive.specs.Spaces.{Wanted}
 use Rattle.sb_transactions.specs.Place.{Place}
 use Rattle.sb_txn.specs.Parts.{Parts}
 use Rattle.sb_transactions.specs.Work.{Work}
+use Rattle.sb_transactions.specs.Owned.{pages_of}
 use Rattle.sb_transactions.specs.Working.{IsNoneGone}
 use Rattle.sb_transactions.specs.declared.transactions.Transaction.{Transaction}
 use Rattle.sb_transactions.specs.Transactions.{IsAt, IsSettled, Rests, WasBegun}
@@ -30,6 +31,7 @@ IsAt-same m place want tx g h p w db queue used same at = record {
   waits = at.waits ∙ sym queue;
   picked = at.picked ∙ sym used;
   gone = λ none. at.gone (subst (λ (x : Gone). IsNoneGone x) same none);
+  aside = subst (λ (x : Gone). pages_of at.slots w.gone.items ≤ sum x.durable) (sym same) at.aside;
 }
 
 module _ (m : Meanings) (place : Place) (want : Wanted) (db : Db) (p : Parts) where

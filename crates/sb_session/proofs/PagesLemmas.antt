@@ -1,5 +1,5 @@
 -- Want of a page to a command: the points that its step reaches.
-use Rattle.std.proofs.Common.{◌≡◌, ℕ, zero, suc, ◌+◌, false, List, [], ◌∷◌, ◌++◌, Some, refl, sym, ap, subst, ◌∙◌, arith}
+use Rattle.std.proofs.Common.{◌≡◌, ℕ, ◌+◌, false, List, [], ◌++◌, Some, refl, sym, ap, subst, ◌∙◌}
 use Rattle.std.specs.List.{Any}
 use Rattle.sb_relation.specs.Db.{Key}
 use Rattle.sb_fold.specs.declared.refusal.Refusal.{Refusal}
@@ -8,7 +8,7 @@ use Rattle.sb_fold.specs.declared.refusal.Room.TheVariants.{Data}
 use Rattle.sb_fold.specs.Extensions.{Extensions}
 use Rattle.sb_fold.specs.Finish.{finish}
 use Rattle.sb_fold.specs.Outcome.{Going, Gives, NoStep, Outcome, Reached, Stopped, Trail, continue, made, trail_of, with_picks}
-use Rattle.sb_cascade.specs.Runs.{GoesOn, StopsFrom}
+use Rattle.sb_cascade.specs.Runs.{StopsFrom}
 use Rattle.sb_registry.specs.Boxes.{Meanings}
 use Rattle.sb_plain.specs.declared.command.Command.TheVariants as command
 use Rattle.sb_plain.specs.declared.reply.Reply.TheVariants.{Refused}
@@ -17,20 +17,10 @@ use Rattle.sb_plain.specs.Step.{Answer, Plain, commit_of, step, turn_of}
 use Rattle.sb_transactions.specs.Commits.{IsStoppedOn, Mounted}
 use Rattle.sb_transactions.specs.Table.{table_len}
 use Rattle.sb_transactions.specs.Working.{IsShortOf, extensions_of}
+use Rattle.sb_transactions.proofs.LackingLemmas.{any_along}
 use Rattle.sb_session.specs.Sessions.{WantsPages}
 use Rattle.sb_session.proofs.CommitSteps.{going_on}
 use Rattle.sb_session.proofs.StepLemmas.{at_fields}
-
--- ---- points of a trail that goes on
-any_front : {X : Type 0} (P : X → Type 0) (xs ys : List X) → Any P xs → Any P (xs ++ ys)
-any_front P [] ys (k, x, below, is, p) = absurd (omega (arith, below))
-any_front P (y ∷ xs) ys (zero, x, below, is, p) = (zero, x, omega arith, is, p)
-any_front P (y ∷ xs) ys (suc k, x, below, is, p) =
-    let rest = any_front P xs ys (k, x, omega (arith, below), is, p) in
-    (suc rest.0, rest.1, omega (arith, rest.2), rest.3, rest.4)
-
-pub any_along : (P : Reached → Type 0) (from to : Trail) → GoesOn from to → Any P from.points → Any P to.points
-any_along P from to goes any = subst (Any P) (sym goes.more) (any_front P from.points goes.points any)
 
 -- ---- the points of a turn are those of its work
 pub turn_points : (leave : Going → State) (otherwise : State) (o : Outcome Answer) → (turn_of leave otherwise o).points ≡ (trail_of o).points

@@ -143,9 +143,12 @@ Lacks g (Log used more total) = (more ≤ 13424) × (total ≡ g.log) × (total 
 Lacks g (Gates used total) = (65534 < used) × (total ≡ 65536)
 
 -- ---- want of pages
--- a command that wants a page by a licence alone: a new relation, a change of rows, or a commit, for the actions that wait
+-- a command that wants a page by a licence alone: one that changes a database, or a commit, for the actions that wait
 abbrev pub needs_licence : Command → Bool
 needs_licence (command.Create relation method schema key) = true
+needs_licence (command.Drop relation) = true
+needs_licence (command.Attach relation name rule) = true
+needs_licence (command.Detach relation name) = true
 needs_licence (command.Insert relation values) = true
 needs_licence (command.Delete relation at) = true
 needs_licence (command.Update relation at values) = true
@@ -154,7 +157,7 @@ needs_licence command.Commit = true
 needs_licence c = false
 
 -- With some picks the step of the command reaches a point at which the database needs so much that there are no more pages than that and those of the
--- owner table, where nothing was dropped or detached before.
+-- owner table.
 abbrev pub IsShortFor : Meanings → ℕ → State → Command → ℕ → Type 0
 IsShortFor m pages s c total =
     (picks : List Key) × Any (IsShortOf total (table_len pages) (extensions_of m)) (step (extensions_of m) s c picks).points

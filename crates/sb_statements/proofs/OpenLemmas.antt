@@ -46,6 +46,8 @@ module _ {S : Type 0} (Has : Wanted → Slots → S → Type 0) (m : Meanings) (
     waits = stands.waits;
     picked = stands.picked;
     gone = stands.gone;
+    aside = stands.aside;
+    apart = stands.apart;
     rules = stands.rules;
     fit = stands.fit;
   }

@@ -1,7 +1,7 @@
 -- What a command's work on an engine comes to.
-use Rattle.std.specs.Prelude.{ℕ, Bool, true, false, IfSome}
+use Rattle.std.specs.Prelude.{ℕ, IfSome}
 use Rattle.sb_fold.specs.declared.refusal.Refusal.{Refusal}
-use Rattle.sb_fold.specs.Outcome.{Going, Trail}
+use Rattle.sb_fold.specs.Outcome.{Going}
 use Rattle.sb_fold.specs.Wishes.{Put, Remove, Replace}
 use Rattle.sb_plain.specs.declared.command.Command.{Command}
 use Rattle.sb_plain.specs.declared.command.Command.TheVariants as command
@@ -13,7 +13,7 @@ use Rattle.sb_drive.specs.declared.space.SpaceFault.{SpaceFault}
 use Rattle.sb_drive.specs.Slots.{Slots}
 use Rattle.sb_drive.specs.Spaces.{Wanted}
 use Rattle.sb_building.specs.Running.{Running}
-use Rattle.sb_building.specs.Working.{IsStoppedBy, IsStoppedFor, StandsFor, extensions_in}
+use Rattle.sb_building.specs.Working.{IsStoppedFor, StandsFor, extensions_in}
 use Rattle.sb_statements.specs.declared.answers.Answer as code
 use Rattle.sb_statements.specs.declared.answers.Answer.TheVariants as code_answer
 use Rattle.sb_building.specs.Creation.{MayCreate}
@@ -46,25 +46,10 @@ IsDone Has meanings c old answer new =
     (g : Going) → StandsFor Has meanings g old → MayWork (meanings old.boxes.now) g c
     → IfSome (work_of (extensions_in meanings old) c) (λ work. MadeFrom (StandsFor Has meanings) work g answer new)
 
--- a command whose want of a page has its licence: a new relation, or a change of rows
-abbrev pub is_licensed : Command → Bool
-is_licensed (command.Create relation method schema key) = true
-is_licensed (command.Insert relation values) = true
-is_licensed (command.Delete relation at) = true
-is_licensed (command.Update relation at values) = true
-is_licensed (command.Act action) = true
-is_licensed c = false
-
--- The space has the cause of a refusal. Where that is want of a page to a command that is licensed, the work had come so far that pages may be
--- wanting.
-abbrev pub StopsBy : {B S : Type 0} → (Wanted → Slots → S → Type 0) → (ℕ → S → S → Type 0) → (SpaceFault → S → S → Type 0) → (S → ℕ) → (B → Meanings)
-    → Bool → Refusal → Trail → Running B S → Type 0
-StopsBy Has Leads Fails table meanings true r trail new = IsStoppedFor Has Leads Fails table meanings r trail new
-StopsBy Has Leads Fails table meanings false r trail new = IsStoppedBy Fails r trail new
-
--- It is refused so: as the definition says, or by the space on its way, which has the cause.
+-- It is refused so: as the definition says, or by the space on its way, which has the cause; where that is want of a page, the work had come so far
+-- that pages may be wanting.
 abbrev pub IsStopped : {B S : Type 0} → (Wanted → Slots → S → Type 0) → (ℕ → S → S → Type 0) → (SpaceFault → S → S → Type 0) → (S → ℕ) → (B → Meanings)
     → Command → Running B S → Refusal → Running B S → Type 0
 IsStopped Has Leads Fails table meanings c old r new =
     (g : Going) → StandsFor Has meanings g old → MayWork (meanings old.boxes.now) g c
-    → IfSome (work_of (extensions_in meanings old) c) (λ work. StopsFrom (StopsBy Has Leads Fails table meanings (is_licensed c)) work g r new)
+    → IfSome (work_of (extensions_in meanings old) c) (λ work. StopsFrom (IsStoppedFor Has Leads Fails table meanings) work g r new)

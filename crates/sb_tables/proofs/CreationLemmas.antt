@@ -32,6 +32,7 @@ use Rattle.sb_catalog.specs.Descriptors.{IsConsistent, IsLimit, IsShortDescripto
 use Rattle.sb_catalog.proofs.Described.{is_as_long}
 use Rattle.sb_engine.specs.Changes.{IsSmall}
 use Rattle.sb_standing.specs.Instances.{table_instance}
+use Rattle.sb_standing.specs.Standing.{owners_in}
 use Rattle.sb_standing.specs.Tables.{Kept, entry_of, put_kept}
 use Rattle.sb_standing.proofs.FrameLemmas.{All-unmap}
 use Rattle.sb_standing.proofs.KeptLemmas.{kept_at-no_relation}
@@ -45,6 +46,7 @@ use Rattle.sb_engine.specs.Refusals.{HasRefusalCause, refusal_of}
 use Rattle.sb_engine.specs.Working.{ArePaired, HasMainOf, IsLasting}
 use Rattle.sb_tables.specs.Creation.{AreShort, MayCreate, new_descriptor, new_kept, new_relation}
 use Rattle.sb_tables.specs.Keeping.{KeepsDb}
+use Rattle.sb_tables.proofs.TakenLemmas.{gone-beside}
 
 -- ---- pairs
 module _ (db : Db) (name : Name) (r : Relation) (new : relation_at db name ≡ None) (bare : r.attachments ≡ []) where
@@ -150,8 +152,8 @@ short-new method owner top schema key short = record { columns = short.columns; 
     lit_le = omega arith
 
 -- ---- its pages and its entry
-module _ {S : Type 0} (Has : Wanted → Slots → S → Type 0) (m : Meanings) (root : ℕ) (gone : List ℕ) (db : Db) (name : Name) (method owner top : ℕ) (schema : List Column) (key : List Name)
-    (old mid late new : S) (keeps : KeepsDb Has m root gone db old) (may : MayCreate m db name method schema key) (high : 2 < owner)
+module _ {S : Type 0} (Has : Wanted → Slots → S → Type 0) (m : Meanings) (root : ℕ) (gone : List ℕ) (aside : ℕ) (db : Db) (name : Name) (method owner top : ℕ) (schema : List Column) (key : List Name)
+    (old mid late new : S) (keeps : KeepsDb Has m root gone aside db old) (may : MayCreate m db name method schema key) (high : 2 < owner)
     (come : HasCome Has keeps.want keeps.slots owner top mid) where
   two : ◌≡◌ {A = ℕ} 2 owner → ⊥
   two is = omega (arith, high, is)
@@ -169,7 +171,7 @@ module _ {S : Type 0} (Has : Wanted → Slots → S → Type 0) (m : Meanings) (
     pub created : IsStorableDescriptor (new_descriptor method owner top schema key)
         → Leaves Has 2 keeps.want rows.slots new
         (λ after. map_in root after ≡ Some (put key_cmp name (descriptor_spelling (new_descriptor method owner top schema key)) (map entry_of keeps.kept)))
-        → KeepsDb Has m root gone (with_relation db name (new_relation method schema key)) new
+        → KeepsDb Has m root gone aside (with_relation db name (new_relation method schema key)) new
     created storable left =
         let k = new_kept name method owner top schema key in
         record {
@@ -190,16 +192,22 @@ module _ {S : Type 0} (Has : Wanted → Slots → S → Type 0) (m : Meanings) (
             has = HasRows-pages m rows.slots left.slots (table_instance true name (new_descriptor method owner top schema key)) [] (left.others owner two-back) rows.own;
             catalogue = left.own;
           });
+          few = omega (
+            arith,
+            keeps.few,
+            gone-beside keeps.slots left.slots (owners_in keeps.kept) gone owner come.none keeps.keeps.own
+                (λ o apart second. left.others o second ∙ rows.others o apart ∙ come.others o apart),
+          );
           lasting = All-map IsLasting (λ (x : Kept). x.descriptor) (put_kept k keeps.kept)
               (All-put (λ (x : Kept). IsLasting x.descriptor) k keeps.kept may.lasting (All-unmap IsLasting (λ (x : Kept). x.descriptor) keeps.kept keeps.lasting));
         }
 
 -- ---- by the calls that make them
-module _ {S : Type 0} (Has : Wanted → Slots → S → Type 0) (Fails : SpaceFault → S → S → Type 0) (m : Meanings) (root : ℕ) (gone : List ℕ) (db : Db) (name : Name) (method owner top : ℕ) (schema : List Column) (key : List Name)
-    (old mid late new : S) (keeps : KeepsDb Has m root gone db old) (may : MayCreate m db name method schema key) (high : 2 < owner)
+module _ {S : Type 0} (Has : Wanted → Slots → S → Type 0) (Fails : SpaceFault → S → S → Type 0) (m : Meanings) (root : ℕ) (gone : List ℕ) (aside : ℕ) (db : Db) (name : Name) (method owner top : ℕ) (schema : List Column) (key : List Name)
+    (old mid late new : S) (keeps : KeepsDb Has m root gone aside db old) (may : MayCreate m db name method schema key) (high : 2 < owner)
     (come : HasCome Has keeps.want keeps.slots owner top mid) (d : Descriptor) (is : d ≡ new_descriptor method owner top schema key) where
   in_new : IsNewIn come.slots (table_instance true name (new_descriptor method owner top schema key))
-  in_new = new-in Has m root gone db name method owner top schema key old mid late new keeps may high come
+  in_new = new-in Has m root gone aside db name method owner top schema key old mid late new keeps may high come
 
   pub prepare_refused : (e : SpaceFault)
       → ((want : Wanted) (s : Slots) → Has want s mid → IsNewIn s (table_instance true name d) → IsLive m (table_instance true name d) → HasRefusalCause Fails (refusal_of e) late)
@@ -216,7 +224,7 @@ module _ {S : Type 0} (Has : Wanted → Slots → S → Type 0) (Fails : SpaceFa
 
     in_entries : (rows : LeavesRows Has m (table_instance true name (new_descriptor method owner top schema key)) keeps.want come.slots late [])
         → map_in root (owned rows.slots 2) ≡ Some (map entry_of keeps.kept)
-    in_entries rows = entries-late Has m root gone db name method owner top schema key old mid late new keeps may high come rows
+    in_entries rows = entries-late Has m root gone aside db name method owner top schema key old mid late new keeps may high come rows
 
     pub create_refused : (e : SpaceFault)
         → ((want : Wanted) (s : Slots) (es : List Entry) → Has want s late → map_in root (owned s 2) ≡ Some es → IsSmall name (descriptor_spelling d) → HasRefusalCause Fails (refusal_of e) new)
@@ -230,13 +238,13 @@ module _ {S : Type 0} (Has : Wanted → Slots → S → Type 0) (Fails : SpaceFa
 
     pub create_entered : ((want : Wanted) (s : Slots) (es : List Entry) → Has want s late → map_in root (owned s 2) ≡ Some es
         → Leaves Has 2 want s new (λ after. map_in root after ≡ Some (put key_cmp name (descriptor_spelling d) es)))
-        → (IsConsistent d → IsStorableDescriptor d) → KeepsDb Has m root gone (with_relation db name (new_relation method schema key)) new
+        → (IsConsistent d → IsStorableDescriptor d) → KeepsDb Has m root gone aside (with_relation db name (new_relation method schema key)) new
     create_entered entered storable = of_rows in_rows
       where
         of_rows : LeavesRows Has m (table_instance true name (new_descriptor method owner top schema key)) keeps.want come.slots late []
-            → KeepsDb Has m root gone (with_relation db name (new_relation method schema key)) new
+            → KeepsDb Has m root gone aside (with_relation db name (new_relation method schema key)) new
         of_rows rows =
-            created Has m root gone db name method owner top schema key old mid late new keeps may high come rows
+            created Has m root gone aside db name method owner top schema key old mid late new keeps may high come rows
             (subst (λ (x : Descriptor). IsConsistent x → IsStorableDescriptor x) is storable (consistent-new m db name method owner top schema key may))
             (subst (λ (x : Descriptor). (want : Wanted) (s : Slots) (es : List Entry) → Has want s late → map_in root (owned s 2) ≡ Some es
             → Leaves Has 2 want s new (λ after. map_in root after ≡ Some (put key_cmp name (descriptor_spelling x) es))) is entered

@@ -111,6 +111,10 @@ pub if_err_both : {T E : Type 0} (O P Q : E → Type 0) (r : Result T E) → ((e
 if_err_both O P Q (Ok x) then a b = tt
 if_err_both O P Q (Err e) then a b = then e a b
 
+pub if_err_all : {T E : Type 0} (N O P Q : E → Type 0) (r : Result T E) → ((e : E) → N e → O e → P e → Q e) → IfErr r N → IfErr r O → IfErr r P → IfErr r Q
+if_err_all N O P Q (Ok x) then a b c = tt
+if_err_all N O P Q (Err e) then a b c = then e a b c
+
 -- ---- one item of a list
 pub drop_item : {A : Type 0} (xs : List A) (i : ℕ) (x : A) → i < length xs → x ≡ get_or xs i x → drop i xs ≡ x ∷ drop (i + 1) xs
 drop_item [] i x lt is = absurd (omega arith)

@@ -1,9 +1,16 @@
+pub use Rattle.sb_engine.proofs.Beside
+pub use Rattle.sb_engine.proofs.Bounded
+pub use Rattle.sb_engine.proofs.Catalogue
 pub use Rattle.sb_engine.proofs.GoneLemmas
+pub use Rattle.sb_engine.proofs.LackingLemmas
 pub use Rattle.sb_engine.proofs.OpenedLemmas
 pub use Rattle.sb_engine.proofs.OpeningLemmas
 pub use Rattle.sb_engine.proofs.RefusedLemmas
 pub use Rattle.sb_engine.proofs.StandingLemmas
 pub mod WithoutLemmas
+pub mod TakenLemmas
+pub mod ApartLemmas
+pub mod WithinLemmas
 pub mod PairsLemmas
 pub mod RemovalLemmas
 pub mod CreationLemmas
@@ -11,4 +18,5 @@ pub mod LicenceLemmas
 pub mod KeepingLemmas
 pub mod DetachedLemmas
 pub mod StandsLemmas
+pub mod FullLemmas
 pub mod FreedLemmas

@@ -1,5 +1,5 @@
 -- Want of a page while a relation is made.
-use Rattle.std.proofs.Common.{◌≡◌, ℕ, ◌+◌, ◌*◌, ◌<◌, ◌≤◌, Bool, true, false, cond, not, ◌&&◌, List, [], ◌∷◌, length, map, Option, Some, None, option_map, inl, inr, refl, sym, ap, ◌∙◌, subst, arith}
+use Rattle.std.proofs.Common.{◌≡◌, ℕ, sum, ◌+◌, ◌*◌, ◌<◌, ◌≤◌, Bool, true, false, cond, not, ◌&&◌, List, [], ◌∷◌, length, map, Option, Some, None, option_map, inl, inr, refl, sym, ap, ◌∙◌, subst, arith}
 use Rattle.std.specs.Prelude.{filter}
 use Rattle.std.specs.List.{find as first, range_with_len}
 use Rattle.std.proofs.lemmas.List.{length-map}
@@ -31,6 +31,7 @@ use Rattle.sb_registry.specs.Boxes.{Meanings, method_of}
 use Rattle.sb_registry.specs.Live.{IsLive}
 use Rattle.sb_owners.specs.Instances.{HasCome}
 use Rattle.sb_catalog.specs.declared.descriptor.Descriptor.{Descriptor}
+use Rattle.sb_map.specs.Calls.{IsAsking, IsWithin}
 use Rattle.sb_standing.specs.Instances.{table_instance}
 use Rattle.sb_standing.specs.Lacking.{IsShort, LacksFor, WhereShort}
 use Rattle.sb_standing.specs.Live.{IsNewIn, LeavesRows}
@@ -39,6 +40,7 @@ use Rattle.sb_standing.proofs.KeptLemmas.{kept_at-no_relation}
 use Rattle.sb_standing.proofs.LackingLemmas.{used_by, where_short}
 use Rattle.sb_engine.specs.Coming.{IsShortComing, MayCome}
 use Rattle.sb_engine.specs.Owned.{IsTabled}
+use Rattle.sb_engine.specs.Place.{Place}
 use Rattle.sb_engine.specs.Weights.{resting}
 use Rattle.sb_engine.proofs.Bounded.{are-bounded}
 use Rattle.sb_engine.proofs.Catalogue.{catalogue_small}
@@ -47,8 +49,8 @@ use Rattle.sb_engine.proofs.Meant.{outlives}
 use Rattle.sb_engine.proofs.Weighing.{row_pages}
 use Rattle.sb_engine.specs.Opened.{IsDurable, IsOwnFault}
 use Rattle.sb_engine.specs.Refusals.{refusal_of}
-use Rattle.sb_engine.specs.Working.{IsLicensed, IsNoneGone, IsShortOf, extensions_of}
-use Rattle.sb_engine.proofs.LackingLemmas.{all_meant, any_last, none_aside}
+use Rattle.sb_engine.specs.Working.{IsLicensed, IsShortOf, extensions_of}
+use Rattle.sb_engine.proofs.LackingLemmas.{all_meant, any_last}
 use Rattle.sb_tables.specs.Creation.{MayCreate, new_descriptor, new_relation}
 use Rattle.sb_tables.specs.Keeping.{KeepsDb}
 use Rattle.sb_tables.proofs.CreationLemmas.{entries-late, is_live-new, new-in}
@@ -87,7 +89,7 @@ all_taken (e ∷ held) none = of_fresh e.1.fresh none (all_taken held)
     of_fresh false free rest = rest free
 
 -- a map whose tree meets its pages has no more than it meets
-pub map_spends : (root : ℕ) (P : Pages) (es : List Entry) (c : View) → map_in root P ≡ Some es → free_page c ≡ None
+map_spends : (root : ℕ) (P : Pages) (es : List Entry) (c : View) → map_in root P ≡ Some es → free_page c ≡ None
     → ((fs : List Entry) → read_tree root P ≡ Some fs → length (tree_met root P) + length (filter (λ e. e.1) (fresh_pages c)) < 2 * length fs)
     → page_count P + length (fresh_pages c) < 2 * length es
 map_spends root P es c is none within =
@@ -100,10 +102,20 @@ module _ {S : Type 0} (Leads : ℕ → S → S → Type 0) (durable : S → Bool
       → ((n : ℕ) → n < of → (s n).0 ≡ 0 → holds_fresh full.ctx n ≡ true) → IsShort s owner most of
   short_of e of full used = record { ctx = full.ctx; used = used; within = spends full.ctx full.asks full.within }
 
-  pub shorts : (e : SpaceFault) → WhereFull e (IsFullFor Leads durable total owner Asks IsWithin old s e) → WhereShort e (IsShort s owner most)
+  shorts : (e : SpaceFault) → WhereFull e (IsFullFor Leads durable total owner Asks IsWithin old s e) → WhereShort e (IsShort s owner most)
   shorts (DataFull used of) full = short_of (DataFull used of) of full (used_by s full.ctx (total full.space) used of full.full.1)
   shorts (TempFull used of) full = short_of (TempFull used of) of full (used_by s full.ctx (total full.space) used of full.full.1)
   shorts e full = tt
+
+-- so a change of the catalogue is short of a page only where its pages with the fresh ones are fewer than twice its entries
+pub catalogue-short : {S : Type 0} (Leads : ℕ → S → S → Type 0) (durable : S → Bool) (total : S → ℕ) (place : Place) (old : S) (s : Slots) (es : List Entry) → place.owner ≡ 2 → map_in place.root (owned s 2) ≡ Some es
+    → (e : SpaceFault) → WhereFull e (IsFullFor Leads durable total place.owner (IsAsking place.root) (IsWithin place.root (owned s place.owner)) old s e)
+    → WhereShort e (IsShort s 2 (2 * length es))
+catalogue-short Leads durable total place old s es is read e full =
+    let there : map_in place.root (owned s place.owner) ≡ Some es = subst (λ (o : ℕ). map_in place.root (owned s o) ≡ Some es) (sym is) read in
+    subst (λ (o : ℕ). WhereShort e (IsShort s o (2 * length es))) is
+    (shorts Leads durable total place.owner (2 * length es) old s (IsAsking place.root) (IsWithin place.root (owned s place.owner))
+    (λ ctx asks within. map_spends place.root (owned s place.owner) es ctx there asks.taken within) e full)
 
 pub own_short : (e : SpaceFault) (IsSo : ℕ → Type 0) → IsOwnFault e → WhereShort e IsSo
 own_short (DataFull used of) IsSo own = absurd own
@@ -129,7 +141,7 @@ none_of P none (n ∷ ns) =
 none_within : (P : Pages) → ((n : ℕ) → P n ≡ []) → (most : ℕ) → length (filter (λ n. not (is_empty (P n))) (range_with_len 0 most)) ≡ 0
 none_within P none most = none_of P none (range_with_len 0 most)
 
-none_counted : (P : Pages) → ((n : ℕ) → P n ≡ []) → page_count P ≡ 0
+pub none_counted : (P : Pages) → ((n : ℕ) → P n ≡ []) → page_count P ≡ 0
 unfolding page_numbers
 none_counted P none = none_within P none 65536
 
@@ -137,7 +149,7 @@ none_counted P none = none_within P none 65536
 module _ {S : Type 0} (Has : Wanted → Slots → S → Type 0) (Leads : ℕ → S → S → Type 0) (table : S → ℕ) (m : Meanings) (root : ℕ) (gone : List ℕ) (g : Going) (cost : ℕ) (name : Name) (method : ℕ) (schema : List Column) (key : List Name)
     (whole : (want : Wanted) (s : Slots) (a : S) → Has want s a → AreWhole s) (few : (want : Wanted) (s : Slots) (a : S) → Has want s a → (n : ℕ) → 65536 ≤ n → (s n).0 ≡ 0)
     (tabled : (want : Wanted) (s : Slots) (a : S) → Has want s a → IsTabled (table a) s)
-    (old : S) (keeps : KeepsDb Has m root gone g.db old) (none : IsNoneGone g.gone → gone ≡ []) (may : MayCreate m g.db name method schema key) where
+    (old : S) (keeps : KeepsDb Has m root gone (sum g.gone.durable) g.db old) (may : MayCreate m g.db name method schema key) where
   abbrev made : Relation
   made = new_relation method schema key
 
@@ -149,11 +161,11 @@ module _ {S : Type 0} (Has : Wanted → Slots → S → Type 0) (Leads : ℕ →
   abbrev IsLeft : Slots → ℕ → ℕ → Type 0
   IsLeft t owner total = IsShortComing (extensions_of m) keeps.slots t keeps.kept made owner total
 
-  may_come : IsNoneGone g.gone → MayCome m IsDurable root keeps.slots gone keeps.kept g.gone name made
-  may_come nothing_gone = record {
+  may_come : MayCome m IsDurable root keeps.slots gone keeps.kept g.gone name made
+  may_come = record {
     keeps = keeps.keeps;
     meant = all_meant m root keeps.slots keeps.kept keeps.lasting keeps.keeps.tables;
-    few = none_aside keeps.slots gone g.gone (none nothing_gone);
+    few = keeps.few;
     new = kept_at-no_relation keeps.kept name (ap (λ (d : Db). relation_at d name) (sym keeps.is) ∙ may.new);
     outlives = outlives m method may.box may.live may.durable may.lasting;
   }
@@ -172,9 +184,8 @@ module _ {S : Type 0} (Has : Wanted → Slots → S → Type 0) (Leads : ℕ →
         slots = t;
         has = has;
         short = any_last (IsShortOf total (table mid + page_count (owned t 1)) (extensions_of m)) g.trail.points at
-            (λ nothing_gone.
-            subst (λ (db : Db). total ≤ table mid + page_count (owned t 1) + need (extensions_of m) true (resting (with_relation db name made) g.gone (g.trail.spent + cost))) (sym keeps.is)
-            (coming-is-full m IsDurable root keeps.slots t gone keeps.kept g.gone (g.trail.spent + cost) name made owner (table mid) total (may_come nothing_gone)
+            (subst (λ (db : Db). total ≤ table mid + page_count (owned t 1) + need (extensions_of m) true (resting (with_relation db name made) g.gone (g.trail.spent + cost))) (sym keeps.is)
+            (coming-is-full m IsDurable root keeps.slots t gone keeps.kept g.gone (g.trail.spent + cost) name made owner (table mid) total may_come
             (are_pages t mid has) small (tabled keeps.want t mid has) short));
       }
   licence mid new t owner e leads has short = tt
@@ -246,7 +257,7 @@ module _ {S : Type 0} (Has : Wanted → Slots → S → Type 0) (Leads : ℕ →
         let told = subst (λ (x : Descriptor). (want : Wanted) (s : Slots) → Has want s mid → IsNewIn s (table_instance true name x) → (live : IsLive m (table_instance true name x))
         → WhereShort e (LacksFor live.box (table_instance true name x) Prepare [] s)) is full in
         licence mid new come.slots owner e leads come.has
-        (short_rows e live (told keeps.want come.slots come.has (new-in Has m root gone g.db name method owner top schema key old mid mid new keeps may high come) live))
+        (short_rows e live (told keeps.want come.slots come.has (new-in Has m root gone (sum g.gone.durable) g.db name method owner top schema key old mid mid new keeps may high come) live))
 
     pub licence_entry : (e : SpaceFault) (late new : S)
         → ((want : Wanted) (s : Slots) → Has want s mid → IsNewIn s (table_instance true name d) → LeavesRows Has m (table_instance true name d) want s late [])
@@ -254,10 +265,10 @@ module _ {S : Type 0} (Has : Wanted → Slots → S → Type 0) (Leads : ℕ →
         → LeadsOn Leads late new → IsLicensed Has Leads table m (refusal_of e) trail new
     licence_entry e late new prepared full leads =
         of_rows (subst (λ (x : Descriptor). (want : Wanted) (s : Slots) → Has want s mid → IsNewIn s (table_instance true name x) → LeavesRows Has m (table_instance true name x) want s late []) is prepared
-        keeps.want come.slots come.has (new-in Has m root gone g.db name method owner top schema key old mid late new keeps may high come))
+        keeps.want come.slots come.has (new-in Has m root gone (sum g.gone.durable) g.db name method owner top schema key old mid late new keeps may high come))
       where
         of_rows : LeavesRows Has m inst keeps.want come.slots late [] → IsLicensed Has Leads table m (refusal_of e) trail new
         of_rows rows =
             licence late new rows.slots owner e leads rows.has
             (short_entry e late rows (full keeps.want rows.slots (map entry_of keeps.kept) rows.has
-            (entries-late Has m root gone g.db name method owner top schema key old mid late new keeps may high come rows)))
+            (entries-late Has m root gone (sum g.gone.durable) g.db name method owner top schema key old mid late new keeps may high come rows)))

@@ -1,12 +1,13 @@
 -- What an engine at work stands for once relations have come or gone.
-use Rattle.std.proofs.Common.{◌≡◌, ℕ, ◌+◌, ◌*◌, ◌==◌, Bool, true, false, cond, List, [], ◌∷◌, ◌++◌, length, map, Option, Some, None, option_map, All, refl, sym, ap, ◌∙◌, subst, arith}
+use Rattle.std.proofs.Common.{◌≡◌, ℕ, sum, ◌+◌, ◌*◌, ◌≤◌, ◌==◌, Bool, true, false, cond, List, [], ◌∷◌, ◌++◌, length, map, Option, Some, None, option_map, All, refl, sym, ap, ◌∙◌, subst, arith}
 use Rattle.std.proofs.lemmas.List.Elements.{All-cons, All-nil, All-weaker}
+use Rattle.std.proofs.lemmas.List.Sums.{sum_by-append}
 use Rattle.sb_value.specs.declared.schema.Column.{Column}
 use Rattle.sb_rule.specs.declared.action.Action.{Action}
 use Rattle.sb_rule.specs.declared.rule.Rule.{Rule}
 use Rattle.sb_rule.specs.Spelling.{rule_code}
 use Rattle.sb_relation.specs.Db
-use Rattle.sb_relation.specs.Db.{Key, Name, Relation, relation_at, schema_at, with_relation}
+use Rattle.sb_relation.specs.Db.{Name, Relation, schema_at, with_relation}
 use Rattle.sb_relation.specs.Fits.{MayStand}
 use Rattle.sb_relation.specs.Foreign.{AttachRules, attach_rules}
 use Rattle.sb_ctx.specs.Attachment.{Attachment}
@@ -14,7 +15,7 @@ use Rattle.sb_fold.specs.declared.refusal.Refusal.{Refusal}
 use Rattle.sb_fold.specs.Bounds.{attached_bound, method_bound}
 use Rattle.sb_fold.specs.Building.{at_point, bounds_at, create, drop_relation, leave, mirrored_in, reach, with_gone, without_relation}
 use Rattle.sb_fold.specs.Costs.{create_cost, descriptor_cost, free_cost}
-use Rattle.sb_fold.specs.Extensions.{Extensions, box_of, is_durable_at}
+use Rattle.sb_fold.specs.Extensions.{Extensions, box_of, is_durable_at, is_durable_method}
 use Rattle.sb_fold.specs.Fold.{attachments_at}
 use Rattle.sb_fold.specs.Outcome.{Going, Gone, Trail, with_db}
 use Rattle.sb_fold.proofs.LeadsLemmas.{leads_change}
@@ -22,10 +23,8 @@ use Rattle.sb_deferred.specs.Complete.{AreMirrored, IsComplete}
 use Rattle.sb_deferred.proofs.CatalogLemmas.{with-relation-complete}
 use Rattle.sb_deferred.proofs.RelationLemmas.{attachments_of, schema_of}
 use Rattle.sb_cascade.specs.Fitting.{AllFit, AllMayStand, IsFitting}
-use Rattle.sb_cascade.specs.Runs.{EndsBy, GoesOn, MadeFrom, StopsFrom, is_free}
+use Rattle.sb_cascade.specs.Runs.{EndsBy, MadeFrom, StopsFrom, is_free}
 use Rattle.sb_cascade.proofs.Commanding.{creating-stays}
-use Rattle.sb_cascade.proofs.Forward.{forward_change}
-use Rattle.sb_cascade.proofs.Stopping.{stops_free}
 use Rattle.sb_drive.specs.Slots.{Slots}
 use Rattle.sb_drive.specs.Spaces.{Wanted}
 use Rattle.sb_registry.specs.Boxes.{Meanings, attachment_of, boxes_of}
@@ -35,15 +34,18 @@ use Rattle.sb_standing.specs.Standing.{EachRule, IsKept, Keeps, KeepsRules}
 use Rattle.sb_standing.specs.Tables.{Kept, KeepsTable, db_of, kept_at}
 use Rattle.sb_standing.proofs.KeptLemmas.{kept_at-all, relation_at-none, relation_at-there}
 use Rattle.sb_engine.specs.Opened.{IsDurable}
+use Rattle.sb_engine.specs.Owned.{pages_of}
 use Rattle.sb_engine.specs.declared.running.Work.{Work}
-use Rattle.sb_engine.specs.Working.{AreOpened, ArePaired, IsNoneGone, IsOpened, Stands, extensions_of, left_of}
+use Rattle.sb_engine.specs.Working.{AreLasting, AreNamedApart, AreOpened, ArePaired, IsNoneGone, IsOpened, Stands, extensions_of, left_of}
 use Rattle.sb_engine.proofs.GoneLemmas.{with_gone-some}
-use Rattle.sb_engine.proofs.LackingLemmas.{goes_none}
+use Rattle.sb_engine.proofs.LackingLemmas.{all_meant, goes_none}
 use Rattle.sb_tables.specs.Creation.{MayCreate, new_relation}
 use Rattle.sb_tables.specs.Freeing.{LeavesGone}
 use Rattle.sb_tables.specs.Keeping.{KeepsDb}
 use Rattle.sb_tables.specs.Removal.{MayDrop}
+use Rattle.sb_tables.proofs.ApartLemmas.{apart-left, apart-with}
 use Rattle.sb_tables.proofs.CreationLemmas.{mirrored-with, paired-with}
+use Rattle.sb_tables.proofs.DetachedLemmas.{keeps-more}
 use Rattle.sb_tables.proofs.RemovalLemmas.{complete-left, mirrored-left, paired-left}
 
 -- ---- what the definitions make of what stands
@@ -57,7 +59,7 @@ drop_step ext name going =
     let mirrors : List Name = mirrored_in name (attachments_at going.db name) in
     leave ext name (bounds_at ext going.db name) (1 + length mirrors) (without_relation going.db name) going
 
-abbrev drop_cost : Extensions → Name → Going → ℕ
+abbrev pub drop_cost : Extensions → Name → Going → ℕ
 drop_cost ext name going =
     cond (is_durable_at ext going.db name)
     (free_cost (bounds_at ext going.db name) + (1 + length (mirrored_in name (attachments_at going.db name))) * descriptor_cost ext going.db) 0
@@ -104,16 +106,36 @@ module _ (m : Meanings) (root : ℕ) (s : Slots) (gone : List ℕ) (kept : List 
           subst (λ (o : Option Relation). All (λ a. MayStand (box_of (extensions_of m) a.rule) (db_of kept) (schema_of o) a.rule) (attachments_of o)) (sym (relation_at-there kept name k at))
           (each_may k table k.descriptor.attachments k.relation.attachments table.is.attachments rules)
 
+  -- a relation outlives the run, where it is there
+  pub durable-kept : AreLasting kept → (db : Db.Db) → db ≡ db_of kept → (name : Name) → is_durable_at (extensions_of m) db name ≡ true
+  durable-kept lasting db is name =
+      ap (λ (x : Db.Db). is_durable_at (extensions_of m) x name) is ∙ of_kept (kept_at kept name) refl
+    where
+      durable_in : Option Relation → Bool
+      durable_in o = elim o as (λ _. Bool) [ None ↦ true | Some r ↦ is_durable_method (extensions_of m) r.method ]
+
+      of_kept : (o : Option Kept) → kept_at kept name ≡ o → is_durable_at (extensions_of m) (db_of kept) name ≡ true
+      of_kept None at = ap durable_in (relation_at-none kept name at)
+      of_kept (Some k) at =
+          ap durable_in (relation_at-there kept name k at)
+          ∙ kept_at-all (λ x. is_durable_method (extensions_of m) x.relation.method ≡ true) kept name k (all_meant m root s kept lasting keeps.tables) at
+
+-- ---- pages that are held aside
+-- those of an instance that outlives the run are among the durable ones
+pub held-aside : (durable : Bool) → durable ≡ true → (bounds : List ℕ) (gone : Gone) → sum gone.durable + sum bounds ≤ sum (with_gone durable bounds gone).durable
+held-aside true is bounds gone = omega (arith, sum_by-append (λ n. n) gone.durable bounds)
+held-aside false is bounds gone = absurd (cc)
+
 -- ---- an engine whose pages keep the database
 module _ {S : Type 0} (Has : Wanted → Slots → S → Type 0) (m : Meanings) (root : ℕ) where
-  pub keeps_of : (g : Going) (space : S) (w : Work) → Stands Has m root g space w → KeepsDb Has m root w.gone.items g.db space
+  pub keeps_of : (g : Going) (space : S) (w : Work) → Stands Has m root g space w → KeepsDb Has m root w.gone.items (sum g.gone.durable) g.db space
   keeps_of g space w stands =
-      record { want = stands.want; slots = stands.slots; kept = stands.kept; has = stands.has; is = stands.db; keeps = stands.keeps; lasting = stands.lasting }
+      record { want = stands.want; slots = stands.slots; kept = stands.kept; has = stands.has; is = stands.db; keeps = stands.keeps; lasting = stands.lasting; few = stands.aside }
 
   -- with nothing open
-  pub stands_on : (g : Going) (space : S) (w : Work) → KeepsDb Has m root w.gone.items g.db space → AreMirrored g.db → ArePaired g.db → IsComplete g.db g.queue → w.opened.items ≡ []
+  pub stands_on : (g : Going) (space : S) (w : Work) → KeepsDb Has m root w.gone.items (sum g.gone.durable) g.db space → AreMirrored g.db → ArePaired g.db → AreNamedApart g.db → IsComplete g.db g.queue → w.opened.items ≡ []
       → left_of w ≡ g.queue → w.picks.items ≡ g.used → (IsNoneGone g.gone → w.gone.items ≡ []) → AllFit g.db g.queue.actions → Stands Has m root g space w
-  stands_on g space w keeps mirrored paired complete closed waits picked gone fit = record {
+  stands_on g space w keeps mirrored paired apart complete closed waits picked gone fit = record {
     want = keeps.want;
     slots = keeps.slots;
     kept = keeps.kept;
@@ -128,6 +150,8 @@ module _ {S : Type 0} (Has : Wanted → Slots → S → Type 0) (m : Meanings) (
     waits = waits;
     picked = picked;
     gone = gone;
+    aside = keeps.few;
+    apart = apart;
     rules = subst (AllMayStand (box_of (extensions_of m))) (sym keeps.is) (all_may m root keeps.slots w.gone.items keeps.kept keeps.keeps);
     fit = fit;
   }
@@ -135,7 +159,7 @@ module _ {S : Type 0} (Has : Wanted → Slots → S → Type 0) (m : Meanings) (
   module _ (g : Going) (old new : S) (w v : Work) (stands : Stands Has m root g old w) (closed : v.opened.items ≡ []) (left : left_of v ≡ left_of w) (picks : v.picks.items ≡ w.picks.items) where
     -- ---- a new relation
     pub create_made : {R : Type 0} (StandsIn : Going → R → Type 0) (x : R) (name : Name) (method : ℕ) (schema : List Column) (key : List Name) → MayCreate m g.db name method schema key
-        → v.gone.items ≡ w.gone.items → KeepsDb Has m root v.gone.items (with_relation g.db name (new_relation method schema key)) new → ((h : Going) → Stands Has m root h new v → StandsIn h x)
+        → v.gone.items ≡ w.gone.items → KeepsDb Has m root v.gone.items (sum g.gone.durable) (with_relation g.db name (new_relation method schema key)) new → ((h : Going) → Stands Has m root h new v → StandsIn h x)
         → MadeFrom StandsIn (create (extensions_of m) name method schema key) g tt x
     create_made StandsIn x name method schema key may gone keeps says = record {
       picks = [];
@@ -144,6 +168,7 @@ module _ {S : Type 0} (Has : Wanted → Slots → S → Type 0) (m : Meanings) (
       stands = says (create_step (extensions_of m) name method schema key g) (stands_on (create_step (extensions_of m) name method schema key g) new v keeps
           (mirrored-with g.db name (new_relation method schema key) may.new refl stands.mirrored)
           (paired-with g.db name (new_relation method schema key) may.new refl stands.paired)
+          (apart-with g.db name (new_relation method schema key) refl stands.apart)
           (with-relation-complete g.db g.queue name (new_relation method schema key) may.new refl refl stands.complete)
           closed (left ∙ stands.waits) (picks ∙ stands.picked) (λ none. gone ∙ stands.gone none)
           (All-weaker (IsFitting g.db) (IsFitting (with_relation g.db name (new_relation method schema key)))
@@ -152,20 +177,28 @@ module _ {S : Type 0} (Has : Wanted → Slots → S → Type 0) (m : Meanings) (
 
     -- ---- a relation that goes
     pub drop_made : {R : Type 0} (StandsIn : Going → R → Type 0) (x : R) (name : Name) → MayDrop g.db g.queue name
-        → KeepsDb Has m root v.gone.items (without_relation g.db name) new → ((h : Going) → Stands Has m root h new v → StandsIn h x)
+        → KeepsDb Has m root v.gone.items (sum g.gone.durable + sum (bounds_at (extensions_of m) g.db name)) (without_relation g.db name) new → ((h : Going) → Stands Has m root h new v → StandsIn h x)
         → MadeFrom StandsIn (drop_relation (extensions_of m) name) g tt x
     drop_made StandsIn x name may keeps says = record {
       picks = [];
       after = drop_step (extensions_of m) name g;
       leads = leads_change (drop_step (extensions_of m) name) g (λ more. refl);
-      stands = says (drop_step (extensions_of m) name g) (stands_on (drop_step (extensions_of m) name g) new v keeps
+      stands = says (drop_step (extensions_of m) name g) (stands_on (drop_step (extensions_of m) name g) new v (keeps-more Has m root v.gone.items _ _ (without_relation g.db name) new held keeps)
           (mirrored-left g.db g.queue name may stands.mirrored stands.paired)
           (paired-left g.db g.queue name may stands.mirrored stands.paired)
+          (apart-left g.db name stands.apart)
           (complete-left g.db g.queue name may stands.mirrored stands.paired stands.complete)
           closed (left ∙ stands.waits) (picks ∙ stands.picked) (λ none. absurd (some_gone g.gone (is_durable_at (extensions_of m) g.db name) none))
           (subst (λ (actions : List Action). AllFit (without_relation g.db name) actions) (sym may.still) (All-nil _)));
     }
       where
+        -- it outlives the run
+        durable : is_durable_at (extensions_of m) g.db name ≡ true
+        durable = durable-kept m root stands.slots w.gone.items stands.kept stands.keeps stands.lasting g.db stands.db name
+
+        held : sum g.gone.durable + sum (bounds_at (extensions_of m) g.db name) ≤ sum (drop_step (extensions_of m) name g).gone.durable
+        held = held-aside (is_durable_at (extensions_of m) g.db name) durable (bounds_at (extensions_of m) g.db name) g.gone
+
         -- the pages of the relation
         bounds : bounds_at (extensions_of m) g.db name ≡ method_bound (extensions_of m) may.relation ∷ map (attached_bound (extensions_of m) g.db name) may.relation.attachments
         bounds = ap (λ (o : Option Relation). elim o as (λ _. List ℕ) [ None ↦ [] | Some r ↦ method_bound (extensions_of m) r ∷ map (attached_bound (extensions_of m) g.db name) r.attachments ]) may.there
@@ -176,10 +209,6 @@ module _ {S : Type 0} (Has : Wanted → Slots → S → Type 0) (m : Meanings) (
             (subst (λ (ns : List ℕ). IsNoneGone (with_gone durable ns gone)) bounds none)
 
 -- ---- where the layer stops on the way
-goes_further : (db : Db.Db) (aside : Gone) (cost : ℕ) (t : Trail) → GoesOn t (at_point db aside cost t)
-goes_further db aside cost t =
-    record { points = record { before = db; after = db; change = None; aside = aside; spent = t.spent + cost } ∷ []; more = refl; spent = omega arith }
-
 -- a new relation is stopped where the definition has come to its end
 pub create_stops : {R : Type 0} (Stopped : Refusal → Trail → R → Type 0) (x : R) (ext : Extensions) (name : Name) (method : ℕ) (schema : List Column) (key : List Name) (r : Refusal) (g : Going)
     → is_free r ≡ true → Stopped r (create_step ext name method schema key g).trail x → StopsFrom Stopped (create ext name method schema key) g r x
@@ -192,10 +221,17 @@ create_stops Stopped x ext name method schema key r g free stopped =
       stopped = stopped;
     })
 
+-- one that goes, at the database before
 pub drop_stops : {R : Type 0} (Stopped : Refusal → Trail → R → Type 0) (x : R) (ext : Extensions) (name : Name) (r : Refusal) (g : Going)
-    → is_free r ≡ true → Stopped r g.trail x → StopsFrom Stopped (drop_relation ext name) g r x
+    → is_free r ≡ true → Stopped r (at_point g.db g.gone (drop_cost ext name g) g.trail) x → StopsFrom Stopped (drop_relation ext name) g r x
 drop_stops Stopped x ext name r g free stopped =
-    stops_free Stopped (drop_relation ext name) r x g free (forward_change (drop_step ext name) (λ h. goes_further h.db h.gone (drop_cost ext name h) h.trail)) stopped
+    subst (λ (b : Bool). EndsBy Stopped b (drop_relation ext name) g r x) (sym free)
+    (record {
+      picks = [];
+      trail = (drop_step ext name g).trail;
+      comes = λ more. goes_none (drop_step ext name g).trail;
+      stopped = stopped;
+    })
 
 -- ---- pages that go before a commit
 pub stands_freed : {S : Type 0} (Has : Wanted → Slots → S → Type 0) (m : Meanings) (root : ℕ) (g : Going) (old new : S) (w v : Work) → (stands : Stands Has m root g old w)
@@ -215,6 +251,8 @@ stands_freed Has m root g old new w v stands left none opened waits picks = reco
   waits = waits ∙ stands.waits;
   picked = picks ∙ stands.picked;
   gone = λ _. none;
+  aside = omega (arith, ap (λ (l : List ℕ). pages_of left.slots l) none);
+  apart = stands.apart;
   rules = stands.rules;
   fit = stands.fit;
 }

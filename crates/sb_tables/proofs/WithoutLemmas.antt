@@ -88,7 +88,7 @@ abbrev pub IfTied : (Name → Rule → Type 0) → Option (Name × Rule) → Typ
 IfTied P None = Unit {0}
 IfTied P (Some (other, rule)) = P other rule
 
-all-mirror : (P : Attached → Type 0) (db : Db) (relation name : Name) (mirror : Option (Name × Rule)) (n : Name) → All P (attachments_at db n) → All P (attachments_at (without_mirror relation name mirror db) n)
+pub all-mirror : (P : Attached → Type 0) (db : Db) (relation name : Name) (mirror : Option (Name × Rule)) (n : Name) → All P (attachments_at db n) → All P (attachments_at (without_mirror relation name mirror db) n)
 all-mirror P db relation name None n all = all
 all-mirror P db relation name (Some (other, rule)) n all = all-without P db other (mirror_name relation name) n all
 

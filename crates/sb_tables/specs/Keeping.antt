@@ -1,17 +1,25 @@
 -- What the pages of a space keep, and what a call on them is refused for.
-use Rattle.std.specs.Prelude.{◌≡◌, ℕ, List, [], ◌++◌}
+use Rattle.std.specs.Prelude.{◌≡◌, ℕ, ◌+◌, ◌≤◌, List, [], ◌++◌}
 use Rattle.sb_relation.specs.Db.{Db}
-use Rattle.sb_drive.specs.Slots.{Slots}
-use Rattle.sb_drive.specs.Spaces.{Wanted}
+use Rattle.sb_fold.specs.declared.refusal.Refusal.{Refusal}
+use Rattle.sb_fold.specs.declared.refusal.Refusal.TheVariants.{Room}
+use Rattle.sb_fold.specs.declared.refusal.Room.TheVariants.{Data}
+use Rattle.sb_forms.specs.Pages.{page_count}
+use Rattle.sb_drive.specs.Slots.{Slots, owned}
+use Rattle.sb_drive.specs.Spaces.{LeadsOn, Wanted}
 use Rattle.sb_registry.specs.Boxes.{Meanings}
 use Rattle.sb_standing.specs.Standing.{Keeps}
 use Rattle.sb_standing.specs.Tables.{Kept, db_of}
+use Rattle.sb_engine.specs.Beside.{AreWithin}
 use Rattle.sb_engine.specs.Opened.{IsDurable}
+use Rattle.sb_engine.specs.Owned.{pages_of}
 use Rattle.sb_engine.specs.declared.running.Running.{Running}
 use Rattle.sb_engine.specs.Working.{AreLasting}
 
--- A state of a space: its pages keep a database of relations that outlive the run, beside those of owners that are to go.
-pub record KeepsDb {S : Type 0} (Has : Wanted → Slots → S → Type 0) (m : Meanings) (root : ℕ) (gone : List ℕ) (db : Db) (space : S) : Type 0 where
+-- A state of a space: its pages keep a database of relations that outlive the run, beside those of owners that are to go, which have no more pages
+-- than are held aside.
+pub record KeepsDb {S : Type 0} (Has : Wanted → Slots → S → Type 0) (m : Meanings) (root : ℕ) (gone : List ℕ) (aside : ℕ) (db : Db)
+    (space : S) : Type 0 where
   pub want : Wanted
   pub slots : Slots
   pub kept : List Kept
@@ -19,10 +27,34 @@ pub record KeepsDb {S : Type 0} (Has : Wanted → Slots → S → Type 0) (m : M
   pub is : db ≡ db_of kept
   pub keeps : Keeps m IsDurable root slots gone kept
   pub lasting : AreLasting kept
+  pub few : pages_of slots gone ≤ aside
 
 -- the same of an engine at work, whatever waits
-abbrev pub KeepsIn : {B S : Type 0} → (Wanted → Slots → S → Type 0) → (B → Meanings) → Db → Running B S → Type 0
-KeepsIn Has meanings db a = KeepsDb Has (meanings a.boxes.now) a.place.root a.work.now.gone.items db a.space.now
+abbrev pub KeepsIn : {B S : Type 0} → (Wanted → Slots → S → Type 0) → (B → Meanings) → ℕ → Db → Running B S → Type 0
+KeepsIn Has meanings aside db a = KeepsDb Has (meanings a.boxes.now) a.place.root a.work.now.gone.items aside db a.space.now
+
+-- So they do, and instances, what is to go and the catalogue have so many pages at most.
+pub record KeepsWithin {S : Type 0} (Has : Wanted → Slots → S → Type 0) (m : Meanings) (root : ℕ) (gone : List ℕ) (aside most : ℕ) (db : Db)
+    (space : S) : Type 0 where
+  pub keeps : KeepsDb Has m root gone aside db space
+  pub within : AreWithin keeps.slots keeps.kept gone most
+
+abbrev pub KeepsWithinIn : {B S : Type 0} → (Wanted → Slots → S → Type 0) → (B → Meanings) → ℕ → ℕ → Db → Running B S → Type 0
+KeepsWithinIn Has meanings aside most db a = KeepsWithin Has (meanings a.boxes.now) a.place.root a.work.now.gone.items aside most db a.space.now
+
+-- At a moment on the way here a space had no more pages than those that it takes for itself and so many.
+pub record IsFullAt {S : Type 0} (Has : Wanted → Slots → S → Type 0) (Leads : ℕ → S → S → Type 0) (table : S → ℕ) (most total : ℕ) (now : S) : Type 0 where
+  pub space : S
+  pub leads : LeadsOn Leads space now
+  pub want : Wanted
+  pub slots : Slots
+  pub has : Has want slots space
+  pub full : total ≤ table space + page_count (owned slots 1) + most
+
+-- So it is where want of a page is the refusal.
+abbrev pub IsFullBy : {S : Type 0} → (Wanted → Slots → S → Type 0) → (ℕ → S → S → Type 0) → (S → ℕ) → ℕ → Refusal → S → Type 0
+IsFullBy Has Leads table most (Room (Data used total)) now = total ≤ 65536 → IsFullAt Has Leads table most total now
+IsFullBy Has Leads table most r now = Unit {0}
 
 -- owners more are to go, behind those that were
 abbrev pub HasMore : List ℕ → List ℕ → Type 0

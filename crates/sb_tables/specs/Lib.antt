@@ -1,12 +1,15 @@
+pub use Rattle.sb_engine.specs.Beside
 pub use Rattle.sb_engine.specs.Calls
 pub use Rattle.sb_engine.specs.Changes
 pub use Rattle.sb_engine.specs.Goings
 pub use Rattle.sb_engine.specs.Licensed
 pub use Rattle.sb_engine.specs.OpenRelation
 pub use Rattle.sb_engine.specs.Opened
+pub use Rattle.sb_engine.specs.Owned
 pub use Rattle.sb_engine.specs.Opening
 pub use Rattle.sb_engine.specs.Place
 pub use Rattle.sb_engine.specs.Refusals
+pub use Rattle.sb_engine.specs.Weights
 pub use Rattle.sb_engine.specs.Wished
 pub use Rattle.sb_engine.specs.Working
 pub use Rattle.sb_engine.specs.declared.running.Running

@@ -1,11 +1,15 @@
 -- Relations and attachments that go.
-use Rattle.std.specs.Prelude.{◌≡◌, false, List, [], ◌∷◌, All, Some, not, bytes_eq}
+use Rattle.std.specs.Prelude.{◌≡◌, ℕ, ◌+◌, false, List, [], ◌∷◌, All, Option, Some, None, not, bytes_eq, filter, sum_by}
 use Rattle.std.specs.FinMap.Entries.{where_key}
 use Rattle.sb_value.specs.Order.{bytes_cmp}
-use Rattle.sb_relation.specs.Build.{mirror_of}
+use Rattle.sb_rule.specs.declared.rule.Rule.{Rule}
+use Rattle.sb_relation.specs.Build.{mirror_name, mirror_of}
+use Rattle.sb_relation.specs.Db
 use Rattle.sb_relation.specs.Db.{Name, Relation, Db, relation_at}
 use Rattle.sb_relation.specs.Fits.{other_relations}
-use Rattle.sb_fold.specs.Building.{without_mirror}
+use Rattle.sb_fold.specs.Bounds.{attached_bound}
+use Rattle.sb_fold.specs.Building.{without_mirror, without_mirror_of}
+use Rattle.sb_fold.specs.Extensions.{Extensions}
 use Rattle.sb_fold.specs.Fold.{attachments_at}
 use Rattle.sb_fold.specs.Outcome.{Queue}
 use Rattle.sb_plain.specs.Refusing.{ties_to}
@@ -31,3 +35,26 @@ without_name db name = where_key bytes_cmp (λ other. not (bytes_eq other name))
 abbrev pub without_mirrors_of : Name → List Attached → Db → Db
 without_mirrors_of relation [] db = db
 without_mirrors_of relation (d ∷ ds) db = without_mirrors_of relation ds (without_mirror relation d.name (mirror_of relation d.rule) db)
+
+-- ---- the most pages of what is taken off
+-- of the attachments of a name
+abbrev pub taken_bound : Extensions → Db → Name → Name → ℕ
+taken_bound ext db relation label = sum_by (attached_bound ext db relation) (filter (λ a. bytes_eq a.name label) (attachments_at db relation))
+
+-- of the mirror of an attachment, where it has one
+abbrev pub mirror_bound : Extensions → Name → Name → Option (Name × Rule) → Db → ℕ
+mirror_bound ext relation name None db = 0
+mirror_bound ext relation name (Some (other, rule)) db = taken_bound ext db other (mirror_name relation name)
+
+-- of those of attachments, one behind the other
+abbrev pub mirrors_bound : Extensions → Name → List Db.Attached → Db → ℕ
+mirrors_bound ext relation [] db = 0
+mirrors_bound ext relation (a ∷ others) db =
+    mirror_bound ext relation a.name (mirror_of relation a.rule) db + mirrors_bound ext relation others (without_mirror_of relation a db)
+
+-- the same, as a descriptor of the relation has these
+abbrev pub mirrors_bound_of : Extensions → Name → List Attached → Db → ℕ
+mirrors_bound_of ext relation [] db = 0
+mirrors_bound_of ext relation (d ∷ ds) db =
+    mirror_bound ext relation d.name (mirror_of relation d.rule) db
+    + mirrors_bound_of ext relation ds (without_mirror relation d.name (mirror_of relation d.rule) db)

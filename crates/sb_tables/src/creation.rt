@@ -1,6 +1,6 @@
 //! New relations.
 
-ghost use Rattle.std.specs.Prelude.{◌≡◌, ◌<◌, [], ℕ, List, IfOk, IfErr, OnOk, true};
+ghost use Rattle.std.specs.Prelude.{◌≡◌, ◌<◌, [], ℕ, List, sum, IfOk, IfErr, OnOk, true};
 ghost use Rattle.sb_relation.specs.Db.{Db, with_relation};
 ghost use Rattle.sb_fold.specs.Building as fold;
 ghost use Rattle.sb_fold.specs.Outcome.{Going};
@@ -13,7 +13,7 @@ ghost use Rattle.sb_standing.specs.Lacking.{LacksFor, WhereShort};
 ghost use Rattle.sb_standing.specs.Live.{IsNewIn, LeavesRows};
 ghost use Rattle.sb_standing.specs.Instances.{table_instance};
 ghost use Rattle.sb_engine.specs.Refusals.{HasFaultCause, HasRefusalCause, refusal_of};
-ghost use Rattle.sb_engine.specs.Working.{Goes, IsLicensed, IsNoneGone, IsServing, IsStoppedFor, StandsFor, extensions_in};
+ghost use Rattle.sb_engine.specs.Working.{Goes, IsLicensed, IsServing, IsStoppedFor, StandsFor, extensions_in};
 ghost use Rattle.sb_tables.specs.Creation.{MayCreate, new_descriptor, new_relation};
 ghost use Rattle.sb_tables.specs.Keeping.{Closes, KeepsDb};
 
@@ -83,13 +83,13 @@ fn create_kept<S: Owners, B: Boxes>(
     requires ready { S.is_ready space.old }
     requires owner { place.owner ≡ 2 }
 
-    ensures made { OnOk result ((gone : List ℕ) (db : Db) → KeepsDb S.has (B.meanings boxes.now) place.root gone db space.old
+    ensures made { OnOk result ((gone : List ℕ) (aside : ℕ) (db : Db) → KeepsDb S.has (B.meanings boxes.now) place.root gone aside db space.old
         → MayCreate (B.meanings boxes.now) db name.now method schema.now key.now
-        → KeepsDb S.has (B.meanings boxes.now) place.root gone (with_relation db name.now (new_relation method schema.now key.now)) space.new) }
-    ensures refused { IfErr result (λ e. (gone : List ℕ) (db : Db) → KeepsDb S.has (B.meanings boxes.now) place.root gone db space.old
+        → KeepsDb S.has (B.meanings boxes.now) place.root gone aside (with_relation db name.now (new_relation method schema.now key.now)) space.new) }
+    ensures refused { IfErr result (λ e. (gone : List ℕ) (aside : ℕ) (db : Db) → KeepsDb S.has (B.meanings boxes.now) place.root gone aside db space.old
         → MayCreate (B.meanings boxes.now) db name.now method schema.now key.now → HasRefusalCause S.fails (refusal_of e) space.new) }
     ensures licensed { IfErr result (λ e. (gone : List ℕ) (g : Going) (cost : ℕ)
-        → KeepsDb S.has (B.meanings boxes.now) place.root gone g.db space.old → (IsNoneGone g.gone → gone ≡ [])
+        → KeepsDb S.has (B.meanings boxes.now) place.root gone (sum g.gone.durable) g.db space.old
         → MayCreate (B.meanings boxes.now) g.db name.now method schema.now key.now
         → IsLicensed S.has S.leads S.table (B.meanings boxes.now) (refusal_of e)
         (fold.at_point (with_relation g.db name.now (new_relation method schema.now key.now)) g.gone cost g.trail) space.new) }

@@ -1,6 +1,6 @@
 //! Attachments that go by their names, and mirrors of a relation's attachments. What is made of an open relation goes by calls of `drop`.
 
-ghost use Rattle.std.specs.Prelude.{◌≡◌, ◌++◌, ◌∷◌, IfOk, IfErr, OnOk, option_copied, option_map, true};
+ghost use Rattle.std.specs.Prelude.{◌≡◌, ℕ, ◌+◌, ◌++◌, ◌∷◌, IfOk, IfErr, OnOk, option_copied, option_map, true};
 ghost use Rattle.sb_relation.specs.Build.{mirror_name, mirror_of};
 ghost use Rattle.sb_relation.specs.Db.{Db, Name as Named};
 ghost use Rattle.sb_fold.specs.Building.{without_attached, without_mirror, without_mirrors};
@@ -10,9 +10,9 @@ ghost use Rattle.sb_drive.specs.Spaces.{LeadsOn};
 ghost use Rattle.sb_catalog.specs.Descriptors.{IsStorableDescriptor};
 ghost use Rattle.sb_standing.specs.Standing.{owners_named, without_described};
 ghost use Rattle.sb_engine.specs.Refusals.{HasFaultCause, HasRefusalCause, refusal_of};
-ghost use Rattle.sb_engine.specs.Working.{Goes, IsServing};
-ghost use Rattle.sb_tables.specs.Keeping.{Closes, HasMore, KeepsDb, KeepsIn};
-ghost use Rattle.sb_tables.specs.Removal.{without_mirrors_of};
+ghost use Rattle.sb_engine.specs.Working.{Goes, IsServing, extensions_in, extensions_of};
+ghost use Rattle.sb_tables.specs.Keeping.{Closes, HasMore, IsFullBy, KeepsDb, KeepsIn, KeepsWithin, KeepsWithinIn};
+ghost use Rattle.sb_tables.specs.Removal.{mirror_bound, mirrors_bound, mirrors_bound_of, taken_bound, without_mirrors_of};
 
 use crate::descriptors::{enter, owners_named, without_named};
 use sb_catalog::{Attached, Descriptor};
@@ -34,9 +34,13 @@ pub fn detach_named<B: Boxes, S: PageSpace>(
 ) -> Result<(), Refusal>
     requires ready { IsServing S.is_ready B.meanings running.old }
 
-    ensures detached { OnOk result ((db : Db) → KeepsIn S.has B.meanings db running.old
-        → KeepsIn S.has B.meanings (without_attached db relation.now label.now) running.new) }
-    ensures refused { IfErr result (λ r. (db : Db) → KeepsIn S.has B.meanings db running.old → HasRefusalCause S.fails r running.new.space.now) }
+    ensures detached { OnOk result ((aside most : ℕ) (db : Db) → KeepsWithinIn S.has B.meanings aside most db running.old
+        → KeepsWithinIn S.has B.meanings (aside + taken_bound (extensions_in B.meanings running.old) db relation.now label.now) most
+        (without_attached db relation.now label.now) running.new) }
+    ensures refused { IfErr result (λ r. (aside : ℕ) (db : Db) → KeepsIn S.has B.meanings aside db running.old
+        → HasRefusalCause S.fails r running.new.space.now) }
+    ensures licensed { IfErr result (λ r. (aside most : ℕ) (db : Db) → KeepsWithinIn S.has B.meanings aside most db running.old
+        → IsFullBy S.has S.leads S.table most r running.new.space.now) }
     ensures fault { IfErr result (λ r. HasFaultCause S.fails r running.new.space.now) }
     ensures free { IfErr result (λ r. is_free r ≡ true) }
     ensures closes { Closes running.old running.new }
@@ -71,10 +75,14 @@ fn detach_kept<S: PageSpace, B: Boxes>(
     requires ready { S.is_ready space.old }
     requires owner { place.owner ≡ 2 }
 
-    ensures detached { OnOk result ((db : Db) → KeepsDb S.has (B.meanings boxes.now) place.root gone.old.items db space.old
-        → KeepsDb S.has (B.meanings boxes.now) place.root gone.new.items (without_attached db relation.now label.now) space.new) }
-    ensures refused { IfErr result (λ e. (db : Db) → KeepsDb S.has (B.meanings boxes.now) place.root gone.old.items db space.old
+    ensures detached { OnOk result ((aside most : ℕ) (db : Db) → KeepsWithin S.has (B.meanings boxes.now) place.root gone.old.items aside most db space.old
+        → KeepsWithin S.has (B.meanings boxes.now) place.root gone.new.items (aside + taken_bound (extensions_of (B.meanings boxes.now)) db relation.now label.now) most
+        (without_attached db relation.now label.now) space.new) }
+    ensures refused { IfErr result (λ e. (aside : ℕ) (db : Db) → KeepsDb S.has (B.meanings boxes.now) place.root gone.old.items aside db space.old
         → HasRefusalCause S.fails (refusal_of e) space.new) }
+    ensures licensed { IfErr result (λ e. (aside most : ℕ) (db : Db)
+        → KeepsWithin S.has (B.meanings boxes.now) place.root gone.old.items aside most db space.old
+        → IsFullBy S.has S.leads S.table most (refusal_of e) space.new) }
     ensures fault { IfErr result (λ e. HasFaultCause S.fails (refusal_of e) space.new) }
     ensures more { HasMore gone.old.items gone.new.items }
     ensures leads { LeadsOn S.leads space.old space.new }
@@ -140,10 +148,15 @@ pub(crate) fn detach_mirrors<S: PageSpace, B: Boxes>(
     requires ready { S.is_ready space.old }
     requires owner { place.owner ≡ 2 }
 
-    ensures detached { OnOk result ((db : Db) → KeepsDb S.has (B.meanings boxes.now) place.root gone.old.items db space.old
-        → KeepsDb S.has (B.meanings boxes.now) place.root gone.new.items (without_mirrors name.now (attachments_at db name.now) db) space.new) }
-    ensures refused { IfErr result (λ e. (db : Db) → KeepsDb S.has (B.meanings boxes.now) place.root gone.old.items db space.old
+    ensures detached { OnOk result ((aside most : ℕ) (db : Db) → KeepsWithin S.has (B.meanings boxes.now) place.root gone.old.items aside most db space.old
+        → KeepsWithin S.has (B.meanings boxes.now) place.root gone.new.items
+        (aside + mirrors_bound (extensions_of (B.meanings boxes.now)) name.now (attachments_at db name.now) db) most
+        (without_mirrors name.now (attachments_at db name.now) db) space.new) }
+    ensures refused { IfErr result (λ e. (aside : ℕ) (db : Db) → KeepsDb S.has (B.meanings boxes.now) place.root gone.old.items aside db space.old
         → HasRefusalCause S.fails (refusal_of e) space.new) }
+    ensures licensed { IfErr result (λ e. (aside most : ℕ) (db : Db)
+        → KeepsWithin S.has (B.meanings boxes.now) place.root gone.old.items aside most db space.old
+        → IsFullBy S.has S.leads S.table most (refusal_of e) space.new) }
     ensures fault { IfErr result (λ e. HasFaultCause S.fails (refusal_of e) space.new) }
     ensures more { HasMore gone.old.items gone.new.items }
     ensures leads { LeadsOn S.leads space.old space.new }
@@ -176,10 +189,14 @@ fn detach_mirrors_of<S: PageSpace, B: Boxes>(
     requires ready { S.is_ready space.old }
     requires owner { place.owner ≡ 2 }
 
-    ensures detached { OnOk result ((db : Db) → KeepsDb S.has (B.meanings boxes.now) place.root gone.old.items db space.old
-        → KeepsDb S.has (B.meanings boxes.now) place.root gone.new.items (without_mirrors_of name.now attachments.now db) space.new) }
-    ensures refused { IfErr result (λ e. (db : Db) → KeepsDb S.has (B.meanings boxes.now) place.root gone.old.items db space.old
+    ensures detached { OnOk result ((aside most : ℕ) (db : Db) → KeepsWithin S.has (B.meanings boxes.now) place.root gone.old.items aside most db space.old
+        → KeepsWithin S.has (B.meanings boxes.now) place.root gone.new.items (aside + mirrors_bound_of (extensions_of (B.meanings boxes.now)) name.now attachments.now db) most
+        (without_mirrors_of name.now attachments.now db) space.new) }
+    ensures refused { IfErr result (λ e. (aside : ℕ) (db : Db) → KeepsDb S.has (B.meanings boxes.now) place.root gone.old.items aside db space.old
         → HasRefusalCause S.fails (refusal_of e) space.new) }
+    ensures licensed { IfErr result (λ e. (aside most : ℕ) (db : Db)
+        → KeepsWithin S.has (B.meanings boxes.now) place.root gone.old.items aside most db space.old
+        → IsFullBy S.has S.leads S.table most (refusal_of e) space.new) }
     ensures fault { IfErr result (λ e. HasFaultCause S.fails (refusal_of e) space.new) }
     ensures more { HasMore gone.old.items gone.new.items }
     ensures leads { LeadsOn S.leads space.old space.new }
@@ -204,11 +221,15 @@ fn detach_mirror<S: PageSpace, B: Boxes>(
     requires ready { S.is_ready space.old }
     requires owner { place.owner ≡ 2 }
 
-    ensures detached { OnOk result ((db : Db) → KeepsDb S.has (B.meanings boxes.now) place.root gone.old.items db space.old
-        → KeepsDb S.has (B.meanings boxes.now) place.root gone.new.items
+    ensures detached { OnOk result ((aside most : ℕ) (db : Db) → KeepsWithin S.has (B.meanings boxes.now) place.root gone.old.items aside most db space.old
+        → KeepsWithin S.has (B.meanings boxes.now) place.root gone.new.items
+        (aside + mirror_bound (extensions_of (B.meanings boxes.now)) name.now attached.now.name (mirror_of name.now attached.now.rule) db) most
         (without_mirror name.now attached.now.name (mirror_of name.now attached.now.rule) db) space.new) }
-    ensures refused { IfErr result (λ e. (db : Db) → KeepsDb S.has (B.meanings boxes.now) place.root gone.old.items db space.old
+    ensures refused { IfErr result (λ e. (aside : ℕ) (db : Db) → KeepsDb S.has (B.meanings boxes.now) place.root gone.old.items aside db space.old
         → HasRefusalCause S.fails (refusal_of e) space.new) }
+    ensures licensed { IfErr result (λ e. (aside most : ℕ) (db : Db)
+        → KeepsWithin S.has (B.meanings boxes.now) place.root gone.old.items aside most db space.old
+        → IsFullBy S.has S.leads S.table most (refusal_of e) space.new) }
     ensures fault { IfErr result (λ e. HasFaultCause S.fails (refusal_of e) space.new) }
     ensures more { HasMore gone.old.items gone.new.items }
     ensures leads { LeadsOn S.leads space.old space.new }

@@ -1,6 +1,6 @@
 //! Relations that go. An open relation itself goes by a call of `drop`.
 
-ghost use Rattle.std.specs.Prelude.{◌≡◌, IfErr, OnOk};
+ghost use Rattle.std.specs.Prelude.{◌≡◌, ℕ, ◌+◌, sum, IfErr, OnOk};
 ghost use Rattle.sb_relation.specs.Db.{Db};
 ghost use Rattle.sb_fold.specs.Building as fold;
 ghost use Rattle.sb_fold.specs.Outcome.{Going, Queue};
@@ -8,8 +8,8 @@ ghost use Rattle.sb_cascade.specs.Runs.{MadeFrom, StopsFrom};
 ghost use Rattle.sb_drive.specs.Spaces.{LeadsOn};
 ghost use Rattle.sb_deferred.specs.Complete.{AreMirrored};
 ghost use Rattle.sb_engine.specs.Refusals.{HasFaultCause, HasRefusalCause, refusal_of};
-ghost use Rattle.sb_engine.specs.Working.{ArePaired, Goes, IsServing, IsStoppedBy, StandsFor, extensions_in};
-ghost use Rattle.sb_tables.specs.Keeping.{Closes, HasMore, KeepsDb};
+ghost use Rattle.sb_engine.specs.Working.{AreNamedApart, ArePaired, Goes, IsServing, IsStoppedFor, StandsFor, extensions_in, extensions_of};
+ghost use Rattle.sb_tables.specs.Keeping.{Closes, HasMore, IsFullBy, KeepsDb, KeepsWithin};
 ghost use Rattle.sb_tables.specs.Removal.{IsUnnamedIn, MayDrop, without_name};
 
 use crate::descriptors::owners_of;
@@ -32,7 +32,7 @@ pub fn drop_relation<B: Boxes, S: PageSpace>(
     ensures made { OnOk result ((g : Going) → StandsFor S.has B.meanings g running.old → MayDrop g.db g.queue name.now
         → MadeFrom (StandsFor S.has B.meanings) (fold.drop_relation (extensions_in B.meanings running.old) name.now) g tt running.new) }
     ensures refused { IfErr result (λ r. (g : Going) → StandsFor S.has B.meanings g running.old → MayDrop g.db g.queue name.now
-        → StopsFrom (IsStoppedBy S.fails) (fold.drop_relation (extensions_in B.meanings running.old) name.now) g r running.new) }
+        → StopsFrom (IsStoppedFor S.has S.leads S.fails S.table B.meanings) (fold.drop_relation (extensions_in B.meanings running.old) name.now) g r running.new) }
     ensures fault { IfErr result (λ r. HasFaultCause S.fails r running.new.space.now) }
     ensures closes { Closes running.old running.new }
     ensures goes { Goes S.leads running.old running.new }
@@ -64,11 +64,15 @@ fn drop_kept<S: PageSpace, B: Boxes>(
     requires ready { S.is_ready space.old }
     requires owner { place.owner ≡ 2 }
 
-    ensures dropped { OnOk result ((db : Db) (q : Queue) → KeepsDb S.has (B.meanings boxes.now) place.root gone.old.items db space.old
-        → MayDrop db q name.now → AreMirrored db → ArePaired db
-        → KeepsDb S.has (B.meanings boxes.now) place.root gone.new.items (fold.without_relation db name.now) space.new) }
-    ensures refused { IfErr result (λ e. (db : Db) → KeepsDb S.has (B.meanings boxes.now) place.root gone.old.items db space.old
+    ensures dropped { OnOk result ((aside : ℕ) (db : Db) (q : Queue) → KeepsDb S.has (B.meanings boxes.now) place.root gone.old.items aside db space.old
+        → MayDrop db q name.now → AreMirrored db → ArePaired db → AreNamedApart db
+        → KeepsDb S.has (B.meanings boxes.now) place.root gone.new.items (aside + sum (fold.bounds_at (extensions_of (B.meanings boxes.now)) db name.now))
+        (fold.without_relation db name.now) space.new) }
+    ensures refused { IfErr result (λ e. (aside : ℕ) (db : Db) → KeepsDb S.has (B.meanings boxes.now) place.root gone.old.items aside db space.old
         → HasRefusalCause S.fails (refusal_of e) space.new) }
+    ensures licensed { IfErr result (λ e. (aside most : ℕ) (db : Db)
+        → KeepsWithin S.has (B.meanings boxes.now) place.root gone.old.items aside most db space.old
+        → IsFullBy S.has S.leads S.table most (refusal_of e) space.new) }
     ensures fault { IfErr result (λ e. HasFaultCause S.fails (refusal_of e) space.new) }
     ensures more { HasMore gone.old.items gone.new.items }
     ensures leads { LeadsOn S.leads space.old space.new }
@@ -90,11 +94,15 @@ fn drop_alone<S: PageSpace, B: Boxes>(
     requires ready { S.is_ready space.old }
     requires owner { place.owner ≡ 2 }
 
-    ensures dropped { OnOk result ((db : Db) → KeepsDb S.has (B.meanings boxes.now) place.root gone.old.items db space.old
+    ensures dropped { OnOk result ((aside : ℕ) (db : Db) → KeepsDb S.has (B.meanings boxes.now) place.root gone.old.items aside db space.old
         → IsUnnamedIn db name.now
-        → KeepsDb S.has (B.meanings boxes.now) place.root gone.new.items (without_name db name.now) space.new) }
-    ensures refused { IfErr result (λ e. (db : Db) → KeepsDb S.has (B.meanings boxes.now) place.root gone.old.items db space.old
+        → KeepsDb S.has (B.meanings boxes.now) place.root gone.new.items (aside + sum (fold.bounds_at (extensions_of (B.meanings boxes.now)) db name.now))
+        (without_name db name.now) space.new) }
+    ensures refused { IfErr result (λ e. (aside : ℕ) (db : Db) → KeepsDb S.has (B.meanings boxes.now) place.root gone.old.items aside db space.old
         → HasRefusalCause S.fails (refusal_of e) space.new) }
+    ensures licensed { IfErr result (λ e. (aside most : ℕ) (db : Db)
+        → KeepsWithin S.has (B.meanings boxes.now) place.root gone.old.items aside most db space.old
+        → IsFullBy S.has S.leads S.table most (refusal_of e) space.new) }
     ensures fault { IfErr result (λ e. HasFaultCause S.fails (refusal_of e) space.new) }
     ensures more { HasMore gone.old.items gone.new.items }
     ensures leads { LeadsOn S.leads space.old space.new }

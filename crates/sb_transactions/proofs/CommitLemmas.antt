@@ -32,6 +32,7 @@ module _ (m : Meanings) (place : Place) (want : Wanted) (tx : ℕ) (g : Going) (
     lasting = at.settled.lasting;
     mirrored = at.settled.mirrored;
     paired = at.settled.paired;
+    apart = at.settled.apart;
     complete = subst (λ (db : Db). IsComplete db nothing) at.db (first-complete (extensions_of m) g.db finished.holds);
     rules = at.settled.rules;
     fit = All-nil (IsFitting (db_of at.kept));

@@ -1,5 +1,5 @@
 -- What stands goes on standing while an engine drives calls in a transaction.
-use Rattle.std.proofs.Common.{ℕ, Option, List, sym, subst, ◌∙◌, arith}
+use Rattle.std.proofs.Common.{ℕ, ◌≤◌, Option, List, sum, sym, subst, ◌∙◌, arith}
 use Rattle.sb_disk.specs.Disk.{Story}
 use Rattle.sb_relation.specs.Db.{Db}
 use Rattle.sb_fold.specs.Extensions.{box_of}
@@ -15,11 +15,11 @@ use Rattle.sb_tables.specs.Opened.{IsDurable}
 use Rattle.sb_space.specs.declared.durable.Durable.{Durable}
 use Rattle.sb_space.specs.Durable.{parts_in}
 use Rattle.sb_space.specs.View.{lent}
-use Rattle.sb_space.specs.Works.{HasPages}
 use Rattle.sb_space.specs.Works as space
 use Rattle.sb_space.proofs.GoingBack.{KeepsChanges-driven, Stands-driven, WasAt-driven}
 use Rattle.sb_tables.specs.Work.{Work}
-use Rattle.sb_tables.specs.Working.{ArePaired, extensions_of}
+use Rattle.sb_tables.specs.Owned.{pages_of}
+use Rattle.sb_tables.specs.Working.{AreNamedApart, ArePaired, extensions_of}
 use Rattle.sb_tables.specs.Working as engine
 use Rattle.sb_transactions.specs.Driven.{DrivenKeepsBegun, DrivenKeepsEachPoint, DrivenKeepsPoints, DrivenLeavesWanted, DrivenStands, GoesAreWorks, HasLent, IsServed, RunningStands}
 use Rattle.sb_transactions.specs.Transactions.{IsAt, IsSettled}
@@ -33,6 +33,7 @@ IsSettled-stands Has m root g s w stands = record {
   lasting = stands.lasting;
   mirrored = subst (λ (db : Db). AreMirrored db) stands.db stands.mirrored;
   paired = subst (λ (db : Db). ArePaired db) stands.db stands.paired;
+  apart = subst (λ (db : Db). AreNamedApart db) stands.db stands.apart;
   complete = subst (λ (db : Db). IsComplete db g.queue) stands.db stands.complete;
   rules = subst (λ (db : Db). AllMayStand (box_of (extensions_of m)) db) stands.db stands.rules;
   fit = subst (λ (db : Db). AllFit db g.queue.actions) stands.db stands.fit;
@@ -56,6 +57,8 @@ module _ {D : Type 0} (told : D → Option Story) (len faults : D → ℕ) where
     waits = at.waits;
     picked = at.picked;
     gone = at.gone;
+    aside = at.aside;
+    apart = subst (λ (db : Db). AreNamedApart db) (sym at.db) at.settled.apart;
     rules = subst (λ (db : Db). AllMayStand (box_of (extensions_of m)) db) (sym at.db) at.settled.rules;
     fit = subst (λ (db : Db). AllFit db g.queue.actions) (sym at.db) at.settled.fit;
   }
@@ -80,6 +83,7 @@ module _ {D : Type 0} (told : D → Option Story) (len faults : D → ℕ) where
         waits = stands.waits;
         picked = stands.picked;
         gone = stands.gone;
+        aside = stands.aside;
       }
 
   pub driven-each : DrivenKeepsEachPoint told len faults
@@ -105,6 +109,8 @@ module _ {D : Type 0} (told : D → Option Story) (len faults : D → ℕ) where
     settled = was.settled;
     waited = front_waited point v.queue w.queue works.queue was.of.queue ∙ was.waited;
     gone = λ none. take_front point.gone v.gone.items works.gone.0 w.gone.items works.gone.1 was.of.gone ∙ was.gone none;
+    aside = subst (λ (xs : List ℕ). pages_of was.slots xs ≤ sum g.gone.durable)
+        (sym (take_front point.gone v.gone.items works.gone.0 w.gone.items works.gone.1 was.of.gone)) was.aside;
   }
 
   pub driven-begun : DrivenKeepsBegun told len faults

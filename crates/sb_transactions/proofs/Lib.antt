@@ -1,3 +1,4 @@
+pub use Rattle.sb_tables.proofs.LackingLemmas
 pub use Rattle.sb_tables.proofs.RefusedLemmas
 pub mod PageLemmas
 pub mod WorkLemmas

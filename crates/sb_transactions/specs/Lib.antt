@@ -3,6 +3,7 @@ pub use Rattle.sb_space.specs.Table
 pub use Rattle.sb_space.specs.declared.transactions.Space
 pub use Rattle.sb_space.specs.declared.transactions.Tx
 pub use Rattle.sb_tables.specs.Opened
+pub use Rattle.sb_tables.specs.Owned
 pub use Rattle.sb_tables.specs.Refusals
 pub use Rattle.sb_tables.specs.Standing
 pub use Rattle.sb_tables.specs.Tables

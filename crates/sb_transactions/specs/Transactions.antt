@@ -1,5 +1,5 @@
 -- Where work in a transaction has come, and where going back to a point comes.
-use Rattle.std.specs.Prelude.{◌≡◌, ℕ, ◌≤◌, false, List, [], length, take, drop, None}
+use Rattle.std.specs.Prelude.{◌≡◌, ℕ, ◌≤◌, false, List, [], length, take, drop, sum, None}
 use Rattle.sb_relation.specs.Db.{Db}
 use Rattle.sb_fold.specs.Extensions.{box_of}
 use Rattle.sb_fold.specs.Finish.{first_failing}
@@ -21,17 +21,19 @@ use Rattle.sb_space.specs.Transactions.{AreFormed, WasAt}
 use Rattle.sb_space.specs.Works.{HasPages, StaysWanted}
 use Rattle.sb_space.specs.Works as space
 use Rattle.sb_tables.specs.Work.{Work}
-use Rattle.sb_tables.specs.Working.{AreLasting, AreOpened, ArePaired, IsNoneGone, extensions_of, left_of}
+use Rattle.sb_tables.specs.Owned.{pages_of}
+use Rattle.sb_tables.specs.Working.{AreLasting, AreNamedApart, AreOpened, ArePaired, IsNoneGone, extensions_of, left_of}
 use Rattle.sb_tables.specs.Working as engine
 use Rattle.sb_transactions.specs.declared.transactions.Point.{Point}
 
 -- ---- databases
--- What is so of the relations that pages keep, beside what waits: they outlive the run, their mirrors stand in pairs, what waits tells which deferred
--- rules may fail, each rule may stand, and the actions that wait fit.
+-- What is so of the relations that pages keep, beside what waits: they outlive the run, their mirrors stand in pairs, no name stands twice among the
+-- attachments of one, what waits tells which deferred rules may fail, each rule may stand, and the actions that wait fit.
 pub record IsSettled (m : Meanings) (kept : List Kept) (queue : Queue) : Type 0 where
   pub lasting : AreLasting kept
   pub mirrored : AreMirrored (db_of kept)
   pub paired : ArePaired (db_of kept)
+  pub apart : AreNamedApart (db_of kept)
   pub complete : IsComplete (db_of kept) queue
   pub rules : AllMayStand (box_of (extensions_of m)) (db_of kept)
   pub fit : AllFit (db_of kept) queue.actions
@@ -59,7 +61,8 @@ pub record WasBegun (m : Meanings) (root : ℕ) (want : Wanted) (db : Db) (tx : 
 abbrev pub IsUsable : Meanings → Place → ℕ → Parts → Work → Type 0
 IsUsable m place tx p w = engine.Serves (λ q. space.Serves tx q) m place p w
 
--- Work in the transaction has come so far, over these pages wanted; and no owner is to go where nothing was dropped or detached.
+-- Work in the transaction has come so far, over these pages wanted; no owner is to go where nothing was dropped or detached, and those that are to go
+-- have no more pages than are held aside.
 pub record IsAt (m : Meanings) (place : Place) (want : Wanted) (tx : ℕ) (g : Going) (p : Parts) (w : Work) : Type 0 where
   pub usable : IsUsable m place tx p w
   pub slots : Slots
@@ -72,6 +75,7 @@ pub record IsAt (m : Meanings) (place : Place) (want : Wanted) (tx : ℕ) (g : G
   pub waits : left_of w ≡ g.queue
   pub picked : w.picks.items ≡ g.used
   pub gone : IsNoneGone g.gone → w.gone.items ≡ []
+  pub aside : pages_of slots w.gone.items ≤ sum g.gone.durable
 
 -- the same work, of which no picks are told
 abbrev pub unused : Going → Going
@@ -115,6 +119,7 @@ pub record WasSo (m : Meanings) (place : Place) (want : Wanted) (tx : ℕ) (g : 
   pub settled : IsSettled m kept g.queue
   pub waited : waited_at point w.queue ≡ g.queue
   pub gone : IsNoneGone g.gone → take point.gone w.gone.items ≡ []
+  pub aside : pages_of slots (take point.gone w.gone.items) ≤ sum g.gone.durable
 
 -- no more stood at the one than at the other
 pub record IsNotBehind (one other : Point) : Type 0 where

@@ -2,14 +2,10 @@
 use Rattle.std.proofs.Common.{◌≡◌, ℕ, zero, suc, ◌+◌, ◌*◌, ◌<◌, ◌≤◌, ◌==◌, max, Bool, true, false, cond, List, [], ◌∷◌, length, get_or, map, All}
 use Rattle.std.proofs.Common.{Some, bytes_eq, refl, sym, ap, ◌∙◌, subst, arith}
 use Rattle.std.specs.List.{slice_get}
-use Rattle.std.proofs.lemmas.Bool.{ne_eqb}
 use Rattle.std.proofs.lemmas.List.{length-map}
 use Rattle.std.proofs.lemmas.List.Elements.{All-cons, All-head, All-map, All-nil, All-tail, All-weaker}
 use Rattle.std.proofs.lemmas.Option.{same_Some}
 use Rattle.sb_rule.specs.declared.change.Change.{Change}
-use Rattle.sb_rule.specs.declared.rule.Rule.{Rule}
-use Rattle.sb_rule.specs.declared.rule.Rule.TheVariants.{TreeIndex, HashIndex, JoinIndex, Stats, Check, Refers, Trigger, Foreign}
-use Rattle.sb_rule.specs.Spelling.{IsWithinLimits, rule_code}
 use Rattle.sb_relation.specs.Buckets.{grown, next_buckets}
 use Rattle.sb_relation.specs.Changes.{changed, changed_rows}
 use Rattle.sb_relation.specs.Content.{Content}
@@ -39,7 +35,7 @@ use Rattle.sb_standing.proofs.SplitLemmas.{EachRule-map, EachRule-weaker, SplitR
 use Rattle.sb_standing.proofs.StandLemmas.{EachRule-split}
 use Rattle.sb_weights.specs.Rooms.{extensions_of}
 use Rattle.sb_weights.specs.Weights.{AreMeant, AskedIsWithin, AskingIsWithin, changing, most_asked}
-use Rattle.sb_weights.proofs.Bounded.{AreBounded, are-bounded}
+use Rattle.sb_weights.proofs.Bounded.{AreBounded, are-bounded, joinless-code}
 use Rattle.sb_weights.proofs.Catalogue.{catalogue_small}
 use Rattle.sb_weights.proofs.Changing.{changed_within}
 use Rattle.sb_weights.proofs.Lightness.{light_after, light_before, light_table, rules_after}
@@ -136,18 +132,7 @@ next_kept m durable root s gone before name c i k d a asks there at_d at_a =
     let found = CanAsk-next m durable root s gone before name c i k d asks there at_d in
     subst (IsKept m durable s (db_of before) k d) (same_Some found.0 a (sym found.1 ∙ at_a)) found.2.kept
 
--- only a join has the code of joins
-no_join_code : (rule : Rule) → is_join rule ≡ false → IsWithinLimits rule → rule_code rule == 3 ≡ false
-no_join_code (TreeIndex columns unique) none limited = refl
-no_join_code (HashIndex columns) none limited = refl
-no_join_code (JoinIndex side columns other others) none limited = absurd (cc)
-no_join_code (Stats column low width) none limited = refl
-no_join_code (Check pred deferred) none limited = refl
-no_join_code (Refers side columns other others mode deferred) none limited = refl
-no_join_code (Trigger on pred act deferred) none limited = refl
-no_join_code (Foreign code desc) none limited = ne_eqb code 3 (λ is. omega (arith, is, limited))
-
--- so the call of another takes as many pages at most as one of the two contents
+-- the call of a box that keeps no join takes as many pages at most as one of the two contents
 abbrev most_of : Attachment → Content → Content → ℕ
 most_of box old new = max (box.bound old) (box.bound new)
 
@@ -160,7 +145,7 @@ most_of_both m durable s db c k d a box live kept none =
     let new = content_after box (rule_of durable k d) a.rule db a.buckets c in
     let same = same_Some box kept.box (sym live ∙ kept.live) in
     let code = ap (λ (x : Attachment). x.rules.code == 3) same ∙ ap (λ n. n == 3) kept.stands.spelled.coded
-    ∙ no_join_code a.rule none kept.stands.spelled.limited in
+    ∙ joinless-code a.rule none kept.stands.spelled.limited in
     ap (λ b. cond b (box.bound old + box.cost (Changed c) old new) (max (box.bound old) (box.bound new))) code
 
 -- what its call has room for is within its weight

@@ -2,7 +2,7 @@
 use Rattle.std.proofs.Common.{◌≡◌, ℕ, suc, ◌<◌, ◌≤◌, ◌==◌, nat_lt, Bool, true, false, cond, List, [], ◌∷◌, ◌++◌, length, map, Some, None}
 use Rattle.std.proofs.Common.{refl, ap, sym, subst, ◌∙◌, arith, eqb-true}
 use Rattle.std.specs.List.{find}
-use Rattle.std.proofs.lemmas.Bool.{ltb-true}
+use Rattle.std.proofs.lemmas.Bool.{ltb-true, ne_eqb}
 use Rattle.std.proofs.lemmas.List.{length-map}
 use Rattle.std.proofs.lemmas.Option.{same_Some}
 use Rattle.sb_value.specs.Code.{ordered_code}
@@ -131,6 +131,17 @@ rule_bounded m code box is law db name (Refers side columns other others mode de
     standard_bounded m code box is law db name (Refers side columns other others mode deferred) buckets same limited none (omega arith)
 rule_bounded m code box is law db name (Trigger on pred act deferred) buckets same limited none =
     standard_bounded m code box is law db name (Trigger on pred act deferred) buckets same limited none (omega arith)
+
+-- only a join has the code of joins
+pub joinless-code : (rule : Rule) → is_join rule ≡ false → IsWithinLimits rule → rule_code rule == 3 ≡ false
+joinless-code (TreeIndex columns unique) none limited = refl
+joinless-code (HashIndex columns) none limited = refl
+joinless-code (JoinIndex side columns other others) none limited = absurd (cc)
+joinless-code (Stats column low width) none limited = refl
+joinless-code (Check pred deferred) none limited = refl
+joinless-code (Refers side columns other others mode deferred) none limited = refl
+joinless-code (Trigger on pred act deferred) none limited = refl
+joinless-code (Foreign code desc) none limited = ne_eqb code 3 (λ is. omega (arith, is, limited))
 
 -- ---- all of them
 -- The bound of each live box is within what the extensions say of its code: of any relation, and of any rule within its limits that is no join.

@@ -11,7 +11,7 @@ use Rattle.sb_value.specs.Order.{bytes_cmp}
 use Rattle.sb_rule.specs.declared.rule.Rule.{Rule}
 use Rattle.sb_rule.specs.declared.rule.Rule.TheVariants.{TreeIndex, HashIndex, JoinIndex, Stats, Check, Refers, Trigger, Foreign}
 use Rattle.sb_relation.specs.Db
-use Rattle.sb_relation.specs.Db.{Name, Relation, Rows, relation_at, with_relation}
+use Rattle.sb_relation.specs.Db.{Name, Relation, Rows, relation_at, rows_at, schema_at, with_relation}
 use Rattle.sb_fold.specs.Bounds.{foreign_bound, plain_bound, rule_bound}
 use Rattle.sb_fold.specs.Extensions.{AttachRoom, Extensions, attach_room}
 use Rattle.sb_fold.specs.Need.{need, relation_weight, rule_weight}
@@ -24,7 +24,7 @@ use Rattle.sb_drive.specs.Slots.{Slots, owned}
 use Rattle.sb_room.specs.Owned.{AreOwners, pages_of}
 use Rattle.sb_room.proofs.Owning.{full-is-owned, pages-same}
 use Rattle.sb_standing.specs.Instances.{owners_of}
-use Rattle.sb_standing.specs.Standing.{EachRule, HasPage, IsAmong, IsKept, IsOwner, Keeps, KeepsRule, KeepsRules, has_no_join, is_join, owners_in}
+use Rattle.sb_standing.specs.Standing.{EachRule, HasPage, IsAmong, IsKept, IsOwner, KeepsRule, KeepsRules, has_no_join, is_join, owners_in}
 use Rattle.sb_standing.specs.Tables.{Kept, KeepsTable, db_of, kept_at}
 use Rattle.sb_standing.specs.TableLaws.{Comes}
 use Rattle.sb_standing.proofs.FrameLemmas.{All-any, All-both, All-right, KeepsTable-same}
@@ -40,7 +40,7 @@ use Rattle.sb_weights.proofs.Bounded.{AreBounded, are-bounded}
 use Rattle.sb_weights.proofs.Filling.{are_owners}
 use Rattle.sb_weights.proofs.Lightness.{light_table}
 use Rattle.sb_weights.proofs.Summing.{weighed_sum}
-use Rattle.sb_weights.proofs.Weighing.{IsLight, IsLightRule, Weighs, light_weighs, rule_pages, weight, weight_is}
+use Rattle.sb_weights.proofs.Weighing.{IsLightRule, Weighs, light_weighs, rule_pages, weight, weight_is}
 
 -- ---- a database with one relation more
 -- what its entries add up to
@@ -77,28 +77,30 @@ still_there kept name r n other =
     } in
     ap (λ (db : Db.Db). relation_at db n) (sym (db_of-put k kept)) ∙ relation_at-put k kept n ∙ ap (λ b. cond b (Some r) (relation_at (db_of kept) n)) other
 
--- ---- an attachment takes as much in each database that has its relation alike
+-- ---- an attachment takes as much in each database that has its relation's rows and columns alike
+foreign_alike : (room : Option AttachRoom) (desc : List ℕ) (a b : Db.Db) (name : Name) (buckets : ℕ) → rows_at a name ≡ rows_at b name → schema_at a name ≡ schema_at b name
+    → foreign_bound room desc a name buckets ≡ foreign_bound room desc b name buckets
+foreign_alike None desc a b name buckets rows columns = refl
+foreign_alike (Some room) desc a b name buckets rows columns =
+    ap (λ (c : List Column). room.bound desc c (rows_at a name) buckets) columns ∙ ap (λ (r : Rows). room.bound desc (schema_at b name) r buckets) rows
+
+-- if its rule is no join
+pub bound-alike : (ext : Extensions) (a b : Db.Db) (name : Name) (rule : Rule) (buckets : ℕ) → rows_at a name ≡ rows_at b name → schema_at a name ≡ schema_at b name
+    → is_join rule ≡ false → rule_bound ext a name rule buckets ≡ rule_bound ext b name rule buckets
+bound-alike ext a b name (TreeIndex columns unique) buckets rows same none = ap (λ (r : Rows). plain_bound (length r)) rows
+bound-alike ext a b name (HashIndex columns) buckets rows same none = ap (λ (r : Rows). plain_bound (length r) + 2 * buckets) rows
+bound-alike ext a b name (JoinIndex side columns other others) buckets rows same none = absurd (cc)
+bound-alike ext a b name (Stats column low width) buckets rows same none = refl
+bound-alike ext a b name (Check pred deferred) buckets rows same none = refl
+bound-alike ext a b name (Refers side columns other others mode deferred) buckets rows same none = refl
+bound-alike ext a b name (Trigger on pred act deferred) buckets rows same none = refl
+bound-alike ext a b name (Foreign code desc) buckets rows same none = foreign_alike (attach_room ext code) desc a b name buckets rows same
+
 abbrev rows_in : Option Relation → Rows
 rows_in o = elim o as (λ _. Rows) [ None ↦ [] | Some r ↦ r.rows ]
 
 abbrev columns_in : Option Relation → List Column
 columns_in o = elim o as (λ _. List Column) [ None ↦ [] | Some r ↦ r.schema ]
-
-foreign_same : (room : Option AttachRoom) (desc : List ℕ) (a b : Db.Db) (name : Name) (buckets : ℕ) → relation_at a name ≡ relation_at b name
-    → foreign_bound room desc a name buckets ≡ foreign_bound room desc b name buckets
-foreign_same None desc a b name buckets same = refl
-foreign_same (Some room) desc a b name buckets same = ap (λ (o : Option Relation). room.bound desc (columns_in o) (rows_in o) buckets) same
-
-bound_same : (ext : Extensions) (a b : Db.Db) (name : Name) (rule : Rule) (buckets : ℕ) → relation_at a name ≡ relation_at b name
-    → is_join rule ≡ false → rule_bound ext a name rule buckets ≡ rule_bound ext b name rule buckets
-bound_same ext a b name (TreeIndex columns unique) buckets same none = ap (λ (o : Option Relation). plain_bound (length (rows_in o))) same
-bound_same ext a b name (HashIndex columns) buckets same none = ap (λ (o : Option Relation). plain_bound (length (rows_in o)) + 2 * buckets) same
-bound_same ext a b name (JoinIndex side columns other others) buckets same none = absurd (cc)
-bound_same ext a b name (Stats column low width) buckets same none = refl
-bound_same ext a b name (Check pred deferred) buckets same none = refl
-bound_same ext a b name (Refers side columns other others mode deferred) buckets same none = refl
-bound_same ext a b name (Trigger on pred act deferred) buckets same none = refl
-bound_same ext a b name (Foreign code desc) buckets same none = foreign_same (attach_room ext code) desc a b name buckets same
 
 light_alike : (m : Meanings) (ext : Extensions) (at : Reached) (s : Slots) (inst : Instance) (a : Db.Attached) (db : Db.Db) → AreBounded m ext
     → ArePages (owned s inst.owner) → is_join a.rule ≡ false → relation_at at.after inst.relation ≡ relation_at db inst.relation
@@ -107,7 +109,7 @@ light_alike m ext at s inst a db bounded are none same kept =
     omega (
       arith,
       rule_pages m ext s inst a db bounded are none kept,
-      bound_same ext at.after db inst.relation a.rule a.buckets same none,
+      bound-alike ext at.after db inst.relation a.rule a.buckets (ap rows_in same) (ap columns_in same) none,
       weight_is ext at inst.relation a a.rule none,
     )
 

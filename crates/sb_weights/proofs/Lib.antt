@@ -1,3 +1,4 @@
+pub use Rattle.sb_room.proofs.Owning
 pub mod Bounded
 pub mod Weighing
 pub mod Summing
@@ -10,4 +11,5 @@ pub mod Asking
 pub mod Lacking
 pub mod Meant
 pub mod Coming
+pub mod Beside
 mod WorkedStore

@@ -1,7 +1,6 @@
 -- The relations of a store that keeps a database are light.
 use Rattle.std.proofs.Common.{◌≡◌, ℕ, ◌≤◌, Bool, true, false, sym, arith}
 use Rattle.sb_relation.specs.Db
-use Rattle.sb_relation.specs.Db.{Name, Relation}
 use Rattle.sb_fold.specs.Extensions.{Extensions, is_durable_method}
 use Rattle.sb_fold.specs.Need.{rule_weight}
 use Rattle.sb_fold.specs.Outcome.{Reached}

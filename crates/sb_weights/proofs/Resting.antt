@@ -17,7 +17,7 @@ use Rattle.sb_weights.proofs.Summing.{weighed_sum, weighed_within}
 use Rattle.sb_weights.proofs.Weighing.{IsLight, Weighs, light_weighs}
 
 -- ---- at rest
-light_rest : (m : Meanings) (ext : Extensions) (durable : ℕ → Bool) (s : Slots) (kept : List Kept) (aside : Gone) (spent : ℕ) → AreBounded m ext
+pub light_rest : (m : Meanings) (ext : Extensions) (durable : ℕ → Bool) (s : Slots) (kept : List Kept) (aside : Gone) (spent : ℕ) → AreBounded m ext
     → AreMeant ext kept → ((o : ℕ) → ArePages (owned s o)) → All (KeepsTable m durable s) kept → All (KeepsRules m durable s (db_of kept)) kept
     → All (λ k. has_no_join k ≡ true) kept → All (IsLight ext (resting (db_of kept) aside spent) s 0) kept
 light_rest m ext durable s kept aside spent bounded meant are tables rules joinless = λ i d in'.

@@ -2,3 +2,4 @@ pub use Rattle.sb_room.specs.Owned
 pub mod Rooms
 pub mod Weights
 pub mod Coming
+pub mod Beside

@@ -1,5 +1,6 @@
 //! Laws of how many pages a store has for its database.
 
+ghost use Rattle.sb_weights.specs.Beside.{BesideIsFull, RestHasRoom};
 ghost use Rattle.sb_weights.specs.Coming.{ComingIsFull};
 ghost use Rattle.sb_weights.specs.Weights.{RestIsWithin, FullIsNeeded, ChangeIsFull, ChangeIsWithin, AskedIsWithin, AskingIsFull, AskingIsWithin, LastingAreMeant};
 
@@ -33,6 +34,13 @@ pub fn asking_is_within()
 /// then, there are no more than those of the space itself and those that the database with the relation needs.
 pub fn coming_is_full()
     ensures full { ComingIsFull }
+{}
+
+/// While instances come to the relations of a store or go from them, the pages of all others stay, and the catalogue stays within its room. Where no
+/// page is left then, there are no more than those of the space itself, those that were needed before, and those of the new owner.
+pub fn beside_is_full()
+    ensures rest { RestHasRoom }
+    ensures full { BesideIsFull }
 {}
 
 /// Relations outlive the run where no storage method of theirs counts its keys.

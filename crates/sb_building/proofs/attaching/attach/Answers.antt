@@ -1,15 +1,14 @@
 use Rattle.std.proofs.Common.{[], append-nil, refl, sym, subst}
 use Rattle.sb_fold.specs.declared.refusal.Refusal.TheVariants.{TooLong as LongRow, Veto}
 use Rattle.sb_fold.specs.Building.{build}
-use Rattle.sb_cascade.proofs.Stopping.{stops_free}
 use Rattle.sb_tables.specs.Work.{Work}
 use Rattle.sb_tables.specs.Goings.{front_none}
 use Rattle.sb_tables.specs.Working.{extensions_of}
 use Rattle.sb_tables.proofs.RefusedLemmas.{free_refusal}
 use Rattle.sb_building.specs.declared.attaching.Attaching.{Attaching}
 use Rattle.sb_building.specs.Attaching.{HasEnded}
-use Rattle.sb_building.proofs.AttachLemmas.{attach_large, attach_long, attach_made, attach_vetoed, may_add, site_of, stores_of}
-use Rattle.sb_building.proofs.WorkLemmas.{forward_build, stops_either}
+use Rattle.sb_building.proofs.AttachLemmas.{attach_large, attach_licensed, attach_long, attach_made, attach_vetoed, may_add, site_of, stores_of}
+use Rattle.sb_building.proofs.WorkLemmas.{build_stops, forward_build, stops_either}
 use Rattle.sb_building.proofs.attaching.attach.Goals as goal
 
 pub returns-in-Ok-Attached-clause-made : goal.returns-in-Ok-Attached-clause-made
@@ -58,7 +57,7 @@ returns-in-Ok-TooLong-clause-refused g c = λ h stands may.
     let stores = stores_of has m root h a.space.now a.work.now stands relation name rule may in
     let ended = subst (λ (e : Attaching). HasEnded has m root site relation name rule adds.box.rules c.attach_copy.new.space e) c.in-Ok-TooLong.field-0-is (c.in-Ok-TooLong.ensures.ended site stands.has stores adds may.main may.storable) in
     stops_either _ (build (extensions_of m) relation name rule) h (LongRow relation) c.too_long.result _ c.too_long.ensures refl (attach_long has m root h a.space.now a.work.now stands relation name rule may c.attach_copy.new.space ended)
-    (forward_build (extensions_of m) relation name rule) (λ t. tt) (λ t. tt)
+    (forward_build (extensions_of m) relation name rule) (λ t. record { cause = tt; licensed = tt }) (λ t. record { cause = tt; licensed = tt })
 
 pub returns-in-Ok-Vetoed-clause-refused : goal.returns-in-Ok-Vetoed-clause-refused
 returns-in-Ok-Vetoed-clause-refused g c = λ h stands may.
@@ -74,7 +73,7 @@ returns-in-Ok-Vetoed-clause-refused g c = λ h stands may.
     let stores = stores_of has m root h a.space.now a.work.now stands relation name rule may in
     let ended = subst (λ (e : Attaching). HasEnded has m root site relation name rule adds.box.rules c.attach_copy.new.space e) c.in-Ok-Vetoed.field-0-is (c.in-Ok-Vetoed.ensures.ended site stands.has stores adds may.main may.storable) in
     stops_either _ (build (extensions_of m) relation name rule) h (Veto relation name) c.veto.result _ c.veto.ensures refl (attach_vetoed has m root h a.space.now a.work.now stands relation name rule may c.attach_copy.new.space ended)
-    (forward_build (extensions_of m) relation name rule) (λ t. tt) (λ t. tt)
+    (forward_build (extensions_of m) relation name rule) (λ t. record { cause = tt; licensed = tt }) (λ t. record { cause = tt; licensed = tt })
 
 pub returns-in-Err-clause-refused : goal.returns-in-Err-clause-refused
 returns-in-Err-clause-refused g c = λ h stands may.
@@ -89,7 +88,12 @@ returns-in-Err-clause-refused g c = λ h stands may.
     let adds = may_add has m root h a.space.now a.work.now stands relation name rule may in
     let stores = stores_of has m root h a.space.now a.work.now stands relation name rule may in
     rw c.refusal_of.ensures
-    (stops_free _ (build (extensions_of m) relation name rule) _ _ h (free_refusal c.in-Err.fault) (forward_build (extensions_of m) relation name rule) (c.in-Err.ensures.refused site stands.has stores adds))
+    (build_stops _ _ (extensions_of m) relation name rule _ h (free_refusal c.in-Err.fault) (record {
+      cause = c.in-Err.ensures.refused site stands.has stores adds;
+      licensed =
+          attach_licensed has m root h a.space.now a.work.now stands relation name rule may g.S.PageSpace.leads g.S.PageSpace.table g.met.S.PageSpace.whole g.met.S.PageSpace.few g.met.S.PageSpace.tabled
+          c.in-Err.fault c.attach_copy.new.space (c.in-Err.ensures.full site stands.has stores adds);
+    }))
 
 pub returns-in-Ok-Attached-clause-goes : goal.returns-in-Ok-Attached-clause-goes
 returns-in-Ok-Attached-clause-goes g c = record {

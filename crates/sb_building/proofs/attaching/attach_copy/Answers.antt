@@ -5,6 +5,9 @@ use Rattle.sb_rule.specs.Spelling.{rule_code}
 use Rattle.sb_drive.specs.declared.space.SpaceFault.TheVariants.{NoMemory}
 use Rattle.sb_drive.proofs.SpacesLemmas.{IfErr-passed}
 use Rattle.sb_catalog.specs.Descriptors.{IsCountedRule}
+use Rattle.sb_standing.specs.Lacking.{WhereShort}
+use Rattle.sb_tables.specs.Working.{extensions_of}
+use Rattle.sb_building.specs.Lacking.{IsShortBuilding}
 use Rattle.sb_building.proofs.CallLemmas.{IfOk-failed}
 use Rattle.sb_building.proofs.OpenLemmas.{MayAdd-copy, ended_copy}
 use Rattle.sb_building.proofs.attaching.attach_copy.Goals as goal
@@ -41,6 +44,19 @@ returns-clause-refused g c =
     let is = subst (λ (o : Option Rule). IfSome o (λ r. r ≡ rule)) c.in-Some.is c.in_ok-copy.ensures.copy in
     IfErr-weaker c.attach_rule.result _ _ (λ e refused x has stores may.
     refused x has stores (MayAdd-copy (g.B.Boxes.meanings c.args.boxes.now) x c.args.relation.now c.args.name.now c.in-Some.copy rule is may)) c.attach_rule.ensures.refused
+
+-- ---- no page is left
+pub returns-in_err-copy-clause-full : goal.returns-in_err-copy-clause-full
+returns-in_err-copy-clause-full g c = IfErr-passed c.from_residual.result NoMemory _ c.from_residual.ensures.1 (λ x has stores may. tt)
+
+pub returns-clause-full : goal.returns-clause-full
+returns-clause-full g c =
+    let m = g.B.Boxes.meanings c.args.boxes.now in
+    let rule = c.args.rule.now in
+    let is = subst (λ (o : Option Rule). IfSome o (λ r. r ≡ rule)) c.in-Some.is c.in_ok-copy.ensures.copy in
+    IfErr-weaker c.attach_rule.result _ _ (λ e full x has stores may.
+    subst (λ (r : Rule). WhereShort e (IsShortBuilding g.S.PageSpace.has g.S.PageSpace.leads (extensions_of m) x c.args.relation.now r c.attach_rule.new.space)) is
+    (full x has stores (MayAdd-copy m x c.args.relation.now c.args.name.now c.in-Some.copy rule is may))) c.attach_rule.ensures.full
 
 -- ---- the rest
 pub returns-in_err-copy-clause-ended : goal.returns-in_err-copy-clause-ended

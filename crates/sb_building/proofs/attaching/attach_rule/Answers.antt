@@ -1,8 +1,13 @@
 use Rattle.std.proofs.Common.{◌≡◌, ◌∙◌, true≢false, Option, option_map, IfSome, sym, ap, subst}
 use Rattle.std.proofs.lemmas.Result.{IfOk-weaker, IfErr-weaker}
+use Rattle.sb_relation.specs.Db.{Name}
+use Rattle.sb_standing.specs.Lacking.{WhereShort}
+use Rattle.sb_standing.proofs.LackingLemmas.{read_short}
 use Rattle.sb_tables.specs.OpenRelation.{OpenRelation}
 use Rattle.sb_tables.specs.Opened.{IsOpen}
 use Rattle.sb_tables.specs.Refusals.{HasRefusalCause, refusal_of}
+use Rattle.sb_tables.specs.Working.{extensions_of}
+use Rattle.sb_building.specs.Lacking.{IsShortBuilding}
 use Rattle.sb_tables.proofs.RefusedLemmas.{refused_cause, refused_fault}
 use Rattle.sb_building.proofs.CallLemmas.{leads_later}
 use Rattle.sb_building.proofs.EndedLemmas.{store_of}
@@ -59,6 +64,30 @@ returns-in-Ok-Some-clause-refused g c =
 pub returns-in-Ok-Some-clause-leads : goal.returns-in-Ok-Some-clause-leads
 returns-in-Ok-Some-clause-leads g c =
     leads_later g.S.PageSpace.leads g.met.S.PageSpace.goes_on c.args.space.now c.open_relation.new.space c.attach_to.new.space c.in-Ok-Some.ensures.looks.leads c.attach_to.ensures.leads
+
+-- ---- no page is left
+pub returns-in-Err-clause-full : goal.returns-in-Err-clause-full
+returns-in-Err-clause-full g c = λ x has stores may. read_short c.in-Err.fault _ c.in-Err.ensures.looks.fault
+
+pub returns-in-Ok-None-clause-full : goal.returns-in-Ok-None-clause-full
+returns-in-Ok-None-clause-full g c = λ x has stores may. tt
+
+pub returns-then-not-is_short_name-clause-full : goal.returns-then-not-is_short_name-clause-full
+returns-then-not-is_short_name-clause-full g c = λ x has stores may. tt
+
+pub returns-in-Ok-Some-clause-full : goal.returns-in-Ok-Some-clause-full
+returns-in-Ok-Some-clause-full g c =
+    let m = g.B.Boxes.meanings c.args.boxes.now in
+    let relation = c.args.relation.now in
+    let one = c.in-Ok-Some.one in
+    let opened = subst (λ (o : Option OpenRelation). IfSome o (λ q. IsOpen m q × (q.name ≡ relation))) c.in-Ok-Some.field-0-is c.in-Ok-Some.ensures.opened in
+    IfErr-weaker c.attach_to.result _ _ (λ e full x has stores may.
+    let Left : Name → Type 0 = λ n. WhereShort e (IsShortBuilding g.S.PageSpace.has g.S.PageSpace.leads (extensions_of m) x n c.args.rule c.attach_to.new.space) in
+    let found = ap (λ (o : Option OpenRelation). option_map (λ (q : OpenRelation). q.descriptor) o) (sym c.in-Ok-Some.field-0-is) ∙ c.in-Ok-Some.ensures.found x.want x.slots x.kept has stores.keeps.tables in
+    let same = opened_descriptor x.kept relation x.one one.descriptor found stores.there in
+    subst Left opened.1
+    (caused_named m c.args.place.root x c.args.name.now c.args.rule (Left one.name) one.name relation opened.1
+    (λ own adds. full x (c.in-Ok-Some.ensures.looks.same x.want x.slots has) own same adds) stores may)) c.attach_to.ensures.full
 
 -- ---- the rest
 pub returns-then-not-is_short_name-clause-refused : goal.returns-then-not-is_short_name-clause-refused

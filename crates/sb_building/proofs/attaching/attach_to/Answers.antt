@@ -1,6 +1,11 @@
-use Rattle.std.proofs.Common.{◌∙◌}
+use Rattle.std.proofs.Common.{◌∙◌, subst}
 use Rattle.std.proofs.lemmas.Result.{IfOk-weaker, IfErr-weaker}
+use Rattle.sb_rule.specs.declared.rule.Rule.{Rule}
+use Rattle.sb_standing.specs.Lacking.{WhereShort}
+use Rattle.sb_standing.proofs.LackingLemmas.{read_short}
 use Rattle.sb_tables.specs.Refusals.{HasRefusalCause, refusal_of}
+use Rattle.sb_tables.specs.Working.{extensions_of}
+use Rattle.sb_building.specs.Lacking.{IsShortBuilding}
 use Rattle.sb_tables.proofs.RefusedLemmas.{refused_cause, refused_fault}
 use Rattle.sb_building.proofs.CallLemmas.{leads_later, leads_then}
 use Rattle.sb_building.proofs.EndedLemmas.{store_of}
@@ -71,6 +76,32 @@ returns-in-Ok-clause-leads g c =
     let goes = g.met.S.PageSpace.goes_on in
     leads_then leads goes c.args.space.now c.begin.new.space c.build_on-built.new.space
     (leads_later leads goes c.args.space.now c.has_long_row.new.space c.begin.new.space c.in-Ok-false.ensures.looks.leads c.in-Ok.ensures.leads) c.build_on-built.ensures.leads
+
+-- ---- no page is left
+pub returns-in-Err-clause-full : goal.returns-in-Err-clause-full
+returns-in-Err-clause-full g c = λ x has stores same may. read_short c.in-Err.fault _ c.in-Err.ensures.looks.fault
+
+pub returns-in-Err-begin-clause-full : goal.returns-in-Err-begin-clause-full
+returns-in-Err-begin-clause-full g c =
+    λ x has stores same may.
+    c.in-Err-begin.ensures.full x
+    (store_of g.S.PageSpace.has (g.B.Boxes.meanings c.args.boxes.now) c.args.place.root x c.args.one.name stores c.has_long_row.new.space (c.in-Ok-false.ensures.looks.same x.want x.slots has)) same may
+
+pub returns-in-Ok-clause-full : goal.returns-in-Ok-clause-full
+returns-in-Ok-clause-full g c =
+    let m = g.B.Boxes.meanings c.args.boxes.now in
+    let hold = g.S.PageSpace.has in
+    let root = c.args.place.root in
+    let one = c.args.one in
+    let live = c.in-Ok.ensures.live in
+    let d = c.in-Ok.attached in
+    IfErr-weaker c.build_on-built.result _ _ (λ e full x has stores same may.
+    subst (λ (r : Rule). WhereShort e (IsShortBuilding hold g.S.PageSpace.leads (extensions_of m) x one.name r c.build_on-built.new.space)) c.in-Ok.ensures.entry.rule_is
+    (caused_entry hold m root x one.name c.args.label.now c.args.rule d c.in-Ok.ensures.entry c.in-Ok.inst live.box c.begin.new.space c.build_on-built.new.space
+    (WhereShort e (IsShortBuilding hold g.S.PageSpace.leads (extensions_of m) x one.name d.rule c.build_on-built.new.space))
+    (full live x stores same) may
+    (c.in-Ok.ensures.begun live x (store_of hold m root x one.name stores c.has_long_row.new.space (c.in-Ok-false.ensures.looks.same x.want x.slots has)) same may)
+    (long_found hold m root x one stores same c.requires.open c.args.space.now has c.args.rule c.in-Ok-false.field-0 c.in-Ok-false.ensures.long ∙ c.in-Ok-false.field-0-test))) c.build_on-built.ensures.full
 
 -- ---- the rest
 pub has_long_row-requires-clause-ready : goal.has_long_row-requires-clause-ready

@@ -1,9 +1,13 @@
 use Rattle.std.proofs.Common.{◌∙◌, refl, sym, ap, subst}
 use Rattle.sb_rule.specs.Spelling.{SpellsRule}
 use Rattle.sb_ctx.specs.declared.instance.Instance.{Instance}
+use Rattle.sb_relation.specs.Db.{Name}
+use Rattle.sb_standing.specs.Lacking.{WhereShort}
 use Rattle.sb_tables.specs.Refusals.{HasRefusalCause, refusal_of}
+use Rattle.sb_tables.specs.Working.{extensions_of}
+use Rattle.sb_building.specs.Lacking.{IsShortBuilding}
 use Rattle.sb_building.proofs.CallLemmas.{leads_then}
-use Rattle.sb_building.proofs.OpenLemmas.{ended_placed, ended_vetoed, none_long, placed_refused, table_here}
+use Rattle.sb_building.proofs.OpenLemmas.{ended_placed, ended_vetoed, none_long, placed_refused, placed_short, table_here}
 use Rattle.sb_building.proofs.attaching.build_on.Goals as goal
 
 pub build_rows-requires-clause-columns : goal.build_rows-requires-clause-columns
@@ -76,6 +80,34 @@ returns-in-Ok-clause-ended g c = λ live x stores same may main begun short.
 pub returns-in-Ok-clause-leads : goal.returns-in-Ok-clause-leads
 returns-in-Ok-clause-leads g c =
     leads_then g.S.PageSpace.leads g.met.S.PageSpace.goes_on c.args.space.now c.build_rows.new.space c.place_rule-placed.new.space c.in-Ok-true.ensures.leads c.in-Ok.ensures.leads
+
+-- ---- no page is left
+pub returns-in-Err-clause-full : goal.returns-in-Err-clause-full
+returns-in-Err-clause-full g c =
+    let m = g.B.Boxes.meanings c.args.boxes.now in
+    let has = g.S.PageSpace.has in
+    let root = c.args.place.root in
+    let one = c.args.one in
+    let d = c.args.attached in
+    let inst = c.args.inst.now in
+    λ live x stores same may begun short.
+    subst (λ (n : Name). WhereShort c.in-Err.fault (IsShortBuilding has g.S.PageSpace.leads (extensions_of m) x n d.rule c.build_rows.new.space)) (ap (λ (i : Instance). i.relation) c.requires.is)
+    (c.in-Err.ensures.full live x begun
+    (table_here has m root x one stores same c.requires.open d c.requires.storable inst c.requires.is live may c.args.space.now begun short) may.joinless)
+
+pub returns-in-Err-placed-clause-full : goal.returns-in-Err-placed-clause-full
+returns-in-Err-placed-clause-full g c =
+    let m = g.B.Boxes.meanings c.args.boxes.now in
+    let has = g.S.PageSpace.has in
+    let root = c.args.place.root in
+    let one = c.args.one in
+    let d = c.args.attached in
+    let inst = c.args.inst.now in
+    λ live x stores same may begun short.
+    let table = table_here has m root x one stores same c.requires.open d c.requires.storable inst c.requires.is live may c.args.space.now begun short in
+    placed_short has m root x one stores same c.requires.open d c.requires.storable inst c.requires.is live may c.args.space.now begun short c.build_rows.new.space c.place_rule-placed.new.space c.in-Ok-true.field-0 c.in-Ok-true.field-0-test
+    (c.in-Ok-true.ensures.built live (record x { slots = begun.slots }) begun.site table begun.content)
+    g.S.PageSpace.leads c.in-Err-placed.fault g.met.S.PageSpace.whole g.met.S.PageSpace.few c.in-Err-placed.ensures.full c.in-Err-placed.ensures.leads
 
 -- ---- the rest
 pub build_rows-requires-clause-ready : goal.build_rows-requires-clause-ready

@@ -5,10 +5,13 @@ use Rattle.sb_drive.specs.AttachCalls.{Fits}
 use Rattle.sb_drive.specs.Slots.{owned}
 use Rattle.sb_drive.specs.Spaces.{Leaves}
 use Rattle.sb_drive.proofs.SpacesLemmas.{Leaves-so}
+use Rattle.sb_standing.specs.Lacking.{WhereShort}
 use Rattle.sb_standing.specs.Tables.{db_of}
-use Rattle.sb_tables.specs.Calls.{IsAsked, IsFinal}
+use Rattle.sb_standing.proofs.LackingLemmas.{where_short}
+use Rattle.sb_tables.specs.Calls.{IsAsked, IsFinal, LacksOver}
 use Rattle.sb_tables.proofs.RefusedLemmas.{refused_cause}
 use Rattle.sb_building.specs.Building.{IsBuilt, content_built, is_done}
+use Rattle.sb_building.proofs.BoundLemmas.{short-row}
 use Rattle.sb_building.proofs.SiteLemmas.{IsBuilt-asked}
 use Rattle.sb_building.proofs.building.build_row.Goals as goal
 
@@ -23,6 +26,15 @@ pub returns-in-Err-made-clause-refused : goal.returns-in-Err-made-clause-refused
 returns-in-Err-made-clause-refused g c = λ live x rule built site over.
     refused_cause g.S.PageSpace.fails _ c.args.space.now c.ask-made.new.space c.in-Err-made.fault c.in-Err-made.ensures.works.refused
     (c.in-Err-made.ensures.undamaged live x.want x.slots x.kept (content_built live.box c.args.inst.now rule (db_of x.kept) built) site.has site.tables site.stand over)
+
+pub returns-in-Err-made-clause-full : goal.returns-in-Err-made-clause-full
+returns-in-Err-made-clause-full g c = λ live x rule built site next over joinless.
+    let inst = c.args.inst.now in
+    let row = c.args.row in
+    let e = c.in-Err-made.fault in
+    where_short e (LacksOver live.box inst (Build c.args.key.now row) (db_of x.kept) x.slots) _
+    (short-row g.S.PageSpace.has (g.B.Boxes.meanings c.args.boxes.now) c.args.place.root x inst rule live c.args.space.now site joinless built (c.args.key.now, row) next over)
+    (subst (λ (k : Key). WhereShort e (LacksOver live.box inst (Build k row) (db_of x.kept) x.slots)) c.in-Ok.ensures (c.in-Err-made.ensures.full live x.want x.slots x.kept site.has site.tables))
 
 pub returns-in-Err-made-clause-leads : goal.returns-in-Err-made-clause-leads
 returns-in-Err-made-clause-leads g c = c.in-Err-made.ensures.works.leads

@@ -7,8 +7,9 @@ use Rattle.sb_ctx.specs.declared.instance.Instance.{Instance}
 use Rattle.sb_ctx.specs.MethodAnswers.{IsRowOf}
 use Rattle.sb_drive.proofs.SpacesLemmas.{IfErr-passed}
 use Rattle.sb_rows.specs.Live.{HasRows}
+use Rattle.sb_standing.proofs.LackingLemmas.{read_short}
 use Rattle.sb_tables.proofs.RefusedLemmas.{refused_cause}
-use Rattle.sb_building.proofs.BuildLemmas.{building-all, building-few, building-later, building-next, building-none, building-vetoed, next_of, not_long, rows_of_it}
+use Rattle.sb_building.proofs.BuildLemmas.{building-all, building-short, building-few, building-later, building-next, building-none, building-vetoed, next_of, not_long, rows_of_it}
 use Rattle.sb_building.proofs.CallLemmas.{leads_then}
 use Rattle.sb_building.proofs.SiteLemmas.{MayHold-row}
 use Rattle.sb_building.proofs.building.build_rows.Goals as goal
@@ -104,6 +105,30 @@ returns-in_err-admitted-clause-leads g c =
     let goes = g.met.S.PageSpace.goes_on in
     leads_then leads goes c.args.space.now c.next_row.new.space c.build_row.new.space
     (leads_then leads goes c.args.space.now c.rows.space c.next_row.new.space c.rows.invariant.leads (0, c.in_ok-key.ensures.looks.leads)) c.in_err-admitted.ensures.leads
+
+-- ---- no page is left for it
+pub returns-in_err-key-clause-full : goal.returns-in_err-key-clause-full
+returns-in_err-key-clause-full g c =
+    IfErr-passed c.from_residual.result c.in_err-key.field-0.0 _ c.from_residual.ensures.1 (λ live x begun table joinless. read_short c.in_err-key.field-0.0 _ c.in_err-key.ensures.looks.fault)
+
+pub returns-in_err-admitted-clause-full : goal.returns-in_err-admitted-clause-full
+returns-in_err-admitted-clause-full g c =
+    IfErr-passed c.from_residual-in_err-admitted.result c.in_err-admitted.field-0.0 _ c.from_residual-in_err-admitted.ensures.1
+    (λ live x begun table joinless.
+    let m = g.B.Boxes.meanings c.args.boxes.now in
+    let inst = c.args.inst.now in
+    let rule = c.args.rule.now in
+    let root = c.args.place.root in
+    let has = g.S.PageSpace.has in
+    let row : Key × Row = (c.in-Some.key, c.in-Some.row) in
+    let here = record x { slots = begun.slots } in
+    let up = c.rows.invariant.up live here begun.site table begun.content in
+    let rows = subst (λ (i : Instance). HasRows m up.slots i x.one.relation.rows) (sym table) (rows_of_it has m root here inst rule live.box c.rows.last c.rows.counter c.rows.space up) in
+    let is = sym (c.in_ok-key.ensures.row x.want up.slots x.one.relation.rows up.site.has rows) ∙ c.in-Some.is in
+    let later = building-later has m root here inst rule live.box c.rows.last c.rows.counter c.rows.space c.next_row.new.space c.in_ok-key.ensures.looks.same up in
+    let next = next_of has m root here inst rule live.box c.rows.last c.rows.counter c.next_row.new.space later row is in
+    building-short has g.S.PageSpace.leads m root x inst rule live.box c.args.space.now begun c.rows.last c.rows.counter c.next_row.new.space later row c.build_row.new.space is c.in_err-admitted.ensures.leads
+    c.in_err-admitted.field-0.0 (c.in_err-admitted.ensures.full live (record x { slots = later.slots }) rule later.built later.site next later.content joinless))
 
 -- ---- it isn't admitted
 pub returns-then-not-admitted-clause-built : goal.returns-then-not-admitted-clause-built

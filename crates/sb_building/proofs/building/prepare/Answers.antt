@@ -2,9 +2,11 @@ use Rattle.sb_ctx.specs.declared.calls.AttachCall.TheVariants.{Prepare}
 use Rattle.sb_drive.specs.Slots.{owned}
 use Rattle.sb_drive.proofs.SpacesLemmas.{Leaves-so}
 use Rattle.sb_standing.specs.Tables.{db_of}
-use Rattle.sb_tables.specs.Calls.{IsAsked}
+use Rattle.sb_standing.proofs.LackingLemmas.{where_short}
+use Rattle.sb_tables.specs.Calls.{IsAsked, LacksOver}
 use Rattle.sb_tables.proofs.RefusedLemmas.{refused_cause}
 use Rattle.sb_building.specs.Instances.{HoldsFirst}
+use Rattle.sb_building.proofs.BoundLemmas.{short-prepared}
 use Rattle.sb_building.proofs.SiteLemmas.{Prepared-asked}
 use Rattle.sb_building.proofs.building.prepare.Goals as goal
 
@@ -12,6 +14,12 @@ pub returns-in-Err-clause-refused : goal.returns-in-Err-clause-refused
 returns-in-Err-clause-refused g c = λ live x rule site new.
     refused_cause g.S.PageSpace.fails _ c.args.space.now c.ask-made.new.space c.in-Err.fault c.in-Err.ensures.works.refused
     (c.in-Err.ensures.undamaged_new live x.want x.slots x.kept site.has site.tables site.stand new)
+
+pub returns-in-Err-clause-full : goal.returns-in-Err-clause-full
+returns-in-Err-clause-full g c = λ live x rule site new joinless.
+    where_short c.in-Err.fault (LacksOver live.box c.args.inst.now Prepare (db_of x.kept) x.slots) _
+    (short-prepared g.S.PageSpace.has (g.B.Boxes.meanings c.args.boxes.now) c.args.place.root x c.args.inst.now rule live c.args.space.now site joinless new)
+    (c.in-Err.ensures.full live x.want x.slots x.kept site.has site.tables)
 
 pub returns-in-Err-clause-leads : goal.returns-in-Err-clause-leads
 returns-in-Err-clause-leads g c = c.in-Err.ensures.works.leads

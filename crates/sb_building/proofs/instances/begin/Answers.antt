@@ -1,8 +1,10 @@
 use Rattle.sb_drive.proofs.SpacesLemmas.{IfErr-passed}
+use Rattle.sb_standing.proofs.LackingLemmas.{read_short}
 use Rattle.sb_tables.specs.Refusals.{refusal_of}
 use Rattle.sb_tables.proofs.RefusedLemmas.{caused_fault, refused_cause, refused_fault}
 use Rattle.sb_building.proofs.CallLemmas.{IfOk-failed, leads_then}
-use Rattle.sb_building.proofs.InstanceLemmas.{law_of-code, prepared_begun, prepared_refused, test_sound}
+use Rattle.sb_building.proofs.InstanceLemmas.{law_of-code, prepared_begun, prepared_refused, prepared_short, test_sound}
+use Rattle.sb_building.proofs.LackingLemmas.{short_first}
 use Rattle.sb_building.proofs.instances.begin.Goals as goal
 
 -- ---- its entry
@@ -65,6 +67,27 @@ returns-in-Ok-prepare-clause-leads g c =
     let goes = g.met.S.PageSpace.goes_on in
     leads_then leads goes c.args.space.now c.test_entry.new.space c.prepare.new.space
     (leads_then leads goes c.args.space.now c.new_entry.new.space c.test_entry.new.space c.in_ok-attached.ensures.leads (0, c.in-Ok.ensures.looks.leads)) c.in-Ok-prepare.ensures.leads
+
+-- ---- no page is left for it
+pub returns-in_err-attached-clause-full : goal.returns-in_err-attached-clause-full
+returns-in_err-attached-clause-full g c =
+    IfErr-passed c.from_residual.result c.in_err-attached.field-0.0 _ c.from_residual.ensures.1
+    (λ x store same may.
+    short_first g.S.PageSpace.has g.S.PageSpace.leads (g.B.Boxes.meanings c.args.boxes.now) c.args.place.root x c.args.opened.now.name c.args.rule
+    (g.S.PageSpace.durable c.args.space.now) (g.S.PageSpace.total c.args.space.now) c.args.space.now c.new_entry.new.space store.has store.tables c.in_err-attached.ensures.leads
+    c.in_err-attached.field-0.0 (c.in_err-attached.ensures.full x.want x.slots store.has))
+
+pub returns-in-Err-clause-full : goal.returns-in-Err-clause-full
+returns-in-Err-clause-full g c = λ x store same may. read_short c.in-Err.fault _ c.in-Err.ensures.looks.fault
+
+pub returns-in-Err-prepare-clause-full : goal.returns-in-Err-prepare-clause-full
+returns-in-Err-prepare-clause-full g c =
+    let m = g.B.Boxes.meanings c.args.boxes.now in
+    λ x store same may.
+    prepared_short g.S.PageSpace.has m c.args.place.root x c.args.opened.now.name c.args.label.now c.args.rule c.in_ok-attached.attached c.args.space.now c.new_entry.new.space store may
+    c.in_ok-attached.ensures.entered c.requires.storable (law_of-code m c.args.rule c.code_of-code.result c.code_of-code.ensures c.learn_rule.ensures)
+    c.args.opened.now.descriptor same c.test_entry.new.space c.prepare.new.space c.in-Ok.ensures.looks.same c.in-Ok.inst c.in-Ok.ensures.is c.in-Ok.ensures.live
+    g.S.PageSpace.leads c.in-Err-prepare.fault c.in-Err-prepare.ensures.full c.in-Err-prepare.ensures.leads
 
 -- ---- the rest
 pub new_entry-requires-clause-ready : goal.new_entry-requires-clause-ready

@@ -13,3 +13,9 @@ pub returns-clause-entered : goal.returns-clause-entered
 returns-clause-entered g c =
     IsEntered-made g.S.PageSpace.has c.args.label.now c.args.rule c.code_of-code.result c.in-Ok.made.0 c.in-Ok.made.1 c.in_ok-attached.attached c.args.space.now c.new_place.new.space c.code_of-code.ensures
     c.in_ok-attached.ensures.entry c.in_ok-attached.ensures.owner c.in_ok-attached.ensures.root c.in-Ok.ensures.owns c.in-Ok.ensures.placed
+
+pub returns-in-Err-clause-full : goal.returns-in-Err-clause-full
+returns-in-Err-clause-full g c = c.in-Err.ensures.full
+
+pub returns-in_err-attached-clause-full : goal.returns-in_err-attached-clause-full
+returns-in_err-attached-clause-full g c = IfErr-passed c.from_residual.result NoMemory _ c.from_residual.ensures.1 (λ want s has. tt)

@@ -30,3 +30,6 @@ returns-clause-refused g c =
 
 pub returns-clause-leads : goal.returns-clause-leads
 returns-clause-leads g c = (c.new_instance.ensures.leads.changes, c.new_instance.ensures.leads.leads)
+
+pub returns-clause-full : goal.returns-clause-full
+returns-clause-full g c = c.new_instance.ensures.full

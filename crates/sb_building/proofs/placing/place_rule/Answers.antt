@@ -39,5 +39,8 @@ returns-clause-refused g c =
     refused x.want x.slots (map entry_of x.kept) has tree
     (subst (λ (d : Descriptor). IsSmall c.args.name.now (descriptor_spelling d)) (sym c.in_ok-new.ensures) (IsSmall-roomy c.args.name.now c.args.descriptor c.args.attached roomy))) c.enter-entered.ensures.refused
 
+pub returns-clause-full : goal.returns-clause-full
+returns-clause-full g c = IfErr-weaker c.enter-entered.result _ _ (λ e full x has tree. full x.want x.slots (map entry_of x.kept) has tree) c.enter-entered.ensures.full
+
 pub returns-then-not-has_room-clause-refused : goal.returns-then-not-has_room-clause-refused
 returns-then-not-has_room-clause-refused g c = λ x has tree roomy. absurd (true≢false (sym (c.has_room.ensures.1 (roomy.few, roomy.short)) ∙ c.if-not-has_room.true))

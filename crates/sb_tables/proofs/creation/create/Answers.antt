@@ -1,4 +1,4 @@
-use Rattle.std.proofs.Common.{[], refl, sym, append-nil}
+use Rattle.std.proofs.Common.{[], sum, refl, sym, append-nil}
 use Rattle.sb_fold.specs.Costs.{create_cost}
 use Rattle.sb_engine.specs.Goings.{front_none}
 use Rattle.sb_engine.specs.Working.{extensions_of}
@@ -13,7 +13,7 @@ returns-in-Ok-clause-made g c = λ h stands may.
     let has = g.S.PageSpace.has in
     let w = a.work.now in
     create_made has m a.place.root h a.space.now c.create_kept.new.space w (record w { opened = c.clear.new.self }) stands c.clear.ensures.items refl refl _ _ c.args.name.now c.args.method c.args.schema.now
-    c.args.key.now may refl (c.in-Ok.ensures.made w.gone.items h.db (keeps_of has m a.place.root h a.space.now w stands) may) (λ k s. s)
+    c.args.key.now may refl (c.in-Ok.ensures.made w.gone.items (sum h.gone.durable) h.db (keeps_of has m a.place.root h a.space.now w stands) may) (λ k s. s)
 
 pub returns-in-Ok-clause-goes : goal.returns-in-Ok-clause-goes
 returns-in-Ok-clause-goes g c = record {
@@ -36,8 +36,8 @@ returns-in-Err-clause-refused g c = λ h stands may.
     rw c.refusal_of.ensures
     (create_stops _ _ ext c.args.name.now c.args.method c.args.schema.now c.args.key.now _ h (free_refusal c.in-Err.fault)
     (record {
-      cause = c.in-Err.ensures.refused w.gone.items h.db keeps may;
-      licensed = c.in-Err.ensures.licensed w.gone.items h (create_cost ext h.db c.args.method) keeps stands.gone may;
+      cause = c.in-Err.ensures.refused w.gone.items (sum h.gone.durable) h.db keeps may;
+      licensed = c.in-Err.ensures.licensed w.gone.items h (create_cost ext h.db c.args.method) keeps may;
     }))
 
 pub returns-in-Err-clause-goes : goal.returns-in-Err-clause-goes

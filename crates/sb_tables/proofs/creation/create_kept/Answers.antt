@@ -8,8 +8,8 @@ use Rattle.sb_tables.proofs.creation.create_kept.Goals as goal
 pub returns-in_err-prepare_table-clause-refused : goal.returns-in_err-prepare_table-clause-refused
 returns-in_err-prepare_table-clause-refused g c =
     IfErr-passed c.from_residual-in_err-prepare_table.result c.in_err-prepare_table.field-0.0 _ c.from_residual-in_err-prepare_table.ensures.1
-    (λ gone db keeps may.
-    prepare_refused g.S.PageSpace.has g.S.PageSpace.fails (g.B.Boxes.meanings c.args.boxes.now) c.args.place.root gone db c.args.name.now c.args.method c.in_ok-owner.owner c.in_ok-owner.root c.args.schema.now c.args.key.now
+    (λ gone aside db keeps may.
+    prepare_refused g.S.PageSpace.has g.S.PageSpace.fails (g.B.Boxes.meanings c.args.boxes.now) c.args.place.root gone aside db c.args.name.now c.args.method c.in_ok-owner.owner c.in_ok-owner.root c.args.schema.now c.args.key.now
     c.args.space.now c.new_instance.new.self c.prepare_table.new.space c.prepare_table.new.space keeps may c.in_ok-owner.ensures.high (c.in_ok-owner.ensures.made keeps.want keeps.slots keeps.has)
     c.in_ok-descriptor.descriptor c.in_ok-descriptor.ensures c.in_err-prepare_table.field-0.0 c.in_err-prepare_table.ensures.refused c.learn_method.ensures)
 
@@ -17,9 +17,9 @@ returns-in_err-prepare_table-clause-refused g c =
 pub returns-in_err-owner-clause-licensed : goal.returns-in_err-owner-clause-licensed
 returns-in_err-owner-clause-licensed g c =
     IfErr-passed c.from_residual.result c.in_err-owner.field-0.0 _ c.from_residual.ensures.1
-    (λ gone h cost keeps none may.
+    (λ gone h cost keeps may.
     licence_first g.S.PageSpace.has g.S.PageSpace.leads g.S.PageSpace.table (g.B.Boxes.meanings c.args.boxes.now) c.args.place.root gone h cost c.args.name.now c.args.method c.args.schema.now c.args.key.now
-    g.met.S.PageSpace.whole g.met.S.PageSpace.few g.met.S.PageSpace.tabled c.args.space.now keeps none may
+    g.met.S.PageSpace.whole g.met.S.PageSpace.few g.met.S.PageSpace.tabled c.args.space.now keeps may
     (g.S.PageSpace.durable c.args.space.now) (g.S.PageSpace.total c.args.space.now) c.in_err-owner.field-0.0 c.new_instance.new.self
     (c.in_err-owner.ensures.full keeps.want keeps.slots keeps.has) (c.in_err-owner.ensures.leads.changes, c.in_err-owner.ensures.leads.leads))
 
@@ -27,9 +27,9 @@ returns-in_err-owner-clause-licensed g c =
 pub returns-in_err-prepare_table-clause-licensed : goal.returns-in_err-prepare_table-clause-licensed
 returns-in_err-prepare_table-clause-licensed g c =
     IfErr-passed c.from_residual-in_err-prepare_table.result c.in_err-prepare_table.field-0.0 _ c.from_residual-in_err-prepare_table.ensures.1
-    (λ gone h cost keeps none may.
+    (λ gone h cost keeps may.
     licence_rows g.S.PageSpace.has g.S.PageSpace.leads g.S.PageSpace.table (g.B.Boxes.meanings c.args.boxes.now) c.args.place.root gone h cost c.args.name.now c.args.method c.args.schema.now c.args.key.now
-    g.met.S.PageSpace.whole g.met.S.PageSpace.few g.met.S.PageSpace.tabled c.args.space.now keeps none may
+    g.met.S.PageSpace.whole g.met.S.PageSpace.few g.met.S.PageSpace.tabled c.args.space.now keeps may
     c.in_ok-owner.owner c.in_ok-owner.root c.new_instance.new.self c.in_ok-owner.ensures.high (c.in_ok-owner.ensures.made keeps.want keeps.slots keeps.has)
     c.in_ok-descriptor.descriptor c.in_ok-descriptor.ensures c.in_err-prepare_table.field-0.0 c.prepare_table.new.space c.in_err-prepare_table.ensures.full c.learn_method.ensures c.in_err-prepare_table.ensures.leads)
 
@@ -37,9 +37,9 @@ returns-in_err-prepare_table-clause-licensed g c =
 pub returns-clause-licensed : goal.returns-clause-licensed
 returns-clause-licensed g c =
     if_err _ _ c.enter.result
-    (λ e full gone h cost keeps none may.
+    (λ e full gone h cost keeps may.
     licence_entry g.S.PageSpace.has g.S.PageSpace.leads g.S.PageSpace.table (g.B.Boxes.meanings c.args.boxes.now) c.args.place.root gone h cost c.args.name.now c.args.method c.args.schema.now c.args.key.now
-    g.met.S.PageSpace.whole g.met.S.PageSpace.few g.met.S.PageSpace.tabled c.args.space.now keeps none may
+    g.met.S.PageSpace.whole g.met.S.PageSpace.few g.met.S.PageSpace.tabled c.args.space.now keeps may
     c.in_ok-owner.owner c.in_ok-owner.root c.new_instance.new.self c.in_ok-owner.ensures.high (c.in_ok-owner.ensures.made keeps.want keeps.slots keeps.has)
     c.in_ok-descriptor.descriptor c.in_ok-descriptor.ensures e c.prepare_table.new.space c.enter.new.space c.in_ok-prepare_table.ensures.prepared full c.enter.ensures.leads)
     c.enter.ensures.full
@@ -53,8 +53,8 @@ returns-in_err-prepare_table-clause-leads g c =
 pub returns-clause-made : goal.returns-clause-made
 returns-clause-made g c =
     on_ok_both c.enter.result
-    (λ entered storable gone db keeps may.
-    create_entered g.S.PageSpace.has g.S.PageSpace.fails (g.B.Boxes.meanings c.args.boxes.now) c.args.place.root gone db c.args.name.now c.args.method c.in_ok-owner.owner c.in_ok-owner.root c.args.schema.now c.args.key.now
+    (λ entered storable gone aside db keeps may.
+    create_entered g.S.PageSpace.has g.S.PageSpace.fails (g.B.Boxes.meanings c.args.boxes.now) c.args.place.root gone aside db c.args.name.now c.args.method c.in_ok-owner.owner c.in_ok-owner.root c.args.schema.now c.args.key.now
     c.args.space.now c.new_instance.new.self c.prepare_table.new.space c.enter.new.space keeps may c.in_ok-owner.ensures.high (c.in_ok-owner.ensures.made keeps.want keeps.slots keeps.has)
     c.in_ok-descriptor.descriptor c.in_ok-descriptor.ensures c.in_ok-prepare_table.ensures.prepared entered storable)
     c.enter.ensures.entered c.enter.ensures.storable
@@ -62,8 +62,8 @@ returns-clause-made g c =
 pub returns-clause-refused : goal.returns-clause-refused
 returns-clause-refused g c =
     if_err _ _ c.enter.result
-    (λ e refused gone db keeps may.
-    create_refused g.S.PageSpace.has g.S.PageSpace.fails (g.B.Boxes.meanings c.args.boxes.now) c.args.place.root gone db c.args.name.now c.args.method c.in_ok-owner.owner c.in_ok-owner.root c.args.schema.now c.args.key.now
+    (λ e refused gone aside db keeps may.
+    create_refused g.S.PageSpace.has g.S.PageSpace.fails (g.B.Boxes.meanings c.args.boxes.now) c.args.place.root gone aside db c.args.name.now c.args.method c.in_ok-owner.owner c.in_ok-owner.root c.args.schema.now c.args.key.now
     c.args.space.now c.new_instance.new.self c.prepare_table.new.space c.enter.new.space keeps may c.in_ok-owner.ensures.high (c.in_ok-owner.ensures.made keeps.want keeps.slots keeps.has)
     c.in_ok-descriptor.descriptor c.in_ok-descriptor.ensures c.in_ok-prepare_table.ensures.prepared e refused)
     c.enter.ensures.refused

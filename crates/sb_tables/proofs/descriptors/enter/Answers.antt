@@ -6,11 +6,10 @@ use Rattle.sb_drive.specs.Slots.{owned}
 use Rattle.sb_drive.specs.Spaces.{Leaves}
 use Rattle.sb_drive.proofs.SpacesLemmas.{IfErr-passed, Leaves-so}
 use Rattle.sb_catalog.specs.Descriptors.{descriptor_spelling}
-use Rattle.sb_map.specs.Calls.{IsAsking, IsWithin}
-use Rattle.sb_standing.specs.Lacking.{IsShort, WhereShort}
+use Rattle.sb_standing.specs.Lacking.{IsShort}
 use Rattle.sb_engine.proofs.RefusedLemmas.{refused_cause}
 use Rattle.sb_tables.proofs.KeepingLemmas.{if_err, if_err_both, on_ok, own_cause, sound_undamaged}
-use Rattle.sb_tables.proofs.LicenceLemmas.{map_spends, own_short, shorts}
+use Rattle.sb_tables.proofs.LicenceLemmas.{catalogue-short, own_short}
 use Rattle.sb_tables.proofs.descriptors.enter.Goals as goal
 
 pub returns-in_err-bytes-clause-refused : goal.returns-in_err-bytes-clause-refused
@@ -45,9 +44,5 @@ returns-in_err-bytes-clause-full g c =
 pub returns-clause-full : goal.returns-clause-full
 returns-clause-full g c =
     if_err _ _ c.put.result (λ e full want s es has read.
-    let place = c.args.place in
-    let there : map_in place.root (owned s place.owner) ≡ Some es = subst (λ (o : ℕ). map_in place.root (owned s o) ≡ Some es) (sym c.requires.owner) read in
-    subst (λ (o : ℕ). WhereShort e (IsShort s o (2 * length es))) c.requires.owner
-    (shorts g.S.PageSpace.leads g.S.PageSpace.durable g.S.PageSpace.total place.owner (2 * length es) c.args.space.now s (IsAsking place.root) (IsWithin place.root (owned s place.owner))
-    (λ ctx asks within. map_spends place.root (owned s place.owner) es ctx there asks.taken within) e (full want s has)))
+    catalogue-short g.S.PageSpace.leads g.S.PageSpace.durable g.S.PageSpace.total c.args.place c.args.space.now s es c.requires.owner read e (full want s has))
     c.put.ensures.works.full

@@ -1,12 +1,15 @@
-use Rattle.std.proofs.Common.{◌+◌, List, [], refl, sym, ap, subst, ◌∙◌, append-nil}
+use Rattle.std.proofs.Common.{◌+◌, ◌≤◌, arith, List, [], refl, sym, ap, subst, ◌∙◌, append-nil}
 use Rattle.sb_relation.specs.Build.{mirror_of}
 use Rattle.sb_relation.specs.Db.{Db}
 use Rattle.sb_fold.specs.Building.{without_mirror}
 use Rattle.sb_drive.proofs.SpacesLemmas.{IfErr-passed}
 use Rattle.sb_catalog.specs.declared.descriptor.Attached.{Attached}
-use Rattle.sb_tables.specs.Keeping.{KeepsDb}
-use Rattle.sb_tables.specs.Removal.{without_mirrors_of}
+use Rattle.sb_engine.specs.Working.{extensions_of}
+use Rattle.sb_tables.specs.Keeping.{KeepsWithin}
+use Rattle.sb_tables.specs.Removal.{mirror_bound, mirrors_bound_of, without_mirrors_of}
+use Rattle.sb_tables.proofs.DetachedLemmas.{within-more}
 use Rattle.sb_tables.proofs.KeepingLemmas.{drop_all, drop_item, more_then}
+use Rattle.sb_tables.proofs.WithinLemmas.{within-itself}
 use Rattle.sb_tables.proofs.mirrors.detach_mirrors_of.Goals as goal
 
 pub loop-attached-init : goal.loop-attached-init
@@ -14,7 +17,7 @@ loop-attached-init g c = record {
   ready = c.requires.ready;
   leads = (0, g.met.S.PageSpace.stays c.args.space.now);
   more = ([], sym (append-nil c.args.gone.now.items));
-  rest = λ db keeps. record { now = db; keeps = keeps; is = refl };
+  rest = λ aside most db holds. record { held = aside; now = db; keeps = holds; is = refl; all = refl };
 }
 
 pub detach_mirror-requires-clause-ready : goal.detach_mirror-requires-clause-ready
@@ -23,7 +26,14 @@ detach_mirror-requires-clause-ready g c = c.loop-attached.invariant.ready
 pub returns-in_err-detach_mirror-clause-refused : goal.returns-in_err-detach_mirror-clause-refused
 returns-in_err-detach_mirror-clause-refused g c =
     IfErr-passed c.from_residual.result c.in_err-detach_mirror.field-0.0 _ c.from_residual.ensures.1
-    (λ db keeps. let rest = c.loop-attached.invariant.rest db keeps in c.in_err-detach_mirror.ensures.refused rest.now rest.keeps)
+    (λ aside db keeps.
+    let rest = c.loop-attached.invariant.rest aside _ db (within-itself g.S.PageSpace.has (g.B.Boxes.meanings c.args.boxes.now) c.args.place.root c.args.gone.now.items aside db c.args.space.now keeps) in
+    c.in_err-detach_mirror.ensures.refused rest.held rest.now rest.keeps.keeps)
+
+pub returns-in_err-detach_mirror-clause-licensed : goal.returns-in_err-detach_mirror-clause-licensed
+returns-in_err-detach_mirror-clause-licensed g c =
+    IfErr-passed c.from_residual.result c.in_err-detach_mirror.field-0.0 _ c.from_residual.ensures.1
+    (λ aside most db holds. let rest = c.loop-attached.invariant.rest aside most db holds in c.in_err-detach_mirror.ensures.licensed rest.held most rest.now rest.keeps)
 
 pub returns-in_err-detach_mirror-clause-more : goal.returns-in_err-detach_mirror-clause-more
 returns-in_err-detach_mirror-clause-more g c =
@@ -48,20 +58,28 @@ loop-attached-preserved g c =
         g.met.S.PageSpace.goes_on before.leads.0 done.leads.0 c.args.space.now c.loop-attached.space c.detach_mirror.new.space before.leads.1 done.leads.1,
       );
       more = more_then c.args.gone.now.items c.loop-attached.gone.items c.detach_mirror.new.gone.items before.more done.more;
-      rest = λ db keeps.
-          let rest = before.rest db keeps in
+      rest = λ aside most db holds.
+          let rest = before.rest aside most db holds in
+          let ext = extensions_of (g.B.Boxes.meanings c.args.boxes.now) in
+          let first = mirror_bound ext name c.attached-item.result.name (mirror_of name c.attached-item.result.rule) rest.now in
           record {
+            held = rest.held + first;
             now = without_mirror name c.attached-item.result.name (mirror_of name c.attached-item.result.rule) rest.now;
-            keeps = done.detached rest.now rest.keeps;
+            keeps = done.detached rest.held most rest.now rest.keeps;
             is = ap (λ (ds : List Attached). without_mirrors_of name ds rest.now) (sym one) ∙ rest.is;
+            all = omega (arith, rest.all, ap (λ (ds : List Attached). mirrors_bound_of ext name ds rest.now) one);
           };
     }
 
 pub returns-clause-detached : goal.returns-clause-detached
-returns-clause-detached g c = λ db keeps.
-    let rest = c.loop-attached.invariant.rest db keeps in
-    let is = ap (λ (ds : List Attached). without_mirrors_of c.args.name.now ds rest.now) (sym (drop_all c.args.attachments.now c.loop-attached.attached-index c.loop-attached-test.false)) ∙ rest.is in
-    subst (λ (x : Db). KeepsDb g.S.PageSpace.has (g.B.Boxes.meanings c.args.boxes.now) c.args.place.root c.loop-attached.gone.items x c.loop-attached.space) is rest.keeps
+returns-clause-detached g c = λ aside most db holds.
+    let m = g.B.Boxes.meanings c.args.boxes.now in
+    let rest = c.loop-attached.invariant.rest aside most db holds in
+    let none = drop_all c.args.attachments.now c.loop-attached.attached-index c.loop-attached-test.false in
+    let all : rest.held ≤ aside + mirrors_bound_of (extensions_of m) c.args.name.now c.args.attachments.now db = omega (arith, rest.all, ap (λ (ds : List Attached). mirrors_bound_of (extensions_of m) c.args.name.now ds rest.now) none) in
+    let is = ap (λ (ds : List Attached). without_mirrors_of c.args.name.now ds rest.now) (sym none) ∙ rest.is in
+    within-more g.S.PageSpace.has m c.args.place.root c.loop-attached.gone.items rest.held _ most (without_mirrors_of c.args.name.now c.args.attachments.now db) c.loop-attached.space all
+    (subst (λ (x : Db). KeepsWithin g.S.PageSpace.has m c.args.place.root c.loop-attached.gone.items rest.held most x c.loop-attached.space) is rest.keeps)
 
 pub returns-clause-more : goal.returns-clause-more
 returns-clause-more g c = c.loop-attached.invariant.more

@@ -14,7 +14,10 @@ returns-in-Ok-clause-goes g c = record {
 }
 
 pub returns-in-Err-clause-refused : goal.returns-in-Err-clause-refused
-returns-in-Err-clause-refused g c = λ db keeps. rw c.refusal_of.ensures (c.in-Err.ensures.refused db keeps)
+returns-in-Err-clause-refused g c = λ aside db keeps. rw c.refusal_of.ensures (c.in-Err.ensures.refused aside db keeps)
+
+pub returns-in-Err-clause-licensed : goal.returns-in-Err-clause-licensed
+returns-in-Err-clause-licensed g c = λ aside most db holds. rw c.refusal_of.ensures (c.in-Err.ensures.licensed aside most db holds)
 
 pub returns-in-Err-clause-goes : goal.returns-in-Err-clause-goes
 returns-in-Err-clause-goes g c = record {

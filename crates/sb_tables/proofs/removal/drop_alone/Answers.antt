@@ -1,43 +1,69 @@
-use Rattle.std.proofs.Common.{◌≡◌, ℕ, ◌+◌, List, ◌++◌, map, Option, option_map, refl, sym, ap, subst, ◌∙◌}
+use Rattle.std.proofs.Common.{◌≡◌, ℕ, ◌+◌, sum, arith, List, ◌++◌, map, Option, option_map, refl, sym, ap, subst, ◌∙◌}
 use Rattle.sb_relation.specs.Db.{Db}
 use Rattle.sb_standing.specs.Removes.{entries_without}
-use Rattle.sb_drive.proofs.SpacesLemmas.{IfErr-passed}
+use Rattle.sb_drive.proofs.SpacesLemmas.{ArePages-few, IfErr-passed}
 use Rattle.sb_engine.specs.Maps.{Becomes}
 use Rattle.sb_standing.specs.Instances.{owners_of}
 use Rattle.sb_standing.specs.Tables.{entry_of}
+use Rattle.sb_fold.specs.Building.{bounds_at}
 use Rattle.sb_engine.specs.OpenRelation.{OpenRelation}
+use Rattle.sb_engine.specs.Working.{extensions_of}
 use Rattle.sb_engine.proofs.Faults.{catalogue-at}
 use Rattle.sb_engine.proofs.RefusedLemmas.{refused_cause}
 use Rattle.sb_tables.specs.Keeping.{KeepsDb}
 use Rattle.sb_tables.specs.Removal.{without_name}
-use Rattle.sb_tables.proofs.DetachedLemmas.{dropped, has_kept, keeps-later, none_dropped, not_kept, open_refused}
+use Rattle.sb_tables.proofs.DetachedLemmas.{dropped, has_kept, keeps-later, keeps-more, none_dropped, not_kept, open_refused}
+use Rattle.sb_tables.proofs.FullLemmas.{catalogue-full, read-full}
 use Rattle.sb_tables.proofs.KeepingLemmas.{sound_undamaged}
+use Rattle.sb_tables.proofs.LicenceLemmas.{catalogue-short}
 use Rattle.sb_tables.proofs.removal.drop_alone.Goals as goal
 
 pub returns-in_err-one-clause-refused : goal.returns-in_err-one-clause-refused
 returns-in_err-one-clause-refused g c =
     IfErr-passed c.from_residual.result c.in_err-one.field-0.0 _ c.from_residual.ensures.1
-    (λ db keeps.
-    open_refused g.S.PageSpace.has g.S.PageSpace.fails _ (g.B.Boxes.meanings c.args.boxes.now) c.args.place.root c.args.gone.now.items db c.args.space.now c.open_relation.new.space c.in_err-one.field-0.0
+    (λ aside db keeps.
+    open_refused g.S.PageSpace.has g.S.PageSpace.fails _ (g.B.Boxes.meanings c.args.boxes.now) c.args.place.root c.args.gone.now.items aside db c.args.space.now c.open_relation.new.space c.in_err-one.field-0.0
     c.in_err-one.ensures.looks.refused c.in_err-one.ensures.undamaged keeps)
 
 pub returns-in_default-clause-dropped : goal.returns-in_default-clause-dropped
-returns-in_default-clause-dropped g c = λ db keeps unnamed.
+returns-in_default-clause-dropped g c = λ aside db keeps unnamed.
     let m = g.B.Boxes.meanings c.args.boxes.now in
     let found = c.in_ok-one.ensures.found keeps.want keeps.slots keeps.kept keeps.has keeps.keeps.tables in
     let none = not_kept keeps.kept c.args.name.now (ap (λ (o : Option OpenRelation). option_map (λ (x : OpenRelation). x.descriptor) o) (sym c.in_default.is) ∙ found) in
-    subst (λ (x : Db). KeepsDb g.S.PageSpace.has m c.args.place.root c.args.gone.now.items x c.open_relation.new.space)
-    (sym (none_dropped g.S.PageSpace.has m c.args.place.root c.args.gone.now.items db c.args.space.now c.open_relation.new.space c.open_relation.new.space keeps c.args.name.now none))
-    (keeps-later g.S.PageSpace.has m c.args.place.root c.args.gone.now.items db c.args.space.now c.open_relation.new.space c.open_relation.new.space keeps c.in_ok-one.ensures.looks.same)
+    keeps-more g.S.PageSpace.has m c.args.place.root c.args.gone.now.items aside _ (without_name db c.args.name.now) c.open_relation.new.space (omega arith)
+    (subst (λ (x : Db). KeepsDb g.S.PageSpace.has m c.args.place.root c.args.gone.now.items aside x c.open_relation.new.space)
+    (sym (none_dropped g.S.PageSpace.has m c.args.place.root c.args.gone.now.items aside db c.args.space.now c.open_relation.new.space c.open_relation.new.space keeps c.args.name.now none))
+    (keeps-later g.S.PageSpace.has m c.args.place.root c.args.gone.now.items aside db c.args.space.now c.open_relation.new.space c.open_relation.new.space keeps c.in_ok-one.ensures.looks.same))
 
 pub returns-in_err-remove-clause-refused : goal.returns-in_err-remove-clause-refused
 returns-in_err-remove-clause-refused g c =
     let e = c.in_err-remove.field-0.0 in
     IfErr-passed c.from_residual-in_err-remove.result e _ c.from_residual-in_err-remove.ensures.1
-    (λ db keeps.
+    (λ aside db keeps.
     refused_cause g.S.PageSpace.fails _ c.open_relation.new.space c.remove.new.space e c.in_err-remove.ensures.works.refused
     (sound_undamaged e (c.in_err-remove.ensures.whole keeps.want keeps.slots (c.in_ok-one.ensures.looks.same keeps.want keeps.slots keeps.has) (map entry_of keeps.kept)
     (catalogue-at c.args.place keeps.slots keeps.kept c.requires.owner keeps.keeps.tables.catalogue))))
+
+pub returns-in_err-one-clause-licensed : goal.returns-in_err-one-clause-licensed
+returns-in_err-one-clause-licensed g c =
+    IfErr-passed c.from_residual.result c.in_err-one.field-0.0 _ c.from_residual.ensures.1
+    (λ aside most db holds. read-full g.S.PageSpace.has g.S.PageSpace.leads g.S.PageSpace.table most c.in_err-one.field-0.0 c.open_relation.new.space c.in_err-one.ensures.looks.fault)
+
+pub returns-in_err-remove-clause-licensed : goal.returns-in_err-remove-clause-licensed
+returns-in_err-remove-clause-licensed g c =
+    let m = g.B.Boxes.meanings c.args.boxes.now in
+    let place = c.args.place in
+    let mid = c.open_relation.new.space in
+    let e = c.in_err-remove.field-0.0 in
+    let works = c.in_err-remove.ensures.works in
+    IfErr-passed c.from_residual-in_err-remove.result e _ c.from_residual-in_err-remove.ensures.1
+    (λ aside most db holds.
+    let keeps = holds.keeps in
+    let has = c.in_ok-one.ensures.looks.same keeps.want keeps.slots keeps.has in
+    catalogue-full g.S.PageSpace.has g.S.PageSpace.leads g.S.PageSpace.table m place.root c.args.gone.now.items aside most db c.args.space.now mid c.remove.new.space holds
+    g.met.S.PageSpace.tabled has works.leads e
+    (catalogue-short g.S.PageSpace.leads g.S.PageSpace.durable g.S.PageSpace.total place mid keeps.slots (map entry_of keeps.kept) c.requires.owner keeps.keeps.tables.catalogue e
+    (works.full keeps.want keeps.slots has)))
 
 pub returns-in_err-remove-clause-leads : goal.returns-in_err-remove-clause-leads
 returns-in_err-remove-clause-leads g c =
@@ -45,7 +71,7 @@ returns-in_err-remove-clause-leads g c =
     (0 + later.0, g.met.S.PageSpace.goes_on 0 later.0 c.args.space.now c.open_relation.new.space c.remove.new.space c.in_ok-one.ensures.looks.leads later.1)
 
 pub returns-clause-dropped : goal.returns-clause-dropped
-returns-clause-dropped g c = λ db keeps unnamed.
+returns-clause-dropped g c = λ aside db keeps unnamed.
     let m = g.B.Boxes.meanings c.args.boxes.now in
     let gone = c.args.gone.now.items in
     let top = c.args.place.root in
@@ -59,9 +85,10 @@ returns-clause-dropped g c = λ db keeps unnamed.
     ∙ c.in_ok-one.ensures.found keeps.want keeps.slots keeps.kept keeps.has keeps.keeps.tables in
     let becomes : Becomes g.S.PageSpace.has c.args.place mid new (entries_without name) =
     subst (λ (key : List ℕ). Becomes g.S.PageSpace.has c.args.place mid new (entries_without key)) c.as_bytes.ensures c.in_ok-remove.ensures.removes.becomes in
-    subst (λ (l : List ℕ). KeepsDb g.S.PageSpace.has m top l (without_name db name) new) (sym more)
-    (dropped g.S.PageSpace.has m top gone db c.args.space.now mid new keeps c.args.place name d c.requires.owner refl (has_kept keeps.kept name d found) unnamed
-    (c.in_ok-one.ensures.looks.same keeps.want keeps.slots keeps.has) becomes)
+    subst (λ (l : List ℕ). KeepsDb g.S.PageSpace.has m top l (aside + sum (bounds_at (extensions_of m) db name)) (without_name db name) new) (sym more)
+    (dropped g.S.PageSpace.has m top gone aside db c.args.space.now mid new keeps c.args.place name d c.requires.owner refl (has_kept keeps.kept name d found) unnamed
+    (c.in_ok-one.ensures.looks.same keeps.want keeps.slots keeps.has) becomes
+    (λ o. ArePages-few keeps.slots o (g.met.S.PageSpace.whole keeps.want keeps.slots c.args.space.now keeps.has) (g.met.S.PageSpace.few keeps.want keeps.slots c.args.space.now keeps.has)))
 
 pub returns-clause-leads : goal.returns-clause-leads
 returns-clause-leads g c =

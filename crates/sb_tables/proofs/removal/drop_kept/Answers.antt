@@ -1,28 +1,52 @@
-use Rattle.std.proofs.Common.{◌+◌}
+use Rattle.std.proofs.Common.{◌+◌, sum}
 use Rattle.sb_drive.proofs.SpacesLemmas.{IfErr-passed}
-use Rattle.sb_fold.specs.Building.{without_mirrors}
+use Rattle.sb_fold.specs.Building.{bounds_at, without_mirrors, without_relation}
 use Rattle.sb_fold.specs.Fold.{attachments_at}
+use Rattle.sb_engine.specs.Working.{extensions_of}
+use Rattle.sb_tables.specs.Removal.{mirrors_bound}
+use Rattle.sb_tables.proofs.DetachedLemmas.{keeps-more}
 use Rattle.sb_tables.proofs.KeepingLemmas.{if_err, more_then, on_ok}
 use Rattle.sb_tables.proofs.RemovalLemmas.{unnamed}
+use Rattle.sb_tables.proofs.TakenLemmas.{held-dropped}
+use Rattle.sb_tables.proofs.WithinLemmas.{within-itself}
 use Rattle.sb_tables.proofs.removal.drop_kept.Goals as goal
 
 pub returns-in_err-detach_mirrors-clause-refused : goal.returns-in_err-detach_mirrors-clause-refused
 returns-in_err-detach_mirrors-clause-refused g c =
-    IfErr-passed c.from_residual.result c.in_err-detach_mirrors.field-0.0 _ c.from_residual.ensures.1 (λ db keeps. c.in_err-detach_mirrors.ensures.refused db keeps)
+    IfErr-passed c.from_residual.result c.in_err-detach_mirrors.field-0.0 _ c.from_residual.ensures.1 (λ aside db keeps. c.in_err-detach_mirrors.ensures.refused aside db keeps)
 
 pub returns-clause-dropped : goal.returns-clause-dropped
 returns-clause-dropped g c =
+    let m = g.B.Boxes.meanings c.args.boxes.now in
     let name = c.args.name.now in
     on_ok c.drop_alone.result
-    (λ dropped db q keeps may mirrored paired.
-    dropped (without_mirrors name (attachments_at db name) db) (c.in_ok-detach_mirrors.ensures.detached db keeps) (unnamed db q name may mirrored paired))
+    (λ dropped aside db q keeps may mirrored paired apart.
+    let left = without_mirrors name (attachments_at db name) db in
+    let held = aside + mirrors_bound (extensions_of m) name (attachments_at db name) db in
+    keeps-more g.S.PageSpace.has m c.args.place.root c.drop_alone.new.gone.items (held + sum (bounds_at (extensions_of m) left name)) _ (without_relation db name) c.drop_alone.new.space
+    (held-dropped m c.args.place.root keeps.slots c.args.gone.now.items keeps.kept keeps.keeps aside db keeps.is name mirrored apart)
+    (dropped held left (c.in_ok-detach_mirrors.ensures.detached aside _ db (within-itself g.S.PageSpace.has m c.args.place.root c.args.gone.now.items aside db c.args.space.now keeps)).keeps (unnamed db q name may mirrored paired)))
     c.drop_alone.ensures.dropped
 
 pub returns-clause-refused : goal.returns-clause-refused
 returns-clause-refused g c =
     let name = c.args.name.now in
-    if_err _ _ c.drop_alone.result (λ e refused db keeps. refused (without_mirrors name (attachments_at db name) db) (c.in_ok-detach_mirrors.ensures.detached db keeps))
+    if_err _ _ c.drop_alone.result (λ e refused aside db keeps.
+    refused _ (without_mirrors name (attachments_at db name) db)
+    (c.in_ok-detach_mirrors.ensures.detached aside _ db
+    (within-itself g.S.PageSpace.has (g.B.Boxes.meanings c.args.boxes.now) c.args.place.root c.args.gone.now.items aside db c.args.space.now keeps)).keeps)
     c.drop_alone.ensures.refused
+
+pub returns-in_err-detach_mirrors-clause-licensed : goal.returns-in_err-detach_mirrors-clause-licensed
+returns-in_err-detach_mirrors-clause-licensed g c =
+    IfErr-passed c.from_residual.result c.in_err-detach_mirrors.field-0.0 _ c.from_residual.ensures.1 (λ aside most db holds. c.in_err-detach_mirrors.ensures.licensed aside most db holds)
+
+pub returns-clause-licensed : goal.returns-clause-licensed
+returns-clause-licensed g c =
+    let name = c.args.name.now in
+    if_err _ _ c.drop_alone.result
+    (λ e licensed aside most db holds. licensed _ most (without_mirrors name (attachments_at db name) db) (c.in_ok-detach_mirrors.ensures.detached aside most db holds))
+    c.drop_alone.ensures.licensed
 
 pub returns-clause-more : goal.returns-clause-more
 returns-clause-more g c = more_then c.args.gone.now.items c.detach_mirrors.new.gone.items c.drop_alone.new.gone.items c.in_ok-detach_mirrors.ensures.more c.drop_alone.ensures.more

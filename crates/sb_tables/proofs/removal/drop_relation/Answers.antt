@@ -1,8 +1,11 @@
-use Rattle.std.proofs.Common.{refl}
+use Rattle.std.proofs.Common.{ℕ, sum, refl}
+use Rattle.sb_drive.proofs.SpacesLemmas.{ArePages-few}
 use Rattle.sb_engine.specs.Goings.{front_none}
+use Rattle.sb_engine.specs.Refusals.{refusal_of}
 use Rattle.sb_engine.specs.Working.{extensions_of}
 use Rattle.sb_engine.proofs.RefusedLemmas.{free_refusal}
-use Rattle.sb_tables.proofs.StandsLemmas.{drop_made, drop_stops, keeps_of}
+use Rattle.sb_tables.proofs.FullLemmas.{licence-full, within-need}
+use Rattle.sb_tables.proofs.StandsLemmas.{drop_cost, drop_made, drop_stops, keeps_of}
 use Rattle.sb_tables.proofs.removal.drop_relation.Goals as goal
 
 pub returns-in-Ok-clause-made : goal.returns-in-Ok-clause-made
@@ -12,7 +15,7 @@ returns-in-Ok-clause-made g c = λ h stands may.
     let has = g.S.PageSpace.has in
     let w = a.work.now in
     drop_made has m a.place.root h a.space.now c.drop_kept.new.space w (record w { opened = c.clear.new.self; gone = c.drop_kept.new.gone }) stands c.clear.ensures.items refl refl _ _ c.args.name.now may
-    (c.in-Ok.ensures.dropped h.db h.queue (keeps_of has m a.place.root h a.space.now w stands) may stands.mirrored stands.paired) (λ k s. s)
+    (c.in-Ok.ensures.dropped (sum h.gone.durable) h.db h.queue (keeps_of has m a.place.root h a.space.now w stands) may stands.mirrored stands.paired stands.apart) (λ k s. s)
 
 pub returns-in-Ok-clause-goes : goal.returns-in-Ok-clause-goes
 returns-in-Ok-clause-goes g c = record {
@@ -29,9 +32,16 @@ pub returns-in-Err-clause-refused : goal.returns-in-Err-clause-refused
 returns-in-Err-clause-refused g c = λ h stands may.
     let a = c.args.running.now in
     let m = g.B.Boxes.meanings a.boxes.now in
+    let has = g.S.PageSpace.has in
     let w = a.work.now in
+    let cost = drop_cost (extensions_of m) c.args.name.now h in
+    let pages = λ (o : ℕ). ArePages-few stands.slots o (g.met.S.PageSpace.whole stands.want stands.slots a.space.now stands.has) (g.met.S.PageSpace.few stands.want stands.slots a.space.now stands.has) in
     rw c.refusal_of.ensures
-    (drop_stops _ _ (extensions_of m) c.args.name.now _ h (free_refusal c.in-Err.fault) (c.in-Err.ensures.refused h.db (keeps_of g.S.PageSpace.has m a.place.root h a.space.now w stands)))
+    (drop_stops _ _ (extensions_of m) c.args.name.now _ h (free_refusal c.in-Err.fault) (record {
+      cause = c.in-Err.ensures.refused (sum h.gone.durable) h.db (keeps_of has m a.place.root h a.space.now w stands);
+      licensed = licence-full has g.S.PageSpace.leads g.S.PageSpace.table m h cost (refusal_of c.in-Err.fault) c.drop_kept.new.space
+          (c.in-Err.ensures.licensed (sum h.gone.durable) _ h.db (within-need has m a.place.root h a.space.now a.space.now w cost stands pages stands.has));
+    }))
 
 pub returns-in-Err-clause-goes : goal.returns-in-Err-clause-goes
 returns-in-Err-clause-goes g c = record {
