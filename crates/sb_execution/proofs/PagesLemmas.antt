@@ -5,7 +5,9 @@ use Rattle.std.specs.List.{Any}
 use Rattle.sb_relation.specs.Db.{Key}
 use Rattle.sb_fold.specs.declared.refusal.Refusal.{Refusal}
 use Rattle.sb_fold.specs.declared.refusal.Refusal.TheVariants as refusal
+use Rattle.sb_fold.specs.declared.refusal.Room.{Room}
 use Rattle.sb_fold.specs.declared.refusal.Room.TheVariants.{Data}
+use Rattle.sb_fold.specs.Extensions.{Extensions}
 use Rattle.sb_fold.specs.Finish.{finish}
 use Rattle.sb_fold.specs.Outcome.{Going, Reached, Work, made, trail_of, with_picks, ◌>>=◌}
 use Rattle.sb_fold.proofs.LeadsLemmas.{leads_here, leads_on}
@@ -15,6 +17,7 @@ use Rattle.sb_cascade.proofs.Stopping.{stops_next, stops_then}
 use Rattle.sb_plain.specs.declared.command.Command.{Command}
 use Rattle.sb_plain.specs.declared.reply.Reply.{Reply}
 use Rattle.sb_plain.specs.declared.reply.Reply.TheVariants.{Refused}
+use Rattle.sb_plain.specs.Licences.{may_want_room}
 use Rattle.sb_plain.specs.Refusing.{refused}
 use Rattle.sb_plain.specs.State.{State, Transaction, kept, paid}
 use Rattle.sb_plain.specs.Step.{Answer, Turn, commit_of, finished, step, work_of}
@@ -23,7 +26,8 @@ use Rattle.sb_engine.specs.Working.{IsShortOf, extensions_of}
 use Rattle.sb_space.specs.Table.{table_len}
 use Rattle.sb_engine.proofs.LackingLemmas.{any_along}
 use Rattle.sb_session.specs.Commits.{IsStoppedOn, Mounted}
-use Rattle.sb_session.specs.Sessions.{WantsPages, needs_licence}
+use Rattle.sb_session.specs.Sessions.{WantsPages}
+use Rattle.sb_session.specs.Ends.{Ends}
 use Rattle.sb_session.proofs.CommitSteps.{going_on}
 use Rattle.sb_session.proofs.PagesLemmas.{turn_points}
 use Rattle.sb_execution.specs.Endings.{going_alone}
@@ -31,9 +35,11 @@ use Rattle.sb_execution.proofs.ReplyLemmas.{is_free_reply}
 use Rattle.sb_execution.proofs.StepsOf.{alone, by_fields, by_none, whole, whole_alone, within}
 
 -- ---- replies that say nothing of pages
-pub pages_unlicensed : (m : Meanings) (pages : ℕ) (s : State) (c : Command) (r : Reply) → needs_licence c ≡ false → WantsPages m pages s c r
-pages_unlicensed m pages s c (Refused (refusal.Room (Data used total))) none = λ on. absurd (false≢true (sym none ∙ on))
-pages_unlicensed m pages s c r none = tt
+-- where no room may be wanting
+pub pages_unwanted : (IsSo : State → Type 0) (Lack : Room → Type 0) (Failed : Type 0) (ext : Extensions) (m : Meanings) (pages : ℕ) (s : State) (c : Command) (r : Reply) → may_want_room s c ≡ false
+    → Ends IsSo Lack Failed ext s c r → WantsPages m pages s c r
+pages_unwanted IsSo Lack Failed ext m pages s c (Refused (refusal.Room (Data used total))) none ends = absurd (false≢true (sym none ∙ ends.cause.1))
+pages_unwanted IsSo Lack Failed ext m pages s c r none ends = tt
 
 pub pages_given : (m : Meanings) (pages : ℕ) (s : State) (c : Command) (r : Reply) → is_free_reply r ≡ false → WantsPages m pages s c r
 pages_given m pages s c (Refused (refusal.Room (Data used total))) given = absurd (false≢true (sym given))
@@ -48,7 +54,7 @@ pages_roomless m pages s c r none = tt
 wants_pages : {D A : Type 0} (faults : D → ℕ) (m : Meanings) (pages : ℕ) (s : State) (c : Command) → (w : Work A) (g : Going) (there : Mounted D) (r : Refusal)
     → ((P : Reached → Type 0) (picks : List Key) → Any P (trail_of (w (with_picks g picks))).points → Any P (step (extensions_of m) s c picks).points)
     → StopsFrom (IsStoppedOn faults m) w g r there → (is_room r ≡ true → there.store.pool.geometry.pages ≡ pages) → WantsPages m pages s c (Refused r)
-wants_pages faults m pages s c w g there (refusal.Room (Data used total)) reaches stop size = λ _.
+wants_pages faults m pages s c w g there (refusal.Room (Data used total)) reaches stop size =
     let picks = stop.picks ++ [] in
     let short = IsShortOf total (table_len pages) (extensions_of m) in
     let any : Any short stop.trail.points = subst (λ n. Any (IsShortOf total (table_len n) (extensions_of m)) stop.trail.points) (size refl) stop.stopped.licensed in

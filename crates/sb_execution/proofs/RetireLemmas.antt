@@ -11,6 +11,7 @@ use Rattle.sb_engine.specs.Working.{extensions_of}
 use Rattle.sb_fold.specs.declared.refusal.Refusal.TheVariants as refusal
 use Rattle.sb_plain.specs.declared.command.Command.{Command}
 use Rattle.sb_plain.specs.declared.reply.Reply.{Reply}
+use Rattle.sb_plain.specs.Licences.{may_want_room}
 use Rattle.sb_plain.specs.Refusing.{refused}
 use Rattle.sb_plain.specs.State.{State, Transaction as PlainTransaction, committed}
 use Rattle.sb_plain.specs.Step.{ok}
@@ -23,20 +24,20 @@ use Rattle.sb_vectors.specs.Vectors.{AreSameBoxes}
 use Rattle.sb_session.specs.declared.session.Open.{Open}
 use Rattle.sb_session.specs.declared.session.Session.{Session}
 use Rattle.sb_session.specs.Ends.{Ends, ends_with}
-use Rattle.sb_session.specs.Sessions.{CanRun, HasFailed, IsFor, IsOpenFor, KeepsSession, Lacks, StandsBehind, parts_of, sizes_of, needs_licence}
+use Rattle.sb_session.specs.Sessions.{CanRun, HasFailed, IsFor, IsOpenFor, KeepsSession, Lacks, StandsBehind, parts_of, sizes_of}
 use Rattle.sb_session.proofs.Carried.{CanRun-as, IsFor-as}
 use Rattle.sb_session.proofs.Commands.{outside_for}
 use Rattle.sb_execution.specs.Endings.{Executed, IsOf, Passes}
 use Rattle.sb_execution.proofs.CallLemmas.{ok_err, still_up}
 use Rattle.sb_execution.proofs.EndLemmas.{Ends-as, Ends-since}
 use Rattle.sb_execution.proofs.ExecLemmas.{KeepsSession-then}
-use Rattle.sb_execution.proofs.PagesLemmas.{pages_unlicensed}
+use Rattle.sb_execution.proofs.PagesLemmas.{pages_unwanted}
 
 module _ {B D : Type 0} (meanings : B → Meanings) (told : D → Option Story) (len faults : D → ℕ) (c : Command) (d e : D) (x y : Session B)
     (runs : CanRun meanings told len d x) (up : x.down ≡ false) (none : x.open ≡ None)
     (boxes : y.boxes ≡ x.boxes) (place : y.place ≡ x.place) (down : y.down ≡ x.down) (opened : y.open ≡ x.open)
     (passes : Passes told len faults (meanings x.boxes) x.place c d e x.space.store y.space.store) (leaves : KeepsWanted (parts_of told len d x) (parts_of told len e y))
-    (unlicensed : needs_licence c ≡ false) where
+    (unwanted : (s : State) → may_want_room s c ≡ false) where
   abbrev m : Meanings
   m = meanings x.boxes
 
@@ -90,7 +91,7 @@ module _ {B D : Type 0} (meanings : B → Meanings) (told : D → Option Story) 
       → Ends (λ t. IsFor meanings told len want t f z) (Lacks (sizes_of y)) (HasFailed faults e f) (extensions_of (meanings y.boxes)) s c r)
       → Executed meanings told len faults c d f x z r
   Executed-tested f z r disk space same keeps runs_on ends = record {
-    pages = λ want s for posed. pages_unlicensed m (sizes_of x).pages s c r unlicensed;
+    pages = λ want s for posed. pages_unwanted _ _ _ _ m (sizes_of x).pages s c r (unwanted s) (ends want s (IsFor-tested want s for) (passes.passed want s (of_state want s for)));
     ends = λ want s for posed.
         Ends-as (λ t. IsFor meanings told len want t f z) (StandsBehind meanings told len want (extensions_of m) s c d f x z) (Lacks (sizes_of x)) (HasFailed faults d f) (extensions_of m) s c
         (λ t is. record {

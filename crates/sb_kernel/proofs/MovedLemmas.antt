@@ -1,5 +1,5 @@
 -- The reply to a line, and the state to which it leads.
-use Rattle.std.proofs.Common.{◌≡◌, ℕ, ◌==◌, Bool, true, false, inl, inr, ⊎_elim, is_some, Option, Some, None, List, [], ◌∷◌, ◌++◌, refl, sym, ap, ◌∙◌}
+use Rattle.std.proofs.Common.{◌≡◌, ℕ, ◌==◌, Bool, false, inl, inr, ⊎_elim, is_some, Option, Some, None, List, [], ◌∷◌, ◌++◌, refl, sym, ap, ◌∙◌}
 use Rattle.std.specs.List.{find}
 use Rattle.std.proofs.lemmas.Bool.{true≢false}
 use Rattle.sb_disk.specs.Moments.{LeavesOnly}
@@ -10,10 +10,8 @@ use Rattle.sb_fold.specs.declared.refusal.Refusal.TheVariants.{Syntax}
 use Rattle.sb_fold.specs.declared.refusal.Refusal.TheVariants as refusal
 use Rattle.sb_fold.specs.declared.refusal.Room.TheVariants.{Data}
 use Rattle.sb_plain.specs.declared.command.Command.{Command}
-use Rattle.sb_plain.specs.declared.command.Command.TheVariants as command
 use Rattle.sb_plain.specs.declared.reply.Reply.{Reply}
 use Rattle.sb_plain.specs.declared.reply.Reply.TheVariants.{Refused}
-use Rattle.sb_plain.specs.Licences.{may_want_room}
 use Rattle.sb_plain.specs.State.{State, committed}
 use Rattle.sb_grammar.specs.Columns.{IsItem, Says, Bad}
 use Rattle.sb_ctx.specs.Method.{Method}
@@ -29,7 +27,7 @@ use Rattle.sb_vectors.specs.Vectors.{AreSameBoxes}
 use Rattle.sb_opening.specs.Naming.{all_live}
 use Rattle.sb_opening.specs.Session.{Session}
 use Rattle.sb_opening.specs.Ends.{Ends}
-use Rattle.sb_opening.specs.Sessions.{HasFailed, IsFor, IsNext, KeepsSession, Lacks, LeavesNext, LeavesOldOrNext, StandsBehind, WantsPages, needs_licence, parts_of, sizes_of}
+use Rattle.sb_opening.specs.Sessions.{HasFailed, IsFor, IsNext, KeepsSession, Lacks, LeavesNext, LeavesOldOrNext, StandsBehind, WantsPages, parts_of, sizes_of}
 use Rattle.sb_opening.proofs.MoveLists.{found_more}
 use Rattle.sb_opening.proofs.SameBoxes.{same-then}
 use Rattle.sb_execution.specs.Serving.{IsPosedIn}
@@ -82,24 +80,10 @@ HasReplied-bad w line column d x up is = record {
 }
 
 -- ---- want of a page
--- a command that may want room at all needs a licence for it
-licensed : (s : State) (c : Command) → may_want_room s c ≡ true → needs_licence c ≡ true
-licensed s (command.Create relation method schema key) may = refl
-licensed s (command.Drop relation) may = refl
-licensed s (command.Attach relation name rule) may = refl
-licensed s (command.Detach relation name) may = refl
-licensed s (command.Insert relation values) may = refl
-licensed s (command.Delete relation at) may = refl
-licensed s (command.Update relation at values) may = refl
-licensed s (command.Act action) may = refl
-licensed s command.Commit may = refl
-licensed s c may = absurd (cc)
-
 may_want : (m : Meanings) (g : Geometry) (IsSo : State → Type 0) (Failed : Type 0) (s : State) (c : Command) (reply : Reply)
     → Ends IsSo (Lacks g) Failed (extensions_of m) s c reply → WantsPages m g.pages s c reply → MayWantPages m g s (Says c) reply
 may_want m g IsSo Failed s c (Refused (refusal.Room (Data used total))) ends wants =
-    let short = wants (licensed s c ends.cause.1) in
-    record { wants = ends.cause.1; picks = short.0; lacks = (ends.cause.0.0, ends.cause.0.1, short.1) }
+    record { wants = ends.cause.1; picks = wants.0; lacks = (ends.cause.0.0, ends.cause.0.1, wants.1) }
 may_want m g IsSo Failed s c reply ends wants = tt
 
 -- ---- a command

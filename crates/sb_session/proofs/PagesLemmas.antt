@@ -47,7 +47,7 @@ module _ {D : Type 0} (faults : D → ℕ) (m : Meanings) (s : State) (t : Trans
 
   pub commit_pages : (pages : ℕ) (r : Refusal) → StopsFrom (IsStoppedOn faults m) (finish ext) (going_on t) r there
       → ((r ≡ refusal.Fault → ⊥) → there.store.pool.geometry.pages ≡ pages) → WantsPages m pages s command.Commit (Refused r)
-  commit_pages pages (refusal.Room (Data used total)) stops geometry = λ on.
+  commit_pages pages (refusal.Room (Data used total)) stops geometry =
       let picks = stops.picks ++ [] in
       let any = subst (λ n. Any (IsShortOf total (table_len n) ext) stops.trail.points) (geometry (λ is. cc)) stops.stopped.licensed in
       (picks, commit_reaches (IsShortOf total (table_len pages) ext) picks (any_along (IsShortOf total (table_len pages) ext) stops.trail _ (stops.comes []) any))

@@ -1,5 +1,5 @@
 -- What a session stands for.
-use Rattle.std.specs.Prelude.{◌≡◌, ◌⊎◌, ◌||◌, ℕ, ◌+◌, ◌<◌, ◌≤◌, Bool, true, false, List, [], ◌∷◌, All, Option, Some, None}
+use Rattle.std.specs.Prelude.{◌≡◌, ◌⊎◌, ◌||◌, ℕ, ◌+◌, ◌<◌, ◌≤◌, true, false, List, [], ◌∷◌, All, Option, Some, None}
 use Rattle.std.specs.List.{AllZip, Any}
 use Rattle.sb_disk.specs.Causes.{Rose}
 use Rattle.sb_disk.specs.Disk.{Story}
@@ -12,7 +12,6 @@ use Rattle.sb_fold.specs.declared.refusal.Room.TheVariants.{Data, Temp, Log, Gat
 use Rattle.sb_fold.specs.Extensions.{Extensions}
 use Rattle.sb_fold.specs.Outcome.{Going, begun}
 use Rattle.sb_plain.specs.declared.command.Command.{Command}
-use Rattle.sb_plain.specs.declared.command.Command.TheVariants as command
 use Rattle.sb_plain.specs.declared.reply.Reply.{Reply}
 use Rattle.sb_plain.specs.declared.reply.Reply.TheVariants.{Refused}
 use Rattle.sb_plain.specs.Step.{Steps, step}
@@ -143,28 +142,15 @@ Lacks g (Log used more total) = (more ≤ 13424) × (total ≡ g.log) × (total 
 Lacks g (Gates used total) = (65534 < used) × (total ≡ 65536)
 
 -- ---- want of pages
--- a command that wants a page by a licence alone: one that changes a database, or a commit, for the actions that wait
-abbrev pub needs_licence : Command → Bool
-needs_licence (command.Create relation method schema key) = true
-needs_licence (command.Drop relation) = true
-needs_licence (command.Attach relation name rule) = true
-needs_licence (command.Detach relation name) = true
-needs_licence (command.Insert relation values) = true
-needs_licence (command.Delete relation at) = true
-needs_licence (command.Update relation at values) = true
-needs_licence (command.Act action) = true
-needs_licence command.Commit = true
-needs_licence c = false
-
 -- With some picks the step of the command reaches a point at which the database needs so much that there are no more pages than that and those of the
 -- owner table.
 abbrev pub IsShortFor : Meanings → ℕ → State → Command → ℕ → Type 0
 IsShortFor m pages s c total =
     (picks : List Key) × Any (IsShortOf total (table_len pages) (extensions_of m)) (step (extensions_of m) s c picks).points
 
--- so it is of a store of so many pages where want of a page is the reply to such a command
+-- so it is of a store of so many pages where want of a page is the reply
 abbrev pub WantsPages : Meanings → ℕ → State → Command → Reply → Type 0
-WantsPages m pages s c (Refused (Room (Data used total))) = needs_licence c ≡ true → IsShortFor m pages s c total
+WantsPages m pages s c (Refused (Room (Data used total))) = IsShortFor m pages s c total
 WantsPages m pages s c reply = Unit {0}
 
 -- ---- what a crash leaves

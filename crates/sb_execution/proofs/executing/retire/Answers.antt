@@ -4,12 +4,13 @@ use Rattle.sb_plain.specs.declared.command.Command.{Command}
 use Rattle.sb_plain.specs.declared.command.Command.TheVariants as command
 use Rattle.sb_plain.specs.declared.reply.Reply.{Reply}
 use Rattle.sb_plain.specs.declared.reply.Reply.TheVariants.{Refused}
+use Rattle.sb_plain.specs.Licences.{may_want_room}
 use Rattle.sb_plain.specs.Refusing.{is_misplaced, refused}
 use Rattle.sb_fold.specs.declared.refusal.Refusal.TheVariants as refusal
 use Rattle.sb_engine.specs.Working.{extensions_of}
 use Rattle.sb_session.specs.declared.session.Session.{Session}
 use Rattle.sb_session.specs.Ends.{Ends, reply_of}
-use Rattle.sb_session.specs.Sessions.{HasFailed, IsFor, Lacks, sizes_of, needs_licence}
+use Rattle.sb_session.specs.Sessions.{HasFailed, IsFor, Lacks, sizes_of}
 use Rattle.sb_session.proofs.Carried.{IsSame-itself}
 use Rattle.sb_session.proofs.Commands.{Carried-misplaced}
 use Rattle.sb_session.proofs.SameBoxes.{same-boxes, same-stays}
@@ -55,7 +56,7 @@ returns-in-Ok-clause-ended g c =
     let did = c.retire.ensures in
     let none = is_some-none x.open (sym c.is_some.ensures ∙ c.if-is_some.false) in
     subst (λ (r : Reply). Executed meanings told len faults k d f x z r) (sym c.reply_of.ensures)
-    (Executed-tested meanings told len faults k d e x y c.requires.runs c.requires.up none refl refl refl refl c.in-Ok.ensures.passes c.test_outside-tested.ensures.leaves (ap needs_licence c.requires.retires) f z (reply_of c.retire.result) did.disk did.space did.same did.keeps did.runs
+    (Executed-tested meanings told len faults k d e x y c.requires.runs c.requires.up none refl refl refl refl c.in-Ok.ensures.passes c.test_outside-tested.ensures.leaves (λ s. ap (may_want_room s) c.requires.retires) f z (reply_of c.retire.result) did.disk did.space did.same did.keeps did.runs
     (λ want s for none.
     subst (λ (k : Command). Ends (λ t. IsFor meanings told len want t f z) (Lacks (sizes_of y)) (HasFailed faults e f) (extensions_of (meanings x.boxes)) s k (reply_of c.retire.result)) (sym c.requires.retires)
     (did.ends want s for
