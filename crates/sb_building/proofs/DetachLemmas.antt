@@ -10,7 +10,7 @@ use Rattle.sb_relation.specs.Build.{mirror_name, mirror_of}
 use Rattle.sb_relation.specs.Db.{Name, Attached, Relation, Db}
 use Rattle.sb_fold.specs.Bounds.{attached_bound}
 use Rattle.sb_fold.specs.Building.{at_point, detach, detach_one, rule_at, without_attached, without_mirror, without_rule}
-use Rattle.sb_fold.specs.Costs.{descriptor_cost, descriptors_of, free_cost}
+use Rattle.sb_fold.specs.Costs.{descriptor_cost, descriptors_of}
 use Rattle.sb_fold.specs.Extensions.{Extensions, is_durable_at}
 use Rattle.sb_fold.specs.Fold.{attachments_at}
 use Rattle.sb_fold.specs.Outcome.{Going, Leads, Trail, Work, made, with_picks}
@@ -165,7 +165,7 @@ both-within ext db relation name a mirrored apart there = by (mirror_of relation
 -- ---- runs
 -- what the definition has it cost
 abbrev pub detach_cost : Extensions → Name → Attached → Db → ℕ
-detach_cost ext relation a db = cond (is_durable_at ext db relation) (free_cost (attached_bound ext db relation a ∷ []) + descriptors_of a.rule * descriptor_cost ext db) 0
+detach_cost ext relation a db = cond (is_durable_at ext db relation) (descriptors_of a.rule * descriptor_cost ext db) 0
 
 -- an engine stops at the database before
 pub detach_stops : {R : Type 0} (Stopped : Refusal → Trail → R → Type 0) (x : R) (ext : Extensions) (relation name : Name) (a : Attached) (r : Refusal) (g : Going) → rule_at g.db relation name ≡ Some a

@@ -10,7 +10,7 @@ use Rattle.sb_relation.specs.Db.{Db, Key}
 use Rattle.sb_fold.specs.declared.refusal.Refusal.{Refusal}
 use Rattle.sb_fold.specs.declared.refusal.Refusal.TheVariants as refusal
 use Rattle.sb_fold.specs.Extensions.{Extensions}
-use Rattle.sb_fold.specs.Finish.{finish}
+use Rattle.sb_fold.specs.Finish.{finish, freed}
 use Rattle.sb_fold.specs.Outcome.{Going, Work, made, refuse, Leads, ◌>>=◌}
 use Rattle.sb_fold.proofs.LeadsLemmas.{leads_next, leads_on, leads_refused}
 use Rattle.sb_cascade.specs.Runs.{EndsBy, OnFault, is_free, is_room}
@@ -25,7 +25,7 @@ use Rattle.sb_plain.specs.Licences.{may_want_memory, may_want_room}
 use Rattle.sb_plain.specs.State.{downed}
 use Rattle.sb_plain.specs.Step.{Steps}
 use Rattle.sb_plain.specs.State.{State, Transaction as PlainTransaction, committed}
-use Rattle.sb_plain.specs.Step.{Answer, answered, finished}
+use Rattle.sb_plain.specs.Step.{Answer, answered, finished, freeing}
 use Rattle.sb_registry.specs.Boxes.{Meanings}
 use Rattle.sb_drive.specs.Spaces.{Wanted}
 use Rattle.sb_map.specs.declared.place.Place.{Place}
@@ -261,12 +261,14 @@ module _ {D : Type 0} (told : D → Option Story) (len faults : D → ℕ) (m : 
 
   -- work and the work that finishes it
   leads_whole_way : (work : Work Answer) (g h k : Going) (ps qs : List Key) → Leads work g ps (made answer) h → Leads (finish (extensions_of m)) h qs (made tt) k
-      → Leads (finished (extensions_of m) work) g (ps ++ qs) (made answer) k
-  leads_whole_way work g h k ps qs one two = leads_on (λ (answer : Answer). finish (extensions_of m) >>= λ _. made answer) one (leads_next (λ _. made answer) two)
+      → Leads (finished (extensions_of m) work) g (ps ++ qs) (made answer) (freed k)
+  leads_whole_way work g h k ps qs one two =
+      let run = leads_on (λ (answer : Answer). finish (extensions_of m) >>= λ _. freeing answer) one (leads_next (λ _. freeing answer) two) in
+      record { leads = run.leads }
 
   leads_to_refusal : (work : Work Answer) (g h k : Going) (ps qs : List Key) (r : Refusal) → Leads work g ps (made answer) h → Leads (finish (extensions_of m)) h qs (refuse r) k
       → Leads (finished (extensions_of m) work) g (ps ++ qs) (refuse r) k
-  leads_to_refusal work g h k ps qs r one two = leads_on (λ (answer : Answer). finish (extensions_of m) >>= λ _. made answer) one (leads_refused (λ _. made answer) two)
+  leads_to_refusal work g h k ps qs r one two = leads_on (λ (answer : Answer). finish (extensions_of m) >>= λ _. freeing answer) one (leads_refused (λ _. freeing answer) two)
 
   module _ (f : D) (u : StoreState) where
     abbrev to : Parts
@@ -277,7 +279,7 @@ module _ {D : Type 0} (told : D → Option Story) (len faults : D → ℕ) (m : 
         → Steps (extensions_of m) x c (answered answer run.after.used) (with_committed x run.after.db)
     committed_step want x of posed IsSo run =
         let why = has.answers want x of posed in
-        Steps-worked_alone (extensions_of m) x c of.up (none_in want x of) why.work why.is (why.run.picks ++ run.picks) run.after answer why.passed
+        Steps-worked_alone (extensions_of m) x c of.up (none_in want x of) why.work why.is (why.run.picks ++ run.picks) (freed run.after) answer why.passed
         (leads_whole_way why.work (going_alone x) why.run.after run.after why.run.picks run.picks why.run.leads run.leads)
 
     -- what a crash left since the commit began, beside what it left before

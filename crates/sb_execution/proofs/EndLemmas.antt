@@ -7,7 +7,7 @@ use Rattle.sb_fold.specs.declared.refusal.Refusal.TheVariants as refusal
 use Rattle.sb_fold.specs.declared.refusal.Room.{Room}
 use Rattle.sb_fold.specs.Extensions.{Extensions}
 use Rattle.sb_fold.specs.Finish.{finish}
-use Rattle.sb_fold.specs.Outcome.{Going, Gone, Queue, Trail, Work, made, ◌>>=◌}
+use Rattle.sb_fold.specs.Outcome.{Going, Gone, Queue, Trail, Work, ◌>>=◌}
 use Rattle.sb_fold.proofs.LeadsLemmas.{leads_refused}
 use Rattle.sb_cascade.specs.Runs.{EndsBy, StopsFrom, is_free, is_room}
 use Rattle.sb_engine.specs.Refusals.{HasRefusalCause}
@@ -21,7 +21,7 @@ use Rattle.sb_plain.specs.State.{downed}
 use Rattle.sb_plain.specs.Step.{Steps}
 use Rattle.sb_plain.specs.Reading.{read}
 use Rattle.sb_plain.specs.State.{Point as PlainPoint, State, Transaction, committed, no_queue, none_gone, view}
-use Rattle.sb_plain.specs.Step.{Answer, work_of}
+use Rattle.sb_plain.specs.Step.{Answer, freeing, work_of}
 use Rattle.sb_registry.specs.Boxes.{Meanings}
 use Rattle.sb_drive.specs.Spaces.{Wanted}
 use Rattle.sb_map.specs.declared.place.Place.{Place}
@@ -170,7 +170,7 @@ module _ {D : Type 0} (faults : D → ℕ) (m : Meanings) (s : State) (c : Comma
         let there = work_there ext (view s) c works none in
         let stop : StopsFrom Stopped there.0 (going_alone s) r new = at_some (work_of ext c) there.0 (λ work. StopsFrom Stopped work (going_alone s) r new) there.1 stops in
         let run : EndsBy Stopped false there.0 (going_alone s) r new = subst (λ (b : Bool). EndsBy Stopped b there.0 (going_alone s) r new) given stop in
-        Steps-stopped_alone ext s c up outside there.0 there.1 run.picks run.after r passed (leads_refused (λ (answer : Answer). finish ext >>= λ _. made answer) run.leads)
+        Steps-stopped_alone ext s c up outside there.0 there.1 run.picks run.after r passed (leads_refused (λ (answer : Answer). finish ext >>= λ _. freeing answer) run.leads)
     unserved_alone outside (Looked free none cause) = absurd (false≢true (sym given ∙ free))
 
   -- for want of a page only where its step comes so far that pages may be wanting

@@ -1,5 +1,5 @@
 -- Want of a page to a command that needs a licence for it: the points that its step reaches.
-use Rattle.std.proofs.Common.{◌≡◌, ℕ, true, false, List, [], ◌++◌, Some, None, refl, sym, ap, ◌∙◌, subst}
+use Rattle.std.proofs.Common.{◌≡◌, ℕ, true, false, List, [], ◌++◌, Some, None, refl, sym, ap, ◌∙◌, subst, append-nil, arith}
 use Rattle.std.proofs.lemmas.Bool.{false≢true}
 use Rattle.std.specs.List.{Any}
 use Rattle.sb_relation.specs.Db.{Key}
@@ -9,10 +9,10 @@ use Rattle.sb_fold.specs.declared.refusal.Room.{Room}
 use Rattle.sb_fold.specs.declared.refusal.Room.TheVariants.{Data}
 use Rattle.sb_fold.specs.Extensions.{Extensions}
 use Rattle.sb_fold.specs.Finish.{finish}
-use Rattle.sb_fold.specs.Outcome.{Going, Reached, Work, made, trail_of, with_picks, ◌>>=◌}
+use Rattle.sb_fold.specs.Outcome.{Going, Reached, Work, trail_of, with_picks, ◌>>=◌}
 use Rattle.sb_fold.proofs.LeadsLemmas.{leads_here, leads_on}
 use Rattle.sb_cascade.specs.Runs.{MadeFrom, StopsFrom, is_room}
-use Rattle.sb_cascade.proofs.Forward.{forward_finish, forward_made, forward_next}
+use Rattle.sb_cascade.proofs.Forward.{IsForward, forward_finish, forward_next}
 use Rattle.sb_cascade.proofs.Stopping.{stops_next, stops_then}
 use Rattle.sb_plain.specs.declared.command.Command.{Command}
 use Rattle.sb_plain.specs.declared.reply.Reply.{Reply}
@@ -20,7 +20,7 @@ use Rattle.sb_plain.specs.declared.reply.Reply.TheVariants.{Refused}
 use Rattle.sb_plain.specs.Licences.{may_want_room}
 use Rattle.sb_plain.specs.Refusing.{refused}
 use Rattle.sb_plain.specs.State.{State, Transaction, kept, paid}
-use Rattle.sb_plain.specs.Step.{Answer, Turn, commit_of, finished, step, work_of}
+use Rattle.sb_plain.specs.Step.{Answer, Turn, commit_of, finished, freeing, step, work_of}
 use Rattle.sb_registry.specs.Boxes.{Meanings}
 use Rattle.sb_engine.specs.Working.{IsShortOf, extensions_of}
 use Rattle.sb_space.specs.Table.{table_len}
@@ -48,6 +48,10 @@ pages_given m pages s c r given = tt
 pub pages_roomless : (m : Meanings) (pages : ℕ) (s : State) (c : Command) (r : Refusal) → is_room r ≡ false → WantsPages m pages s c (Refused r)
 pages_roomless m pages s c (refusal.Room (Data used total)) none = absurd (false≢true (sym none))
 pages_roomless m pages s c r none = tt
+
+-- ---- a commit that frees reaches no point more
+forward_freeing : (answer : Answer) → IsForward (freeing answer)
+forward_freeing answer = record { goes = λ g. record { points = []; more = sym (append-nil g.trail.points); spent = omega arith } }
 
 -- ---- want of a page
 -- where its step reaches all points of the work, and the work had come so far when it was stopped
@@ -93,22 +97,22 @@ module _ {D : Type 0} (faults : D → ℕ) (m : Meanings) (pages : ℕ) (s : Sta
         passed
 
     abbrev rest : Answer → Work Answer
-    rest answer = finish (extensions_of m) >>= λ _. made answer
+    rest answer = finish (extensions_of m) >>= λ _. freeing answer
 
     -- its work was stopped
     pub pages_worked : StopsFrom (IsStoppedOn faults m) work (going_alone s) r there → WantsPages m pages s c (Refused r)
     pages_worked stops =
         wants_pages faults m pages s c (finished (extensions_of m) work) (going_alone s) there r reaches_alone
         (stops_next (IsStoppedOn faults m) work r there (going_alone s) rest
-        (λ answer. forward_next (finish (extensions_of m)) (λ _. made answer) (forward_finish (extensions_of m)) (λ _. forward_made answer)) stops) size
+        (λ answer. forward_next (finish (extensions_of m)) (λ _. freeing answer) (forward_finish (extensions_of m)) (λ _. forward_freeing answer)) stops) size
 
     -- it went through, and what waits was stopped
     pub pages_finished : {N : Type 0} (IsSo : Going → N → Type 0) (answer : Answer) (mid : N) (run : MadeFrom IsSo work (going_alone s) answer mid)
         → StopsFrom (IsStoppedOn faults m) (finish (extensions_of m)) run.after r there → WantsPages m pages s c (Refused r)
     pages_finished IsSo answer mid run stops =
         wants_pages faults m pages s c (finished (extensions_of m) work) (going_alone s) there r reaches_alone
-        (stops_then (IsStoppedOn faults m) (finish (extensions_of m) >>= λ _. made answer) r there
+        (stops_then (IsStoppedOn faults m) (finish (extensions_of m) >>= λ _. freeing answer) r there
         {M = Unit {0}} {Stands = λ h u. run.after ≡ h} {mid = tt} (finished (extensions_of m) work)
         (record { picks = run.picks ++ []; after = run.after; leads = leads_on rest run.leads (leads_here (rest answer) run.after); stands = refl })
         (λ h same. subst (λ (h : Going). StopsFrom (IsStoppedOn faults m) (rest answer) h r there) same
-        (stops_next (IsStoppedOn faults m) (finish (extensions_of m)) r there run.after (λ _. made answer) (λ _. forward_made answer) stops))) size
+        (stops_next (IsStoppedOn faults m) (finish (extensions_of m)) r there run.after (λ _. freeing answer) (λ _. forward_freeing answer) stops))) size

@@ -15,7 +15,7 @@ use Rattle.sb_relation.specs.Lawful.{is_long_for}
 use Rattle.sb_relation.specs.Rules.{holds}
 use Rattle.sb_fold.specs.declared.refusal.Refusal.TheVariants.{TooLong, Veto}
 use Rattle.sb_fold.specs.Bounds.{method_bound, attached_bound, rule_bound}
-use Rattle.sb_fold.specs.Costs.{rule_cost, prepare_cost, create_cost, descriptor_cost, descriptors_of, if_durable, free_cost}
+use Rattle.sb_fold.specs.Costs.{rule_cost, prepare_cost, create_cost, descriptor_cost, descriptors_of, if_durable}
 use Rattle.sb_fold.specs.Extensions.{Extensions, box_of, is_durable_at}
 use Rattle.sb_fold.specs.Fold.{attachments_at}
 use Rattle.sb_fold.specs.Outcome.{Gone, Trail, Going, Work, refuse_if, change_to, with_db, with_point, ◌>>=◌}
@@ -120,7 +120,7 @@ without_relation db name = where_key bytes_cmp (λ other. not (bytes_eq other na
 abbrev pub leave : Extensions → Name → List ℕ → ℕ → Db → Going → Going
 leave ext name bounds descriptors db going =
     let durable : Bool = is_durable_at ext going.db name in
-    let reached : Going = reach going.db (cond durable (free_cost bounds + descriptors * descriptor_cost ext going.db) 0) going in
+    let reached : Going = reach going.db (cond durable (descriptors * descriptor_cost ext going.db) 0) going in
     record reached { db = db; gone = with_gone durable bounds going.gone }
 
 abbrev pub detach_one : Extensions → Name → Option Attached → Going → Going

@@ -1,5 +1,5 @@
 -- What is done before a commit.
-use Rattle.std.specs.Prelude.{ℕ, zero, suc, Bool, false, not, ◌&&◌, List, [], ◌∷◌, Option, Some, None}
+use Rattle.std.specs.Prelude.{ℕ, zero, suc, ◌+◌, Bool, false, not, ◌&&◌, List, [], ◌∷◌, Option, Some, None}
 use Rattle.std.specs.List.{find}
 use Rattle.sb_rule.specs.declared.action.Action.{Action}
 use Rattle.sb_rule.specs.declared.rule.Side.TheVariants.{Main}
@@ -8,6 +8,7 @@ use Rattle.sb_rule.specs.declared.rule.Rule.TheVariants.{Check, Refers}
 use Rattle.sb_relation.specs.Db.{Name, Attached, Db}
 use Rattle.sb_relation.specs.Rules.{holds}
 use Rattle.sb_fold.specs.declared.refusal.Refusal.TheVariants.{Veto, DeferLimit}
+use Rattle.sb_fold.specs.Costs.{free_cost}
 use Rattle.sb_fold.specs.Extensions.{Extensions, box_of}
 use Rattle.sb_fold.specs.Fold.{Changes, act, first_change}
 use Rattle.sb_fold.specs.Outcome.{Going, Work, made, refuse, change_to, ◌>>=◌}
@@ -56,3 +57,8 @@ unless_failing (Some (relation, name)) = refuse (Veto relation name)
 -- at most 1,000 actions; then each deferred rule is to hold of its whole relation
 abbrev pub finish : Extensions → Work (Unit {0})
 finish ext = drain ext 1000 >>= λ _. (λ going. unless_failing (first_failing ext going.db going.db) going)
+
+-- ---- the pages that go
+-- a commit gives back the pages of the instances that were dropped or detached
+abbrev pub freed : Going → Going
+freed going = record going { trail = record going.trail { spent = going.trail.spent + free_cost going.gone.durable } }

@@ -8,7 +8,7 @@ use Rattle.sb_relation.specs.Db.{Name, Key, Db}
 use Rattle.sb_fold.specs.Extensions.{Extensions}
 use Rattle.sb_fold.specs.Finish.{drain_next, drain, first_failing, unless_failing, finish}
 use Rattle.sb_fold.specs.Fold.{first_change}
-use Rattle.sb_fold.specs.Outcome.{Going, Outcome, Gives, Stopped, NoStep, Work, made, continue}
+use Rattle.sb_fold.specs.Outcome.{Going, Outcome, Gives, Stopped, NoStep, Work, continue}
 use Rattle.sb_plain.specs.State.{Codes, Transaction, State, db_or_empty, view, going_of, with_spent, with_commit, kept}
 use Rattle.sb_plain.specs.Step as step
 use Rattle.sb_lawful.specs.Laws.{open_ones, databases, Leaves}
@@ -108,22 +108,22 @@ module _ (P : Db → Type 0) where
     Keeps s start (NoStep trail) = Unit {0}
 
     of_failing : (s : State) (answer : step.Answer) (g : Going) (failing : Option (Name × Name)) → (P (view s) → P g.db)
-        → Leaves P s (state_of (step.turn_of (step.commit_of s) s (continue (λ _. made answer) (unless_failing failing g))))
+        → Leaves P s (state_of (step.turn_of (step.commit_of s) s (continue (λ _. step.freeing answer) (unless_failing failing g))))
     of_failing s answer g None keeps = commit_leaves s g.db keeps
     of_failing s answer g (Some (relation, name)) keeps = spent_leaves g.trail.spent s
 
     of_actions : (ext : Extensions) (s : State) (answer : step.Answer) (g : Going) (actions : List Action) (rest : Work (Unit {0})) → actions ≡ [] → (P (view s) → P g.db)
         → Leaves P s (state_of (step.turn_of (step.commit_of s) s
-        (continue (λ _. made answer) (continue (λ _. (λ x. unless_failing (first_failing ext x.db x.db) x)) (drain_next (first_change ext) rest actions g)))))
+        (continue (λ _. step.freeing answer) (continue (λ _. (λ x. unless_failing (first_failing ext x.db x.db) x)) (drain_next (first_change ext) rest actions g)))))
     of_actions ext s answer g [] rest e keeps = of_failing s answer g (first_failing ext g.db g.db) keeps
     of_actions ext s answer g (a ∷ actions) rest e keeps = absurd (cc)
 
     of_finish : (ext : Extensions) (s : State) (answer : step.Answer) (g : Going) → g.queue.actions ≡ [] → (P (view s) → P g.db)
-        → Leaves P s (state_of (step.turn_of (step.commit_of s) s (continue (λ _. made answer) (finish ext g))))
+        → Leaves P s (state_of (step.turn_of (step.commit_of s) s (continue (λ _. step.freeing answer) (finish ext g))))
     of_finish ext s answer g e keeps = of_actions ext s answer g g.queue.actions (drain ext 999) e keeps
 
     of_commit : (ext : Extensions) (s : State) (start : Going) (o : Outcome step.Answer) → start.queue.actions ≡ [] → Keeps s start o
-        → Leaves P s (state_of (step.turn_of (step.commit_of s) s (continue (λ answer. (λ g. continue (λ _. made answer) (finish ext g))) o)))
+        → Leaves P s (state_of (step.turn_of (step.commit_of s) s (continue (λ answer. (λ g. continue (λ _. step.freeing answer) (finish ext g))) o)))
     of_commit ext s start (Gives answer g) e keeps = of_finish ext s answer g (keeps.0 ∙ e) keeps.1
     of_commit ext s start (Stopped r trail) e keeps = spent_leaves trail.spent s
     of_commit ext s start (NoStep trail) e keeps = leaves_itself s

@@ -251,9 +251,9 @@ in_building : (ext : Extensions) (s : State) (picks : List Key) (work : Work ste
     ]))
 in_building ext s picks work None none given lawful open_one seen =
     committed_turn ext s (step.finished ext work (going_of s picks))
-    (of_next (Built (going_of s picks)) (λ h. TriggersPutStorable h.db) (work (going_of s picks)) (λ answer. (λ g. continue (λ _. made answer) (finish ext g))) given
+    (of_next (Built (going_of s picks)) (λ h. TriggersPutStorable h.db) (work (going_of s picks)) (λ answer. (λ g. continue (λ _. step.freeing answer) (finish ext g))) given
     (λ answer g built.
-    of_next (λ h. h.db ≡ g.db) (λ h. TriggersPutStorable h.db) (finish ext g) (λ _. made answer)
+    of_next (λ h. h.db ≡ g.db) (λ h. TriggersPutStorable h.db) (finish ext g) (λ _. step.freeing answer)
     (finish_same ext g (ap (λ q. q.actions) built.queue ∙ ap (λ (t : Option Transaction). (going_of (record s { transaction = t }) picks).queue.actions) none))
     (λ _ h same. subst TriggersPutStorable (sym same) built.may.triggers))) seen lawful
 in_building ext s picks work (Some t) some given lawful open_one seen = kept_turn ext s t (going_of s picks) (work (going_of s picks)) given seen lawful open_one

@@ -11,7 +11,7 @@ use Rattle.sb_relation.specs.Fits.{first_missing}
 use Rattle.sb_fold.specs.declared.refusal.Refusal.{Refusal}
 use Rattle.sb_fold.specs.declared.refusal.Refusal.TheVariants as refusal
 use Rattle.sb_fold.specs.Extensions.{Extensions}
-use Rattle.sb_fold.specs.Finish.{finish}
+use Rattle.sb_fold.specs.Finish.{finish, freed}
 use Rattle.sb_fold.specs.Fold.{act, first_change}
 use Rattle.sb_fold.specs.Outcome.{Going, Outcome, Gives, Stopped, NoStep, Work, made, continue, begun}
 use Rattle.sb_fold.specs.Wishes.{Wish, Put, Remove, Replace}
@@ -102,11 +102,15 @@ of_turn ext leave otherwise (Gives answer g) leaves other works = record { state
 of_turn ext leave otherwise (Stopped r trail) leaves other works = record { state = when_spent ext trail.spent otherwise other; points = works }
 of_turn ext leave otherwise (NoStep trail) leaves other works = record { state = other; points = works }
 
+-- to give pages back leaves what is lawful
+pub freed_goes : (ext : Extensions) (g : Going) → IsLawfulWork ext g → IsLawfulWork ext (freed g)
+freed_goes ext g works = record { stands = works.stands; trail = works.trail }
+
 of_finished : (ext : Extensions) (work : Work step.Answer) (g : Going) → Works ext (work g) → Works ext (step.finished ext work g)
 of_finished ext work g works =
-    of_next ext (λ _ left. IsLawfulWork ext left) (λ _ left. IsLawfulWork ext left) (work g) (λ answer. (λ left. continue (λ _. made answer) (finish ext left))) works
+    of_next ext (λ _ left. IsLawfulWork ext left) (λ _ left. IsLawfulWork ext left) (work g) (λ answer. (λ left. continue (λ _. step.freeing answer) (finish ext left))) works
     (λ answer left lawful.
-    of_next ext (λ _ last. IsLawfulWork ext last) (λ _ last. IsLawfulWork ext last) (finish ext left) (λ _. made answer) (finish_goes ext left lawful) (λ _ last ends. ends))
+    of_next ext (λ _ last. IsLawfulWork ext last) (λ _ last. IsLawfulWork ext last) (finish ext left) (λ _. step.freeing answer) (finish_goes ext left lawful) (λ _ last ends. freed_goes ext last ends))
 
 in_changing : (ext : Extensions) (s : State) (picks : List Key) (work : Work step.Answer) (transaction : Option Transaction) → HasLawfulDatabases ext s → MayBeOpen ext transaction
     → Works ext (work (going_of s picks))

@@ -163,7 +163,7 @@ module _ (P : Db → Type 0) where
     module _ (changes_keep : (db : Db) (name : Name) (c : Change) → P db → P (changed db name c)) (ext : Extensions) where
       finished_keeps : (work : Work step.Answer) → Keeps P work → Keeps P (step.finished ext work)
       finished_keeps work keeps =
-          then_keeps P work (λ answer. (finish ext >>= λ _. made answer)) keeps (λ answer. then_keeps P (finish ext) (λ _. made answer) (finish_keeps P changes_keep ext) (λ _ g p. p))
+          then_keeps P work (λ answer. (finish ext >>= λ _. step.freeing answer)) keeps (λ answer. then_keeps P (finish ext) (λ _. step.freeing answer) (finish_keeps P changes_keep ext) (λ _ g p. p))
 
       in_changing : (s : State) (picks : List Key) (work : Work step.Answer) (transaction : Option Transaction) → Each P s → EachOpen P transaction → Keeps P work
           → Each P (state_of (elim transaction [

@@ -193,15 +193,22 @@ entry = record { relation = t; name = codes "c"; entry = [] }
 a_commit_may_want_room_for_what_waits : LacksRoom none (sizes 64 28895) (open_with 0 (aside 0 0) (waiting (later ∷ []) [])) command.Commit (Log 28895 1 28895)
 a_commit_may_want_room_for_what_waits = let spent : IsSpent 28895 1 = omega arith in record { wants = refl; picks = []; lacks = (omega arith, refl, spent) }
 
--- one that only frees reaches no point, and has spent what its transaction spent
-a_commit_may_want_the_log_for_what_is_gone : LacksRoom none (sizes 64 28895) (open_with 0 (aside 3 0) no_queue) command.Commit (Log 28895 1 28895)
-a_commit_may_want_the_log_for_what_is_gone = let spent : IsSpent 28895 1 = omega arith in record { wants = refl; picks = []; lacks = (omega arith, refl, spent) }
+-- one that only frees reaches no point, and spends 33 for the instance that it frees
+a_commit_may_want_the_log_for_what_is_gone : LacksRoom none (sizes 64 847295) (open_with 0 (aside 3 0) no_queue) command.Commit (Log 847295 1 847295)
+a_commit_may_want_the_log_for_what_is_gone = let spent : IsSpent 847295 34 = omega arith in record { wants = refl; picks = []; lacks = (omega arith, refl, spent) }
 
-not_with_a_byte_more_for_what_is_gone : LacksRoom none (sizes 64 28896) (open_with 0 (aside 3 0) no_queue) command.Commit (Log 28896 1 28896) → ⊥
-not_with_a_byte_more_for_what_is_gone lacks = let spent : IsSpent 28896 1 = lacks.lacks.2 in omega (arith, spent)
+not_with_a_byte_more_for_what_is_gone : LacksRoom none (sizes 64 847296) (open_with 0 (aside 3 0) no_queue) command.Commit (Log 847296 1 847296) → ⊥
+not_with_a_byte_more_for_what_is_gone lacks = let spent : IsSpent 847296 34 = lacks.lacks.2 in omega (arith, spent)
 
-a_commit_may_want_gates_for_what_is_gone : LacksRoom none (sizes 64 0) (open_with 10000 (aside 3 0) no_queue) command.Commit (Gates 65535 65536)
+-- and nothing for one that ends with the run
+not_for_what_ends_with_the_run : LacksRoom none (sizes 64 28896) (open_with 0 (aside 0 3) no_queue) command.Commit (Log 28896 1 28896) → ⊥
+not_for_what_ends_with_the_run lacks = let spent : IsSpent 28896 1 = lacks.lacks.2 in omega (arith, spent)
+
+a_commit_may_want_gates_for_what_is_gone : LacksRoom none (sizes 64 0) (open_with 9967 (aside 3 0) no_queue) command.Commit (Gates 65535 65536)
 a_commit_may_want_gates_for_what_is_gone = let spent : IsForced 10001 = omega arith in record { wants = refl; picks = []; lacks = (omega arith, refl, spent) }
+
+not_with_a_page_less_for_what_is_gone : LacksRoom none (sizes 64 0) (open_with 9966 (aside 3 0) no_queue) command.Commit (Gates 65535 65536) → ⊥
+not_with_a_page_less_for_what_is_gone lacks = let spent : IsForced 10000 = lacks.lacks.2 in omega (arith, spent)
 
 a_scan_lacks_no_room : LacksRoom none (sizes 64 0) (open_with 0 (aside 55 0) no_queue) (command.Scan t None None) (Data 64 64) → ⊥
 a_scan_lacks_no_room lacks = true≢false (sym lacks.wants)

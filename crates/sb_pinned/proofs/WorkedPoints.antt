@@ -147,8 +147,8 @@ lasting bounds = Some (record { durable = bounds; others = 2 ∷ [] })
 abbrev ending : List ℕ → Option Gone
 ending bounds = Some (record { durable = 1 ∷ []; others = bounds })
 
--- 33 for each of the rows, the index and the pairs; 28 for the descriptor of l and for each of the two of its mirrors
-a_drop_is_at_the_database_before : points_of (drop_relation none l) tied ≡ resting tied aside (5 + 99 + 84) ∷ []
+-- 28 for the descriptor of l and for each of the two of its mirrors; what is freed is charged at the commit
+a_drop_is_at_the_database_before : points_of (drop_relation none l) tied ≡ resting tied aside (5 + 84) ∷ []
 a_drop_is_at_the_database_before = refl
 
 -- two rows have 7 pages at most, three pairs 9, and a reference none
@@ -156,7 +156,7 @@ a_drop_holds_all_pages_aside : gone_of (drop_relation none l) tied ≡ lasting (
 a_drop_holds_all_pages_aside = refl
 
 -- a join stands in two descriptors, and so does a reference, which has no pages; an index stands in one
-a_detach_of_a_join : points_of (detach none l (codes "j")) tied ≡ resting tied aside (5 + 33 + 56) ∷ []
+a_detach_of_a_join : points_of (detach none l (codes "j")) tied ≡ resting tied aside (5 + 56) ∷ []
 a_detach_of_a_join = refl
 
 its_pages_are_held_aside : gone_of (detach none l (codes "j")) tied ≡ lasting (1 ∷ 9 ∷ [])
@@ -165,7 +165,7 @@ its_pages_are_held_aside = refl
 a_detach_of_a_reference : points_of (detach none l (codes "f")) tied ≡ resting tied aside (5 + 56) ∷ []
 a_detach_of_a_reference = refl
 
-a_detach_of_an_index : points_of (detach none l (codes "i")) tied ≡ resting tied aside (5 + 33 + 28) ∷ []
+a_detach_of_an_index : points_of (detach none l (codes "i")) tied ≡ resting tied aside (5 + 28) ∷ []
 a_detach_of_an_index = refl
 
 -- what ends with the run costs nothing, and its pages are held aside among those of its kind

@@ -126,6 +126,6 @@ the_other_is_there_again = refl
 the_point_stays_and_the_later_one_goes : map (λ x. x.name) (points_of back) ≡ codes "s" ∷ []
 the_point_stays_and_the_later_one_goes = refl
 
--- 1 for each command; 33 for what is freed and 28 for a descriptor at each detach
-what_was_spent_stays_spent : map spent_in (detached ∷ back ∷ []) ≡ 126 ∷ 127 ∷ []
+-- 1 for each command, and 28 for a descriptor at each detach
+what_was_spent_stays_spent : map spent_in (detached ∷ back ∷ []) ≡ 60 ∷ 61 ∷ []
 what_was_spent_stays_spent = refl

@@ -213,19 +213,19 @@ abbrev pub state_of : step.Turn → State
 state_of turn = turn.state
 
 of_failing : (ext : Extensions) (s otherwise : State) (answer : step.Answer) (going : Going) (failing : Option (Name × Name)) → first_failing ext going.db going.db ≡ failing
-    → IsLawfulState ext s → IsLawfulState ext otherwise → Started ext going → IsLawfulState ext (state_of (step.turn_of (step.commit_of s) otherwise (continue (λ _. made answer) (unless_failing failing going))))
+    → IsLawfulState ext s → IsLawfulState ext otherwise → Started ext going → IsLawfulState ext (state_of (step.turn_of (step.commit_of s) otherwise (continue (λ _. step.freeing answer) (unless_failing failing going))))
 of_failing ext s otherwise answer going None none lawful other start = lawful_commit ext s going.db lawful start.lawful (commit_sound ext going.db start.lawful start.sound none)
 of_failing ext s otherwise answer going (Some (relation, name)) fails lawful other start = lawful_spent ext going.trail.spent otherwise other
 
 of_actions : (ext : Extensions) (s otherwise : State) (answer : step.Answer) (going : Going) (actions : List Action) (rest : Work (Unit {0})) → actions ≡ [] → IsLawfulState ext s → IsLawfulState ext otherwise
     → Started ext going → IsLawfulState ext (state_of (step.turn_of (step.commit_of s) otherwise
-    (continue (λ _. made answer) (continue (λ _. (λ g. unless_failing (first_failing ext g.db g.db) g)) (drain_next (first_change ext) rest actions going)))))
+    (continue (λ _. step.freeing answer) (continue (λ _. (λ g. unless_failing (first_failing ext g.db g.db) g)) (drain_next (first_change ext) rest actions going)))))
 of_actions ext s otherwise answer going [] rest e lawful other start = of_failing ext s otherwise answer going (first_failing ext going.db going.db) refl lawful other start
 of_actions ext s otherwise answer going (a ∷ actions) rest e lawful other start = absurd (cc)
 
 -- what was worked is finished, and committed
 pub lawful_finish : (ext : Extensions) (s otherwise : State) (answer : step.Answer) (going : Going) → IsLawfulState ext s → IsLawfulState ext otherwise → Started ext going
-    → IsLawfulState ext (state_of (step.turn_of (step.commit_of s) otherwise (continue (λ _. made answer) (finish ext going))))
+    → IsLawfulState ext (state_of (step.turn_of (step.commit_of s) otherwise (continue (λ _. step.freeing answer) (finish ext going))))
 lawful_finish ext s otherwise answer going lawful other start = of_actions ext s otherwise answer going going.queue.actions (drain ext 999) start.empty lawful other start
 
 lawful_committing : (ext : Extensions) (s : State) (picks : List Key) → IsLawfulState ext s → has_waiting s ≡ false → IsLawfulState ext (step.committing ext s picks).state

@@ -30,7 +30,7 @@ use Rattle.sb_plain.proofs.ValueLemmas.{same_kind}
 
 -- ---- work that keeps a lawful database lawful
 of_outcome : (ext : Extensions) (s : State) (name : Name) (start : Going) (o : Outcome step.Answer) → start.queue.actions ≡ [] → IsLawfulState ext s → OfGiven (λ answer g. Worked ext name start g) o
-    → IsLawfulState ext (state_of (step.turn_of (step.commit_of s) s (continue (λ answer. (λ g. continue (λ _. made answer) (finish ext g))) o)))
+    → IsLawfulState ext (state_of (step.turn_of (step.commit_of s) s (continue (λ answer. (λ g. continue (λ _. step.freeing answer) (finish ext g))) o)))
 of_outcome ext s name start (Gives answer g) empty lawful worked = lawful_finish ext s s answer g lawful lawful (record { empty = worked.queue ∙ empty; lawful = worked.lawful; sound = worked.sound })
 of_outcome ext s name start (Stopped r trail) empty lawful worked = lawful_spent ext trail.spent s lawful
 of_outcome ext s name start (NoStep trail) empty lawful worked = lawful

@@ -85,16 +85,26 @@ begun_with_index = (step no_extensions (step no_extensions filled indexed []).st
 abbrev detached : State
 detached = (step no_extensions begun_with_index (command.Detach (codes "t") (codes "i")) []).state
 
--- 33 for what is freed, and a descriptor
-a_detach : spent_at (points_of begun_with_index (command.Detach (codes "t") (codes "i")) []) ≡ (1 + 33 + 28) ∷ []
+-- a descriptor is written
+a_detach : spent_at (points_of begun_with_index (command.Detach (codes "t") (codes "i")) []) ≡ (1 + 28) ∷ []
 a_detach = refl
 
 -- its pages are held aside until the commit: 3, 2, 11 for the rows that are then there, and 9
 a_row_behind_a_detach : needs_at (points_of detached (command.Insert (codes "t") (int 4 ∷ [])) (slot 2 3 ∷ [])) ≡ (3 + 2 + 11 + 9) ∷ []
 a_row_behind_a_detach = refl
 
-a_drop : spent_at (points_of begun_with_index (command.Drop (codes "t")) []) ≡ (1 + 66 + 28) ∷ []
+a_drop : spent_at (points_of begun_with_index (command.Drop (codes "t")) []) ≡ (1 + 28) ∷ []
 a_drop = refl
+
+-- 33 for each instance that is freed, by the commit that frees it
+a_commit_frees_an_index : (step no_extensions detached command.Commit []).spent ≡ (1 + 28) + (1 + 33)
+a_commit_frees_an_index = refl
+
+a_commit_frees_a_relation : (step no_extensions (step no_extensions begun_with_index (command.Drop (codes "t")) []).state command.Commit []).spent ≡ (1 + 28) + (1 + 66)
+a_commit_frees_a_relation = refl
+
+a_drop_of_its_own_frees_at_once : (step no_extensions (step no_extensions filled indexed []).state (command.Drop (codes "t")) []).spent ≡ 1 + 28 + 66
+a_drop_of_its_own_frees_at_once = refl
 
 -- over 34 rows a hash index is prepared, and one bucket of 8 rows is split once
 abbrev hashed : State

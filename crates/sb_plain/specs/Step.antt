@@ -5,7 +5,7 @@ use Rattle.sb_relation.specs.Keys.{Keying, Picked, Coded, Counted, keying_of}
 use Rattle.sb_fold.specs.declared.refusal.Refusal.{Refusal}
 use Rattle.sb_fold.specs.Building.{create, build, detach, drop_relation}
 use Rattle.sb_fold.specs.Extensions.{Extensions}
-use Rattle.sb_fold.specs.Finish.{finish}
+use Rattle.sb_fold.specs.Finish.{finish, freed}
 use Rattle.sb_fold.specs.Fold.{act, first_change}
 use Rattle.sb_fold.specs.Outcome.{Reached, Going, Outcome, Gives, Stopped, NoStep, Work, made, ◌>>=◌}
 use Rattle.sb_fold.specs.Wishes.{Put, Remove, Replace}
@@ -93,9 +93,13 @@ abbrev pub answering : State → List Key → Reply → Turn
 answering s picks reply = record { reply = reply_without picks reply; state = s; points = []; spent = spent_in s }
 
 -- ---- commands that change databases
+-- what is answered once the pages of what went are given back
+abbrev pub freeing : Answer → Work Answer
+freeing answer going = Gives answer (freed going)
+
 -- work and what waits, before a commit
 abbrev pub finished : Extensions → Work Answer → Work Answer
-finished ext work = work >>= λ answer. finish ext >>= λ _. made answer
+finished ext work = work >>= λ answer. finish ext >>= λ _. freeing answer
 
 abbrev pub commit_of : State → Going → State
 commit_of s going = with_commit s going.db

@@ -41,7 +41,7 @@ use Rattle.sb_lawful_rows.specs.States.{MayBeOpen, HasLawfulDatabases}
 use Rattle.sb_lawful_rows.specs.Storable.{HasStorableValue, PutsStorable, RulePutsStorable}
 use Rattle.sb_lawful_rows.specs.Work.{IsLawfulWith, IsLawfulPoint, IsLawfulWork, EndsLawful}
 use Rattle.sb_lawful_rows.proofs.Changing.{finish-ends}
-use Rattle.sb_lawful_rows.proofs.Stepping.{with_one, when_spent, when_up, start_may}
+use Rattle.sb_lawful_rows.proofs.Stepping.{freed_goes, with_one, when_spent, when_up, start_may}
 use Rattle.sb_lawful_steps.specs.Laws.{IsLawfulAlong}
 use Rattle.sb_lawful_steps.proofs.Alike.{alike-are-lawful, down-is-lawful}
 use Rattle.sb_lawful_steps.proofs.Names.{names_stay, no_names}
@@ -91,8 +91,8 @@ of_turn ext leave otherwise (NoStep trail) leaves other stands = other
 
 of_finished : (ext : Extensions) (work : Work step.Answer) (g : Going) → Stands ext (work g) → Stands ext (step.finished ext work g)
 of_finished ext work g stands =
-    next_stands ext (work g) (λ answer. (λ left. continue (λ _. made answer) (finish ext left))) stands
-    (λ answer left lawful. next_stands ext (finish ext left) (λ _. made answer) (ended ext (finish ext left) (finish-ends ext left lawful)) (λ _ last works. works))
+    next_stands ext (work g) (λ answer. (λ left. continue (λ _. step.freeing answer) (finish ext left))) stands
+    (λ answer left lawful. next_stands ext (finish ext left) (λ _. step.freeing answer) (ended ext (finish ext left) (finish-ends ext left lawful)) (λ _ last works. freed_goes ext last works))
 
 when_committed : (ext : Extensions) (s : State) (g : Going) → HasLawfulDatabases ext s → IsLawfulWork ext g → HasLawfulDatabases ext (step.commit_of s g)
 when_committed ext s g lawful work = record {

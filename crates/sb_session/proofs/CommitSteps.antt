@@ -11,7 +11,7 @@ use Rattle.sb_plain.specs.declared.command.Command.TheVariants as command
 use Rattle.sb_plain.specs.declared.reply.Reply.TheVariants.{Done, Refused}
 use Rattle.sb_plain.specs.Step.{Steps}
 use Rattle.sb_plain.specs.State.{State, Transaction, committed, db_or_empty, ended, paid}
-use Rattle.sb_plain.specs.Step.{Plain, Turn, commit_of, step, turn_of}
+use Rattle.sb_plain.specs.Step.{Plain, Turn, commit_of, freeing, step, turn_of}
 use Rattle.sb_session.proofs.StepLemmas.{at_fields}
 
 -- work that finishes a transaction, once the commit itself was paid for
@@ -34,7 +34,7 @@ committed-push s db = ap db_or_empty (last-push None s.commits db)
 
 -- the turn of a commit by what comes of that work
 abbrev turn_by : State → Outcome (Unit {0}) → Turn
-turn_by s o = turn_of (commit_of s) (ended s) (continue (λ _. made Plain) o)
+turn_by s o = turn_of (commit_of s) (ended s) (continue (λ _. freeing Plain) o)
 
 module _ (ext : Extensions) (s : State) (t : Transaction) (inside : s.transaction ≡ Some t) (up : s.down ≡ false) (picks : List Key) (after : Going) where
   pub Steps-committed : Leads (finish ext) (going_on t) picks (made tt) after → Steps ext s command.Commit (Done None after.used) (with_committed s after.db)

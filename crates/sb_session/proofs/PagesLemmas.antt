@@ -1,5 +1,5 @@
 -- Want of a page to a command: the points that its step reaches.
-use Rattle.std.proofs.Common.{◌≡◌, ℕ, ◌+◌, false, List, [], ◌++◌, Some, refl, sym, ap, subst, ◌∙◌}
+use Rattle.std.proofs.Common.{◌≡◌, ℕ, ◌+◌, false, List, [], ◌++◌, Some, refl, sym, subst, ◌∙◌}
 use Rattle.std.specs.List.{Any}
 use Rattle.sb_relation.specs.Db.{Key}
 use Rattle.sb_fold.specs.declared.refusal.Refusal.{Refusal}
@@ -7,13 +7,13 @@ use Rattle.sb_fold.specs.declared.refusal.Refusal.TheVariants as refusal
 use Rattle.sb_fold.specs.declared.refusal.Room.TheVariants.{Data}
 use Rattle.sb_fold.specs.Extensions.{Extensions}
 use Rattle.sb_fold.specs.Finish.{finish}
-use Rattle.sb_fold.specs.Outcome.{Going, Gives, NoStep, Outcome, Reached, Stopped, Trail, continue, made, trail_of, with_picks}
+use Rattle.sb_fold.specs.Outcome.{Going, Gives, NoStep, Outcome, Reached, Stopped, continue, trail_of, with_picks}
 use Rattle.sb_cascade.specs.Runs.{StopsFrom}
 use Rattle.sb_registry.specs.Boxes.{Meanings}
 use Rattle.sb_plain.specs.declared.command.Command.TheVariants as command
 use Rattle.sb_plain.specs.declared.reply.Reply.TheVariants.{Refused}
 use Rattle.sb_plain.specs.State.{State, Transaction, ended, paid}
-use Rattle.sb_plain.specs.Step.{Answer, Plain, commit_of, step, turn_of}
+use Rattle.sb_plain.specs.Step.{Answer, Plain, commit_of, freeing, step, turn_of}
 use Rattle.sb_transactions.specs.Commits.{IsStoppedOn, Mounted}
 use Rattle.sb_transactions.specs.Table.{table_len}
 use Rattle.sb_transactions.specs.Working.{IsShortOf, extensions_of}
@@ -28,10 +28,10 @@ turn_points leave otherwise (Gives answer going) = refl
 turn_points leave otherwise (Stopped r trail) = refl
 turn_points leave otherwise (NoStep trail) = refl
 
-plain_trail : (o : Outcome (Unit {0})) → trail_of (continue (λ _. made Plain) o) ≡ trail_of o
-plain_trail (Gives x going) = refl
-plain_trail (Stopped r trail) = refl
-plain_trail (NoStep trail) = refl
+plain_points : (o : Outcome (Unit {0})) → (trail_of (continue (λ _. freeing Plain) o)).points ≡ (trail_of o).points
+plain_points (Gives x going) = refl
+plain_points (Stopped r trail) = refl
+plain_points (NoStep trail) = refl
 
 -- ---- a commit
 module _ {D : Type 0} (faults : D → ℕ) (m : Meanings) (s : State) (t : Transaction) (inside : s.transaction ≡ Some t) (up : s.down ≡ false) (there : Mounted D) where
@@ -43,7 +43,7 @@ module _ {D : Type 0} (faults : D → ℕ) (m : Meanings) (s : State) (t : Trans
       at_fields (λ (s : State). Any P (step ext s command.Commit picks).points) s (Some t) false inside up
       (let r : State = record s { transaction = Some t; down = false } in
       let o = finish ext (with_picks (going_on t) picks) in
-      subst (Any P) (sym (turn_points (commit_of (paid r)) (ended (paid r)) (continue (λ _. made Plain) o) ∙ ap (λ (x : Trail). x.points) (plain_trail o))) any)
+      subst (Any P) (sym (turn_points (commit_of (paid r)) (ended (paid r)) (continue (λ _. freeing Plain) o) ∙ plain_points o)) any)
 
   pub commit_pages : (pages : ℕ) (r : Refusal) → StopsFrom (IsStoppedOn faults m) (finish ext) (going_on t) r there
       → ((r ≡ refusal.Fault → ⊥) → there.store.pool.geometry.pages ≡ pages) → WantsPages m pages s command.Commit (Refused r)

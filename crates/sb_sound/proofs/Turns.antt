@@ -23,7 +23,7 @@ use Rattle.sb_plain.proofs.LawfulLemmas.{lawful_with, lawful_spent, lawful_up, i
 use Rattle.sb_lawful.proofs.Commands.{is_there, is_kinded}
 use Rattle.sb_lawful_rows.specs.States.{IsRowCommand, HasLawfulDatabases}
 use Rattle.sb_lawful_rows.specs.Work.{IsWishOf, MayAct, IsLawfulPoint, IsLawfulTrail}
-use Rattle.sb_lawful_rows.proofs.Stepping.{when_up, start_may, sees}
+use Rattle.sb_lawful_rows.proofs.Stepping.{freed_goes, when_up, start_may, sees}
 use Rattle.sb_sound_rows.specs.Work.{IsSoundWork, IsReady}
 use Rattle.sb_sound_rows.proofs.Folding.{changes-end, actions-end}
 use Rattle.sb_sound_rows.proofs.Finishing.{made_next, finish-ends}
@@ -61,8 +61,8 @@ when_committed ext s g state ready = record {
 
 of_finished : (ext : Extensions) (work : Work step.Answer) (g : Going) → OfMade (IsSoundWork ext) (work g) → OfMade (IsReady ext) (step.finished ext work g)
 of_finished ext work g given =
-    made_next (IsSoundWork ext) (IsReady ext) (work g) (λ answer. (λ mid. continue (λ _. made answer) (finish ext mid))) given
-    (λ answer mid sound. made_next (IsReady ext) (IsReady ext) (finish ext mid) (λ _. made answer) (finish-ends ext mid sound) (λ _ last ready. ready))
+    made_next (IsSoundWork ext) (IsReady ext) (work g) (λ answer. (λ mid. continue (λ _. step.freeing answer) (finish ext mid))) given
+    (λ answer mid sound. made_next (IsReady ext) (IsReady ext) (finish ext mid) (λ _. step.freeing answer) (finish-ends ext mid sound) (λ _ last ready. record { work = freed_goes ext last ready.work; sound = ready.sound }))
 
 in_changing : (ext : Extensions) (s : State) (picks : List Key) (work : Work step.Answer) (transaction : Option Transaction) → IsLawfulState ext s → MayBeOpen ext transaction
     → OfMade (IsSoundWork ext) (work (going_of s picks))

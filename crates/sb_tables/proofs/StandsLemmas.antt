@@ -14,7 +14,7 @@ use Rattle.sb_ctx.specs.Attachment.{Attachment}
 use Rattle.sb_fold.specs.declared.refusal.Refusal.{Refusal}
 use Rattle.sb_fold.specs.Bounds.{attached_bound, method_bound}
 use Rattle.sb_fold.specs.Building.{at_point, bounds_at, create, drop_relation, leave, mirrored_in, reach, with_gone, without_relation}
-use Rattle.sb_fold.specs.Costs.{create_cost, descriptor_cost, free_cost}
+use Rattle.sb_fold.specs.Costs.{create_cost, descriptor_cost}
 use Rattle.sb_fold.specs.Extensions.{Extensions, box_of, is_durable_at, is_durable_method}
 use Rattle.sb_fold.specs.Fold.{attachments_at}
 use Rattle.sb_fold.specs.Outcome.{Going, Gone, Trail, with_db}
@@ -62,7 +62,7 @@ drop_step ext name going =
 abbrev pub drop_cost : Extensions → Name → Going → ℕ
 drop_cost ext name going =
     cond (is_durable_at ext going.db name)
-    (free_cost (bounds_at ext going.db name) + (1 + length (mirrored_in name (attachments_at going.db name))) * descriptor_cost ext going.db) 0
+    ((1 + length (mirrored_in name (attachments_at going.db name))) * descriptor_cost ext going.db) 0
 
 -- ---- rules that live boxes keep may stand
 live_first : (code : ℕ) (box : Attachment) (live spare : List Attachment) → attachment_of code live ≡ Some box → attach_rules code (map (λ x. x.rules) (live ++ spare)) ≡ Some box.rules
