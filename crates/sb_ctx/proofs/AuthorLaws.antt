@@ -1,5 +1,5 @@
 -- What the author of an attachment cites: its rule, the rows after a change, the database behind it, and the edits of one page.
-use Rattle.std.proofs.Common.{◌≡◌, ◌≢◌, ℕ, ◌+◌, ◌≤◌, ◌<◌, ◌==◌, Bool, true, false, cond, not, ◌&&◌, T, List, [], ◌∷◌, length, map, filter, Option, Some, None, IsSome, is_some, option_map, refl, sym, ap, ◌∙◌, arith, true≢false, eqb-true, bytes_eq, ◌⊎◌, inl, inr, zero, suc, Equal}
+use Rattle.std.proofs.Common.{◌≡◌, ◌≢◌, ℕ, ◌+◌, ◌≤◌, ◌<◌, ◌==◌, Bool, true, false, cond, not, ◌&&◌, T, List, [], ◌∷◌, length, filter, Option, Some, None, IsSome, is_some, option_map, refl, sym, ap, ◌∙◌, arith, true≢false, eqb-true, bytes_eq, ◌⊎◌, inl, inr, zero, suc, Equal}
 use Rattle.std.specs.FinMap.Entries.{find-put, find-where_key, length-put, length_without, is_sorted, is_sorted-where_key}
 use Rattle.std.specs.List.{range_with_len}
 use Rattle.std.specs.Ordering.{eq_by_cmp, is_eq}
@@ -19,11 +19,11 @@ use Rattle.sb_forms.specs.Db.{Name, Key, Row, Rows, Relation, Db, relation_at, r
 use Rattle.sb_forms.specs.Fits.{is_empty}
 use Rattle.sb_forms.specs.Pages.{Pages, page_numbers, page_count}
 use Rattle.sb_ctx.specs.View.{HeldPage, View, held_at, given_at, is_edited, is_freed, edits_of, dropped, page_of, with_page, HoldsPart, stored}
-use Rattle.sb_ctx.specs.Held.{Entries, with_bytes}
+use Rattle.sb_ctx.specs.Held.{with_bytes}
 use Rattle.sb_ctx.proofs.HeldLaws.{page_in-bytes_put}
 use Rattle.sb_ctx.specs.Sized.{IsCtx}
 use Rattle.sb_ctx.proofs.ViewLaws.{as_it_was, stored-with_page, stored-clean}
-use Rattle.sb_ctx.proofs.BoundLaws.{count_below, count_of_one}
+use Rattle.sb_ctx.proofs.BoundLaws.{count_below, count_of_one, edits_of-clean, length-taken}
 
 -- ---- the rule of a foreign code
 -- its bytes spell no other rule
@@ -154,31 +154,6 @@ none_taken n bytes m h fresh is taken =
     by (inl written) none now = written.2 none
     by (inr same) none now = now (same ∙ none)
 
-abbrev taken_of : Entries → List (ℕ × Bool)
-taken_of held = filter (λ (e : ℕ × Bool). e.1) (map (λ e. (e.0, not (is_empty e.1.now))) held)
-
-abbrev taken_entries : Entries → List (ℕ × Bool)
-taken_entries held = taken_of (filter (λ e. e.1.fresh) held)
-
-abbrev is_taken : ℕ × HeldPage → Bool
-is_taken e = e.1.fresh && not (is_empty e.1.now)
-
-length-taken : (held : Entries) → length (taken_entries held) ≡ length (filter is_taken held)
-length-taken [] = refl
-length-taken (e ∷ held) = listed e.1.fresh ∙ by e.1.fresh (not (is_empty e.1.now)) (taken_entries held) (filter is_taken held) (length-taken held)
-  where
-    fresh : Entries
-    fresh = filter (λ x. x.1.fresh) held
-
-    listed : (f : Bool) → length (taken_of (cond f (e ∷ fresh) fresh)) ≡ length (cond f (cond (not (is_empty e.1.now)) ((e.0, not (is_empty e.1.now)) ∷ taken_of fresh) (taken_of fresh)) (taken_of fresh))
-    listed true = refl
-    listed false = refl
-
-    by : (f t : Bool) (xs : List (ℕ × Bool)) (ys : Entries) → length xs ≡ length ys → length (cond f (cond t ((e.0, t) ∷ xs) xs) xs) ≡ length (cond (f && t) (e ∷ ys) ys)
-    by true true xs ys rest = ap suc rest
-    by true false xs ys rest = rest
-    by false t xs ys rest = rest
-
 -- one page is edited, and none is taken or freed
 pub edits_of-one : (c : View) (P : Pages) (n : ℕ) (bytes : List ℕ) → dropped c ≡ c → HoldsPart c P → P n ≢ [] → bytes ≢ [] → IsCtx (with_page n bytes c) → edits_of (with_page n bytes c) ≤ 1
 edits_of-one c P n bytes clean part some written is =
@@ -191,14 +166,7 @@ edits_of-one c P n bytes clean part some written is =
 
 -- where nothing is made of it, nothing is edited
 pub edits_of-none : (c : View) (P : Pages) → dropped c ≡ c → IsCtx c → HoldsPart c P → edits_of c ≤ 0
-edits_of-none c P clean is part =
-    let edited = count_below is_edited c.held 0 is.sound.rises (λ m h there edited. absurd (not_edited m h there edited)) in
-    let freed = count_below is_freed c.held 0 is.sound.rises (λ m h there freed. absurd (none_freed m (0 ∷ []) m h (λ e. cc) (inr (as_it_was c m h clean there)) freed)) in
-    let taken = count_below (λ h. h.fresh && not (is_empty h.now)) c.held 0 is.sound.rises (λ m h there taken. absurd (none_taken m [] m h (is.sound.fresh m h there) (inr (as_it_was c m h clean there)) taken)) in
-    omega (arith, edited, freed, taken, length-taken c.held, length-map (filter (λ e. is_edited e.1) c.held) (λ e. e.0), length-map (filter (λ e. is_freed e.1) c.held) (λ e. e.0))
-  where
-    not_edited : (m : ℕ) (h : HeldPage) → held_at c m ≡ Some h → is_edited h ≡ true → ⊥
-    not_edited m h there edited = omega (arith, edited-written (m + 1) [] m h (inr (as_it_was c m h clean there)) edited)
+edits_of-none c P clean is part = edits_of-clean c clean is
 
 -- ---- how many pages an instance has
 -- numbers that pass and are all the same one

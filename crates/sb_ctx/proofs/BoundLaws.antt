@@ -1,13 +1,14 @@
 -- A box that sets itself no bounds keeps to them.
-use Rattle.std.proofs.Common.{◌≡◌, ℕ, ◌+◌, ◌≤◌, ◌<◌, Bool, true, false, cond, not, ◌&&◌, List, [], ◌∷◌, length, filter, Option, Some, None, sym, ap, subst, ◌∙◌, arith, ◌==◌, max, slice_get, suc, refl, true≢false, bytes_eq, nat_le, All}
+use Rattle.std.proofs.Common.{◌≡◌, ℕ, ◌+◌, ◌≤◌, ◌<◌, Bool, true, false, cond, not, ◌&&◌, List, [], ◌∷◌, length, filter, map, Option, Some, None, sym, ap, subst, ◌∙◌, arith, ◌==◌, max, slice_get, suc, refl, true≢false, bytes_eq, nat_le, All}
 use Rattle.std.specs.List.{range_with_len}
-use Rattle.std.proofs.lemmas.Bool.{cond-false}
+use Rattle.std.proofs.lemmas.Bool.{and_parts, cond-false}
 use Rattle.std.proofs.lemmas.Bool.Decides.{nat_tests}
 use Rattle.std.proofs.lemmas.List.{length-map, nil_from_length}
 use Rattle.std.proofs.lemmas.List.Elements.{All-nil}
 use Rattle.std.proofs.lemmas.List.Filters.{length-filter_both}
 use Rattle.std.proofs.lemmas.List.FromFn.{length-range_with_len}
 use Rattle.sb_value.specs.declared.value.Value.{Value}
+use Rattle.sb_value.specs.Equal.{bytes_same}
 use Rattle.sb_forms.specs.Content.{Content}
 use Rattle.sb_forms.specs.Db.{Key, Rows}
 use Rattle.sb_forms.specs.Fits.{is_empty}
@@ -25,10 +26,10 @@ use Rattle.sb_ctx.specs.Sized.{IsCtx}
 use Rattle.sb_ctx.specs.declared.calls.AttachCall.TheVariants as call
 use Rattle.sb_ctx.specs.declared.calls.MethodCall.TheVariants as method_call
 use Rattle.sb_ctx.specs.Method.{Method, boundless, code_of}
-use Rattle.sb_ctx.specs.MethodAnswers.{Answers, AsksFor, Changes, GetsKey, TakesFor, HasRoom, IsBroken, IsGiven, IsOnPath, MayEnd, most_pages, rows_after, Spends}
+use Rattle.sb_ctx.specs.MethodAnswers.{Answers, AsksFor, Changes, GetsKey, TakesFor, HasRoom, IsBroken, IsGiven, IsOnPath, MayEnd, most_pages, rows_after, IsIdleIfRefused, Spends, cost_of}
 use Rattle.sb_ctx.specs.Attachment.{Attachment}
 use Rattle.sb_ctx.specs.AttachAnswers.{Answers as AnswersFor, AsksFor as AsksForAttached, Changes as ChangesFor, Costs, IsBroken as IsBrokenFor, MayEnd as MayEndFor, IsOnPath as IsOnPathFor, Looks as LooksFor, most_pages as most_pages_for, Spends as SpendsFor}
-use Rattle.sb_ctx.proofs.ViewLaws.{HoldsPart-from_dropped, stored-clean}
+use Rattle.sb_ctx.proofs.ViewLaws.{HoldsPart-from_dropped, as_it_was, stored-clean}
 
 -- ---- rising numbers below a bound are no more than it
 -- entries that pass have numbers from one on and below another
@@ -54,6 +55,53 @@ count_below p held most rises all =
 pub count_of_one : (p : HeldPage → Bool) (held : Entries) (n : ℕ) → Rises held → ((m : ℕ) (h : HeldPage) → page_in held m ≡ Some h → p h ≡ true → m ≡ n) → length (filter (λ e. p e.1) held) ≤ 1
 count_of_one p held n rises all =
     omega (arith, count_within p held n (n + 1) rises (λ i e is is_so. let same = all e.0 e.1 (page_in-place held i e rises is) is_so in (omega (arith, same), omega (arith, same))) (omega arith))
+
+-- ---- of a Ctx of which nothing is made
+abbrev taken_of : Entries → List (ℕ × Bool)
+taken_of held = filter (λ (e : ℕ × Bool). e.1) (map (λ e. (e.0, not (is_empty e.1.now))) held)
+
+-- the fresh pages that are taken
+abbrev pub taken_entries : Entries → List (ℕ × Bool)
+taken_entries held = taken_of (filter (λ e. e.1.fresh) held)
+
+abbrev pub is_taken : ℕ × HeldPage → Bool
+is_taken e = e.1.fresh && not (is_empty e.1.now)
+
+pub length-taken : (held : Entries) → length (taken_entries held) ≡ length (filter is_taken held)
+length-taken [] = refl
+length-taken (e ∷ held) = listed e.1.fresh ∙ by e.1.fresh (not (is_empty e.1.now)) (taken_entries held) (filter is_taken held) (length-taken held)
+  where
+    fresh : Entries
+    fresh = filter (λ x. x.1.fresh) held
+
+    listed : (f : Bool) → length (taken_of (cond f (e ∷ fresh) fresh)) ≡ length (cond f (cond (not (is_empty e.1.now)) ((e.0, not (is_empty e.1.now)) ∷ taken_of fresh) (taken_of fresh)) (taken_of fresh))
+    listed true = refl
+    listed false = refl
+
+    by : (f t : Bool) (xs : List (ℕ × Bool)) (ys : Entries) → length xs ≡ length ys → length (cond f (cond t ((e.0, t) ∷ xs) xs) xs) ≡ length (cond (f && t) (e ∷ ys) ys)
+    by true true xs ys rest = ap suc rest
+    by true false xs ys rest = rest
+    by false t xs ys rest = rest
+
+pub edits_of-clean : (c : View) → dropped c ≡ c → IsCtx c → edits_of c ≤ 0
+edits_of-clean c clean is =
+    let edited = count_below is_edited c.held 0 is.sound.rises (λ n h there edited. absurd (not_edited h (as_it_was c n h clean there) edited)) in
+    let freed = count_below is_freed c.held 0 is.sound.rises (λ n h there freed. absurd (not_freed h (as_it_was c n h clean there) freed)) in
+    let taken = count_below (λ h. h.fresh && not (is_empty h.now)) c.held 0 is.sound.rises (λ n h there taken. absurd (not_taken h (as_it_was c n h clean there) (is.sound.fresh n h there) taken)) in
+    omega (arith, edited, freed, taken, length-taken c.held, length-map (filter (λ e. is_edited e.1) c.held) (λ e. e.0), length-map (filter (λ e. is_freed e.1) c.held) (λ e. e.0))
+  where
+    not_edited : (h : HeldPage) → h.now ≡ h.given → is_edited h ≡ true → ⊥
+    not_edited h same is = true≢false (sym (and_parts (not (is_empty h.now)) (not (bytes_eq h.now h.given)) is).1 ∙ ap (λ bytes. not (bytes_eq h.now bytes)) (sym same) ∙ ap not ((bytes_same h.now h.now).1 refl))
+
+    not_freed : (h : HeldPage) → h.now ≡ h.given → is_freed h ≡ true → ⊥
+    not_freed h same is =
+        let parts = and_parts (is_empty h.now) (not (is_empty h.given)) is in
+        true≢false (sym parts.1 ∙ ap (λ bytes. not (is_empty bytes)) (sym same) ∙ ap not parts.0)
+
+    not_taken : (h : HeldPage) → h.now ≡ h.given → (h.fresh ≡ true → h.given ≡ []) → (h.fresh && not (is_empty h.now)) ≡ true → ⊥
+    not_taken h same none is =
+        let parts = and_parts h.fresh (not (is_empty h.now)) is in
+        true≢false (sym parts.1 ∙ ap (λ bytes. not (is_empty bytes)) (same ∙ none parts.0))
 
 -- ---- of a Ctx that holds a part of some pages
 -- a page that has bytes, or is fresh, is one of 65,536
@@ -158,16 +206,22 @@ IsOnPath-boundless m inst c P made is = by made
     by _ = tt
 
 pub Spends-boundless : (m : Method) (inst : Instance) (c : MethodCall) (P : Pages) (rows : Rows) (old new : View) (made : Move) →
-    IsBoundless m → dropped new ≡ old → IsCtx new → HoldsPart old P → Spends m inst c P rows new made
-Spends-boundless m inst c P rows old new made is given ctx part =
+    IsBoundless m → IsIdleIfRefused new made → dropped new ≡ old → IsCtx new → HoldsPart old P → Spends m inst c P rows new made
+Spends-boundless m inst c P rows old new made is idle given ctx part =
     let holds = HoldsPart-from_dropped new old P given part in
     record {
       path = IsOnPath-boundless m inst c P made is;
       room = subst (λ most. HasRoom most P new made) (sym most) (HasRoom-any new P made ctx holds);
       gets = TakesFor-picked m inst c rows made is.picks;
-      edits = subst (λ most. edits_of new ≤ most) (sym (is.cost c rows)) (omega (arith, edits_few new P ctx holds));
+      edits = edits made idle (omega (arith, edits_few new P ctx holds));
     }
   where
+    edits : (made : Move) → IsIdleIfRefused new made → edits_of new ≤ boundless → edits_of new ≤ cost_of m c rows made
+    edits move.Duplicate idle few = idle
+    edits move.Range idle few = idle
+    edits move.NoRecord idle few = idle
+    edits _ idle few = subst (λ most. edits_of new ≤ most) (sym (is.cost c rows)) few
+
     most : most_pages m c (length rows) ≡ boundless
     most = λ i. max (is.bound (length rows) i) (is.bound (rows_after c (length rows)) i)
 
@@ -221,8 +275,14 @@ Changes-idle m inst c old made is clean asks broken may ends = record {
   broken = broken;
   ends = may;
   answers = λ P part. subst (λ (Q : Pages). Answers m inst c P Q made) (sym (stored-clean old P clean part)) (ends P part);
-  spends = λ ctx P part rows before. Spends-boundless m inst c P rows old old made is clean ctx part;
+  spends = λ ctx P part rows before. Spends-boundless m inst c P rows old old made is (idle made (edits_of-clean old clean ctx)) clean ctx part;
 }
+  where
+    idle : (made : Move) → edits_of old ≤ 0 → IsIdleIfRefused old made
+    idle move.Duplicate none = none
+    idle move.Range none = none
+    idle move.NoRecord none = none
+    idle _ none = tt
 
 pub Changes-memory : (m : Method) (inst : Instance) (c : MethodCall) (old : View) → IsBoundless m → dropped old ≡ old → Changes m inst c old old move.NoMemory
 Changes-memory m inst c old is clean = Changes-idle m inst c old move.NoMemory is clean tt tt tt (λ P part. tt)

@@ -180,12 +180,26 @@ abbrev pub Before : Method → Instance → MethodCall → Pages → Rows → Ty
 Before m inst call.Prepare P rows = ((n : ℕ) → P n ≡ new_pages inst.root n) × (rows ≡ [])
 Before m inst c P rows = Holds m inst P rows
 
+-- how many pages a call edits at most that ends so: none where the row is refused
+abbrev pub cost_of : Method → MethodCall → Rows → Move → ℕ
+cost_of m c rows Duplicate = 0
+cost_of m c rows Range = 0
+cost_of m c rows NoRecord = 0
+cost_of m c rows move = m.cost c rows
+
 -- over pages that hold these rows it stays on its path, within its bound and within its cost, and takes pages only for a row that is kept
 pub record Spends (m : Method) (inst : Instance) (c : MethodCall) (P : Pages) (rows : Rows) (new : View) (move : Move) : Type 0 where
   pub path : IsOnPath m inst c P move
   pub room : HasRoom (most_pages m c (length rows)) P new move
   pub gets : TakesFor m inst c rows move
-  pub edits : edits_of new ≤ m.cost c rows
+  pub edits : edits_of new ≤ cost_of m c rows move
+
+-- a call that refuses its row edits nothing
+abbrev pub IsIdleIfRefused : View → Move → Type 0
+IsIdleIfRefused new Duplicate = edits_of new ≤ 0
+IsIdleIfRefused new Range = edits_of new ≤ 0
+IsIdleIfRefused new NoRecord = edits_of new ≤ 0
+IsIdleIfRefused new move = Unit {0}
 
 -- A changing call: what was given stays as it was given, it asks only for what isn't held, it ends in one of its ways, and over all pages of which it holds a part it answers as the rows say.
 pub record Changes (m : Method) (inst : Instance) (c : MethodCall) (old new : View) (move : Move) : Type 0 where

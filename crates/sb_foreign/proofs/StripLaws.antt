@@ -28,7 +28,7 @@ use Rattle.sb_ctx.specs.declared.moves.Move.{Move}
 use Rattle.sb_ctx.specs.declared.moves.Move.TheVariants as move
 use Rattle.sb_ctx.specs.Laws.{IsMethod, HoldRows}
 use Rattle.sb_ctx.specs.Sized.{IsCtx}
-use Rattle.sb_ctx.specs.MethodAnswers.{Changes, Looks, Holds, Before, NextIs, IsRowOf, Spends, is_above, row_above}
+use Rattle.sb_ctx.specs.MethodAnswers.{Changes, Looks, Holds, Before, IsIdleIfRefused, NextIs, IsRowOf, Spends, is_above, row_above}
 use Rattle.sb_bytes.specs.Bytes.{splice}
 use Rattle.sb_ctx.specs.View.{View, page_of, room_of, dropped, with_page, HoldsPart, stored}
 use Rattle.sb_ctx.proofs.BoundLaws.{IsBoundless, Spends-boundless, Changes-idle, Changes-memory, page_count-few}
@@ -175,8 +175,8 @@ IsMethod-strip = record { heap = λ is. cc; tree = λ is. cc; standard = λ ours
 pub boundless_strip : IsBoundless strip
 boundless_strip = record { bound = λ rows. refl; cost = λ c rows. refl; path = λ inst P c n. refl; picks = refl }
 
-spending : (inst : Instance) (c : MethodCall) (old new : View) (made : Move) → dropped new ≡ old → IsCtx new → (P : Pages) → HoldsPart old P → (rows : Rows) → Before strip inst c P rows → Spends strip inst c P rows new made
-spending inst c old new made given ctx P part rows before = Spends-boundless strip inst c P rows old new made boundless_strip given ctx part
+spending : (inst : Instance) (c : MethodCall) (old new : View) (made : Move) → IsIdleIfRefused new made → dropped new ≡ old → IsCtx new → (P : Pages) → HoldsPart old P → (rows : Rows) → Before strip inst c P rows → Spends strip inst c P rows new made
+spending inst c old new made idle given ctx P part rows before = Spends-boundless strip inst c P rows old new made boundless_strip idle given ctx part
 
 -- nothing was written
 pub Changes-unwritten : (inst : Instance) (c : MethodCall) (old new : View) → dropped old ≡ old → new ≡ old → Changes strip inst c old new move.NoMemory
@@ -294,7 +294,7 @@ Changes-inserted inst row old new page key place byte clean held free within is_
   asks = tt;
   broken = tt;
   ends = ap is_record_key is_key;
-  spends = spending inst (call.Insert row) old new (move.Key key) given;
+  spends = spending inst (call.Insert row) old new (move.Key key) tt given;
   answers = λ P part rows holds.
       let formed = IsFormed-held inst P rows holds in
       let at_root : P inst.root ≡ page = given-page old P inst.root page clean part held in

@@ -22,6 +22,7 @@ use Rattle.sb_ctx.specs.declared.moves.Move.TheVariants as move
 use Rattle.sb_ctx.specs.View.{View, page_of, dropped, edits_of, HoldsPart, stored}
 use Rattle.sb_ctx.specs.MethodAnswers.{Changes, Deleted, Updated}
 use Rattle.sb_ctx.proofs.ViewLaws.{stored-clean, given-page}
+use Rattle.sb_ctx.proofs.AuthorLaws.{edits_of-none}
 use Rattle.sb_heap.specs.Broken.{held_node}
 use Rattle.sb_heap.specs.Heap.{heap_method, key_page, beside, each_beside, front}
 use Rattle.sb_heap.specs.Held.{IsBare, IsHeapPage, turn_pages}
@@ -35,7 +36,7 @@ use Rattle.sb_heap.proofs.Rows.{rows_past, other_length}
 use Rattle.sb_heap.proofs.Formed.{Formed, core, formed, bare_node}
 use Rattle.sb_heap.proofs.MethodLaws.{core_six}
 use Rattle.sb_heap.proofs.Turning.{row_found}
-use Rattle.sb_heap.proofs.Outcomes.{IsAsked, IsChanging, Stopped-lacks, Changes-stop, Changes-tried, held_is, node_is, within_cost}
+use Rattle.sb_heap.proofs.Outcomes.{IsAsked, IsChanging, Stopped-lacks, Changes-stop, Changes-tried, held_is, node_is}
 
 -- ---- the calls
 pub deleting : (inst : Instance) (key : Key) → IsChanging inst (call.Delete key)
@@ -238,7 +239,7 @@ Changes-lacks-delete inst key old clean none = record {
   ends = tt;
   answers = λ P part rows holds. subst (λ (o : Option Row). Deleted heap_method inst key o rows (stored old P) move.NoRecord) (sym (no_row inst old P rows key clean part holds none))
       (ap (heap_rows inst.root inst.schema) (stored-clean old P clean part) ∙ holds);
-  spends = λ ctx P part rows before. record { path = tt; room = tt; gets = tt; edits = within_cost inst (call.Delete key) old old (deleting inst key) clean clean (omega arith) ctx P part rows };
+  spends = λ ctx P part rows before. record { path = tt; room = tt; gets = tt; edits = edits_of-none old P clean ctx part };
 }
 
 pub Changes-lacks-update : (inst : Instance) (key : Key) (row : Row) (old : View) → dropped old ≡ old → NoRow old key → Changes heap_method inst (call.Update key row) old old move.NoRecord
@@ -249,7 +250,7 @@ Changes-lacks-update inst key row old clean none = record {
   ends = tt;
   answers = λ P part rows holds. subst (λ (o : Option Row). Updated heap_method inst key row o rows (stored old P) move.NoRecord) (sym (no_row inst old P rows key clean part holds none))
       (ap (heap_rows inst.root inst.schema) (stored-clean old P clean part) ∙ holds);
-  spends = λ ctx P part rows before. record { path = tt; room = tt; gets = tt; edits = within_cost inst (call.Update key row) old old (updating inst key row) clean clean (omega arith) ctx P part rows };
+  spends = λ ctx P part rows before. record { path = tt; room = tt; gets = tt; edits = edits_of-none old P clean ctx part };
 }
 
 pub Stopped-replace : (inst : Instance) (key : Key) (row : Row) (old new : View) (head : Head) (s : Stop) → ((n : ℕ) → has n (turn_pages old inst.root head) ≡ true → n ≢ 0 → IsAsked inst (call.Update key row) old n) → dropped old ≡ old → ReplaceStops old new inst.root head s

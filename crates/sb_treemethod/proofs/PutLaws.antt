@@ -21,7 +21,7 @@ use Rattle.sb_ctx.specs.View.{View, HeldPages, AreSomeOf, page_of, room_of, drop
 use Rattle.sb_ctx.proofs.ViewLaws.{given-page, stored-clean, stored-same, stored-other, room_of-page}
 use Rattle.sb_ctx.specs.Laws.{IsMethod, operations_of}
 use Rattle.sb_ctx.specs.Method.{code_of, MayHold}
-use Rattle.sb_ctx.specs.MethodAnswers.{Changes, Gets, HasRoom, IsGiven, IsOnPath, TakesFor, most_pages}
+use Rattle.sb_ctx.specs.MethodAnswers.{Changes, Gets, HasRoom, IsGiven, IsOnPath, TakesFor, cost_of, most_pages}
 use Rattle.sb_btree.specs.Broken.{breaks, held_node}
 use Rattle.sb_btree.specs.Inserts.{Inserts, MayAsk, OverTrees, Grew}
 use Rattle.sb_btree.specs.Leaves.{leads_to}
@@ -43,7 +43,7 @@ use Rattle.sb_treemethod.proofs.TreeRows.{Formed, formed, tree_of, rows_from, ar
 use Rattle.sb_treemethod.proofs.Changing.{TreeOf-grown, TreeOf-prepared}
 use Rattle.sb_treemethod.proofs.Counted.{clean_edits, sound_dropped}
 use Rattle.sb_treemethod.proofs.MethodLaws.{changes, Changes-question}
-use Rattle.sb_treemethod.proofs.Within.{AskedBy, Bounds, GetsWhere, Within, as_many, reads_still, within}
+use Rattle.sb_treemethod.proofs.Within.{AskedBy, Bounds, GetsWhere, KeepsRefused, Within, as_many, reads_still, within}
 
 -- ---- the law of the box
 no_stray : (inst : Instance) (P : Pages) (es : List Entry) → read_tree inst.root P ≡ Some es → list_all (is_row_entry inst.schema inst.key) es ≡ true → (held : HeldPages) (n : ℕ) → AreSomeOf held P → has_stray inst held n ≡ false
@@ -162,9 +162,17 @@ asked_put code walk.Fresh = refl
 asked_put code (walk.Broken n) = tt
 asked_put code walk.NoMemory = tt
 
+pub kept_put : (inst : Instance) (code value : List ℕ) (old new : View) (w : Walk Bool) → OverTrees old inst.root (λ P es. Inserts old new inst.root code value P es w) → KeepsRefused inst old new (put_move code w)
+kept_put inst code value old new (walk.Ready true) inserts = tt
+kept_put inst code value old new (walk.Ready false) inserts = λ P es reads. (inserts P es reads).1
+kept_put inst code value old new (walk.Need n) inserts = tt
+kept_put inst code value old new walk.Fresh inserts = tt
+kept_put inst code value old new (walk.Broken n) inserts = tt
+kept_put inst code value old new walk.NoMemory inserts = tt
+
 pub Changes-put : (inst : Instance) (row : Row) (code value : List ℕ) (old new : View) (w : Walk Bool) → dropped old ≡ old → dropped new ≡ old → MayAsk new w → Breaks (breaks inst.root (page_of old)) w
     → OverTrees old inst.root (λ P es. Inserts old new inst.root code value P es w) → MayHold tree_method inst row → IsEntryOf inst row code value → Bounds inst (call.Insert row) old new w → Changes tree_method inst (call.Insert row) old new (put_move code w)
-Changes-put inst row code value old new w clean given asks broken inserts may entry b = by w asks broken inserts (within inst (call.Insert row) old new w (put_move code w) given asks (asked_put code w) b)
+Changes-put inst row code value old new w clean given asks broken inserts may entry b = by w asks broken inserts (within inst (call.Insert row) old new w (put_move code w) given asks (asked_put code w) (kept_put inst code value old new w inserts) b)
   where
     by : (w : Walk Bool) → MayAsk new w → Breaks (breaks inst.root (page_of old)) w → OverTrees old inst.root (λ P es. Inserts old new inst.root code value P es w) → Within inst (call.Insert row) old new (put_move code w)
         → Changes tree_method inst (call.Insert row) old new (put_move code w)
@@ -218,7 +226,7 @@ made_within inst old new w clean given is few ctx P part rows before = record {
   path = path w is;
   room = room w is;
   gets = gets w;
-  edits = omega (arith, few, clean_edits old clean (sound_dropped new old given ctx.sound));
+  edits = edits w (omega (arith, few, clean_edits old clean (sound_dropped new old given ctx.sound)));
 }
   where
     path : (w : Walk (Unit {0})) → Prepares old new inst.root w → IsOnPath tree_method inst call.Prepare P (prepare_move w)
@@ -241,6 +249,13 @@ made_within inst old new w clean given is few ctx P part rows before = record {
     gets walk.Fresh = tt
     gets (walk.Broken n) = tt
     gets walk.NoMemory = tt
+
+    edits : (w : Walk (Unit {0})) → edits_of new ≤ 1 → edits_of new ≤ cost_of tree_method call.Prepare rows (prepare_move w)
+    edits (walk.Ready end) few = few
+    edits (walk.Need n) few = few
+    edits walk.Fresh few = few
+    edits (walk.Broken n) few = few
+    edits walk.NoMemory few = few
 
 pub Changes-prepared : (inst : Instance) (old new : View) (w : Walk (Unit {0})) → dropped old ≡ old → dropped new ≡ old → MayAsk new w → Breaks (breaks inst.root (page_of old)) w → Prepares old new inst.root w → edits_of new ≤ edits_of old + 1
     → Changes tree_method inst call.Prepare old new (prepare_move w)

@@ -24,7 +24,7 @@ use Rattle.sb_treemethod.proofs.RowsOf.{without_row-rows_of}
 use Rattle.sb_treemethod.proofs.TreeRows.{Formed, formed, tree_of, rows_from}
 use Rattle.sb_treemethod.proofs.Changing.{TreeOf-shrunk}
 use Rattle.sb_treemethod.proofs.MethodLaws.{changes, Changes-question}
-use Rattle.sb_treemethod.proofs.Within.{AskedBy, Bounds, Within, reads_still, within}
+use Rattle.sb_treemethod.proofs.Within.{AskedBy, Bounds, KeepsRefused, Within, reads_still, within}
 use Rattle.sb_treemethod.proofs.PutLaws.{holds_still, row_under}
 
 -- ---- the row of a key
@@ -75,9 +75,17 @@ asked_remove walk.Fresh = refl
 asked_remove (walk.Broken n) = tt
 asked_remove walk.NoMemory = tt
 
+kept_remove : (inst : Instance) (key : Key) (old new : View) (w : Walk Bool) → OverTrees old inst.root (λ P es. Removes old new inst.root key P es w) → KeepsRefused inst old new (remove_move w)
+kept_remove inst key old new (walk.Ready true) removes = tt
+kept_remove inst key old new (walk.Ready false) removes = λ P es reads. (removes P es reads).1
+kept_remove inst key old new (walk.Need n) removes = tt
+kept_remove inst key old new walk.Fresh removes = tt
+kept_remove inst key old new (walk.Broken n) removes = tt
+kept_remove inst key old new walk.NoMemory removes = tt
+
 pub Changes-removed : (inst : Instance) (key : Key) (old new : View) (w : Walk Bool) → dropped old ≡ old → dropped new ≡ old → MayAsk new w → Breaks (breaks inst.root (page_of old)) w
     → OverTrees old inst.root (λ P es. Removes old new inst.root key P es w) → Bounds inst (call.Delete key) old new w → Changes tree_method inst (call.Delete key) old new (remove_move w)
-Changes-removed inst key old new w clean given asks broken removes b = by w asks broken removes (within inst (call.Delete key) old new w (remove_move w) given asks (asked_remove w) b)
+Changes-removed inst key old new w clean given asks broken removes b = by w asks broken removes (within inst (call.Delete key) old new w (remove_move w) given asks (asked_remove w) (kept_remove inst key old new w removes) b)
   where
     by : (w : Walk Bool) → MayAsk new w → Breaks (breaks inst.root (page_of old)) w → OverTrees old inst.root (λ P es. Removes old new inst.root key P es w) → Within inst (call.Delete key) old new (remove_move w) → Changes tree_method inst (call.Delete key) old new (remove_move w)
     by (walk.Ready true) asks broken removes spends = Changes-deleted inst key old new clean given removes spends

@@ -43,11 +43,11 @@ use Rattle.sb_treemethod.specs.Answered.{question_of, was_broken, was_done, was_
 use Rattle.sb_treemethod.proofs.Changing.{TreeOf-grown, TreeOf-shrunk}
 use Rattle.sb_treemethod.proofs.Counted.{clean_edits, grown_few}
 use Rattle.sb_treemethod.proofs.MethodLaws.{OverOld, changes, Changes-question, none_found}
-use Rattle.sb_treemethod.proofs.PutLaws.{asked_put, given_key, got_key, got_none, grew_from, row_is_entry, row_under, short_key, some_under, value_read}
+use Rattle.sb_treemethod.proofs.PutLaws.{asked_put, given_key, got_key, got_none, grew_from, kept_put, row_is_entry, row_under, short_key, some_under, value_read}
 use Rattle.sb_treemethod.proofs.RemoveLaws.{none_there, row_there, rows_still}
 use Rattle.sb_treemethod.proofs.RowsOf.{with_row-rows_of, without_row-rows_of}
 use Rattle.sb_treemethod.proofs.TreeRows.{Formed, TreeOf, formed, rising, rows_from, tree_of}
-use Rattle.sb_treemethod.proofs.Within.{AskedBy, Bounds, GetsWhere, Within, reads_still, tree_bounds, within}
+use Rattle.sb_treemethod.proofs.Within.{AskedBy, Bounds, GetsWhere, KeepsRefused, Within, reads_still, tree_bounds, within}
 
 -- ---- entries
 other_key : (key code q : Key) → bytes_eq code key ≡ false → is_eq (key_cmp q code) ≡ true → not (bytes_eq q key) ≡ true
@@ -161,6 +161,14 @@ asked_missing walk.Fresh = refl
 asked_missing (walk.Broken n) = tt
 asked_missing walk.NoMemory = tt
 
+kept_missing : (inst : Instance) (old : View) (w : Walk (Option LeafEntry)) → KeepsRefused inst old old (missing_move w)
+kept_missing inst old (walk.Ready (Some value)) = tt
+kept_missing inst old (walk.Ready None) = λ P es reads. refl
+kept_missing inst old (walk.Need n) = tt
+kept_missing inst old walk.Fresh = tt
+kept_missing inst old (walk.Broken n) = tt
+kept_missing inst old walk.NoMemory = tt
+
 reading_asks : {T : Type 0} (old : View) (w : Walk T) → MayAskFor old w → MayAsk old w
 reading_asks old (walk.Ready end) asks = tt
 reading_asks old (walk.Need n) asks = asks
@@ -171,7 +179,7 @@ reading_asks old walk.NoMemory asks = tt
 pub Changes-missing : (inst : Instance) (key : Key) (row : Row) (old : View) (w : Walk (Option LeafEntry)) → dropped old ≡ old → MayAskFor old w → Breaks (breaks inst.root (page_of old)) w
     → OverTree old inst.root (λ es. Gives (λ found. option_map entry_in found ≡ entry_at key es) w) → Bounds inst (call.Update key row) old old w → Changes tree_method inst (call.Update key row) old old (missing_move w)
 Changes-missing inst key row old w clean asks broken gives b =
-    by w (reading_asks old w asks) broken gives (within inst (call.Update key row) old old w (missing_move w) clean (reading_asks old w asks) (asked_missing w) b)
+    by w (reading_asks old w asks) broken gives (within inst (call.Update key row) old old w (missing_move w) clean (reading_asks old w asks) (asked_missing w) (kept_missing inst old w) b)
   where
     by : (w : Walk (Option LeafEntry)) → MayAsk old w → Breaks (breaks inst.root (page_of old)) w → OverTree old inst.root (λ es. Gives (λ found. option_map entry_in found ≡ entry_at key es) w) → Within inst (call.Update key row) old old (missing_move w)
         → Changes tree_method inst (call.Update key row) old old (missing_move w)
@@ -207,9 +215,20 @@ asked_replace key walk.Fresh = refl
 asked_replace key (walk.Broken n) = tt
 asked_replace key walk.NoMemory = tt
 
+kept_replace : (inst : Instance) (key : Key) (old new : View) (w : Walk Bool) → (w ≡ walk.Ready false → OverTrees old inst.root (λ P es. new ≡ old)) → KeepsRefused inst old new (replace_move key w)
+kept_replace inst key old new (walk.Ready true) keeps = tt
+kept_replace inst key old new (walk.Ready false) keeps = keeps refl
+kept_replace inst key old new (walk.Need n) keeps = tt
+kept_replace inst key old new walk.Fresh keeps = tt
+kept_replace inst key old new (walk.Broken n) keeps = tt
+kept_replace inst key old new walk.NoMemory keeps = tt
+
 pub Changes-replaced : (inst : Instance) (row : Row) (code value : List ℕ) (old new : View) (w : Walk Bool) → dropped old ≡ old → dropped new ≡ old → MayAsk new w → Breaks (breaks inst.root (page_of old)) w → MayHold tree_method inst row → IsEntryOf inst row code value
     → OverTrees old inst.root (λ P es. Replaces old new inst.root code value P es w) → Bounds inst (call.Update code row) old new w → Changes tree_method inst (call.Update code row) old new (replace_move code w)
-Changes-replaced inst row code value old new w clean given asks broken may entry replaces b = by w asks broken replaces (within inst (call.Update code row) old new w (replace_move code w) given asks (asked_replace code w) b)
+Changes-replaced inst row code value old new w clean given asks broken may entry replaces b =
+    by w asks broken replaces
+    (within inst (call.Update code row) old new w (replace_move code w) given asks (asked_replace code w)
+    (kept_replace inst code old new w (λ is P es reads. (subst (λ (v : Walk Bool). Replaces old new inst.root code value P es v) is (replaces P es reads)).1)) b)
   where
     by : (w : Walk Bool) → MayAsk new w → Breaks (breaks inst.root (page_of old)) w → OverTrees old inst.root (λ P es. Replaces old new inst.root code value P es w) → Within inst (call.Update code row) old new (replace_move code w)
         → Changes tree_method inst (call.Update code row) old new (replace_move code w)
@@ -237,7 +256,7 @@ duplicate inst key row code value old new clean given entry other there inserts 
 pub Changes-unput : (inst : Instance) (key : Key) (row : Row) (code value : List ℕ) (old new : View) (w : Walk Bool) → dropped old ≡ old → dropped new ≡ old → MayAsk new w → Breaks (breaks inst.root (page_of old)) w → IsEntryOf inst row code value → bytes_eq code key ≡ false
     → was_done w ≡ false → OverTree old inst.root (λ es. IsSome (find key_cmp key es)) → OverTrees old inst.root (λ P es. Inserts old new inst.root code value P es w) → Bounds inst (call.Update key row) old new w → Changes tree_method inst (call.Update key row) old new (put_move code w)
 Changes-unput inst key row code value old new w clean given asks broken entry other undone there inserts b =
-    by w asks broken undone inserts (within inst (call.Update key row) old new w (put_move code w) given asks (asked_put code w) b)
+    by w asks broken undone inserts (within inst (call.Update key row) old new w (put_move code w) given asks (asked_put code w) (kept_put inst code value old new w inserts) b)
   where
     by : (w : Walk Bool) → MayAsk new w → Breaks (breaks inst.root (page_of old)) w → was_done w ≡ false → OverTrees old inst.root (λ P es. Inserts old new inst.root code value P es w) → Within inst (call.Update key row) old new (put_move code w)
         → Changes tree_method inst (call.Update key row) old new (put_move code w)
@@ -352,8 +371,14 @@ module _ (inst : Instance) (key : Key) (row : Row) (code value : List ℕ) (old 
       way walk.NoMemory m P part rows f = tt
 
   pub Changes-moved : (w : Walk Bool) → was_broken w ≡ false → Moves inst key code value old mid new w → Changes tree_method inst (call.Update key row) old new (replace_move code w)
-  Changes-moved w whole m = by w whole m (within inst (call.Update key row) old new w (replace_move code w) m.new_given m.asks (asked_replace code w) (moved_bounds w m))
+  Changes-moved w whole m = by w whole m (within inst (call.Update key row) old new w (replace_move code w) m.new_given m.asks (asked_replace code w) (kept_replace inst code old new w (lost w m)) (moved_bounds w m))
     where
+      lost : (w : Walk Bool) → Moves inst key code value old mid new w → w ≡ walk.Ready false → OverTrees old inst.root (λ P es. new ≡ old)
+      lost w m is P es reads =
+          let put_in = (m.inserts P es reads).1 in
+          let out = subst (λ (v : Walk Bool). Removes mid new inst.root key P (put key_cmp code value es) v) is (m.removes P (put key_cmp code value es) put_in) in
+          absurd (stands_still key code value es (m.there P es reads) out.0)
+
       by : (w : Walk Bool) → was_broken w ≡ false → Moves inst key code value old mid new w → Within inst (call.Update key row) old new (replace_move code w) → Changes tree_method inst (call.Update key row) old new (replace_move code w)
       by (walk.Ready true) whole m spends = moved_row m spends
       by (walk.Ready false) whole m spends = lost_row m spends
@@ -378,6 +403,13 @@ asked_question walk.Fresh = refl
 asked_question (walk.Broken n) = tt
 asked_question walk.NoMemory = tt
 
+kept_question : (inst : Instance) (old new : View) (w : Walk Bool) → KeepsRefused inst old new (question_of w)
+kept_question inst old new (walk.Ready end) = tt
+kept_question inst old new (walk.Need n) = tt
+kept_question inst old new walk.Fresh = tt
+kept_question inst old new (walk.Broken n) = tt
+kept_question inst old new walk.NoMemory = tt
+
 pub Changes-alone : (inst : Instance) (key : Key) (row : Row) (old start new : View) (w : Walk Bool) → dropped old ≡ old → start ≡ old → Removal inst key start new w → GetsWhere inst (call.Update key row) old (w ≡ walk.Fresh) → Changes tree_method inst (call.Update key row) old new (question_of w)
 Changes-alone inst key row old start new w clean same made gets = by (subst (λ (v : View). Removal inst key v new w) same made)
   where
@@ -385,6 +417,6 @@ Changes-alone inst key row old start new w clean same made gets = by (subst (λ 
     by r =
         let given = r.given ∙ clean in
         Changes-asked {T = Bool} inst key row old new w clean given r.asks r.broken
-        (within inst (call.Update key row) old new w (question_of w) given r.asks (asked_question w)
+        (within inst (call.Update key row) old new w (question_of w) given r.asks (asked_question w) (kept_question inst old new w)
         (tree_bounds inst (call.Update key row) old new w (λ P. is_on_removal_way inst.root P key) tree_cost clean (λ P es read n is. removal_ways_met P inst.root es read key n is) (λ n. omega arith) r.way
         (λ P es read. let few = r.edits P es read in omega (arith, few)) r.room gets))

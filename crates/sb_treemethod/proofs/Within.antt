@@ -11,12 +11,12 @@ use Rattle.sb_forms.specs.TreePages.{tree_met}
 use Rattle.sb_ctx.specs.declared.instance.Instance.{Instance}
 use Rattle.sb_ctx.specs.declared.calls.MethodCall.{MethodCall}
 use Rattle.sb_ctx.specs.declared.moves.Move.{Move}
-use Rattle.sb_ctx.specs.declared.moves.Move.TheVariants.{Need, Fresh}
+use Rattle.sb_ctx.specs.declared.moves.Move.TheVariants.{Need, Fresh, NoRecord, Duplicate, Range}
 use Rattle.sb_ctx.specs.View.{View, edits_of, dropped, HoldsPart, stored}
-use Rattle.sb_ctx.proofs.ViewLaws.{stored-clean}
+use Rattle.sb_ctx.proofs.ViewLaws.{dropped-dropped, stored-clean}
 use Rattle.sb_ctx.specs.Sized.{IsCtx}
 use Rattle.sb_ctx.specs.Sound.{IsSound}
-use Rattle.sb_ctx.specs.MethodAnswers.{Before, GetsKey, HasRoom, Holds, IsOnPath, Spends, TakesFor, most_pages, rows_after}
+use Rattle.sb_ctx.specs.MethodAnswers.{Before, GetsKey, HasRoom, Holds, IsOnPath, Spends, TakesFor, cost_of, most_pages, rows_after}
 use Rattle.sb_btree.specs.Inserts.{MayAsk, OverTrees}
 use Rattle.sb_btree.specs.Spending.{AsksWithin, taken_of}
 use Rattle.sb_btree.specs.Walks.{AsksFor as MayAskFor, Needs, OnTree}
@@ -49,6 +49,13 @@ AskedBy w (Need n) = w ≡ walk.Need n
 AskedBy w Fresh = w ≡ walk.Fresh
 AskedBy w move = Unit {0}
 
+-- a row that is refused leaves all as it was
+abbrev pub KeepsRefused : Instance → View → View → Move → Type 0
+KeepsRefused inst old new NoRecord = OverTrees old inst.root (λ P es. new ≡ old)
+KeepsRefused inst old new Duplicate = OverTrees old inst.root (λ P es. new ≡ old)
+KeepsRefused inst old new Range = OverTrees old inst.root (λ P es. new ≡ old)
+KeepsRefused inst old new move = Unit {0}
+
 -- rows are as many as entries
 pub as_many : (root : ℕ) (inst : Instance) (P : Pages) (rows : Rows) → (f : Formed root inst.schema inst.key P rows) → length rows ≡ length f.es
 as_many root inst P rows f = ap (λ (l : Rows). length l) f.same ∙ length-map {B = Key × Row} f.es (λ e. as_row e)
@@ -56,13 +63,13 @@ as_many root inst P rows f = ap (λ (l : Rows). length l) f.same ∙ length-map 
 pub reads_still : (inst : Instance) (old : View) (P : Pages) (es : List Entry) → dropped old ≡ old → HoldsPart old P → read_tree inst.root P ≡ Some es → read_tree inst.root (stored old P) ≡ Some es
 reads_still inst old P es clean part is = ap (read_tree inst.root) (stored-clean old P clean part) ∙ is
 
-pub within : {T : Type 0} (inst : Instance) (c : MethodCall) (old new : View) (w : Walk T) (move : Move) → dropped new ≡ old → MayAsk new w → AskedBy w move → Bounds inst c old new w
+pub within : {T : Type 0} (inst : Instance) (c : MethodCall) (old new : View) (w : Walk T) (move : Move) → dropped new ≡ old → MayAsk new w → AskedBy w move → KeepsRefused inst old new move → Bounds inst c old new w
     → IsCtx new → (P : Pages) → HoldsPart old P → (rows : Rows) → Holds tree_method inst P rows → Spends tree_method inst c P rows new move
-within {T} inst c old new w move given asks asked b ctx P part rows holds = record {
+within {T} inst c old new w move given asks asked keeps b ctx P part rows holds = record {
   path = path move asked;
   room = room move asked;
   gets = gets move asked;
-  edits = subst (λ n. edits_of new ≤ call_cost c n) (sym many) (b.edits sound P part rows f);
+  edits = edits move keeps;
 }
   where
     f : Formed inst.root inst.schema inst.key P rows
@@ -73,6 +80,18 @@ within {T} inst c old new w move given asks asked b ctx P part rows holds = reco
 
     sound : IsSound old
     sound = sound_dropped new old given ctx.sound
+
+    clean : dropped old ≡ old
+    clean = ap dropped (sym given) ∙ dropped-dropped new ∙ given
+
+    none : OverTrees old inst.root (λ P es. new ≡ old) → edits_of new ≤ 0
+    none same = omega (arith, ap edits_of (same P f.es (reads_still inst old P f.es clean part f.tree)), clean_edits old clean sound)
+
+    edits : (move : Move) → KeepsRefused inst old new move → edits_of new ≤ cost_of tree_method c rows move
+    edits NoRecord keeps = none keeps
+    edits Duplicate keeps = none keeps
+    edits Range keeps = none keeps
+    edits _ keeps = subst (λ n. edits_of new ≤ call_cost c n) (sym many) (b.edits sound P part rows f)
 
     path : (move : Move) → AskedBy w move → IsOnPath tree_method inst c P move
     path (Need n) is = subst (λ (v : Walk T). Needs (is_on_call_path inst P c) v) is (b.way P part rows f)
