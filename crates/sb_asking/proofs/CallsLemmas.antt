@@ -6,7 +6,7 @@ use Rattle.sb_value.specs.declared.value.Value.{Value}
 use Rattle.sb_relation.specs.Db.{Db, Name}
 use Rattle.sb_relation.specs.Keys.{is_record_key}
 use Rattle.sb_ctx.specs.Pages.{Pages, ArePages}
-use Rattle.sb_ctx.specs.View.{View, FoundIn, HoldsPart, IsClean, keys_with, holds_fresh}
+use Rattle.sb_ctx.specs.View.{View, FoundIn, HoldsPart, IsClean, edits_of, keys_with, holds_fresh}
 use Rattle.sb_ctx.specs.declared.instance.Instance.{Instance}
 use Rattle.sb_ctx.specs.declared.calls.AttachCall.{AttachCall}
 use Rattle.sb_ctx.specs.declared.moves.Move.{Move}
@@ -16,17 +16,17 @@ use Rattle.sb_ctx.specs.AttachAnswers.{Answers, Spends}
 use Rattle.sb_ctx.proofs.DrivingLaws.{FoundIn-nothing, FoundIn-with_found, HoldsPart-nothing, HoldsPart-with_found, IsClean-nothing, IsClean-with_found}
 use Rattle.sb_drive.specs.declared.space.SpaceFault.{SpaceFault}
 use Rattle.sb_drive.specs.declared.space.SpaceFault.TheVariants.{Fault, DataFull, TempFull, LogFull, GatesFull, Damaged, Down, NoMemory}
-use Rattle.sb_drive.specs.AttachCalls.{IsAsking}
+use Rattle.sb_drive.specs.AttachCalls.{CostsIn, IsAsking}
 use Rattle.sb_drive.specs.Slots.{AreWhole, Slots, owned}
 use Rattle.sb_drive.specs.Spaces.{HoldsOf, IsFullFor, IsReadFault, IsRefused, Leaves, UnlessDown, Wanted, WhereFull}
 use Rattle.sb_drive.specs.Turns.{IsEnd}
-use Rattle.sb_drive.proofs.SpacesLemmas.{ArePages-few, GoesOn}
+use Rattle.sb_drive.proofs.SpacesLemmas.{ArePages-few, GoesOn, LeadsWithin-on}
 use Rattle.sb_registry.specs.Runs.{IsFullOf, Looks, WasFull, Works}
 use Rattle.sb_opened.specs.Lacking.{WhereShort}
 use Rattle.sb_opened.proofs.CallsLemmas.{FailsOn, Works-passed}
 use Rattle.sb_opened.proofs.LackingLemmas.{used_by}
 use Rattle.sb_asking.specs.declared.calls.Answer.{Answer}
-use Rattle.sb_asking.specs.Calls.{IsAsked, IsLast, LacksOver, found_of, knowing}
+use Rattle.sb_asking.specs.Calls.{CostsOver, IsAsked, IsLast, LacksOver, found_of, knowing}
 
 -- ---- a changing call behind reading ones
 IsRefused-later : {A B C D : Type 0} (e : SpaceFault) → (A → C) → (B → D) → IsRefused A B e → IsRefused C D e
@@ -180,6 +180,19 @@ module _ {S : Type 0} (Leads : ℕ → S → S → Type 0) (Durable : S → Bool
   lacks_known (Damaged page) full = tt
   lacks_known Down full = tt
   lacks_known NoMemory full = tt
+
+-- nor was more changed than it may spend
+pub costs_known : {S : Type 0} (Has : Wanted → Slots → S → Type 0) (Leads : ℕ → S → S → Type 0) (box : Attachment) (inst : Instance) (call : AttachCall) (answers : List Answer) (ctx : View) (db : Db)
+    (first old new : S) (want : Wanted) (s : Slots) → ctx ≡ knowing answers → All (IsOver db) answers → GoesOn Leads → Leads 0 first old → Has want s old → CostsIn Has Leads box inst call old new ctx
+    → CostsOver Leads box inst call db s first new
+costs_known Has Leads box inst call answers ctx db first old new want s is over goes_on leads has costs = record {
+  view = ctx;
+  found = subst (λ (c : View). FoundIn c db) (sym is) (FoundIn-knowing answers db over);
+  ctx = costs.ctx;
+  move = costs.move;
+  leads = LeadsWithin-on Leads (edits_of costs.ctx) first old new goes_on leads costs.leads;
+  spends = costs.spends want s has;
+}
 
 -- the end of a call that is no find
 pub IsLast-end : (move : Move) → IsEnd move → ((relation : Name) (columns : List Name) (values : List Value) → move ≡ Find relation columns values → ⊥) → IsLast move

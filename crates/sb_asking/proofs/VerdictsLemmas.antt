@@ -1,5 +1,5 @@
 -- What an attachment says of a change that is asked, by what its call says over the changed database.
-use Rattle.std.proofs.Common.{◌≡◌, ℕ, ◌+◌, List, [], Some, false, sym, ap, subst, ◌∙◌}
+use Rattle.std.proofs.Common.{◌≡◌, ◌⊎◌, ⊎_elim, ℕ, ◌+◌, List, [], Some, false, sym, ap, subst, ◌∙◌}
 use Rattle.std.specs.List.{slice_get}
 use Rattle.std.proofs.lemmas.Option.{same_Some}
 use Rattle.sb_rule.specs.declared.action.Action.{Action}
@@ -15,12 +15,13 @@ use Rattle.sb_ctx.specs.declared.instance.Instance.{Instance}
 use Rattle.sb_ctx.specs.declared.calls.AttachCall.TheVariants as call
 use Rattle.sb_ctx.specs.declared.moves.Move.{Move}
 use Rattle.sb_ctx.specs.declared.moves.Move.TheVariants.{Done, Acts, Need, Fresh, After, Find, Veto, NoRecord, Duplicate, Range, Key as Keyed, Row as Rowed, Entry, Sums, Hits, End, Broken, NoMemory}
-use Rattle.sb_ctx.specs.View.{View, FoundIn}
+use Rattle.sb_ctx.specs.View.{View, FoundIn, edits_of}
 use Rattle.sb_ctx.specs.Attachment.{Attachment, StandsOn}
 use Rattle.sb_ctx.specs.AttachAnswers.{Admitted as AdmittedBy, Answers, BeforeChange, Changed, Costs, Holds, content_after, content_over}
 use Rattle.sb_registry.specs.Boxes.{Meanings, attachment_of}
 use Rattle.sb_drive.specs.Slots.{Slots, owned}
-use Rattle.sb_drive.specs.Spaces.{Leaves, Wanted}
+use Rattle.sb_drive.specs.Spaces.{Leaves, LeadsWithin, Wanted}
+use Rattle.sb_drive.proofs.SpacesLemmas.{LeadsWithin-more, LeadsWithin-none}
 use Rattle.sb_opened.specs.Asked.{Asks, changed_kept}
 use Rattle.sb_opened.specs.AskedLaws.{CanAsk, rule_of}
 use Rattle.sb_opened.specs.Standing.{IsKept}
@@ -29,10 +30,10 @@ use Rattle.sb_opened.proofs.AskedLaws.{Asks-more, CanAsk-next}
 use Rattle.sb_opened.proofs.KeptChangedLemmas.{db_of-changed, rising-before}
 use Rattle.sb_opened.proofs.KeptLemmas.{kept_at-name}
 use Rattle.sb_opened.specs.Opened.{IsDurable}
-use Rattle.sb_asking.specs.Calls.{IsAsked, IsFinal, LacksOver}
+use Rattle.sb_asking.specs.Calls.{CostsOver, IsAsked, IsFinal, LacksOver}
 use Rattle.sb_asking.specs.declared.verdicts.Verdict.{Verdict}
 use Rattle.sb_asking.specs.declared.verdicts.Verdict.TheVariants.{Vetoed, Admitted}
-use Rattle.sb_asking.specs.Verdicts.{Admits, IfAdmitted, IsNext, IsVerdict, Judges, LacksAsked, LeavesAsked, Says, Situation, verdict_in}
+use Rattle.sb_asking.specs.Verdicts.{Admits, CostsAsked, IfAdmitted, IsNext, IsVerdict, Judges, LacksAsked, LeavesAsked, Says, Situation, asked_cost, verdict_in}
 
 -- ---- the ends of a call of a change
 pub IsVerdict-final : (c : Change) (move : Move) → IsFinal (call.Changed c) move → IsVerdict move
@@ -130,6 +131,30 @@ lacks_asked m root s x c inst box total asks next live lacks = record {
         (content_over own.can.kept.box (rule_of IsDurable x.kept x.described) x.attached.rule (db_of x.before) x.attached.buckets)
         (content_after own.can.kept.box (rule_of IsDurable x.kept x.described) x.attached.rule (db_of x.before) x.attached.buckets c) here.ctx Fresh
     costs = here.spends x.attached.rule (db_of x.before) own.can.kept.stands x.attached.buckets (own.can.of here.view found)
+
+-- nor was more changed than its box may spend
+pub costs_asked : {S : Type 0} (Leads : ℕ → S → S → Type 0) (m : Meanings) (root : ℕ) (s : Slots) (x : Situation) (c : Change) (inst : Instance) (box : Attachment) (old new : S)
+    → Asks m IsDurable root s x.gone x.before x.name c x.index → IsNext x inst → attachment_of inst.code m.attachments ≡ Some box
+    → Leads 0 old new ⊎ CostsOver Leads box inst (call.Changed c) (db_of (changed_kept x.name c x.before)) s old new → CostsAsked Leads m x c old new
+costs_asked {S} Leads m root s x c inst box old new asks next live costs = record { box = own.can.kept.box; live = own.can.kept.live; within = ⊎_elim none some costs }
+  where
+    own : CanBeAsked m s x c box
+    own = CanBeAsked-next m root s x c inst box asks next (live_of m x inst box next live)
+
+    Over : Attachment → Instance → Type 0
+    Over b i = CostsOver Leads b i (call.Changed c) (db_of (changed_kept x.name c x.before)) s old new
+
+    none : Leads 0 old new → LeadsWithin Leads (asked_cost x own.can.kept.box c) old new
+    none leads = LeadsWithin-none Leads (asked_cost x own.can.kept.box c) old new leads
+
+    some : Over box inst → LeadsWithin Leads (asked_cost x own.can.kept.box c) old new
+    some over =
+        let here : Over own.can.kept.box (rule_of IsDurable x.kept x.described) =
+        subst (λ (b : Attachment). Over b (rule_of IsDurable x.kept x.described)) (sym own.same) (subst (λ (i : Instance). Over box i) next.is over) in
+        let found : FoundIn here.view (changed (db_of x.before) x.name c) =
+        subst (FoundIn here.view) (db_of-changed x.name c x.before (rising-before x.name c x.before asks.tables.rising)) here.found in
+        LeadsWithin-more Leads (edits_of here.ctx) (asked_cost x own.can.kept.box c) old new
+        (here.spends x.attached.rule (db_of x.before) own.can.kept.stands x.attached.buckets (own.can.of here.view found)).edits here.leads
 
 -- ---- what it says, and what it leaves
 -- of pages that its call left

@@ -7,10 +7,11 @@ use Rattle.sb_ctx.specs.declared.instance.Instance.{Instance}
 use Rattle.sb_ctx.specs.declared.calls.AttachCall.{AttachCall}
 use Rattle.sb_ctx.specs.declared.moves.Move.{Move}
 use Rattle.sb_ctx.specs.declared.moves.Move.TheVariants.{Find, Fresh}
-use Rattle.sb_ctx.specs.View.{View, FoundIn, holds_fresh, nothing, with_found}
+use Rattle.sb_ctx.specs.View.{View, FoundIn, edits_of, holds_fresh, nothing, with_found}
 use Rattle.sb_ctx.specs.Attachment.{Attachment}
 use Rattle.sb_ctx.specs.AttachAnswers.{Answers, MayEnd, Spends}
 use Rattle.sb_drive.specs.Slots.{Slots, owned}
+use Rattle.sb_drive.specs.Spaces.{LeadsWithin}
 use Rattle.sb_drive.specs.Turns.{IsEnd}
 use Rattle.sb_asking.specs.declared.calls.Answer.{Answer}
 
@@ -27,6 +28,15 @@ pub record LacksOver (a : Attachment) (inst : Instance) (call : AttachCall) (db 
   pub ctx : View
   pub used : (m : ℕ) → m < total → (s m).0 ≡ 0 → holds_fresh ctx m ≡ true
   pub spends : Spends a inst call view (owned s inst.owner) ctx Fresh
+
+-- With its finds answered over the database no more was changed than some Ctx has edits, with which the call spends what it may.
+pub record CostsOver {S : Type 0} (Leads : ℕ → S → S → Type 0) (a : Attachment) (inst : Instance) (call : AttachCall) (db : Db) (s : Slots) (old new : S) : Type 0 where
+  pub view : View
+  pub found : FoundIn view db
+  pub ctx : View
+  pub move : Move
+  pub leads : LeadsWithin Leads (edits_of ctx) old new
+  pub spends : Spends a inst call view (owned s inst.owner) ctx move
 
 -- it asks for nothing more
 abbrev pub IsLast : Move → Type 0

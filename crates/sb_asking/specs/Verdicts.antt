@@ -17,7 +17,7 @@ use Rattle.sb_ctx.specs.Attachment.{Attachment}
 use Rattle.sb_ctx.specs.AttachAnswers.{content_after, content_over, most_pages}
 use Rattle.sb_registry.specs.Boxes.{Meanings, attachment_of}
 use Rattle.sb_drive.specs.Slots.{Slots}
-use Rattle.sb_drive.specs.Spaces.{Wanted}
+use Rattle.sb_drive.specs.Spaces.{LeadsWithin, Wanted}
 use Rattle.sb_catalog.specs.declared.descriptor.Attached.{Attached}
 use Rattle.sb_opened.specs.Instances.{rule_instance}
 use Rattle.sb_opened.specs.Tables.{Kept, KeepsOthers, db_of, kept_at}
@@ -90,6 +90,19 @@ pub record LacksAsked (m : Meanings) (s : Slots) (x : Situation) (c : Change) (t
   pub box : Attachment
   pub live : attachment_of x.described.code m.attachments ≡ Some box
   pub short : IsShort s x.described.owner (most_asked x box c) total
+
+-- what its box may spend on it
+abbrev pub asked_cost : Situation → Attachment → Change → ℕ
+asked_cost x box c =
+    let own : Instance = rule_of IsDurable x.kept x.described in
+    box.cost (Changed c) (content_over box own x.attached.rule (db_of x.before) x.attached.buckets)
+    (content_after box own x.attached.rule (db_of x.before) x.attached.buckets c)
+
+-- the live box has changed no more
+pub record CostsAsked {S : Type 0} (Leads : ℕ → S → S → Type 0) (m : Meanings) (x : Situation) (c : Change) (old new : S) : Type 0 where
+  pub box : Attachment
+  pub live : attachment_of x.described.code m.attachments ≡ Some box
+  pub within : LeadsWithin Leads (asked_cost x box c) old new
 
 -- ---- the ends of its call
 abbrev pub IsVerdict : Move → Type 0

@@ -1,6 +1,6 @@
 //! Calls of an attachment, with their finds answered.
 
-ghost use Rattle.std.specs.Prelude.{◌≡◌, ◌++◌, ◌∷◌, [], List, OnOk, IfOk, IfErr};
+ghost use Rattle.std.specs.Prelude.{◌≡◌, ◌⊎◌, ◌++◌, ◌∷◌, [], List, OnOk, IfOk, IfErr};
 ghost use Rattle.sb_relation.specs.Content.{Content};
 ghost use Rattle.sb_ctx.specs.AttachAnswers.{Holds};
 ghost use Rattle.sb_drive.specs.AttachCalls.{Fits, IsReading};
@@ -12,7 +12,7 @@ ghost use Rattle.sb_opened.specs.Standing.{StandRules};
 ghost use Rattle.sb_opened.specs.Tables.{Kept, Tables, db_of};
 ghost use Rattle.sb_opened.specs.Opened.{IsDurable};
 ghost use Rattle.sb_opened.specs.Lacking.{WhereShort};
-ghost use Rattle.sb_asking.specs.Calls.{IsAsked, IsFinal, LacksOver, knowing};
+ghost use Rattle.sb_asking.specs.Calls.{CostsOver, IsAsked, IsFinal, LacksOver, knowing};
 
 use crate::finds::find_keys;
 use sb_ctx::{AttachCall, Ctx, Instance, Keys, Move};
@@ -64,6 +64,9 @@ pub fn ask<S: PageSpace, B: Boxes>(
     ensures full { IfErr result (λ e. (live : IsLiveRule (B.meanings boxes.now) inst.now) (want : Wanted) (s : Slots) (kept : List Kept)
         → S.has want s space.old → Tables (B.meanings boxes.now) IsDurable place.root s kept
         → WhereShort e (LacksOver live.box inst.now call.now (db_of kept) s)) }
+    ensures costs { (live : IsLiveRule (B.meanings boxes.now) inst.now) (want : Wanted) (s : Slots) (kept : List Kept) → S.has want s space.old
+        → Tables (B.meanings boxes.now) IsDurable place.root s kept
+        → S.leads 0 space.old space.new ⊎ CostsOver S.leads live.box inst.now call.now (db_of kept) s space.old space.new }
     ensures ready { S.is_ready space.new }
 {
     let mut answers = Vec::new(alloc);

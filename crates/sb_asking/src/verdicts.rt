@@ -9,7 +9,7 @@ ghost use Rattle.sb_registry.specs.Runs.{IsSound, Works};
 ghost use Rattle.sb_opened.specs.Opened.{IsDurable};
 ghost use Rattle.sb_opened.specs.Asked.{Asks};
 ghost use Rattle.sb_opened.specs.Lacking.{WhereShort};
-ghost use Rattle.sb_asking.specs.Verdicts.{IsNext, IsVerdict, LacksAsked, Says, Situation, verdict_in};
+ghost use Rattle.sb_asking.specs.Verdicts.{CostsAsked, IsNext, IsVerdict, LacksAsked, Says, Situation, verdict_in};
 
 use crate::calls::ask;
 use sb_ctx::{Actions, AttachCall, Checks, Instance, Move};
@@ -55,6 +55,9 @@ pub fn ask_rule<S: PageSpace, B: Boxes>(
     ensures full { IfErr result (λ e. (want : Wanted) (s : Slots) (x : Situation) → S.has want s space.old
         → Asks (B.meanings boxes.now) IsDurable place.root s x.gone x.before x.name change.now x.index → IsNext x inst.now
         → WhereShort e (LacksAsked (B.meanings boxes.now) s x change.now)) }
+    ensures costs { (want : Wanted) (s : Slots) (x : Situation) → S.has want s space.old
+        → Asks (B.meanings boxes.now) IsDurable place.root s x.gone x.before x.name change.now x.index → IsNext x inst.now
+        → CostsAsked S.leads (B.meanings boxes.now) x change.now space.old space.new }
     ensures ready { S.is_ready space.new }
 {
     let copy = change.copy()?;

@@ -1,5 +1,5 @@
 -- What a driver makes of a call that keeps its promise.
-use Rattle.std.proofs.Common.{◌≡◌, ℕ, true, refl, sym, subst, ◌∙◌}
+use Rattle.std.proofs.Common.{◌≡◌, ◌⊎◌, ℕ, true, Result, IfOk, IfErr, refl, sym, subst, ◌∙◌}
 use Rattle.sb_ctx.specs.Pages.{Pages}
 use Rattle.sb_ctx.specs.declared.moves.Move.{Move}
 use Rattle.sb_ctx.specs.declared.moves.Move.TheVariants.{Need, Fresh, After, Find, Broken, NoMemory}
@@ -10,7 +10,7 @@ use Rattle.sb_drive.specs.declared.space.SpaceFault.{SpaceFault}
 use Rattle.sb_drive.specs.declared.space.SpaceFault.TheVariants as fault
 use Rattle.sb_drive.specs.declared.turns.Turn.TheVariants.{Stop}
 use Rattle.sb_drive.specs.AttachCalls.{HandsUpIn}
-use Rattle.sb_drive.specs.Promises.{Promise, KeepsPromise, HasBoxCause, CostsAsPromised}
+use Rattle.sb_drive.specs.Promises.{Promise, KeepsPromise, HasBoxCause, StoresEnd, CostsAsPromised}
 use Rattle.sb_drive.specs.Slots.{Slots, owned}
 use Rattle.sb_drive.specs.Spaces.{HoldsOf, LeadsWithin, Leaves, Wanted}
 use Rattle.sb_drive.specs.Turns.{turn_of, is_find, OnFind}
@@ -62,11 +62,14 @@ OnFind-handed Has Leads owner before after p old c new move end is keeps without
     by to asks = tt
 
 -- a call makes no more changes than it promises
-pub CostsAsPromised-made : {S : Type 0} (Has : Wanted → Slots → S → Type 0) (Leads : ℕ → S → S → Type 0) (owner : ℕ) (p : Promise) (before after : S) (old c : View) (move : Move) → IsCtx c → KeepsPromise p old c move →
-    ((want : Wanted) (s : Slots) → Has want s before → HoldsOf s owner old) → LeadsWithin Leads (edits_of c) before after → CostsAsPromised Has Leads owner p before after
-CostsAsPromised-made Has Leads owner p before after old c move is_ctx keeps holds leads = record {
+pub CostsAsPromised-made : {S : Type 0} (Has : Wanted → Slots → S → Type 0) (Leads : ℕ → S → S → Type 0) (owner : ℕ) (p : Promise) (before after : S) (result : Result Move SpaceFault) (old c : View) (move : Move) → IsCtx c → KeepsPromise p old c move →
+    ((want : Wanted) (s : Slots) → Has want s before → HoldsOf s owner old) → LeadsWithin Leads (edits_of c) before after → IfOk result (λ end. move ≡ end)
+    → IfErr result (λ e. Leads 0 before after ⊎ StoresEnd Has owner p before c move) → CostsAsPromised Has Leads owner p before after result
+CostsAsPromised-made Has Leads owner p before after result old c move is_ctx keeps holds leads ends refused = record {
   ctx = c;
   move = move;
+  ends = ends;
+  refused = refused;
   leads = leads;
   spends = λ want s has. keeps.spends is_ctx (owned s owner) (holds want s has).part;
 }

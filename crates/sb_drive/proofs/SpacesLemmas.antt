@@ -1,5 +1,5 @@
 -- What calls over a space leave, whatever the space is.
-use Rattle.std.proofs.Common.{◌≡◌, inr, ℕ, ◌+◌, ◌≤◌, Bool, Result, Ok, Err, IfErr, refl, sym, subst, arith}
+use Rattle.std.proofs.Common.{◌≡◌, inr, ℕ, ◌+◌, ◌≤◌, Bool, Result, Ok, Err, IfErr, IfOk, refl, sym, subst, arith}
 use Rattle.std.specs.Result.{IsErrAnd}
 use Rattle.sb_ctx.specs.Pages.{Pages, ArePages}
 use Rattle.sb_drive.specs.declared.space.SpaceFault.{SpaceFault}
@@ -103,3 +103,8 @@ UnlessDown-passed T U (Ok x) e A B is then left = absurd is
 pub IfErr-passed : {U : Type 0} (r : Result U SpaceFault) (e : SpaceFault) (P : SpaceFault → Type 0) → IsErrAnd r (λ x. x ≡ e) → P e → IfErr r P
 IfErr-passed (Err x) e P is so = subst P (sym is) so
 IfErr-passed (Ok x) e P is so = tt
+
+-- a call that was refused came to no end
+pub IfOk-passed : {U : Type 0} (r : Result U SpaceFault) (e : SpaceFault) (P : U → Type 0) → IsErrAnd r (λ x. x ≡ e) → IfOk r P
+IfOk-passed (Err x) e P is = tt
+IfOk-passed (Ok x) e P is = absurd is

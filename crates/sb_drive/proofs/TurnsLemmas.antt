@@ -12,7 +12,7 @@ use Rattle.sb_drive.specs.declared.turns.Turn.TheVariants.{Give, Stop, End as En
 use Rattle.sb_drive.specs.declared.space.SpaceFault.{SpaceFault}
 use Rattle.sb_drive.specs.declared.space.SpaceFault.TheVariants as fault
 use Rattle.sb_drive.specs.Spaces.{IsAskFault, IsReadFault}
-use Rattle.sb_drive.specs.Turns.{turn_of}
+use Rattle.sb_drive.specs.Turns.{IsEnd, turn_of}
 use Rattle.sb_drive.proofs.AsksLemmas.{IsAsked}
 
 -- what is asked for isn't held
@@ -52,6 +52,14 @@ end-is (After low) end is = cc
 end-is (Broken n) end is = cc
 end-is NoMemory end is = cc
 end-is move end is = cc
+
+pub IsEnd-end : (move end : Move) → turn_of move ≡ Ends end → IsEnd move
+IsEnd-end (Need n) end is = cc
+IsEnd-end Fresh end is = cc
+IsEnd-end (After low) end is = cc
+IsEnd-end (Broken n) end is = cc
+IsEnd-end NoMemory end is = cc
+IsEnd-end move end is = tt
 
 -- ---- calls that only read
 -- what they ask for is refused as to a call that only reads

@@ -1,17 +1,19 @@
 -- Driven calls of a storage method.
-use Rattle.std.specs.Prelude.{◌≡◌, ℕ, true}
+use Rattle.std.specs.Prelude.{◌≡◌, ◌⊎◌, ℕ, true, Result, Ok, Err}
 use Rattle.sb_ctx.specs.Db.{Rows}
 use Rattle.sb_ctx.specs.Pages.{Pages}
 use Rattle.sb_ctx.specs.declared.instance.Instance.{Instance}
 use Rattle.sb_ctx.specs.declared.calls.MethodCall.{MethodCall}
 use Rattle.sb_ctx.specs.declared.calls.MethodCall.TheVariants as call
+use Rattle.sb_ctx.specs.declared.moves.Move.{Move}
 use Rattle.sb_ctx.specs.declared.moves.Move.TheVariants.{Fresh}
 use Rattle.sb_ctx.specs.View.{View, HeldPages, AreSomeOf, dropped}
 use Rattle.sb_ctx.specs.Method.{Method, MayHold}
-use Rattle.sb_ctx.specs.MethodAnswers.{Answers, Before, Changes, MayEnd, NotNew, Spends}
+use Rattle.sb_ctx.specs.MethodAnswers.{Answers, Before, Changes, GetsKey, MayEnd, NotNew, Spends, cost_of}
 use Rattle.sb_drive.specs.declared.space.SpaceFault.{SpaceFault}
 use Rattle.sb_drive.specs.declared.space.SpaceFault.TheVariants as space
 use Rattle.sb_drive.specs.Promises.{Promise}
+use Rattle.sb_drive.specs.Spaces.{LeadsWithin}
 
 -- what the box wants of the arguments of its call
 abbrev pub Fits : Method → Instance → MethodCall → Type 0
@@ -54,3 +56,9 @@ promise_of m inst c = record {
   Spends = λ P new move. (rows : Rows) → Before m inst c P rows → Spends m inst c P rows new move;
   IsAsking = IsAsking m inst c;
 }
+
+-- What a call costs that comes to this. One that refuses its row changes nothing; one that the space refuses has changed nothing, or the row that it
+-- puts in gets a key.
+abbrev pub CostsBy : {S : Type 0} → (ℕ → S → S → Type 0) → Method → Instance → MethodCall → Rows → S → S → Result Move SpaceFault → Type 0
+CostsBy Leads m inst c rows old new (Ok move) = LeadsWithin Leads (cost_of m c rows move) old new
+CostsBy Leads m inst c rows old new (Err e) = Leads 0 old new ⊎ (GetsKey m inst c rows × LeadsWithin Leads (m.cost c rows) old new)

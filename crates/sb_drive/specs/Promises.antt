@@ -1,5 +1,5 @@
 -- What a call of a box promises to its driver, of whichever kind the box is.
-use Rattle.std.specs.Prelude.{◌≡◌, ℕ, true}
+use Rattle.std.specs.Prelude.{◌≡◌, ◌⊎◌, ℕ, true, Result, IfOk, IfErr}
 use Rattle.sb_ctx.specs.Pages.{Pages}
 use Rattle.sb_ctx.specs.declared.moves.Move.{Move}
 use Rattle.sb_ctx.specs.declared.moves.Move.TheVariants.{Need, Fresh, Broken}
@@ -10,7 +10,7 @@ use Rattle.sb_drive.specs.declared.space.SpaceFault.{SpaceFault}
 use Rattle.sb_drive.specs.declared.space.SpaceFault.TheVariants as space
 use Rattle.sb_drive.specs.Slots.{Slots, owned}
 use Rattle.sb_drive.specs.Spaces.{LeadsWithin, Wanted}
-use Rattle.sb_drive.specs.Turns.{is_find}
+use Rattle.sb_drive.specs.Turns.{IsEnd, is_find}
 
 -- Which moves may answer a call; what a move says of the pages before the call and after it; which of those before it the box may call broken;
 -- what it spends over them with this Ctx and this move; and that with this Ctx it asks for a fresh page.
@@ -42,10 +42,18 @@ HasBoxCause p P e = Unit {0}
 abbrev pub MayAskFor : Promise → Pages → ℕ → Type 0
 MayAskFor p P n = (at : View) × p.Spends P at (Need n)
 
--- At most as many changes are made as some Ctx has edits, with which the call spends what it promises over all pages that the space has.
+-- The move is an end of the call, which is stored: it answers so over all pages that the space has.
+pub record StoresEnd {S : Type 0} (Has : Wanted → Slots → S → Type 0) (owner : ℕ) (p : Promise) (before : S) (ctx : View) (move : Move) : Type 0 where
+  pub end : IsEnd move
+  pub answers : (want : Wanted) (s : Slots) → Has want s before → p.Answers (owned s owner) (stored ctx (owned s owner)) move
+
+-- At most as many changes are made as some Ctx has edits, with which the call spends what it promises over all pages that the space has. A call that
+-- comes to its end does so with the move that it ends in; one that is refused has changed nothing, or its end couldn't be stored.
 pub record CostsAsPromised {S : Type 0} (Has : Wanted → Slots → S → Type 0) (Leads : ℕ → S → S → Type 0)
-    (owner : ℕ) (p : Promise) (before after : S) : Type 0 where
+    (owner : ℕ) (p : Promise) (before after : S) (result : Result Move SpaceFault) : Type 0 where
   pub ctx : View
   pub move : Move
+  pub ends : IfOk result (λ end. move ≡ end)
+  pub refused : IfErr result (λ e. Leads 0 before after ⊎ StoresEnd Has owner p before ctx move)
   pub leads : LeadsWithin Leads (edits_of ctx) before after
   pub spends : (want : Wanted) (s : Slots) → Has want s before → p.Spends (owned s owner) ctx move

@@ -78,7 +78,7 @@ pub(crate) fn run_call<S: PageSpace, C: BoxCall>(
         (λ c. (C.promise call.now ctx.old).Spends (owned s owner) c Fresh) space.old s e)) }
 
     ensures leads { LeadsOn S.leads space.old space.new }
-    ensures costs { CostsAsPromised S.has S.leads owner (C.promise call.now ctx.old) space.old space.new }
+    ensures costs { CostsAsPromised S.has S.leads owner (C.promise call.now ctx.old) space.old space.new result }
     ensures reads { C.reads call.now → S.leads 0 space.old space.new }
     ensures looks { C.reads call.now → IfErr result IsReadFault }
     ensures refused { IfErr result (λ e. IsRefused (S.leads 0 space.old space.new) (S.fails e space.old space.new) e) }

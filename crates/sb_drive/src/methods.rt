@@ -5,9 +5,9 @@ ghost use Rattle.sb_ctx.specs.Db.{Rows};
 ghost use Rattle.sb_ctx.specs.Method.{IsInstance};
 ghost use Rattle.sb_ctx.specs.MethodAnswers.{Answers, Before, Changes, MayEnd, Reads};
 ghost use Rattle.sb_ctx.specs.View.{IsClean};
-ghost use Rattle.sb_drive.specs.MethodCalls.{Fits, IsAsking, IsReading, HasRoomFor, HasSpaceCause, promise_of};
+ghost use Rattle.sb_drive.specs.MethodCalls.{Fits, IsAsking, IsReading, HasRoomFor, HasSpaceCause, CostsBy, promise_of};
 ghost use Rattle.sb_drive.specs.Slots.{Slots, owned};
-ghost use Rattle.sb_drive.specs.Spaces.{IsFullFor, IsReadFault, IsRefused, Leaves, LeadsOn, LeadsWithin, UnlessDown, Wanted, WhereFull};
+ghost use Rattle.sb_drive.specs.Spaces.{IsFullFor, IsReadFault, IsRefused, Leaves, LeadsOn, UnlessDown, Wanted, WhereFull};
 ghost use Rattle.sb_drive.specs.Turns.{IsEnd};
 
 use crate::driving::{BoxCall, run_call};
@@ -46,7 +46,7 @@ pub fn run_method<S: PageSpace>(
     ensures leads { LeadsOn S.leads space.old space.new }
     ensures costs { (want : Wanted) (s : Slots) (rows : Rows) → S.has want s space.old
         → Before (method boxed.now) inst.now call.now (owned s inst.now.owner) rows
-        → LeadsWithin S.leads ((method boxed.now).cost call.now rows) space.old space.new }
+        → CostsBy S.leads (method boxed.now) inst.now call.now rows space.old space.new result }
     ensures reads { IsReading call.now → S.leads 0 space.old space.new }
     ensures looks { IsReading call.now → IfErr result IsReadFault }
     ensures refused { IfErr result (λ e. IsRefused (S.leads 0 space.old space.new) (S.fails e space.old space.new) e) }

@@ -62,6 +62,9 @@ pub trait PageSpace {
     /// What calls make of it that make so many changes: none where they make none.
     ghost leads: { ℕ → Self → Self → Type 0 };
 
+    /// What was taken of its log, beside half of it, is no more than so many changes take.
+    ghost spent: { ℕ → Self → Type 0 };
+
     /// What a call leaves that it refuses so.
     ghost fails: { SpaceFault → Self → Self → Type 0 };
 
@@ -98,6 +101,8 @@ pub trait PageSpace {
     ghost stays: { (a : Self) → leads 0 a a };
 
     ghost goes_on: { (k l : ℕ) (a b c : Self) → leads k a b → leads l b c → leads (k + l) a c };
+
+    ghost spends: { (n k : ℕ) (a b : Self) → leads k a b → spent n a → spent (n + k) b };
 
     ghost fails_on: { (e : SpaceFault) (a b c : Self) → leads 0 a b → fails e b c → fails e a c };
 

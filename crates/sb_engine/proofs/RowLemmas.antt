@@ -130,7 +130,7 @@ module _ {S : Type 0} (Has : Wanted → Slots → S → Type 0) (Ways : ℕ → 
 
   abbrev RefusesIt : Refusal → Type 0
   RefusesIt e = (want : Wanted) (s : Slots) (r : Relation) → Has want s old → IsTableOf one.table one.descriptor.attachments r → (has : HasRows m s one.table r.rows)
-      → Refuses Has m one.table want s new r (wished one.table.relation r wish) e
+      → Refuses Has Ways m one.table want s old new r (wished one.table.relation r wish) e
 
   pub row_made : (g : Going) (w : Kept_work) (p : Vec Key Global) (c : Change) → Stands Has m root g old w → open_at w.opened.items name ≡ Some one → MakesIt c
       → p.items ≡ w.picks.items ++ picks_of one.table.code c

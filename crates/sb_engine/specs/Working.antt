@@ -221,11 +221,7 @@ IsServing IsReady meanings a = Serves IsReady (meanings a.boxes.now) a.place a.s
 abbrev pub StandsFor : {B S : Type 0} → (Wanted → Slots → S → Type 0) → (B → Meanings) → Going → Running B S → Type 0
 StandsFor Has meanings g a = Stands Has (meanings a.boxes.now) a.place.root g a.space.now a.work.now
 
--- it was stopped by a refusal, whose cause its space has
-abbrev pub IsStoppedBy : {B S : Type 0} → (SpaceFault → S → S → Type 0) → Refusal → Trail → Running B S → Type 0
-IsStoppedBy Fails r trail a = HasRefusalCause Fails r a.space.now
-
--- The same of a space, and where that refusal is want of a page, the work had come so far that pages may be wanting.
+-- It was stopped by a refusal, whose cause its space has, and where that is want of a page, the work had come so far that pages may be wanting.
 pub record IsStoppedIn {S : Type 0} (Has : Wanted → Slots → S → Type 0) (Leads : ℕ → S → S → Type 0) (Fails : SpaceFault → S → S → Type 0) (table : S → ℕ)
     (m : Meanings) (r : Refusal) (trail : Trail) (now : S) : Type 0 where
   pub cause : HasRefusalCause Fails r now

@@ -1,3 +1,4 @@
+pub use Rattle.sb_drive.proofs.MethodLemmas
 pub use Rattle.sb_drive.proofs.SpacesLemmas
 pub mod BoxesLemmas
 pub mod CodesLemmas

@@ -1,6 +1,7 @@
 pub use Rattle.sb_drive.specs.Attachment
 pub use Rattle.sb_drive.specs.Instances
 pub use Rattle.sb_drive.specs.Method
+pub use Rattle.sb_drive.specs.MethodCalls
 pub use Rattle.sb_drive.specs.Slots
 pub use Rattle.sb_drive.specs.Spaces
 pub use Rattle.sb_drive.specs.Turns

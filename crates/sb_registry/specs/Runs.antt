@@ -17,9 +17,9 @@ use Rattle.sb_drive.specs.AttachAnswers.{Answers as AnswersFor, Holds, Spends, p
 use Rattle.sb_drive.specs.declared.space.SpaceFault.{SpaceFault}
 use Rattle.sb_drive.specs.declared.space.SpaceFault.TheVariants.{DataFull, TempFull, Damaged}
 use Rattle.sb_drive.specs.AttachCalls.{CostsIn, HandsUpIn, HasSpaceCause as HasCauseFor, IsAsking as IsAskingFor}
-use Rattle.sb_drive.specs.MethodCalls.{HasRoomFor, HasSpaceCause, IsAsking}
+use Rattle.sb_drive.specs.MethodCalls.{CostsBy, HasRoomFor, HasSpaceCause, IsAsking}
 use Rattle.sb_drive.specs.Slots.{Slots, owned}
-use Rattle.sb_drive.specs.Spaces.{IsFullFor, IsReadFault, IsRefused, Leaves, LeadsOn, LeadsWithin, UnlessDown, Wanted, WhereFull}
+use Rattle.sb_drive.specs.Spaces.{IsFullFor, IsReadFault, IsRefused, Leaves, LeadsOn, UnlessDown, Wanted, WhereFull}
 use Rattle.sb_drive.specs.Turns.{OnFind}
 
 -- no page is called damaged
@@ -67,7 +67,7 @@ pub record Runs {S : Type 0} (Has : Wanted → Slots → S → Type 0) (Leads : 
   pub full : IfErr result (λ e. (want : Wanted) (s : Slots) → Has want s old
       → WhereFull e (IsFullFor Leads Durable Total inst.owner (IsAsking box inst call) (HasRoomFor box inst call (owned s inst.owner)) old s e))
   pub costs : (want : Wanted) (s : Slots) (rows : Rows) → Has want s old
-      → Before box inst call (owned s inst.owner) rows → LeadsWithin Leads (box.cost call rows) old new
+      → Before box inst call (owned s inst.owner) rows → CostsBy Leads box inst call rows old new result
 
 -- an instance is prepared over the pages of a new one
 abbrev pub IsNewFor : Attachment → Instance → AttachCall → Pages → Type 0

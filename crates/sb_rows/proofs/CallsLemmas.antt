@@ -1,12 +1,22 @@
 -- What calls leave of a space, carried from one result to another.
-use Rattle.std.proofs.Common.{◌≡◌, inl, inr, ℕ, Bool, Result, Ok, Err, IfErr}
+use Rattle.std.proofs.Common.{◌≡◌, ⊎_elim, inl, inr, ℕ, Bool, cond, Result, Ok, Err, IfErr, refl, subst}
 use Rattle.std.specs.Result.{IsErrAnd}
+use Rattle.sb_relation.specs.Db.{Rows}
+use Rattle.sb_treemethod.specs.Instance.{Instance}
+use Rattle.sb_treemethod.specs.Method.{Method}
+use Rattle.sb_treemethod.specs.MethodAnswers.{GetsKey, cost_of}
+use Rattle.sb_treemethod.specs.MethodCall.{MethodCall}
+use Rattle.sb_treemethod.specs.Move.{Move}
+use Rattle.sb_treemethod.specs.Move.TheVariants as move
+use Rattle.sb_registry.specs.MethodCalls.{CostsBy}
 use Rattle.sb_registry.specs.SpaceFault.{SpaceFault}
 use Rattle.sb_registry.specs.SpaceFault.TheVariants.{Fault, Damaged, Down, NoMemory}
 use Rattle.sb_registry.specs.Slots.{Slots}
-use Rattle.sb_registry.specs.Spaces.{IsReadFault, IsRefused, Leaves, UnlessDown, Wanted}
-use Rattle.sb_registry.proofs.SpacesLemmas.{GoesOn, IfErr-passed, UnlessDown-passed}
+use Rattle.sb_registry.specs.Spaces.{IsReadFault, IsRefused, Leaves, LeadsWithin, UnlessDown, Wanted}
+use Rattle.sb_registry.proofs.SpacesLemmas.{GoesOn, IfErr-passed, LeadsWithin-more, LeadsWithin-none, UnlessDown-passed}
 use Rattle.sb_registry.specs.Runs.{Looks, Works}
+use Rattle.sb_registry.proofs.MethodLemmas.{cost_of-most}
+use Rattle.sb_rows.specs.Placings.{IsDoneOrNone, IsPlacing, IsReplacing, RowCosts, has_key, has_new, is_gone, placing_in, replacing_in}
 
 -- ---- the same of another result
 pub Looks-made : {S T U : Type 0} (Has : Wanted → Slots → S → Type 0) (Leads : ℕ → S → S → Type 0) (Fails : SpaceFault → S → S → Type 0) (old new : S) (x : T) (y : U) →
@@ -78,3 +88,39 @@ Looks-no_memory {S} {T} Has Leads Fails old new r is leads has =
 pub Looks-damaged : {S T : Type 0} (Has : Wanted → Slots → S → Type 0) (Leads : ℕ → S → S → Type 0) (Fails : SpaceFault → S → S → Type 0) (old new : S) (page : ℕ) →
     Leads 0 old new → ((want : Wanted) (s : Slots) → Has want s old → Has want s new) → Looks {T = T} Has Leads Fails old new (Err (Damaged page))
 Looks-damaged Has Leads Fails old new page leads has = record { same = has; leads = leads; fault = tt; refused = leads }
+
+-- ---- what calls on rows cost
+-- an end that makes the row's change costs as much, and another one nothing
+module _ {S : Type 0} (Leads : ℕ → S → S → Type 0) (box : Method) (inst : Instance) (call : MethodCall) (rows : Rows) (old new : S) where
+  pub RowCosts-made : {T : Type 0} (made : Move) (is_made : T → Bool) (x : T) → cost_of box call rows made ≡ cond (is_made x) (box.cost call rows) 0 → CostsBy Leads box inst call rows old new (Ok made)
+      → RowCosts Leads is_made (GetsKey box inst call rows) (box.cost call rows) old new (Ok x)
+  RowCosts-made made is_made x is costs = subst (λ (n : ℕ). LeadsWithin Leads n old new) is costs
+
+  pub RowCosts-passed : {T : Type 0} (is_made : T → Bool) (r : Result T SpaceFault) (e : SpaceFault) → IsErrAnd r (λ x. x ≡ e) → CostsBy Leads box inst call rows old new (Err e)
+      → RowCosts Leads is_made (GetsKey box inst call rows) (box.cost call rows) old new r
+  RowCosts-passed is_made (Err x) e is costs = costs
+  RowCosts-passed is_made (Ok x) e is costs = absurd is
+
+  -- whatever it comes to
+  pub CostsBy-within : (r : Result Move SpaceFault) → CostsBy Leads box inst call rows old new r → LeadsWithin Leads (box.cost call rows) old new
+  CostsBy-within (Ok made) costs = LeadsWithin-more Leads (cost_of box call rows made) (box.cost call rows) old new (cost_of-most box call rows made) costs
+  CostsBy-within (Err e) costs = ⊎_elim
+      (λ (none : Leads 0 old new). LeadsWithin-none Leads (box.cost call rows) old new none)
+      (λ (some : GetsKey box inst call rows × LeadsWithin Leads (box.cost call rows) old new). some.1) costs
+
+pub placing_cost : (box : Method) (call : MethodCall) (rows : Rows) (made : Move) → IsPlacing made → cost_of box call rows made ≡ cond (has_key (placing_in made)) (box.cost call rows) 0
+placing_cost box call rows (move.Key key) is = refl
+placing_cost box call rows move.Duplicate is = refl
+placing_cost box call rows move.Range is = refl
+placing_cost box call rows made is = absurd is
+
+pub replacing_cost : (box : Method) (call : MethodCall) (rows : Rows) (made : Move) → IsReplacing made → cost_of box call rows made ≡ cond (has_new (replacing_in made)) (box.cost call rows) 0
+replacing_cost box call rows (move.Key key) is = refl
+replacing_cost box call rows move.Duplicate is = refl
+replacing_cost box call rows move.NoRecord is = refl
+replacing_cost box call rows made is = absurd is
+
+pub gone_cost : (box : Method) (call : MethodCall) (rows : Rows) (made : Move) → IsDoneOrNone made → cost_of box call rows made ≡ cond (is_gone made) (box.cost call rows) 0
+gone_cost box call rows move.Done is = refl
+gone_cost box call rows move.NoRecord is = refl
+gone_cost box call rows made is = absurd is

@@ -1,9 +1,11 @@
 -- What becomes of a row that wants a record key.
-use Rattle.std.specs.Prelude.{◌≡◌, Bool, true, false, Option, Some, None}
+use Rattle.std.specs.Prelude.{◌≡◌, ◌⊎◌, ℕ, Bool, true, false, cond, Option, Some, None, Result, Ok, Err}
 use Rattle.sb_relation.specs.Db.{Key, Row}
 use Rattle.sb_relation.specs.Keys.{NewKeys, AnyOf, Just, Taken, NoGreater}
 use Rattle.sb_treemethod.specs.Move.{Move}
 use Rattle.sb_treemethod.specs.Move.TheVariants as move
+use Rattle.sb_registry.specs.SpaceFault.{SpaceFault}
+use Rattle.sb_registry.specs.Spaces.{LeadsWithin}
 use Rattle.sb_rows.specs.declared.changes.Placing.{Placing}
 use Rattle.sb_rows.specs.declared.changes.Placing.TheVariants as placing
 
@@ -31,6 +33,20 @@ IsGone old gone LeavesWithout Leaves = ⊥
 abbrev pub OfKey : Placing → (Key → Type 0) → Type 0
 OfKey (placing.Key key) IsSo = IsSo key
 OfKey placed IsSo = Unit {0}
+
+-- ---- what the calls cost
+abbrev pub has_key : Placing → Bool
+has_key (placing.Key key) = true
+has_key placed = false
+
+abbrev pub has_new : Option Placing → Bool
+has_new None = false
+has_new (Some placed) = has_key placed
+
+-- A call that refuses its row changes nothing. One that the space refuses has changed nothing, or its row gets a key, where it is given one.
+abbrev pub RowCosts : {S T : Type 0} → (ℕ → S → S → Type 0) → (T → Bool) → (GetsKey : Type 0) → ℕ → S → S → Result T SpaceFault → Type 0
+RowCosts Leads is_made GetsKey most old new (Ok x) = LeadsWithin Leads (cond (is_made x) most 0) old new
+RowCosts Leads is_made GetsKey most old new (Err e) = Leads 0 old new ⊎ (GetsKey × LeadsWithin Leads most old new)
 
 -- ---- the ends of the calls
 abbrev pub IsPlacing : Move → Type 0

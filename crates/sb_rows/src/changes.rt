@@ -4,6 +4,7 @@ ghost use Rattle.std.specs.Prelude.{◌≡◌, [], true, None, Some, OnOk, IfOk,
 ghost use Rattle.sb_relation.specs.Db.{Rows, row_at, with_row, without_row};
 ghost use Rattle.sb_relation.specs.Keys.{is_record_key, keying_of, new_keys};
 ghost use Rattle.sb_treemethod.specs.Method.{code_of};
+ghost use Rattle.sb_treemethod.specs.MethodAnswers.{GetsKey};
 ghost use Rattle.sb_treemethod.specs.MethodCall.TheVariants.{Prepare, Insert, Delete, Update};
 ghost use Rattle.sb_registry.specs.Slots.{Slots};
 ghost use Rattle.sb_registry.specs.Spaces.{LeadsWithin, Wanted};
@@ -11,7 +12,7 @@ ghost use Rattle.sb_registry.specs.Runs.{IsSound, Works};
 ghost use Rattle.sb_registry.specs.Live.{IsLive, MayTake};
 ghost use Rattle.sb_rows.specs.Lacking.{LacksFor, WhereShort};
 ghost use Rattle.sb_rows.specs.Live.{HasRows, IsNewIn, LeavesRows};
-ghost use Rattle.sb_rows.specs.Placings.{IsDoneOrNone, IsGone, IsPlaced, IsPlacing, IsReplaced, IsReplacing, OfKey};
+ghost use Rattle.sb_rows.specs.Placings.{IsDoneOrNone, IsGone, IsPlaced, IsPlacing, IsReplaced, IsReplacing, OfKey, RowCosts, has_key, has_new};
 ghost use Rattle.sb_rows.specs.Placings.{is_gone, placing_in, replacing_in};
 
 use sb_registry::{Boxes, PageSpace, SpaceFault};
@@ -47,7 +48,7 @@ pub fn insert_row<S: PageSpace, B: Boxes>(
     ensures is_key { IfOk result (λ placed. OfKey placed (λ key. is_record_key key ≡ true)) }
     ensures costs { (want : Wanted) (s : Slots) (rows : Rows) → S.has want s space.old
         → (has : HasRows (B.meanings boxes.now) s inst.now rows)
-        → LeadsWithin S.leads (has.live.box.cost (Insert row) rows) space.old space.new }
+        → RowCosts S.leads has_key (GetsKey has.live.box inst.now (Insert row) rows) (has.live.box.cost (Insert row) rows) space.old space.new result }
     ensures full { IfErr result (λ e. (want : Wanted) (s : Slots) (rows : Rows) → S.has want s space.old
         → (has : HasRows (B.meanings boxes.now) s inst.now rows)
         → WhereShort e (LacksFor has.live.box inst.now (Insert row) rows s)) }
@@ -91,7 +92,7 @@ pub fn delete_row<S: PageSpace, B: Boxes>(
         (LeavesRows S.has (B.meanings boxes.now) inst.now want s space.new rows)) }
     ensures costs { (want : Wanted) (s : Slots) (rows : Rows) → S.has want s space.old
         → (has : HasRows (B.meanings boxes.now) s inst.now rows)
-        → LeadsWithin S.leads (has.live.box.cost (Delete key) rows) space.old space.new }
+        → RowCosts S.leads (λ gone. gone) (Unit {0}) (has.live.box.cost (Delete key) rows) space.old space.new result }
     ensures full { IfErr result (λ e. (want : Wanted) (s : Slots) (rows : Rows) → S.has want s space.old
         → (has : HasRows (B.meanings boxes.now) s inst.now rows)
         → WhereShort e (LacksFor has.live.box inst.now (Delete key) rows s)) }
@@ -138,7 +139,7 @@ pub fn update_row<S: PageSpace, B: Boxes>(
     ensures is_key { IfOk result (λ placed. IfSome placed (λ new. OfKey new (λ k. is_record_key k ≡ true))) }
     ensures costs { (want : Wanted) (s : Slots) (rows : Rows) → S.has want s space.old
         → (has : HasRows (B.meanings boxes.now) s inst.now rows)
-        → LeadsWithin S.leads (has.live.box.cost (Update key row) rows) space.old space.new }
+        → RowCosts S.leads has_new (GetsKey has.live.box inst.now (Update key row) rows) (has.live.box.cost (Update key row) rows) space.old space.new result }
     ensures full { IfErr result (λ e. (want : Wanted) (s : Slots) (rows : Rows) → S.has want s space.old
         → (has : HasRows (B.meanings boxes.now) s inst.now rows)
         → WhereShort e (LacksFor has.live.box inst.now (Update key row) rows s)) }

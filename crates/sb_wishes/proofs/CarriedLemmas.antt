@@ -19,7 +19,7 @@ use Rattle.sb_catalog.specs.declared.descriptor.Attached.{Attached}
 use Rattle.sb_wishes.specs.declared.settling.Edit as code
 use Rattle.sb_wishes.specs.declared.settling.Outcome.{Outcome}
 use Rattle.sb_wishes.specs.Edits.{GivesEdit, edit_raised}
-use Rattle.sb_wishes.specs.Outcomes.{Comes, LacksPage}
+use Rattle.sb_wishes.specs.Outcomes.{Begins, Comes, LacksPage}
 use Rattle.sb_wishes.specs.Wished.{IsTableOf}
 
 -- this comes of the work on each relation of which something is so
@@ -39,6 +39,15 @@ LacksOf Has m inst rules old IsSo work e =
 abbrev pub LacksOfAll : {S : Type 0} → (Wanted → Slots → S → Type 0) → Meanings → Instance → List Attached → S → (Relation → Work Change) → SpaceFault → Type 0
 LacksOfAll Has m inst rules old work e =
     (want : Wanted) (s : Slots) (r : Relation) → Has want s old → IsTableOf inst rules r → (has : HasRows m s inst r.rows) → WhereShort e (LacksPage m s inst r has (work r))
+
+-- and so much was begun
+abbrev pub BeginsOf : {S : Type 0} → (Wanted → Slots → S → Type 0) → (ℕ → S → S → Type 0) → Meanings → Instance → List Attached → S → S → (Relation → Type 0) → (Relation → Work Change) → Type 0
+BeginsOf Has Ways m inst rules old new IsSo work =
+    (want : Wanted) (s : Slots) (r : Relation) → Has want s old → IsTableOf inst rules r → (has : HasRows m s inst r.rows) → IsSo r → Begins Ways m s inst r has (work r) old new
+
+abbrev pub BeginsOfAll : {S : Type 0} → (Wanted → Slots → S → Type 0) → (ℕ → S → S → Type 0) → Meanings → Instance → List Attached → S → S → (Relation → Work Change) → Type 0
+BeginsOfAll Has Ways m inst rules old new work =
+    (want : Wanted) (s : Slots) (r : Relation) → Has want s old → IsTableOf inst rules r → (has : HasRows m s inst r.rows) → Begins Ways m s inst r has (work r) old new
 
 -- ---- the edit of a number more
 pub gives_raised : (name : Name) (r : Relation) (schema : List Column) (key : Key) (column : Name) (by : ℤ) (old : Row) (got : Result code.Edit Refusal) → r.schema ≡ schema → Some old ≡ row_at r.rows key

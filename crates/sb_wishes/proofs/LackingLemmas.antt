@@ -20,7 +20,7 @@ use Rattle.sb_ctx.proofs.AuthorLaws.{length-moved_row, length-with_row, length-w
 use Rattle.sb_ctx.specs.declared.instance.Instance.{Instance}
 use Rattle.sb_ctx.specs.declared.calls.MethodCall.TheVariants as call
 use Rattle.sb_ctx.specs.Method.{code_of}
-use Rattle.sb_ctx.specs.MethodAnswers.{IsGiven}
+use Rattle.sb_ctx.specs.MethodAnswers.{GetsKey, IsGiven}
 use Rattle.sb_drive.specs.Slots.{Slots, owned}
 use Rattle.sb_registry.specs.Boxes.{Meanings}
 use Rattle.sb_standing.specs.Lacking.{IsShort, LacksFor}
@@ -32,7 +32,7 @@ use Rattle.sb_wishes.specs.Edits.{settled}
 use Rattle.sb_wishes.specs.Outcomes.{LacksPage}
 use Rattle.sb_wishes.specs.Wished.{HasCounts, IsTableOf, is_long_in}
 use Rattle.sb_wishes.proofs.CountsLemmas.{counts_free}
-use Rattle.sb_wishes.proofs.SettledLemmas.{ends, free_placed, keys-same, long-same, settled-short}
+use Rattle.sb_wishes.proofs.SettledLemmas.{GivesChange, ends, free_placed, keys-same, long-same, settled-short}
 
 -- ---- a record key that no row has
 abbrev numbered : ℕ → Key
@@ -116,17 +116,52 @@ module _ (m : Meanings) (s : Slots) (inst : Instance) (r : Relation) (has : HasR
   counted : HasCounts r → keying_of r.method ≡ Counted → greatest r.rows < 2 ^ 64 - 1 → row_at r.rows (to_be_bytes w64 (greatest r.rows + 1)) ≡ None
   counted counts is small = counts_free r.rows (greatest r.rows) small (counts is)
 
+  -- ---- the change that the work gives, once it is known that its row gets a key
+  pub given_add : (rules : List Attached) (row copy : Row) → copy ≡ row → IsTableOf inst rules r → is_long_in inst rules row ≡ false → GetsKey has.live.box inst (call.Insert copy) r.rows
+      → (key : Key) × IsPlaced (new_keys (keying_of r.method) r.rows None (key_of r row)) (placing.Key key) (λ k. Unit {0}) (Unit {0})
+      × GivesChange (settled inst.relation r (Adds row)) (change.Insert key row)
+  given_add rules row copy copied t short gets =
+      let keys = new_keys (keying_of r.method) r.rows None (key_of r row) in
+      let given = given_by rules None row t (subst (λ (x : Row). IsGiven (new_keys (keying_of has.live.box.rules.code) r.rows None (code_of inst x))) copied gets) in
+      let end = ends inst.relation keys (λ k. change.Insert k row) (placing.Key given.0) (λ k. Unit {0}) (Unit {0}) given.1 in (
+        given.0,
+        given.1,
+        (
+          end.0.0,
+          λ g. subst (λ (w : Work Change). Leads w g end.0.0 (made (change.Insert given.0 row)) (record g { used = g.used ++ end.0.0 }))
+              (sym (settled-short inst.relation r (Adds row) (sym (long-same inst rules r row t) ∙ short))) (end.0.1 g),
+        ),
+      )
+
+  pub given_take : (key : Key) (old : Row) → GivesChange (settled inst.relation r (Takes key old)) (change.Delete key old)
+  given_take key old = ([], λ g. record { leads = λ more. λ i. made (change.Delete key old) (record (with_picks g more) { used = sym (append-nil g.used) i }) })
+
+  pub given_turn : (rules : List Attached) (from at : Key) (old after copy : Row) → at ≡ from → copy ≡ after → IsTableOf inst rules r → is_long_in inst rules after ≡ false
+      → GetsKey has.live.box inst (call.Update at copy) r.rows
+      → (to : Key) × IsPlaced (new_keys (keying_of r.method) r.rows (Some from) (key_of r after)) (placing.Key to) (λ k. Unit {0}) (Unit {0})
+      × GivesChange (settled inst.relation r (Turns from old after)) (change.Update from old to after)
+  given_turn rules from at old after copy at_is copied t short gets =
+      let keys = new_keys (keying_of r.method) r.rows (Some from) (key_of r after) in
+      let given = given_by rules (Some from) after t (subst (λ (x : Row). IsGiven (new_keys (keying_of has.live.box.rules.code) r.rows (Some from) (code_of inst x))) copied
+      (subst (λ (k : Key). IsGiven (new_keys (keying_of has.live.box.rules.code) r.rows (Some k) (code_of inst copy))) at_is gets)) in
+      let end = ends inst.relation keys (λ k. change.Update from old k after) (placing.Key given.0) (λ k. Unit {0}) (Unit {0}) given.1 in (
+        given.0,
+        given.1,
+        (
+          end.0.0,
+          λ g. subst (λ (w : Work Change). Leads w g end.0.0 (made (change.Update from old given.0 after)) (record g { used = g.used ++ end.0.0 }))
+              (sym (settled-short inst.relation r (Turns from old after) (sym (long-same inst rules r after t) ∙ short))) (end.0.1 g),
+        ),
+      )
+
   pub lacks_add : (rules : List Attached) (row copy : Row) → copy ≡ row → IsTableOf inst rules r → is_long_in inst rules row ≡ false
       → LacksFor has.live.box inst (call.Insert copy) r.rows s total → LacksPage m s inst r has (settled inst.relation r (Adds row)) total
   lacks_add rules row copy copied t short lacks =
-      let keys = new_keys (keying_of r.method) r.rows None (key_of r row) in
-      let given = given_by rules None row t (subst (λ (x : Row). IsGiven (new_keys (keying_of has.live.box.rules.code) r.rows None (code_of inst x))) copied lacks.gets) in
-      let end = ends inst.relation keys (λ k. change.Insert k row) (placing.Key given.0) (λ k. Unit {0}) (Unit {0}) given.1 in
+      let given = given_add rules row copy copied t short lacks.gets in
       record {
         change = change.Insert given.0 row;
-        picks = end.0.0;
-        wished = λ g. subst (λ (w : Work Change). Leads w g end.0.0 (made (change.Insert given.0 row)) (record g { used = g.used ++ end.0.0 }))
-            (sym (settled-short inst.relation r (Adds row) (sym (long-same inst rules r row t) ∙ short))) (end.0.1 g);
+        picks = given.2.0;
+        wished = given.2.1;
         short = λ counts.
             subst Most (sym (length-with_row r.rows given.0 row lawful.rising
             (new_free (free_placed (keying_of r.method) r.rows None (key_of r row) given.0 (λ k. Unit {0}) (Unit {0}) (counted counts) given.1)))) lacks.short;
@@ -146,8 +181,8 @@ module _ (m : Meanings) (s : Slots) (inst : Instance) (r : Relation) (has : HasR
       → LacksFor has.live.box inst (call.Delete at) r.rows s total → LacksPage m s inst r has (settled inst.relation r (Takes key old)) total
   lacks_take key at old copied there lacks = record {
     change = change.Delete key old;
-    picks = [];
-    wished = λ g. record { leads = λ more. λ i. made (change.Delete key old) (record (with_picks g more) { used = sym (append-nil g.used) i }) };
+    picks = (given_take key old).0;
+    wished = (given_take key old).1;
     short = λ counts. subst Most (less (length-without_row r.rows key old lawful.rising there)) lacks.short;
   }
     where
@@ -158,16 +193,11 @@ module _ (m : Meanings) (s : Slots) (inst : Instance) (r : Relation) (has : HasR
       → row_at r.rows from ≡ Some old → is_long_in inst rules after ≡ false
       → LacksFor has.live.box inst (call.Update at copy) r.rows s total → LacksPage m s inst r has (settled inst.relation r (Turns from old after)) total
   lacks_turn rules from at old after copy at_is copied t there short lacks =
-      let keys = new_keys (keying_of r.method) r.rows (Some from) (key_of r after) in
-      let gets = subst (λ (x : Row). IsGiven (new_keys (keying_of has.live.box.rules.code) r.rows (Some from) (code_of inst x))) copied
-      (subst (λ (k : Key). IsGiven (new_keys (keying_of has.live.box.rules.code) r.rows (Some k) (code_of inst copy))) at_is lacks.gets) in
-      let given = given_by rules (Some from) after t gets in
-      let end = ends inst.relation keys (λ k. change.Update from old k after) (placing.Key given.0) (λ k. Unit {0}) (Unit {0}) given.1 in
+      let given = given_turn rules from at old after copy at_is copied t short lacks.gets in
       record {
         change = change.Update from old given.0 after;
-        picks = end.0.0;
-        wished = λ g. subst (λ (w : Work Change). Leads w g end.0.0 (made (change.Update from old given.0 after)) (record g { used = g.used ++ end.0.0 }))
-            (sym (settled-short inst.relation r (Turns from old after) (sym (long-same inst rules r after t) ∙ short))) (end.0.1 g);
+        picks = given.2.0;
+        wished = given.2.1;
         short = λ counts.
             subst Most (sym (length-moved_row r.rows from given.0 old after lawful.rising there
             (new_free (free_placed (keying_of r.method) r.rows (Some from) (key_of r after) given.0 (λ k. Unit {0}) (Unit {0}) (counted counts) given.1)))) lacks.short;

@@ -6,3 +6,4 @@ pub mod WishedLemmas
 pub mod SettledLemmas
 pub mod CarriedLemmas
 pub mod LackingLemmas
+pub mod BegunLemmas

@@ -27,13 +27,13 @@ use Rattle.sb_ctx.specs.declared.calls.MethodCall.TheVariants as call
 use Rattle.sb_ctx.specs.Method.{code_of}
 use Rattle.sb_drive.specs.Slots.{Slots}
 use Rattle.sb_drive.specs.Spaces.{LeadsWithin, Wanted}
-use Rattle.sb_drive.proofs.SpacesLemmas.{GoesOn, LeadsWithin-on}
+use Rattle.sb_drive.proofs.SpacesLemmas.{GoesOn, LeadsWithin-on, LeadsWithin-zero}
 use Rattle.sb_registry.specs.Boxes.{Meanings}
 use Rattle.sb_registry.specs.Live.{MayTake}
 use Rattle.sb_standing.specs.Placing.{Placing}
 use Rattle.sb_standing.specs.Placing.TheVariants as placing
 use Rattle.sb_standing.specs.Live.{HasRows, LeavesRows}
-use Rattle.sb_standing.specs.Placings.{IsGone, IsPlaced, IsReplaced, OfKey}
+use Rattle.sb_standing.specs.Placings.{IsGone, IsPlaced, IsReplaced, OfKey, has_key, has_new}
 use Rattle.sb_catalog.specs.declared.descriptor.Attached.{Attached}
 use Rattle.sb_wishes.specs.declared.settling.Outcome.{Outcome}
 use Rattle.sb_wishes.specs.declared.settling.Outcome.TheVariants.{Made, Refused}
@@ -150,13 +150,13 @@ ends name keys mk placed LeavesWith Same is = absurd is
 -- ---- what comes of it
 module _ {S : Type 0} (Has : Wanted → Slots → S → Type 0) (Ways : ℕ → S → S → Type 0) (m : Meanings) (inst : Instance) (want : Wanted) (s : Slots) (old new : S) where
   -- the relation's rows stand, and the work is refused so
-  pub Comes-refused : (r : Relation) (has : HasRows m s inst r.rows) (work : Work Change) (e : Refusal) → work ≡ refuse e → Has want s new → Refuses Has m inst want s new r work e
-  Comes-refused r has work e is there = record { refused = stops_by work e is; leaves = record { slots = s; has = there; others = λ o other. refl; own = has } }
+  pub Comes-refused : (r : Relation) (has : HasRows m s inst r.rows) (work : Work Change) (e : Refusal) → work ≡ refuse e → Has want s new → Ways 0 old new → Refuses Has Ways m inst want s old new r work e
+  Comes-refused r has work e is there cost = record { refused = stops_by work e is; leaves = record { slots = s; has = there; others = λ o other. refl; own = has }; cost = cost }
 
-  pub Comes-long : (rules : List Attached) (r : Relation) (has : HasRows m s inst r.rows) (edit : Edit) (row : Row) → IsTableOf inst rules r → is_long_edit r edit ≡ is_too_long r row → is_long_in inst rules row ≡ true → Has want s new
-      → Refuses Has m inst want s new r (settled inst.relation r edit) (TooLong inst.relation)
-  Comes-long rules r has edit row t is long there =
-      Comes-refused r has (settled inst.relation r edit) (TooLong inst.relation) (settled-long inst.relation r edit (is ∙ sym (long-same inst rules r row t) ∙ long)) there
+  pub Comes-long : (rules : List Attached) (r : Relation) (has : HasRows m s inst r.rows) (edit : Edit) (row : Row) → IsTableOf inst rules r → is_long_edit r edit ≡ is_too_long r row → is_long_in inst rules row ≡ true → Has want s new → Ways 0 old new
+      → Refuses Has Ways m inst want s old new r (settled inst.relation r edit) (TooLong inst.relation)
+  Comes-long rules r has edit row t is long there cost =
+      Comes-refused r has (settled inst.relation r edit) (TooLong inst.relation) (settled-long inst.relation r edit (is ∙ sym (long-same inst rules r row t) ∙ long)) there cost
 
   counted_free : (r : Relation) → HasCounts r → keying_of r.method ≡ Counted → greatest r.rows < 2 ^ 64 - 1 → row_at r.rows (to_be_bytes w64 (greatest r.rows + 1)) ≡ None
   counted_free r counted is small = counts_free r.rows (greatest r.rows) small (counted is)
@@ -176,7 +176,7 @@ module _ {S : Type 0} (Has : Wanted → Slots → S → Type 0) (Ways : ℕ → 
 
   -- ---- a row was added
   added_by : (r : Relation) (has : HasRows m s inst r.rows) (row : Row) (placed : Placing) → is_too_long r row ≡ false → IsRow r.schema row → OfKey placed (λ key. is_record_key key ≡ true)
-      → IsPlaced (keys_at r None row) placed (WithRow r row) (Same r) → LeadsWithin Ways (has.live.box.cost (call.Insert row) r.rows) old new
+      → IsPlaced (keys_at r None row) placed (WithRow r row) (Same r) → LeadsWithin Ways (cond (has_key placed) (has.live.box.cost (call.Insert row) r.rows) 0) old new
       → Comes Has Ways m inst want s old new r has (settled inst.relation r (Adds row)) (added inst.relation row placed)
   added_by r has row (placing.Key key) short is is_key here cost =
       let end = ends inst.relation (keys_at r None row) (λ k. change.Insert k row) (placing.Key key) (WithRow r row) (Same r) here in
@@ -193,15 +193,15 @@ module _ {S : Type 0} (Has : Wanted → Slots → S → Type 0) (Ways : ℕ → 
       new_free (inr none) = none
   added_by r has row placing.Duplicate short is is_key here cost =
       let end = ends inst.relation (keys_at r None row) (λ k. change.Insert k row) placing.Duplicate (WithRow r row) (Same r) here in
-      record { refused = λ g. subst (λ (w : Work Change). Leads w g [] (refuse (Duplicate inst.relation)) g) (sym (settled-short inst.relation r (Adds row) short)) (end.0 g); leaves = end.1 }
+      record { refused = λ g. subst (λ (w : Work Change). Leads w g [] (refuse (Duplicate inst.relation)) g) (sym (settled-short inst.relation r (Adds row) short)) (end.0 g); leaves = end.1; cost = LeadsWithin-zero Ways 0 old new refl cost }
   added_by r has row placing.Range short is is_key here cost =
       let end = ends inst.relation (keys_at r None row) (λ k. change.Insert k row) placing.Range (WithRow r row) (Same r) here in
-      record { refused = λ g. subst (λ (w : Work Change). Leads w g [] (refuse (Range inst.relation)) g) (sym (settled-short inst.relation r (Adds row) short)) (end.0 g); leaves = end.1 }
+      record { refused = λ g. subst (λ (w : Work Change). Leads w g [] (refuse (Range inst.relation)) g) (sym (settled-short inst.relation r (Adds row) short)) (end.0 g); leaves = end.1; cost = LeadsWithin-zero Ways 0 old new refl cost }
 
   pub Comes-added : (rules : List Attached) (r : Relation) (has : HasRows m s inst r.rows) (row : Row) (placed : Placing) → IsTableOf inst rules r → is_long_in inst rules row ≡ false → IsRow inst.schema row
       → OfKey placed (λ key. is_record_key key ≡ true)
       → IsPlaced (new_keys (keying_of inst.code) r.rows None (code_of inst row)) placed (λ key. LeavesRows Has m inst want s new (with_row r.rows key row)) (LeavesRows Has m inst want s new r.rows)
-      → LeadsWithin Ways (has.live.box.cost (call.Insert row) r.rows) old new
+      → LeadsWithin Ways (cond (has_key placed) (has.live.box.cost (call.Insert row) r.rows) 0) old new
       → Comes Has Ways m inst want s old new r has (settled inst.relation r (Adds row)) (added inst.relation row placed)
   Comes-added rules r has row placed t short is is_key here cost =
       added_by r has row placed (sym (long-same inst rules r row t) ∙ short) (subst (λ (c : List Column). IsRow c row) (sym t.schema) is) is_key
@@ -210,26 +210,27 @@ module _ {S : Type 0} (Has : Wanted → Slots → S → Type 0) (Ways : ℕ → 
   -- ---- a row was taken away
   pub Comes-taken : (r : Relation) (has : HasRows m s inst r.rows) (key : Key) (row : Row) (gone : Bool) → row_at r.rows key ≡ Some row → is_record_key key ≡ true
       → IsGone (row_at r.rows key) gone (LeavesRows Has m inst want s new (without_row r.rows key)) (LeavesRows Has m inst want s new r.rows)
-      → LeadsWithin Ways (has.live.box.cost (call.Delete key) r.rows) old new
+      → LeadsWithin Ways (cond gone (has.live.box.cost (call.Delete key) r.rows) 0) old new
       → Comes Has Ways m inst want s old new r has (settled inst.relation r (Takes key row)) (taken inst.relation key row gone)
   Comes-taken r has key row gone there is_key is cost =
-      by gone (subst (λ (o : Option Row). IsGone o gone (LeavesRows Has m inst want s new (without_row r.rows key)) (Same r)) there is)
+      by gone (subst (λ (o : Option Row). IsGone o gone (LeavesRows Has m inst want s new (without_row r.rows key)) (Same r)) there is) cost
     where
       by : (gone : Bool) → IsGone (Some row) gone (LeavesRows Has m inst want s new (without_row r.rows key)) (Same r)
+          → LeadsWithin Ways (cond gone (has.live.box.cost (call.Delete key) r.rows) 0) old new
           → Comes Has Ways m inst want s old new r has (settled inst.relation r (Takes key row)) (taken inst.relation key row gone)
-      by true is = record {
+      by true is cost = record {
         picks = [];
         wished = λ g. record { leads = λ more. λ i. made (change.Delete key row) (record (with_picks g more) { used = sym (append-nil g.used) i }) };
         suits = λ counted. record { of = there; keys = is_key; new = tt };
         leaves = is;
         cost = cost;
       }
-      by false is = absurd is
+      by false is cost = absurd is
 
   -- ---- a row was turned into another
   turned_by : (r : Relation) (has : HasRows m s inst r.rows) (from : Key) (row after : Row) (placed : Placing) → row_at r.rows from ≡ Some row → is_record_key from ≡ true
       → is_too_long r after ≡ false → IsRow r.schema after → OfKey placed (λ key. is_record_key key ≡ true)
-      → IsPlaced (keys_at r (Some from) after) placed (Turned r from after) (Same r) → LeadsWithin Ways (has.live.box.cost (call.Update from after) r.rows) old new
+      → IsPlaced (keys_at r (Some from) after) placed (Turned r from after) (Same r) → LeadsWithin Ways (cond (has_key placed) (has.live.box.cost (call.Update from after) r.rows) 0) old new
       → Comes Has Ways m inst want s old new r has (settled inst.relation r (Turns from row after)) (turned inst.relation from row after (Some placed))
   turned_by r has from row after (placing.Key to) there from_key short is is_key here cost =
       let end = ends inst.relation (keys_at r (Some from) after) (λ k. change.Update from row k after) (placing.Key to) (Turned r from after) (Same r) here in
@@ -250,63 +251,64 @@ module _ {S : Type 0} (Has : Wanted → Slots → S → Type 0) (Ways : ℕ → 
       new_free (inr none) other = none
   turned_by r has from row after placing.Duplicate there from_key short is is_key here cost =
       let end = ends inst.relation (keys_at r (Some from) after) (λ k. change.Update from row k after) placing.Duplicate (Turned r from after) (Same r) here in
-      record { refused = λ g. subst (λ (w : Work Change). Leads w g [] (refuse (Duplicate inst.relation)) g) (sym (settled-short inst.relation r (Turns from row after) short)) (end.0 g); leaves = end.1 }
+      record { refused = λ g. subst (λ (w : Work Change). Leads w g [] (refuse (Duplicate inst.relation)) g) (sym (settled-short inst.relation r (Turns from row after) short)) (end.0 g); leaves = end.1; cost = LeadsWithin-zero Ways 0 old new refl cost }
   turned_by r has from row after placing.Range there from_key short is is_key here cost =
       let end = ends inst.relation (keys_at r (Some from) after) (λ k. change.Update from row k after) placing.Range (Turned r from after) (Same r) here in
-      record { refused = λ g. subst (λ (w : Work Change). Leads w g [] (refuse (Range inst.relation)) g) (sym (settled-short inst.relation r (Turns from row after) short)) (end.0 g); leaves = end.1 }
+      record { refused = λ g. subst (λ (w : Work Change). Leads w g [] (refuse (Range inst.relation)) g) (sym (settled-short inst.relation r (Turns from row after) short)) (end.0 g); leaves = end.1; cost = LeadsWithin-zero Ways 0 old new refl cost }
 
   pub Comes-turned : (rules : List Attached) (r : Relation) (has : HasRows m s inst r.rows) (from : Key) (row after : Row) (placed : Option Placing) → IsTableOf inst rules r → row_at r.rows from ≡ Some row
       → is_record_key from ≡ true → is_long_in inst rules after ≡ false → IsRow inst.schema after → IfSome placed (λ p. OfKey p (λ key. is_record_key key ≡ true))
       → IsReplaced (row_at r.rows from) (new_keys (keying_of inst.code) r.rows (Some from) (code_of inst after)) placed (λ to. LeavesRows Has m inst want s new (with_row (without_row r.rows from) to after)) (LeavesRows Has m inst want s new r.rows)
-      → LeadsWithin Ways (has.live.box.cost (call.Update from after) r.rows) old new
+      → LeadsWithin Ways (cond (has_new placed) (has.live.box.cost (call.Update from after) r.rows) 0) old new
       → Comes Has Ways m inst want s old new r has (settled inst.relation r (Turns from row after)) (turned inst.relation from row after placed)
   Comes-turned rules r has from row after placed t there from_key short is is_key here cost =
       by placed is_key
       (subst (λ (o : Option Row). IsReplaced o (keys_at r (Some from) after) placed (Turned r from after) (Same r)) there
-      (subst (λ (k : NewKeys). IsReplaced (row_at r.rows from) k placed (Turned r from after) (Same r)) (keys-same inst rules r (Some from) after t) here))
+      (subst (λ (k : NewKeys). IsReplaced (row_at r.rows from) k placed (Turned r from after) (Same r)) (keys-same inst rules r (Some from) after t) here)) cost
     where
       by : (placed : Option Placing) → IfSome placed (λ p. OfKey p (λ key. is_record_key key ≡ true)) → IsReplaced (Some row) (keys_at r (Some from) after) placed (Turned r from after) (Same r)
+          → LeadsWithin Ways (cond (has_new placed) (has.live.box.cost (call.Update from after) r.rows) 0) old new
           → Comes Has Ways m inst want s old new r has (settled inst.relation r (Turns from row after)) (turned inst.relation from row after placed)
-      by (Some p) is_key here =
+      by (Some p) is_key here cost =
           turned_by r has from row after p there from_key (sym (long-same inst rules r after t) ∙ short) (subst (λ (c : List Column). IsRow c after) (sym t.schema) is) is_key here cost
-      by None is_key here = absurd here
+      by None is_key here cost = absurd here
 
   -- ---- the same where the call was made with copies
   pub Comes-add : (rules : List Attached) (r : Relation) (has : HasRows m s inst r.rows) (name : Name) (row copy : Row) (placed : Placing) (out : Outcome) → name ≡ inst.relation → copy ≡ row → out ≡ added name row placed
       → IsTableOf inst rules r → is_long_in inst rules row ≡ false → IsRow inst.schema row → OfKey placed (λ key. is_record_key key ≡ true)
       → IsPlaced (new_keys (keying_of inst.code) r.rows None (code_of inst copy)) placed (λ key. LeavesRows Has m inst want s new (with_row r.rows key copy)) (LeavesRows Has m inst want s new r.rows)
-      → LeadsWithin Ways (has.live.box.cost (call.Insert copy) r.rows) old new
+      → LeadsWithin Ways (cond (has_key placed) (has.live.box.cost (call.Insert copy) r.rows) 0) old new
       → Comes Has Ways m inst want s old new r has (settled inst.relation r (Adds row)) out
   Comes-add rules r has name row copy placed out named copied is_out t short is is_key here cost =
       subst (λ (o : Outcome). Comes Has Ways m inst want s old new r has (settled inst.relation r (Adds row)) o) (sym (is_out ∙ ap (λ (n : Name). added n row placed) named))
       (Comes-added rules r has row placed t short is is_key
       (subst (λ (x : Row). IsPlaced (new_keys (keying_of inst.code) r.rows None (code_of inst x)) placed (λ key. LeavesRows Has m inst want s new (with_row r.rows key x)) (Same r)) copied here)
-      (subst (λ (x : Row). LeadsWithin Ways (has.live.box.cost (call.Insert x) r.rows) old new) copied cost))
+      (subst (λ (x : Row). LeadsWithin Ways (cond (has_key placed) (has.live.box.cost (call.Insert x) r.rows) 0) old new) copied cost))
 
   pub Comes-take : (r : Relation) (has : HasRows m s inst r.rows) (name : Name) (key at : Key) (row : Row) (gone : Bool) (out : Outcome) → name ≡ inst.relation → at ≡ key → out ≡ taken name key row gone
       → row_at r.rows key ≡ Some row → is_record_key key ≡ true
       → IsGone (row_at r.rows at) gone (LeavesRows Has m inst want s new (without_row r.rows at)) (LeavesRows Has m inst want s new r.rows)
-      → LeadsWithin Ways (has.live.box.cost (call.Delete at) r.rows) old new
+      → LeadsWithin Ways (cond gone (has.live.box.cost (call.Delete at) r.rows) 0) old new
       → Comes Has Ways m inst want s old new r has (settled inst.relation r (Takes key row)) out
   Comes-take r has name key at row gone out named copied is_out there is_key is cost =
       subst (λ (o : Outcome). Comes Has Ways m inst want s old new r has (settled inst.relation r (Takes key row)) o) (sym (is_out ∙ ap (λ (n : Name). taken n key row gone) named))
       (Comes-taken r has key row gone there is_key
       (subst (λ (k : Key). IsGone (row_at r.rows k) gone (LeavesRows Has m inst want s new (without_row r.rows k)) (Same r)) copied is)
-      (subst (λ (k : Key). LeadsWithin Ways (has.live.box.cost (call.Delete k) r.rows) old new) copied cost))
+      (subst (λ (k : Key). LeadsWithin Ways (cond gone (has.live.box.cost (call.Delete k) r.rows) 0) old new) copied cost))
 
   pub Comes-turn : (rules : List Attached) (r : Relation) (has : HasRows m s inst r.rows) (name : Name) (from at : Key) (row after copy : Row) (placed : Option Placing) (out : Outcome)
       → name ≡ inst.relation → at ≡ from → copy ≡ after → out ≡ turned name from row after placed → IsTableOf inst rules r → row_at r.rows from ≡ Some row
       → is_record_key from ≡ true → is_long_in inst rules after ≡ false → IsRow inst.schema after → IfSome placed (λ p. OfKey p (λ key. is_record_key key ≡ true))
       → IsReplaced (row_at r.rows at) (new_keys (keying_of inst.code) r.rows (Some at) (code_of inst copy)) placed (λ to. LeavesRows Has m inst want s new (with_row (without_row r.rows at) to copy)) (LeavesRows Has m inst want s new r.rows)
-      → LeadsWithin Ways (has.live.box.cost (call.Update at copy) r.rows) old new
+      → LeadsWithin Ways (cond (has_new placed) (has.live.box.cost (call.Update at copy) r.rows) 0) old new
       → Comes Has Ways m inst want s old new r has (settled inst.relation r (Turns from row after)) out
   Comes-turn rules r has name from at row after copy placed out named at_is copied is_out t there from_key short is is_key here cost =
       subst (λ (o : Outcome). Comes Has Ways m inst want s old new r has (settled inst.relation r (Turns from row after)) o) (sym (is_out ∙ ap (λ (n : Name). turned n from row after placed) named))
       (Comes-turned rules r has from row after placed t there from_key short is is_key
       (subst (λ (x : Row). IsReplaced (row_at r.rows from) (new_keys (keying_of inst.code) r.rows (Some from) (code_of inst x)) placed (λ to. LeavesRows Has m inst want s new (with_row (without_row r.rows from) to x)) (Same r)) copied
       (subst (λ (k : Key). IsReplaced (row_at r.rows k) (new_keys (keying_of inst.code) r.rows (Some k) (code_of inst copy)) placed (λ to. LeavesRows Has m inst want s new (with_row (without_row r.rows k) to copy)) (Same r)) at_is here))
-      (subst (λ (x : Row). LeadsWithin Ways (has.live.box.cost (call.Update from x) r.rows) old new) copied
-      (subst (λ (k : Key). LeadsWithin Ways (has.live.box.cost (call.Update k copy) r.rows) old new) at_is cost)))
+      (subst (λ (x : Row). LeadsWithin Ways (cond (has_new placed) (has.live.box.cost (call.Update from x) r.rows) 0) old new) copied
+      (subst (λ (k : Key). LeadsWithin Ways (cond (has_new placed) (has.live.box.cost (call.Update k copy) r.rows) 0) old new) at_is cost)))
 
   -- ---- the same of other work, and from an earlier moment
   pub Comes-later : (earlier : S) (r : Relation) (has : HasRows m s inst r.rows) (work : Work Change) (out : Outcome) → GoesOn Ways → Ways 0 earlier old
@@ -318,16 +320,16 @@ module _ {S : Type 0} (Has : Wanted → Slots → S → Type 0) (Ways : ℕ → 
     leaves = comes.leaves;
     cost = LeadsWithin-on Ways (has.live.box.cost (call_of c) r.rows) earlier old new goes_on first comes.cost;
   }
-  Comes-later earlier r has work (Refused e) goes_on first comes = comes
+  Comes-later earlier r has work (Refused e) goes_on first comes = record { refused = comes.refused; leaves = comes.leaves; cost = goes_on 0 0 earlier old new first comes.cost }
 
   pub Comes-wished : (r : Relation) (has : HasRows m s inst r.rows) (wish : Wish) (edit : Edit) (out : Outcome) → edit_of inst.relation r wish ≡ made edit
       → Comes Has Ways m inst want s old new r has (settled inst.relation r edit) out → Comes Has Ways m inst want s old new r has (wished inst.relation r wish) out
   Comes-wished r has wish edit out is comes =
       subst (λ (w : Work Change). Comes Has Ways m inst want s old new r has w out) (sym (ap (λ (w : Work Edit). w >>= settled inst.relation r) is)) comes
 
-  pub Comes-unwished : (r : Relation) (has : HasRows m s inst r.rows) (wish : Wish) (e : Refusal) → edit_of inst.relation r wish ≡ refuse e → Has want s new
-      → Refuses Has m inst want s new r (wished inst.relation r wish) e
-  Comes-unwished r has wish e is there = Comes-refused r has (wished inst.relation r wish) e (ap (λ (w : Work Edit). w >>= settled inst.relation r) is) there
+  pub Comes-unwished : (r : Relation) (has : HasRows m s inst r.rows) (wish : Wish) (e : Refusal) → edit_of inst.relation r wish ≡ refuse e → Has want s new → Ways 0 old new
+      → Refuses Has Ways m inst want s old new r (wished inst.relation r wish) e
+  Comes-unwished r has wish e is there cost = Comes-refused r has (wished inst.relation r wish) e (ap (λ (w : Work Edit). w >>= settled inst.relation r) is) there cost
 
 -- ---- whatever the pages hold
 pub Meets-added : (inst : Instance) (rules : List Attached) (name : Name) (row : Row) (placed : Placing) → is_long_in inst rules row ≡ false → IsRow inst.schema row → OfKey placed (λ key. is_record_key key ≡ true)

@@ -1,5 +1,5 @@
 -- What comes of work on one row, over a space of pages.
-use Rattle.std.specs.Prelude.{◌≡◌, ℕ, max, false, List, [], ◌++◌, length, All, IfSome}
+use Rattle.std.specs.Prelude.{◌≡◌, ◌⊎◌, ℕ, max, false, List, [], ◌++◌, length, All, IfSome}
 use Rattle.sb_value.specs.declared.schema.Column.{Column}
 use Rattle.sb_value.specs.Fits.{Fits}
 use Rattle.sb_rule.specs.declared.change.Change.{Change}
@@ -33,16 +33,31 @@ pub record Makes {S : Type 0} (Has : Wanted → Slots → S → Type 0) (Ways : 
   pub leaves : LeavesRows Has m inst want s new (changed_rows r.rows c)
   pub cost : LeadsWithin Ways (has.live.box.cost (call_of c) r.rows) old new
 
--- Without picks, and whatever picks follow, the work is refused so, and the pages hold the rows as they were.
-pub record Refuses {S : Type 0} (Has : Wanted → Slots → S → Type 0) (m : Meanings) (inst : Instance)
-    (want : Wanted) (s : Slots) (new : S) (r : Relation) (work : Work Change) (e : Refusal) : Type 0 where
+-- Without picks, and whatever picks follow, the work is refused so; the pages hold the rows as they were, and nothing was changed.
+pub record Refuses {S : Type 0} (Has : Wanted → Slots → S → Type 0) (Ways : ℕ → S → S → Type 0) (m : Meanings) (inst : Instance)
+    (want : Wanted) (s : Slots) (old new : S) (r : Relation) (work : Work Change) (e : Refusal) : Type 0 where
   pub refused : (g : Going) → Leads work g [] (refuse e) g
   pub leaves : LeavesRows Has m inst want s new r.rows
+  pub cost : Ways 0 old new
 
 abbrev pub Comes : {S : Type 0} (Has : Wanted → Slots → S → Type 0) (Ways : ℕ → S → S → Type 0) (m : Meanings) (inst : Instance)
     (want : Wanted) (s : Slots) (old new : S) (r : Relation) → HasRows m s inst r.rows → Work Change → Outcome → Type 0
 Comes Has Ways m inst want s old new r has work (Made c) = Makes Has Ways m inst want s old new r has work c
-Comes Has Ways m inst want s old new r has work (Refused e) = Refuses Has m inst want s new r work e
+Comes Has Ways m inst want s old new r has work (Refused e) = Refuses Has Ways m inst want s old new r work e
+
+-- ---- what was begun where a space refuses it
+-- with some picks, and whatever picks follow, the work gives a change of the relation's rows, and no more was changed than its call costs
+pub record IsBegun {S : Type 0} (Ways : ℕ → S → S → Type 0) (m : Meanings) (s : Slots) (inst : Instance) (r : Relation) (has : HasRows m s inst r.rows)
+    (work : Work Change) (old new : S) : Type 0 where
+  pub change : Change
+  pub picks : List Key
+  pub wished : (g : Going) → Leads work g picks (made change) (record g { used = g.used ++ picks })
+  pub cost : LeadsWithin Ways (has.live.box.cost (call_of change) r.rows) old new
+
+-- or nothing was changed
+abbrev pub Begins : {S : Type 0} (Ways : ℕ → S → S → Type 0) (m : Meanings) (s : Slots) (inst : Instance) (r : Relation) → HasRows m s inst r.rows
+    → Work Change → S → S → Type 0
+Begins Ways m s inst r has work old new = Ways 0 old new ⊎ IsBegun Ways m s inst r has work old new
 
 -- ---- want of a page
 -- With some picks, and whatever picks follow, the work gives a change of the relation's rows; and for the call that makes it no page was left.

@@ -11,7 +11,7 @@ ghost use Rattle.sb_standing.specs.Lacking.{WhereShort};
 ghost use Rattle.sb_standing.specs.Live.{HasRows};
 ghost use Rattle.sb_standing.specs.Tables.{IsWide};
 ghost use Rattle.sb_wishes.specs.Edits.{IsEditOf, MayBeEdit, added, edit_in, settled, taken, turned};
-ghost use Rattle.sb_wishes.specs.Outcomes.{Comes, LacksPage, Meets};
+ghost use Rattle.sb_wishes.specs.Outcomes.{Begins, Comes, LacksPage, Meets};
 ghost use Rattle.sb_wishes.specs.Wished.{IsTableOf};
 
 use crate::lengths::is_too_long;
@@ -66,6 +66,10 @@ pub(crate) fn settle<S: PageSpace, B: Boxes>(
         → IsTableOf table.now rules.now r → (has : HasRows (B.meanings boxes.now) s table.now r.rows)
         → IsEditOf r.rows (edit_in edit)
         → WhereShort e (LacksPage (B.meanings boxes.now) s table.now r has (settled table.now.relation r (edit_in edit)))) }
+    ensures begins { IfErr result (λ e. (want : Wanted) (s : Slots) (r : Relation) → S.has want s space.old
+        → IsTableOf table.now rules.now r → (has : HasRows (B.meanings boxes.now) s table.now r.rows)
+        → IsEditOf r.rows (edit_in edit)
+        → Begins S.leads (B.meanings boxes.now) s table.now r has (settled table.now.relation r (edit_in edit)) space.old space.new) }
     ensures ready { S.is_ready space.new }
 {
     match edit {
@@ -100,6 +104,9 @@ fn add<S: PageSpace, B: Boxes>(
     ensures full { IfErr result (λ e. (want : Wanted) (s : Slots) (r : Relation) → S.has want s space.old
         → IsTableOf table.now rules.now r → (has : HasRows (B.meanings boxes.now) s table.now r.rows)
         → WhereShort e (LacksPage (B.meanings boxes.now) s table.now r has (settled table.now.relation r (Adds new)))) }
+    ensures begins { IfErr result (λ e. (want : Wanted) (s : Slots) (r : Relation) → S.has want s space.old
+        → IsTableOf table.now rules.now r → (has : HasRows (B.meanings boxes.now) s table.now r.rows)
+        → Begins S.leads (B.meanings boxes.now) s table.now r has (settled table.now.relation r (Adds new)) space.old space.new) }
     ensures ready { S.is_ready space.new }
 {
     let relation = table.relation.copy()?;
@@ -148,6 +155,9 @@ fn take<S: PageSpace, B: Boxes>(
         → (has : HasRows (B.meanings boxes.now) s table.now r.rows)
         → IsEditOf r.rows (Takes key old)
         → WhereShort e (LacksPage (B.meanings boxes.now) s table.now r has (settled table.now.relation r (Takes key old)))) }
+    ensures begins { IfErr result (λ e. (want : Wanted) (s : Slots) (r : Relation) → S.has want s space.old
+        → (has : HasRows (B.meanings boxes.now) s table.now r.rows) → IsEditOf r.rows (Takes key old)
+        → Begins S.leads (B.meanings boxes.now) s table.now r has (settled table.now.relation r (Takes key old)) space.old space.new) }
     ensures ready { S.is_ready space.new }
 {
     let relation = table.relation.copy()?;
@@ -195,6 +205,9 @@ fn turn<S: PageSpace, B: Boxes>(
         → IsTableOf table.now rules.now r → (has : HasRows (B.meanings boxes.now) s table.now r.rows)
         → IsEditOf r.rows (Turns key old new)
         → WhereShort e (LacksPage (B.meanings boxes.now) s table.now r has (settled table.now.relation r (Turns key old new)))) }
+    ensures begins { IfErr result (λ e. (want : Wanted) (s : Slots) (r : Relation) → S.has want s space.old
+        → IsTableOf table.now rules.now r → (has : HasRows (B.meanings boxes.now) s table.now r.rows) → IsEditOf r.rows (Turns key old new)
+        → Begins S.leads (B.meanings boxes.now) s table.now r has (settled table.now.relation r (Turns key old new)) space.old space.new) }
     ensures ready { S.is_ready space.new }
 {
     let relation = table.relation.copy()?;

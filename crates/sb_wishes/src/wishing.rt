@@ -18,7 +18,7 @@ ghost use Rattle.sb_standing.specs.Live.{HasRows};
 ghost use Rattle.sb_standing.specs.Tables.{IsWide};
 ghost use Rattle.sb_value.specs.Fits.{Fits};
 ghost use Rattle.sb_wishes.specs.Edits.{GivesEdit, IsEditOf, MayBeEdit, edit_in, edit_raised};
-ghost use Rattle.sb_wishes.specs.Outcomes.{Comes, LacksPage, Meets};
+ghost use Rattle.sb_wishes.specs.Outcomes.{Begins, Comes, LacksPage, Meets};
 ghost use Rattle.sb_wishes.specs.Wished.{IsTableOf, MayBeWished, NamesKey, key_in, row_wished};
 ghost use Rattle.sb_cascade.specs.Runs.{IsQuiet};
 
@@ -63,6 +63,9 @@ pub fn carry_out<S: PageSpace, B: Boxes>(
     ensures full { IfErr result (λ e. (want : Wanted) (s : Slots) (r : Relation) → S.has want s space.old
         → IsTableOf table.now rules.now r → (has : HasRows (B.meanings boxes.now) s table.now r.rows)
         → WhereShort e (LacksPage (B.meanings boxes.now) s table.now r has (wished table.now.relation r (wish_of wish.now)))) }
+    ensures begins { IfErr result (λ e. (want : Wanted) (s : Slots) (r : Relation) → S.has want s space.old
+        → IsTableOf table.now rules.now r → (has : HasRows (B.meanings boxes.now) s table.now r.rows)
+        → Begins S.leads (B.meanings boxes.now) s table.now r has (wished table.now.relation r (wish_of wish.now)) space.old space.new) }
     ensures ready { S.is_ready space.new }
 {
     let old = find_old(space, alloc, boxes, table, wish)?;

@@ -1,4 +1,4 @@
-use Rattle.std.proofs.Common.{◌≡◌, ◌∙◌, ◌<◌, Err, ap, subst, length}
+use Rattle.std.proofs.Common.{◌≡◌, ◌∙◌, ◌<◌, inl, inr, Err, ap, subst, length}
 use Rattle.sb_ctx.specs.declared.moves.Move.{Move}
 use Rattle.sb_ctx.specs.declared.moves.Move.TheVariants.{Find}
 use Rattle.sb_ctx.specs.AttachAnswers.{Answers, AsksFor}
@@ -12,7 +12,7 @@ use Rattle.sb_opened.proofs.CallsLemmas.{Looks-later, Looks-no_memory, Looks-pas
 use Rattle.sb_opened.specs.Tables.{db_of}
 use Rattle.sb_asking.specs.declared.calls.Answer.{Answer}
 use Rattle.sb_asking.specs.Calls.{IsAsked, LacksOver, knowing}
-use Rattle.sb_asking.proofs.CallsLemmas.{AreKeys, All-pushed, HoldsOf-known, IsAsked-known, IsClean-known, IsLast-end, IsOver, lacks_known, Works-later, Works-looked, Works-no_memory, few-known, fewer-left}
+use Rattle.sb_asking.proofs.CallsLemmas.{AreKeys, All-pushed, HoldsOf-known, IsAsked-known, IsClean-known, IsLast-end, IsOver, costs_known, lacks_known, Works-later, Works-looked, Works-no_memory, few-known, fewer-left}
 use Rattle.sb_asking.proofs.calls.ask.Goals as goal
 
 -- ---- no memory for the Ctx
@@ -201,3 +201,29 @@ pub returns-in_default-clause-looks : goal.returns-in_default-clause-looks
 returns-in_default-clause-looks g c = λ reading.
     let before = c.finds.invariant in
     Looks-later g.S.PageSpace.has g.S.PageSpace.leads g.S.PageSpace.fails c.args.space.now c.finds.space c.run_attachment-made.new.space _ g.met.S.PageSpace.goes_on g.met.S.PageSpace.fails_on before.leads before.has (c.in_ok-made.ensures.looks reading)
+
+-- ---- what it costs
+pub returns-in_err-ctx-clause-costs : goal.returns-in_err-ctx-clause-costs
+returns-in_err-ctx-clause-costs g c = λ live want s kept has tables. inl c.finds.invariant.leads
+
+pub returns-in_err-made-clause-costs : goal.returns-in_err-made-clause-costs
+returns-in_err-made-clause-costs g c = λ live want s kept has tables.
+    inr (costs_known g.S.PageSpace.has g.S.PageSpace.leads live.box c.args.inst.now c.args.call.now c.finds.answers.items c.in_ok-ctx.ctx (db_of kept) c.args.space.now c.finds.space c.run_attachment-made.new.space want s
+    (c.in_ok-ctx.ensures ∙ ap knowing c.deref.ensures.value) (c.finds.invariant.over want s kept has tables) g.met.S.PageSpace.goes_on c.finds.invariant.leads (c.finds.invariant.has want s has) (c.in_err-made.ensures.runs live).costs)
+
+pub returns-in_err-keys-in-Find-clause-costs : goal.returns-in_err-keys-in-Find-clause-costs
+returns-in_err-keys-in-Find-clause-costs g c = λ live want s kept has tables.
+    let handed = subst (λ (m : Move). OnFind m (HandsUpIn g.S.PageSpace.has g.S.PageSpace.leads c.args.inst.now.owner c.finds.space c.run_attachment-made.new.space c.run_attachment-made.new.ctx c.in_ok-made.made)) c.in-Find.is (c.in_ok-made.ensures.runs c.requires.live).find in
+    let there = g.met.S.PageSpace.goes_on 0 0 c.args.space.now c.finds.space c.run_attachment-made.new.space c.finds.invariant.leads handed.same in
+    inl (g.met.S.PageSpace.goes_on 0 0 c.args.space.now c.run_attachment-made.new.space c.find_keys.new.space there c.in_err-keys-in-Find.ensures.looks.leads)
+
+pub returns-in_err-add_answer-in-Find-clause-costs : goal.returns-in_err-add_answer-in-Find-clause-costs
+returns-in_err-add_answer-in-Find-clause-costs g c = λ live want s kept has tables.
+    let handed = subst (λ (m : Move). OnFind m (HandsUpIn g.S.PageSpace.has g.S.PageSpace.leads c.args.inst.now.owner c.finds.space c.run_attachment-made.new.space c.run_attachment-made.new.ctx c.in_ok-made.made)) c.in-Find.is (c.in_ok-made.ensures.runs c.requires.live).find in
+    let there = g.met.S.PageSpace.goes_on 0 0 c.args.space.now c.finds.space c.run_attachment-made.new.space c.finds.invariant.leads handed.same in
+    inl (g.met.S.PageSpace.goes_on 0 0 c.args.space.now c.run_attachment-made.new.space c.find_keys.new.space there c.in_ok-keys-in-Find.ensures.looks.leads)
+
+pub returns-in_default-clause-costs : goal.returns-in_default-clause-costs
+returns-in_default-clause-costs g c = λ live want s kept has tables.
+    inr (costs_known g.S.PageSpace.has g.S.PageSpace.leads live.box c.args.inst.now c.args.call.now c.finds.answers.items c.in_ok-ctx.ctx (db_of kept) c.args.space.now c.finds.space c.run_attachment-made.new.space want s
+    (c.in_ok-ctx.ensures ∙ ap knowing c.deref.ensures.value) (c.finds.invariant.over want s kept has tables) g.met.S.PageSpace.goes_on c.finds.invariant.leads (c.finds.invariant.has want s has) (c.in_ok-made.ensures.runs live).costs)

@@ -1,4 +1,4 @@
-use Rattle.std.proofs.Common.{sym, subst}
+use Rattle.std.proofs.Common.{◌⊎◌, inl, sym, subst}
 use Rattle.sb_rule.specs.declared.change.Change.{Change}
 use Rattle.sb_ctx.specs.declared.calls.AttachCall.TheVariants.{Changed}
 use Rattle.sb_ctx.specs.Attachment.{MayMeet}
@@ -13,10 +13,10 @@ use Rattle.sb_opened.specs.Asked.{changed_kept}
 use Rattle.sb_opened.specs.Tables.{db_of}
 use Rattle.sb_opened.proofs.StandLemmas.{StandRules-asks}
 use Rattle.sb_opened.specs.Opened.{IsDurable}
-use Rattle.sb_asking.specs.Calls.{IsAsked, LacksOver}
+use Rattle.sb_asking.specs.Calls.{CostsOver, IsAsked, LacksOver}
 use Rattle.sb_asking.specs.Verdicts.{LacksAsked}
 use Rattle.sb_asking.proofs.CallsLemmas.{Works-no_memory}
-use Rattle.sb_asking.proofs.VerdictsLemmas.{Holds-next, IsVerdict-final, Says-asked, lacks_asked}
+use Rattle.sb_asking.proofs.VerdictsLemmas.{Holds-next, IsVerdict-final, Says-asked, costs_asked, lacks_asked}
 use Rattle.sb_asking.proofs.verdicts.ask_rule.Goals as goal
 
 pub ask-made-requires-clause-fits : goal.ask-made-requires-clause-fits
@@ -83,3 +83,27 @@ returns-clause-says g c = λ want s x has asks next.
 pub returns-clause-works : goal.returns-clause-works
 returns-clause-works g c =
     Works-made g.S.PageSpace.has g.S.PageSpace.leads g.S.PageSpace.fails g.S.PageSpace.durable g.S.PageSpace.total c.args.inst.now.owner c.args.space.now c.ask-made.new.space c.in_ok-made.made c.verdict_in.result c.in_ok-made.ensures.works
+
+-- ---- what it costs
+pub returns-in_err-copy-clause-costs : goal.returns-in_err-copy-clause-costs
+returns-in_err-copy-clause-costs g c = λ want s x has asks next.
+    costs_asked g.S.PageSpace.leads (g.B.Boxes.meanings c.args.boxes.now) c.args.place.root s x c.args.change.now c.args.inst.now c.requires.live.box c.args.space.now c.args.space.now asks next c.requires.live.live
+    (inl (g.met.S.PageSpace.stays c.args.space.now))
+
+pub returns-in_err-made-clause-costs : goal.returns-in_err-made-clause-costs
+returns-in_err-made-clause-costs g c = λ want s x has asks next.
+    let inst = c.args.inst.now in
+    let change = c.args.change.now in
+    let live = c.requires.live in
+    costs_asked g.S.PageSpace.leads (g.B.Boxes.meanings c.args.boxes.now) c.args.place.root s x change inst live.box c.args.space.now c.ask-made.new.space asks next live.live
+    (subst (λ (d : Change). g.S.PageSpace.leads 0 c.args.space.now c.ask-made.new.space ⊎ CostsOver g.S.PageSpace.leads live.box inst (Changed d) (db_of (changed_kept x.name change x.before)) s c.args.space.now c.ask-made.new.space)
+    c.in_ok-copy.ensures (c.in_err-made.ensures.costs live want s (changed_kept x.name change x.before) has asks.tables))
+
+pub returns-clause-costs : goal.returns-clause-costs
+returns-clause-costs g c = λ want s x has asks next.
+    let inst = c.args.inst.now in
+    let change = c.args.change.now in
+    let live = c.requires.live in
+    costs_asked g.S.PageSpace.leads (g.B.Boxes.meanings c.args.boxes.now) c.args.place.root s x change inst live.box c.args.space.now c.ask-made.new.space asks next live.live
+    (subst (λ (d : Change). g.S.PageSpace.leads 0 c.args.space.now c.ask-made.new.space ⊎ CostsOver g.S.PageSpace.leads live.box inst (Changed d) (db_of (changed_kept x.name change x.before)) s c.args.space.now c.ask-made.new.space)
+    c.in_ok-copy.ensures (c.in_ok-made.ensures.costs live want s (changed_kept x.name change x.before) has asks.tables))

@@ -1,4 +1,4 @@
-use Rattle.std.proofs.Common.{◌≡◌, ◌<◌, ◌∙◌, true, Err, true≢false, refl, ap, sym, subst}
+use Rattle.std.proofs.Common.{◌≡◌, ◌<◌, ◌∙◌, true, inl, inr, Ok, Err, true≢false, refl, ap, sym, subst}
 use Rattle.sb_ctx.proofs.ViewLaws.{HoldsPart-from_dropped}
 use Rattle.sb_ctx.specs.declared.moves.Move.{Move}
 use Rattle.sb_ctx.specs.declared.moves.Move.TheVariants.{Fresh}
@@ -13,9 +13,9 @@ use Rattle.sb_drive.proofs.AsksLemmas.{IsAsked-dropped, IsClean-IsGift, HoldsOf-
 use Rattle.sb_drive.proofs.GiftLemmas.{Given, Given-none, Given-IsGift, IsGivenMore-given, IsGivenMore-made}
 use Rattle.sb_drive.proofs.MeasureLemmas.{to_ask}
 use Rattle.sb_drive.proofs.PromiseLemmas.{Answers-end, CostsAsPromised-made, HasBoxCause-stop, Leaves-find, OnFind-handed}
-use Rattle.sb_drive.proofs.SpacesLemmas.{LeadsWithin-none, LeadsWithin-on, LeadsWithin-zero, Leaves-so, IfErr-passed, UnlessDown-passed, UnlessDown-so, WhereFull-asked}
+use Rattle.sb_drive.proofs.SpacesLemmas.{LeadsWithin-none, LeadsWithin-on, LeadsWithin-zero, Leaves-so, IfErr-passed, IfOk-passed, UnlessDown-passed, UnlessDown-so, WhereFull-asked}
 use Rattle.sb_drive.proofs.StoresLemmas.{edits_of-clean}
-use Rattle.sb_drive.proofs.TurnsLemmas.{Fresh-asked, Need-asked, IsAsked-attachment, IsReadFault-asked, IsReadFault-stop, end-is}
+use Rattle.sb_drive.proofs.TurnsLemmas.{Fresh-asked, Need-asked, IsAsked-attachment, IsReadFault-asked, IsEnd-end, IsReadFault-stop, end-is}
 use Rattle.sb_drive.proofs.driving.run_call.Goals as goal
 
 pub loop-ask-init : goal.loop-ask-init
@@ -97,8 +97,10 @@ pub returns-in_err-answer-in-Give-clause-costs : goal.returns-in_err-answer-in-G
 returns-in_err-answer-in-Give-clause-costs g c =
     let ctx = c.make-made.new.ctx in
     let leads = g.met.S.PageSpace.goes_on 0 0 c.args.space.now c.loop-ask.space c.answer.new.self c.loop-ask.invariant.leads c.in_err-answer-in-Give.ensures.leads in
-    CostsAsPromised-made g.S.PageSpace.has g.S.PageSpace.leads c.args.owner (g.C.BoxCall.promise c.args.call.now c.args.ctx.now) c.args.space.now c.answer.new.self c.loop-ask.ctx ctx c.make-made.result c.is_ctx.ensures
+    CostsAsPromised-made g.S.PageSpace.has g.S.PageSpace.leads c.args.owner (g.C.BoxCall.promise c.args.call.now c.args.ctx.now) c.args.space.now c.answer.new.self c.from_residual.result c.loop-ask.ctx ctx c.make-made.result c.is_ctx.ensures
     (c.make-made.ensures.keeps c.args.ctx.now c.loop-ask.invariant.found) c.loop-ask.invariant.holds (LeadsWithin-none g.S.PageSpace.leads (edits_of ctx) c.args.space.now c.answer.new.self leads)
+    (IfOk-passed c.from_residual.result c.in_err-answer-in-Give.field-0.0 (λ end. c.make-made.result ≡ end) c.from_residual.ensures.1)
+    (IfErr-passed c.from_residual.result c.in_err-answer-in-Give.field-0.0 _ c.from_residual.ensures.1 (inl leads))
 
 pub returns-in_err-answer-in-Give-clause-reads : goal.returns-in_err-answer-in-Give-clause-reads
 returns-in_err-answer-in-Give-clause-reads g c = λ reads.
@@ -120,8 +122,9 @@ returns-in-Stop-clause-damaged g c = λ want s has.
 pub returns-in-Stop-clause-costs : goal.returns-in-Stop-clause-costs
 returns-in-Stop-clause-costs g c =
     let ctx = c.make-made.new.ctx in
-    CostsAsPromised-made g.S.PageSpace.has g.S.PageSpace.leads c.args.owner (g.C.BoxCall.promise c.args.call.now c.args.ctx.now) c.args.space.now c.loop-ask.space c.loop-ask.ctx ctx c.make-made.result c.is_ctx.ensures
+    CostsAsPromised-made g.S.PageSpace.has g.S.PageSpace.leads c.args.owner (g.C.BoxCall.promise c.args.call.now c.args.ctx.now) c.args.space.now c.loop-ask.space (Err c.in-Stop.fault) c.loop-ask.ctx ctx c.make-made.result c.is_ctx.ensures
     (c.make-made.ensures.keeps c.args.ctx.now c.loop-ask.invariant.found) c.loop-ask.invariant.holds (LeadsWithin-none g.S.PageSpace.leads (edits_of ctx) c.args.space.now c.loop-ask.space c.loop-ask.invariant.leads)
+    tt (inl c.loop-ask.invariant.leads)
 
 -- ---- a find is handed up
 pub returns-then-is_find-clause-answers : goal.returns-then-is_find-clause-answers
@@ -144,8 +147,9 @@ returns-then-is_find-clause-found g c =
 pub returns-then-is_find-clause-costs : goal.returns-then-is_find-clause-costs
 returns-then-is_find-clause-costs g c =
     let ctx = c.make-made.new.ctx in
-    CostsAsPromised-made g.S.PageSpace.has g.S.PageSpace.leads c.args.owner (g.C.BoxCall.promise c.args.call.now c.args.ctx.now) c.args.space.now c.loop-ask.space c.loop-ask.ctx ctx c.make-made.result c.is_ctx.ensures
+    CostsAsPromised-made g.S.PageSpace.has g.S.PageSpace.leads c.args.owner (g.C.BoxCall.promise c.args.call.now c.args.ctx.now) c.args.space.now c.loop-ask.space (Ok c.in-End.end) c.loop-ask.ctx ctx c.make-made.result c.is_ctx.ensures
     (c.make-made.ensures.keeps c.args.ctx.now c.loop-ask.invariant.found) c.loop-ask.invariant.holds (LeadsWithin-none g.S.PageSpace.leads (edits_of ctx) c.args.space.now c.loop-ask.space c.loop-ask.invariant.leads)
+    (end-is c.make-made.result c.in-End.end (sym c.turn_of.ensures.turn ∙ c.in-End.is)) tt
 
 -- ---- the edits are refused
 pub returns-in_err-store_edits-in-End-clause-found : goal.returns-in_err-store_edits-in-End-clause-found
@@ -173,10 +177,14 @@ returns-in_err-store_edits-in-End-clause-leads g c =
 
 pub returns-in_err-store_edits-in-End-clause-costs : goal.returns-in_err-store_edits-in-End-clause-costs
 returns-in_err-store_edits-in-End-clause-costs g c =
+    let keeps = c.make-made.ensures.keeps c.args.ctx.now c.loop-ask.invariant.found in
     let ctx = c.make-made.new.ctx in
-    CostsAsPromised-made g.S.PageSpace.has g.S.PageSpace.leads c.args.owner (g.C.BoxCall.promise c.args.call.now c.args.ctx.now) c.args.space.now c.store_edits.new.space c.loop-ask.ctx ctx c.make-made.result c.is_ctx.ensures
+    CostsAsPromised-made g.S.PageSpace.has g.S.PageSpace.leads c.args.owner (g.C.BoxCall.promise c.args.call.now c.args.ctx.now) c.args.space.now c.store_edits.new.space c.from_residual-in_err-store_edits-in-End.result c.loop-ask.ctx ctx c.make-made.result c.is_ctx.ensures
     (c.make-made.ensures.keeps c.args.ctx.now c.loop-ask.invariant.found) c.loop-ask.invariant.holds
     (LeadsWithin-on g.S.PageSpace.leads (edits_of ctx) c.args.space.now c.loop-ask.space c.store_edits.new.space g.met.S.PageSpace.goes_on c.loop-ask.invariant.leads c.in_err-store_edits-in-End.ensures.leads)
+    (IfOk-passed c.from_residual-in_err-store_edits-in-End.result c.in_err-store_edits-in-End.field-0.0 (λ end. c.make-made.result ≡ end) c.from_residual-in_err-store_edits-in-End.ensures.1)
+    (IfErr-passed c.from_residual-in_err-store_edits-in-End.result c.in_err-store_edits-in-End.field-0.0 _ c.from_residual-in_err-store_edits-in-End.ensures.1
+    (inr (record { end = IsEnd-end c.make-made.result c.in-End.end (sym c.turn_of.ensures.turn ∙ c.in-End.is); answers = λ want s has. keeps.answers (owned s c.args.owner) (c.loop-ask.invariant.holds want s has).part })))
 
 pub returns-in_err-store_edits-in-End-clause-reads : goal.returns-in_err-store_edits-in-End-clause-reads
 returns-in_err-store_edits-in-End-clause-reads g c = λ reads.
@@ -220,9 +228,10 @@ returns-in-End-clause-leads g c =
 pub returns-in-End-clause-costs : goal.returns-in-End-clause-costs
 returns-in-End-clause-costs g c =
     let ctx = c.make-made.new.ctx in
-    CostsAsPromised-made g.S.PageSpace.has g.S.PageSpace.leads c.args.owner (g.C.BoxCall.promise c.args.call.now c.args.ctx.now) c.args.space.now c.store_edits.new.space c.loop-ask.ctx ctx c.make-made.result c.is_ctx.ensures
+    CostsAsPromised-made g.S.PageSpace.has g.S.PageSpace.leads c.args.owner (g.C.BoxCall.promise c.args.call.now c.args.ctx.now) c.args.space.now c.store_edits.new.space (Ok c.in-End.end) c.loop-ask.ctx ctx c.make-made.result c.is_ctx.ensures
     (c.make-made.ensures.keeps c.args.ctx.now c.loop-ask.invariant.found) c.loop-ask.invariant.holds
     (LeadsWithin-on g.S.PageSpace.leads (edits_of ctx) c.args.space.now c.loop-ask.space c.store_edits.new.space g.met.S.PageSpace.goes_on c.loop-ask.invariant.leads c.in_ok-store_edits-in-End.ensures.leads)
+    (end-is c.make-made.result c.in-End.end (sym c.turn_of.ensures.turn ∙ c.in-End.is)) tt
 
 pub returns-in-End-clause-reads : goal.returns-in-End-clause-reads
 returns-in-End-clause-reads g c = λ reads.

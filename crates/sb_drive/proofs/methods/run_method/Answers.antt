@@ -6,6 +6,7 @@ use Rattle.sb_drive.specs.MethodCalls.{HasRoomFor, IsAsking, promise_of}
 use Rattle.sb_drive.specs.Slots.{Slots, owned}
 use Rattle.sb_drive.specs.Spaces.{HoldsOf, IsFullFor, Wanted, WhereFull}
 use Rattle.sb_drive.proofs.AsksLemmas.{HoldsOf-nothing}
+use Rattle.sb_drive.proofs.MethodLemmas.{CostsBy-promised}
 use Rattle.sb_drive.proofs.SpacesLemmas.{ArePages-few, WhereFull-within}
 use Rattle.sb_drive.proofs.methods.run_method.Goals as goal
 
@@ -30,3 +31,8 @@ returns-clause-full g c =
     (λ e full want s has. WhereFull-within g.S.PageSpace.leads g.S.PageSpace.durable g.S.PageSpace.total inst.owner (IsAsking m inst call) (spends s) (HasRoomFor m inst call (owned s inst.owner)) c.args.space.now s e
     (λ v within. within) (full want s has))
     c.run_call.ensures.full
+
+pub returns-clause-costs : goal.returns-clause-costs
+returns-clause-costs g c =
+    CostsBy-promised g.S.PageSpace.has g.S.PageSpace.leads ((goal.StorageMethod-dyn g c.args.boxed.now).method c.args.boxed.now.1) c.args.inst.now c.args.call.now c.args.space.now
+    c.run_call.new.space c.run_call.result c.run_call.ensures.costs

@@ -1,14 +1,15 @@
-use Rattle.std.proofs.Common.{[], refl}
+use Rattle.std.proofs.Common.{[], Ok, Err, refl}
 use Rattle.sb_treemethod.specs.MethodCall.TheVariants.{Prepare}
 use Rattle.sb_registry.specs.Slots.{owned}
 use Rattle.sb_registry.proofs.SpacesLemmas.{IfErr-passed}
-use Rattle.sb_rows.proofs.CallsLemmas.{Works-made, Works-passed}
+use Rattle.sb_rows.proofs.CallsLemmas.{CostsBy-within, Works-made, Works-passed}
 use Rattle.sb_rows.proofs.LackingLemmas.{lacks}
 use Rattle.sb_rows.proofs.PlacingsLemmas.{LeavesRows-own, prepared}
 use Rattle.sb_rows.proofs.changes.prepare_rows.Goals as goal
 
 pub returns-in_err-made-clause-costs : goal.returns-in_err-made-clause-costs
-returns-in_err-made-clause-costs g c = λ want s has new live. (c.in_err-made.ensures.runs live).costs want s [] has (new, refl)
+returns-in_err-made-clause-costs g c = λ want s has new live.
+    CostsBy-within g.S.PageSpace.leads live.box c.args.inst.now Prepare [] c.args.space.now c.run_method-made.new.space (Err c.in_err-made.field-0.0) ((c.in_err-made.ensures.runs live).costs want s [] has (new, refl))
 
 pub returns-in_err-made-clause-works : goal.returns-in_err-made-clause-works
 returns-in_err-made-clause-works g c =
@@ -33,7 +34,8 @@ returns-clause-prepared g c = λ want s has new.
     (prepared live.box inst (owned s inst.owner) (owned left.slots inst.owner) c.in_ok-made.made c.in_ok-made.ensures.may c.in_ok-made.ensures.ends left.own new)
 
 pub returns-clause-costs : goal.returns-clause-costs
-returns-clause-costs g c = λ want s has new live. (c.in_ok-made.ensures.runs live).costs want s [] has (new, refl)
+returns-clause-costs g c = λ want s has new live.
+    CostsBy-within g.S.PageSpace.leads live.box c.args.inst.now Prepare [] c.args.space.now c.run_method-made.new.space (Ok c.in_ok-made.made) ((c.in_ok-made.ensures.runs live).costs want s [] has (new, refl))
 
 pub returns-clause-works : goal.returns-clause-works
 returns-clause-works g c = Works-made g.S.PageSpace.has g.S.PageSpace.leads g.S.PageSpace.fails g.S.PageSpace.durable g.S.PageSpace.total c.args.inst.now.owner c.args.space.now c.run_method-made.new.space c.in_ok-made.made _ c.in_ok-made.ensures.works

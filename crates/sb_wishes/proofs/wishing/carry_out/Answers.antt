@@ -1,4 +1,4 @@
-use Rattle.std.proofs.Common.{◌≡◌, IfOk, Option, Result, subst}
+use Rattle.std.proofs.Common.{◌≡◌, inl, IfOk, Option, Result, subst}
 use Rattle.std.proofs.lemmas.Result.{IfOk-weaker, IfErr-weaker}
 use Rattle.sb_cascade.specs.Wishes.{wish_of}
 use Rattle.sb_relation.specs.Db.{Row, Rows}
@@ -16,8 +16,9 @@ use Rattle.sb_wishes.specs.Edits.{GivesEdit, IsEditOf, edit_in, settled}
 use Rattle.sb_drive.specs.declared.space.SpaceFault.TheVariants.{NoMemory}
 use Rattle.sb_drive.proofs.SpacesLemmas.{IfErr-passed}
 use Rattle.sb_standing.proofs.LackingLemmas.{read_short, where_short}
+use Rattle.sb_wishes.proofs.BegunLemmas.{begins_wished}
 use Rattle.sb_wishes.proofs.LackingLemmas.{lacks_wished}
-use Rattle.sb_wishes.proofs.CarriedLemmas.{ComesOf, ComesOfAll, LacksOf, LacksOfAll}
+use Rattle.sb_wishes.proofs.CarriedLemmas.{BeginsOf, BeginsOfAll, ComesOf, ComesOfAll, LacksOf, LacksOfAll}
 use Rattle.sb_wishes.proofs.SettledLemmas.{Comes-later, Comes-unwished, Comes-wished}
 use Rattle.sb_wishes.proofs.WorksLemmas.{Works-later, Works-looked, Works-no_memory}
 use Rattle.sb_wishes.proofs.wishing.carry_out.Goals as goal
@@ -85,4 +86,29 @@ returns-in-Ok-clause-full g c =
 pub returns-in-Err-clause-comes : goal.returns-in-Err-clause-comes
 returns-in-Err-clause-comes g c = λ want s r has t h.
     Comes-unwished g.S.PageSpace.has g.S.PageSpace.leads (g.B.Boxes.meanings c.args.boxes.now) c.args.table.now want s c.args.space.now c.find_old.new.space r h (wish_of c.args.wish.now) c.in-Err.refusal
-    (subst (λ (x : Result code.Edit Refusal). GivesEdit (edit_of c.args.table.now.relation r (wish_of c.args.wish.now)) x) c.in-Err.is (c.in_ok-edit.ensures.gives r t.schema (c.in_ok-old.ensures.old want s r.rows has h))) (c.in_ok-old.ensures.looks.same want s has)
+    (subst (λ (x : Result code.Edit Refusal). GivesEdit (edit_of c.args.table.now.relation r (wish_of c.args.wish.now)) x) c.in-Err.is (c.in_ok-edit.ensures.gives r t.schema (c.in_ok-old.ensures.old want s r.rows has h))) (c.in_ok-old.ensures.looks.same want s has) c.in_ok-old.ensures.looks.leads
+
+pub returns-in_err-old-clause-begins : goal.returns-in_err-old-clause-begins
+returns-in_err-old-clause-begins g c =
+    IfErr-passed c.from_residual.result c.in_err-old.field-0.0 _ c.from_residual.ensures.1 (λ want s r has t h. inl c.in_err-old.ensures.looks.leads)
+
+pub returns-in_err-edit-clause-begins : goal.returns-in_err-edit-clause-begins
+returns-in_err-edit-clause-begins g c = IfErr-passed c.from_residual-in_err-edit.result NoMemory _ c.from_residual-in_err-edit.ensures.1 (λ want s r has t h. inl c.in_ok-old.ensures.looks.leads)
+
+pub returns-in-Ok-clause-begins : goal.returns-in-Ok-clause-begins
+returns-in-Ok-clause-begins g c =
+    let m = g.B.Boxes.meanings c.args.boxes.now in
+    let table = c.args.table.now in
+    let wish = wish_of c.args.wish.now in
+    let edit = edit_in c.in-Ok.edit in
+    IfErr-weaker {T = Outcome} {E = SpaceFault} c.settle.result
+    (λ e. BeginsOf g.S.PageSpace.has g.S.PageSpace.leads m table c.args.rules.now c.find_old.new.space c.settle.new.space (λ r. IsEditOf r.rows edit) (λ r. settled table.relation r edit))
+    (λ e. BeginsOfAll g.S.PageSpace.has g.S.PageSpace.leads m table c.args.rules.now c.args.space.now c.settle.new.space (λ r. wished table.relation r wish))
+    (λ e begins want s r has t h.
+    let old = c.in_ok-old.ensures.old want s r.rows has h in
+    begins_wished g.S.PageSpace.leads m s table r h c.find_old.new.space c.settle.new.space c.args.space.now wish edit
+    (subst (λ (x : Result code.Edit Refusal). GivesEdit (edit_of table.relation r wish) x) c.in-Ok.is (c.in_ok-edit.ensures.gives r t.schema old))
+    g.met.S.PageSpace.goes_on c.in_ok-old.ensures.looks.leads
+    (begins want s r (c.in_ok-old.ensures.looks.same want s has) t h
+    (subst (λ (x : Result code.Edit Refusal). IfOk x (λ edit. (rows : Rows) → c.in_ok-old.old ≡ row_wished rows wish → IsEditOf rows (edit_in edit))) c.in-Ok.is c.in_ok-edit.ensures.of r.rows old)))
+    c.settle.ensures.begins
