@@ -95,6 +95,8 @@ impl<S: PageSpace> PageSpace for Watched<'_, S> {
 
     ghost leads = { λ k v w. LeadsLent S.leads k v.space w.space };
 
+    ghost spent = { λ n w. S.spent n w.space.now };
+
     ghost fails = { λ e v w. S.fails e v.space.now w.space.now };
 
     fn answer(&mut self, owner: u16, ctx: &mut Ctx, ask: Ask) -> Result<(), SpaceFault> {
@@ -110,6 +112,8 @@ impl<S: PageSpace> PageSpace for Watched<'_, S> {
     ghost stays = { λ w. record { same = refl; leads = S.stays w.space.now } };
 
     ghost goes_on = { λ k l u v w one two. LeadsLent-then S.leads S.goes_on k l u.space v.space w.space one two };
+
+    ghost spends = { λ n k v w one spent. S.spends n k v.space.now w.space.now one.leads spent };
 
     ghost fails_on = { λ e u v w one fails. S.fails_on e u.space.now v.space.now w.space.now one.leads fails };
 

@@ -39,11 +39,15 @@ impl PageSpace for Memory {
 
     ghost leads = { λ k a b. IsChanged k a b };
 
+    ghost spent = { λ n a. Unit {0} };
+
     ghost fails = { λ e a b. (b ≡ a) × IsMemoryFault e };
 
     ghost stays = { λ a. IsChanged-same a };
 
     ghost goes_on = { λ k l a b c first second. IsChanged-on k l a b c first second };
+
+    ghost spends = { λ n k a b leads spent. tt };
 
     ghost fails_on = { λ e a b c first second. (second.0 ∙ first.none refl, second.1) };
 

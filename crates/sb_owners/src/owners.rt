@@ -4,7 +4,7 @@ ghost use Rattle.std.specs.Prelude.{◌<◌, [], IfOk, IfErr, OnOk, OnErr};
 ghost use Rattle.sb_drive.specs.View.{nothing};
 ghost use Rattle.sb_drive.specs.Instances.{IsLeastFree, IsLeastOwner};
 ghost use Rattle.sb_drive.specs.Slots.{Slots};
-ghost use Rattle.sb_drive.specs.Spaces.{IsFull, IsStoreFault, Leaves, LeadsOn, LeadsWithin, UnlessDown, Wanted};
+ghost use Rattle.sb_drive.specs.Spaces.{IsFull, IsStoreFault, Leaves, LeadsWithin, UnlessDown, Wanted};
 ghost use Rattle.sb_drive.specs.declared.turns.Ask.TheVariants.{Fresh};
 ghost use Rattle.sb_owners.specs.Instances.{HasCome, HasNone, IsUnbroken};
 
@@ -29,7 +29,7 @@ pub trait Owners: PageSpace {
         ensures fails { IfErr result (λ e. Self.fails e self.old self.new) }
         ensures ready { Self.is_ready self.new };
 
-    /// Makes every page of the owner nobody's.
+    /// Makes every page of the owner nobody's. At most 33 changes.
     fn free_owner(&mut self, alloc: Global, owner: u16) -> Result<(), SpaceFault>
         requires ready { Self.is_ready self.old }
         requires owner { 1 < owner }
@@ -37,7 +37,7 @@ pub trait Owners: PageSpace {
         ensures pages { UnlessDown result ((want : Wanted) (s : Slots) → Self.has want s self.old
             → Leaves Self.has owner want s self.new (λ after. OnOk result (HasNone after))) }
         ensures undamaged { IfErr result IsStoreFault }
-        ensures leads { LeadsOn Self.leads self.old self.new }
+        ensures leads { LeadsWithin Self.leads 33 self.old self.new }
         ensures fails { IfErr result (λ e. Self.fails e self.old self.new) }
         ensures ready { Self.is_ready self.new };
 }

@@ -199,7 +199,7 @@ module _ {D : Type 0} (told : D → Option Story) (len faults : D → ℕ) (tx :
     }
 
 -- ---- the regions of a store that is up
-regions_of : (p : Parts) → IsReady p → p.store.book.down ≡ false
+pub regions_of : (p : Parts) → IsReady p → p.store.book.down ≡ false
     → (p.store.journal.log ≡ log_of p.store.pool.geometry) × (p.store.journal.gates ≡ gates_of p.store.pool.geometry)
 regions_of p ready up = let found = ready up in by found.0 found.1 found.2
   where

@@ -1,9 +1,13 @@
 -- What the calls of a space with its transactions make of it.
-use Rattle.std.proofs.Common.{◌≡◌, ⊎_elim, ℕ, ◌≤◌, Bool, true, false, Option, Some, List, [], ◌∷◌, ◌++◌, Result, Ok, Err, OnOk, IfErr, IsErrOf, inl, inr, refl, sym, ap, subst, ◌∙◌}
+use Rattle.std.proofs.Common.{◌≡◌, ⊎_elim, ℕ, zero, suc, ◌+◌, ◌*◌, ◌^◌, ◌≤◌, nat_lt, length, length-append, arith, Bool, true, false, Option, Some, List, [], ◌∷◌, ◌++◌, Result, Ok, Err, OnOk, IfErr, IsErrOf, inl, inr, refl, sym, ap, subst, ◌∙◌}
+use Rattle.std.proofs.lemmas.Bool.{ltb-true, ltb-false}
 use Rattle.sb_disk.specs.Disk.{Story}
 use Rattle.sb_disk.specs.Moments.{LeavesOnly}
 use Rattle.sb_disk.proofs.MomentLemmas.{weaker}
 use Rattle.sb_images.specs.Images.{Restores, IsOldOrNew}
+use Rattle.sb_journal.specs.Chunks.{bytes_of}
+use Rattle.sb_journal.specs.State as journal
+use Rattle.sb_journal.specs.State.{room_of, sealed, used_of}
 use Rattle.sb_log.specs.declared.geometry.Geometry.{Geometry}
 use Rattle.sb_drive.specs.declared.space.SpaceFault.{SpaceFault}
 use Rattle.sb_drive.specs.declared.space.SpaceFault.TheVariants as space
@@ -13,6 +17,8 @@ use Rattle.sb_txn.specs.Book.{ActiveTransaction, Book, new_transaction, transact
 use Rattle.sb_txn.specs.Clauses.{StaysReady, IsFaultOrDown, HoldsPages, LeavesWanted, Begins, GoesBack, Aborts, Commits, LeavesOne}
 use Rattle.sb_txn.specs.Parts.{Parts, parts}
 use Rattle.sb_txn.specs.State.{State}
+use Rattle.sb_txn.specs.Steps.{HasHalf}
+use Rattle.sb_txn.specs.Tied.{gates_used}
 use Rattle.sb_txn.specs.declared.fault.StoreFault.{StoreFault}
 use Rattle.sb_txn.specs.declared.fault.StoreFault.TheVariants.{Fault, LogFull, GatesFull, Down, NoMemory}
 use Rattle.sb_txn.proofs.CalledLemmas.{transaction_with-among}
@@ -20,12 +26,22 @@ use Rattle.sb_txn.proofs.KeepsLemmas.{StaysReady-up, LeavesWanted-none}
 use Rattle.sb_txn.proofs.OnlyLemmas.{IsOnly-back}
 use Rattle.sb_txn.proofs.PlaceLemmas.{IsOnly-one, standing_of-first}
 use Rattle.sb_space.specs.Faults.{fault_of}
+use Rattle.sb_space.specs.Spent.{HasSpent, TakesNoMore}
 use Rattle.sb_space.specs.Table.{AreWhole, IsTable, slots_in}
 use Rattle.sb_space.specs.Transactions.{KeepsSpace, WasAt, AreFormed}
 use Rattle.sb_space.specs.Works.{Serves, HasPages, IsAlone}
 use Rattle.sb_space.proofs.Changed.{alone_active}
 use Rattle.sb_space.proofs.GoingBack.{HasPages-through, HasPages-back}
 use Rattle.sb_space.proofs.Loading.{no_error}
+
+-- ---- what is pending, as a chunk
+sealed_few : (pending : ℕ) (lens : List ℕ) → length (sealed pending lens) ≤ length lens + 1
+sealed_few zero lens = omega arith
+sealed_few (suc n) lens = omega (arith, length-append lens (suc n ∷ []))
+
+sealed_none : (pending : ℕ) (lens : List ℕ) → bytes_of lens + room_of pending ≡ 0 → lens ≡ [] → length (sealed pending lens) ≤ 0
+sealed_none zero lens used none = omega (arith, ap (λ (l : List ℕ). length l) none)
+sealed_none (suc n) lens used none = omega (arith, used)
 
 -- ---- what each call keeps
 module _ {D : Type 0} (told : D → Option Story) (len faults : D → ℕ) (d e : D) (s t : State) where
@@ -86,6 +102,43 @@ module _ {D : Type 0} (told : D → Option Story) (len faults : D → ℕ) (d e 
       alone = λ up. subst (λ (os : List ActiveTransaction). IsOnly tx os) (sym actives-begun) (IsOnly-one tx (new_transaction tx) refl);
       few = subst (λ (g : Geometry). g.pages ≤ 65536) (sym keeps.geometry) few;
     }
+
+    -- half of the log is left, and half of its gates
+    was_up_begun : s.book.down ≡ false
+    was_up_begun = StaysReady-up told len faults x d e s t keeps
+
+    left_at_once : HasHalf s.journal s.book → s.journal.log.len ≡ s.pool.geometry.log → TakesNoMore 0 t
+    left_at_once half region =
+        let same : t.journal ≡ s.journal = ap (λ (u : State). u.journal) (begins.at_once (λ takes. takes.over half)) in
+        let sizes = ap (λ (g : Geometry). g.log) keeps.geometry in
+        record {
+          bytes = omega (arith, half.bytes, ap (λ (j : journal.State). used_of j) same, region, sizes);
+          gates = omega (arith, half.chunks, ap (λ (j : journal.State). gates_used j) same, sealed_few s.journal.pending s.journal.lens);
+        }
+
+    left_anew : (HasHalf s.journal s.book → ⊥) → TakesNoMore 0 t
+    left_anew over =
+        let anew = begins.anew (record { none = none was_up_begun; over = over }) in
+        record { bytes = omega (arith, anew.log); gates = omega (arith, sealed_none t.journal.pending t.journal.lens anew.log anew.chunks) }
+
+    pub HasSpent-begun : s.journal.log.len ≡ s.pool.geometry.log → HasSpent 0 t
+    HasSpent-begun region up =
+        elim (nat_lt s.journal.log.len (2 * used_of s.journal)) as (λ b. nat_lt s.journal.log.len (2 * used_of s.journal) ≡ b → TakesNoMore 0 t) [
+          | true ↦ λ is. let more = ltb-true s.journal.log.len (2 * used_of s.journal) is in left_anew (λ half. omega (arith, more, half.bytes))
+          | false ↦ λ bytes.
+              elim (nat_lt 65536 (2 * length s.journal.lens)) as (λ b. nat_lt 65536 (2 * length s.journal.lens) ≡ b → TakesNoMore 0 t) [
+                | true ↦ λ is. let more = ltb-true 65536 (2 * length s.journal.lens) is in left_anew (λ half. omega (arith, more, half.chunks))
+                | false ↦ λ chunks.
+                    elim (nat_lt s.book.next (2 ^ 31)) as (λ b. nat_lt s.book.next (2 ^ 31) ≡ b → TakesNoMore 0 t) [
+                      | true ↦ λ next. left_at_once (record {
+                        bytes = ltb-false s.journal.log.len (2 * used_of s.journal) bytes;
+                        chunks = ltb-false 65536 (2 * length s.journal.lens) chunks;
+                        next = ltb-true s.book.next (2 ^ 31) next;
+                      }) region
+                      | false ↦ λ is. let more = ltb-false s.book.next (2 ^ 31) is in left_anew (λ half. omega (arith, more, half.next))
+                    ] refl
+              ] refl
+        ] refl
 
     pub standing-begun : standing_of tx t.book.actives ≡ 0
     standing-begun = ap (λ (os : List ActiveTransaction). standing_of tx os) actives-begun ∙ standing_of-first tx (new_transaction tx) [] refl

@@ -9,6 +9,7 @@ pub mod Opening
 pub mod Stored
 pub mod Telling
 pub mod Composing
+pub mod Spent
 pub mod SpaceLaws
 pub mod Instances
 pub mod Transactions

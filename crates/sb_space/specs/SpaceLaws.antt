@@ -7,7 +7,9 @@ use Rattle.sb_drive.specs.declared.space.SpaceFault.{SpaceFault}
 use Rattle.sb_drive.specs.Slots.{Slot, Slots, nobodys, AreWhole, IsPage}
 use Rattle.sb_drive.specs.Spaces.{Wanted}
 use Rattle.sb_txn.specs.Parts.{Parts}
+use Rattle.sb_log.specs.declared.geometry.Geometry.{Geometry}
 use Rattle.sb_space.specs.Durable.{Lent, Leads}
+use Rattle.sb_space.specs.Spent.{HasSpent}
 use Rattle.sb_space.specs.Table.{owner_at, shown, table_len}
 use Rattle.sb_space.specs.Works.{HasPages, Works, Fails}
 use Rattle.sb_disk.specs.Causes.{Rose}
@@ -53,6 +55,21 @@ module _ {D : Type 0} (told : D → Option Story) (len faults : D → ℕ) where
 
   pub goes_on : (k l : ℕ) (a b c : Lent D) → Leads told len faults k a b → Leads told len faults l b c → Leads told len faults (k + l) a c
   goes_on k l a b c one two = Leads-then k l a b c one two
+
+  -- a store that is up at the end of a call was up before it
+  up_before : (tx k : ℕ) (d e : D) (s t : State) (b : Bool) → s.book.down ≡ b → Works told len faults tx k d e s t → t.book.down ≡ false → s.book.down ≡ false
+  up_before tx k d e s t false is works up = is
+  up_before tx k d e s t true is works up = sym (ap (λ (x : State). x.book.down) (works.down is).1) ∙ up
+
+  pub spends : (n k : ℕ) (a b : Lent D) → Leads told len faults k a b → HasSpent n a.store.now → HasSpent (n + k) b.store.now
+  spends n k a b leads spent = λ up.
+      let works = leads.works in
+      let before = spent (up_before a.tx k a.disk.now b.disk.now a.store.now b.store.now a.store.now.book.down refl works up) in
+      let grows = (works.makes up).grows in
+      record {
+        bytes = omega (arith, before.bytes, grows.bytes, ap (λ (g : Geometry). g.log) works.geometry);
+        gates = omega (arith, before.gates, grows.gates);
+      }
 
   pub still_fails : (x : SpaceFault) (a b c : Lent D) → Leads told len faults 0 a b → Fails faults x b.disk.now c.disk.now b.store.now c.store.now → Fails faults x a.disk.now c.disk.now a.store.now c.store.now
   still_fails x a b c leads fails = Fails-on a.tx 0 a.disk.now c.disk.now a.store.now c.store.now x b.disk.now b.store.now leads.works fails

@@ -1,8 +1,9 @@
 //! The pages of a store as a space that boxed calls are driven over.
 
-ghost use Rattle.sb_space.specs.SpaceLaws.{few_pages, goes_on, stays, still_fails, table_pages, whole_pages};
+ghost use Rattle.sb_space.specs.SpaceLaws.{few_pages, goes_on, spends, stays, still_fails, table_pages, whole_pages};
 ghost use Rattle.std.specs.Prelude.{true};
 ghost use Rattle.sb_space.specs.Durable.{Leads, parts_in};
+ghost use Rattle.sb_space.specs.Spent.{HasSpent};
 ghost use Rattle.sb_space.specs.Table.{table_len};
 ghost use Rattle.sb_space.specs.View.{lent};
 ghost use Rattle.sb_space.specs.Works.{Fails, HasPages, Serves};
@@ -26,11 +27,15 @@ impl<D: Disk> PageSpace for Durable<'_, D> {
 
     ghost leads = { λ k d e. Leads D.told D.len D.faults k (lent d) (lent e) };
 
+    ghost spent = { λ n d. HasSpent n d.store.now };
+
     ghost fails = { λ x d e. Fails D.faults x d.disk.now e.disk.now d.store.now e.store.now };
 
     ghost stays = { λ d. stays D.told D.len D.faults (lent d) };
 
     ghost goes_on = { λ k l a b c one two. goes_on D.told D.len D.faults k l (lent a) (lent b) (lent c) one two };
+
+    ghost spends = { λ n k a b leads spent. spends D.told D.len D.faults n k (lent a) (lent b) leads spent };
 
     ghost fails_on = { λ x a b c leads fails. still_fails D.told D.len D.faults x (lent a) (lent b) (lent c) leads fails };
 

@@ -9,6 +9,7 @@ ghost use Rattle.sb_journal.specs.State.{used_of};
 ghost use Rattle.sb_txn.specs.Book.{ActiveTransaction, transaction_with, standing_of};
 ghost use Rattle.sb_txn.specs.Clauses.{AsksNothing, Begins, Grows, CommitAsksNothing, IsReady, LeavesWanted};
 ghost use Rattle.sb_txn.specs.Parts.{parts};
+ghost use Rattle.sb_space.specs.Spent.{HasSpent};
 ghost use Rattle.sb_space.specs.Table.{slots_in};
 ghost use Rattle.sb_space.specs.Transactions.{AreFormed, KeepsSpace, WasAt};
 ghost use Rattle.sb_space.specs.Works.{HasPages, MeansDown, Serves, StaysWanted};
@@ -60,6 +61,7 @@ impl Space {
         ensures begun { IfOk result (λ tx. Serves tx.store.number (parts D.told D.len disk.new self.new.store)
             × (standing_of tx.store.number self.new.store.book.actives ≡ 0)) }
         ensures begins { IfOk result (λ tx. Begins (parts D.told D.len disk.old self.old.store) (parts D.told D.len disk.new self.new.store) tx.store.number) }
+        ensures spent { OnOk result (HasSpent 0 self.new.store) }
         ensures pages { UnlessDown result ((want : Wanted) (s : Slots) → HasPages want s (parts D.told D.len disk.old self.old.store)
             → HasPages want s (parts D.told D.len disk.new self.new.store)) }
         ensures quiet { AsksNothing disk.old disk.new self.old.store }

@@ -8,3 +8,6 @@ returns-then-owner-gt-CATALOGUE-clause-freed g c =
 pub returns-else-owner-gt-CATALOGUE-clause-freed : goal.returns-else-owner-gt-CATALOGUE-clause-freed
 returns-else-owner-gt-CATALOGUE-clause-freed g c = λ m root kept want s gone has keeps.
     passed g.S.PageSpace.has m root kept want s c.args.owner gone c.args.space.now c.args.space.now keeps c.if-owner-gt-CATALOGUE.false has
+
+pub returns-then-owner-gt-CATALOGUE-clause-leads : goal.returns-then-owner-gt-CATALOGUE-clause-leads
+returns-then-owner-gt-CATALOGUE-clause-leads g c = (c.free_owner.ensures.leads.changes, c.free_owner.ensures.leads.leads)

@@ -1,3 +1,4 @@
+use Rattle.std.proofs.Common.{arith}
 use Rattle.sb_space.specs.Durable.{parts_in}
 use Rattle.sb_space.specs.Table.{table_len}
 use Rattle.sb_space.specs.View.{lent}
@@ -11,4 +12,6 @@ returns-clause-pages g c = UnlessDown-map c.free_owner.result _ _
     c.free_owner.ensures.pages
 
 pub returns-clause-leads : goal.returns-clause-leads
-returns-clause-leads g c = (table_len c.args.self.now.store.now.pool.geometry.pages, c.free_owner.ensures.calls.leads)
+returns-clause-leads g c =
+    let few = c.requires.ready.few in
+    record { changes = table_len c.args.self.now.store.now.pool.geometry.pages; within = omega (arith, few); leads = c.free_owner.ensures.calls.leads }
