@@ -50,11 +50,11 @@ within-all ext db name rule rows are = of_last (last_of rows)
 -- ---- on the way to it
 module _ {S : Type 0} (Has : Wanted → Slots → S → Type 0) (Leads : ℕ → S → S → Type 0) (m : Meanings) (root : ℕ) (x : Site) (name : Name) (rule : Rule) where
   -- no page is left at a moment on the way here
-  abbrev IsLeft : S → ℕ → Type 0
-  IsLeft now total = IsShortBuilding Has Leads (extensions_of m) x name rule now total
+  abbrev IsNoneLeft : S → ℕ → Type 0
+  IsNoneLeft now total = IsShortBuilding Has Leads (extensions_of m) x name rule now total
 
   first_used : (old new : S) → Has x.want x.slots old → Tables m IsDurable root x.slots x.kept → LeadsOn Leads old new
-      → (total : ℕ) → ((n : ℕ) → n < total → (x.slots n).0 ≡ 0 → holds_fresh nothing n ≡ true) → IsLeft new total
+      → (total : ℕ) → ((n : ℕ) → n < total → (x.slots n).0 ≡ 0 → holds_fresh nothing n ≡ true) → IsNoneLeft new total
   first_used old new has tables leads total used = record {
     space = old;
     leads = leads;
@@ -77,16 +77,16 @@ module _ {S : Type 0} (Has : Wanted → Slots → S → Type 0) (Leads : ℕ →
 
   -- for a root, before any is given
   pub short_first : (durable : Bool) (all : ℕ) (old new : S) → Has x.want x.slots old → Tables m IsDurable root x.slots x.kept → LeadsOn Leads old new
-      → (e : SpaceFault) → IsFull durable all x.slots nothing Fresh e → WhereShort e (IsLeft new)
+      → (e : SpaceFault) → IsFull durable all x.slots nothing Fresh e → WhereShort e (IsNoneLeft new)
   short_first durable all old new has tables leads (DataFull used of) full = first_used old new has tables leads of (used_by x.slots nothing all used of full.1)
   short_first durable all old new has tables leads (TempFull used of) full = first_used old new has tables leads of (used_by x.slots nothing all used of full.1)
   short_first durable all old new has tables leads e full = tt
 
   module _ (owner pages : ℕ) (mid new : S) (t : Slots) (has : Has x.want t mid) (comes : Comes x.slots t owner) (leads : LeadsOn Leads mid new) (within : IsWithinBuild (extensions_of m) (db_of x.kept) name rule pages) (e : SpaceFault) where
     -- for the content
-    pub short_own : Tables m IsDurable root t x.kept → WhereShort e (IsShort t owner pages) → WhereShort e (IsLeft new)
+    pub short_own : Tables m IsDurable root t x.kept → WhereShort e (IsShort t owner pages) → WhereShort e (IsNoneLeft new)
     short_own tables short =
-        where_short e (IsShort t owner pages) (IsLeft new)
+        where_short e (IsShort t owner pages) (IsNoneLeft new)
         (λ total lack. record {
           space = mid;
           leads = leads;
@@ -108,9 +108,9 @@ module _ {S : Type 0} (Has : Wanted → Slots → S → Type 0) (Leads : ℕ →
         }) short
 
     -- for the entry in the catalogue
-    pub short_entry : page_count (owned t owner) ≤ pages → WhereShort e (IsShort t 2 (2 * length (map entry_of x.kept))) → WhereShort e (IsLeft new)
+    pub short_entry : page_count (owned t owner) ≤ pages → WhereShort e (IsShort t 2 (2 * length (map entry_of x.kept))) → WhereShort e (IsNoneLeft new)
     short_entry own short =
-        where_short e (IsShort t 2 (2 * length (map entry_of x.kept))) (IsLeft new)
+        where_short e (IsShort t 2 (2 * length (map entry_of x.kept))) (IsNoneLeft new)
         (λ total lack. record {
           space = mid;
           leads = leads;

@@ -32,7 +32,8 @@ pub fn detach<B: Boxes, S: PageSpace>(
     ensures made { OnOk result ((g : Going) → StandsFor S.has B.meanings g running.old → MayDetach g.db relation.now name.now
         → MadeFrom (StandsFor S.has B.meanings) (fold.detach (extensions_in B.meanings running.old) relation.now name.now) g tt running.new) }
     ensures refused { IfErr result (λ r. (g : Going) → StandsFor S.has B.meanings g running.old → MayDetach g.db relation.now name.now
-        → StopsFrom (IsStoppedFor S.has S.leads S.fails S.table B.meanings) (fold.detach (extensions_in B.meanings running.old) relation.now name.now) g r running.new) }
+        → StopsFrom (IsStoppedFor S.has S.leads S.fails S.table B.meanings)
+        (fold.detach (extensions_in B.meanings running.old) relation.now name.now) g r running.new) }
     ensures fault { IfErr result (λ r. HasFaultCause S.fails r running.new.space.now) }
     ensures closes { Closes running.old running.new }
     ensures goes { Goes S.leads running.old running.new }

@@ -109,9 +109,11 @@ pub(crate) fn keys_matching<S: PageSpace, B: Boxes>(
     requires are_open { All (IsOpen (B.meanings boxes.now)) opened.now }
     requires may { MayDo opened.now action.now }
 
-    ensures keys { IfOk result (λ keys. (want : Wanted) (s : Slots) (kept : List Kept) → IsKeeping S.has (B.meanings boxes.now) place.root want s kept space.old opened.now
+    ensures keys { IfOk result (λ keys. (want : Wanted) (s : Slots) (kept : List Kept)
+        → IsKeeping S.has (B.meanings boxes.now) place.root want s kept space.old opened.now
         → keys.items ≡ matching (db_of kept) action.now) }
-    ensures undamaged { IfErr result (λ e. (want : Wanted) (s : Slots) (kept : List Kept) → IsKeeping S.has (B.meanings boxes.now) place.root want s kept space.old opened.now
+    ensures undamaged { IfErr result (λ e. (want : Wanted) (s : Slots) (kept : List Kept)
+        → IsKeeping S.has (B.meanings boxes.now) place.root want s kept space.old opened.now
         → IsSound e) }
     ensures looks { Looks S.has S.leads S.fails space.old space.new result }
     ensures ready { S.is_ready space.new }

@@ -76,7 +76,8 @@ fn detach_kept<S: PageSpace, B: Boxes>(
     requires owner { place.owner ≡ 2 }
 
     ensures detached { OnOk result ((aside most : ℕ) (db : Db) → KeepsWithin S.has (B.meanings boxes.now) place.root gone.old.items aside most db space.old
-        → KeepsWithin S.has (B.meanings boxes.now) place.root gone.new.items (aside + taken_bound (extensions_of (B.meanings boxes.now)) db relation.now label.now) most
+        → KeepsWithin S.has (B.meanings boxes.now) place.root gone.new.items
+        (aside + taken_bound (extensions_of (B.meanings boxes.now)) db relation.now label.now) most
         (without_attached db relation.now label.now) space.new) }
     ensures refused { IfErr result (λ e. (aside : ℕ) (db : Db) → KeepsDb S.has (B.meanings boxes.now) place.root gone.old.items aside db space.old
         → HasRefusalCause S.fails (refusal_of e) space.new) }
@@ -190,7 +191,8 @@ fn detach_mirrors_of<S: PageSpace, B: Boxes>(
     requires owner { place.owner ≡ 2 }
 
     ensures detached { OnOk result ((aside most : ℕ) (db : Db) → KeepsWithin S.has (B.meanings boxes.now) place.root gone.old.items aside most db space.old
-        → KeepsWithin S.has (B.meanings boxes.now) place.root gone.new.items (aside + mirrors_bound_of (extensions_of (B.meanings boxes.now)) name.now attachments.now db) most
+        → KeepsWithin S.has (B.meanings boxes.now) place.root gone.new.items
+        (aside + mirrors_bound_of (extensions_of (B.meanings boxes.now)) name.now attachments.now db) most
         (without_mirrors_of name.now attachments.now db) space.new) }
     ensures refused { IfErr result (λ e. (aside : ℕ) (db : Db) → KeepsDb S.has (B.meanings boxes.now) place.root gone.old.items aside db space.old
         → HasRefusalCause S.fails (refusal_of e) space.new) }
