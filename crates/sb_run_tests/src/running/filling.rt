@@ -59,19 +59,27 @@ fn longer_rows_are_refused(rt: HostRuntime) {
     assert!(rt; holds(sink, b"ok\nok @000000020000\n! toolong t\n! toolong t\n"));
 }
 
+/// A new relation wants a page; a check wants none, and one that goes wants none. What is dropped gives its pages back.
+const FULL: &str = "create u using heap (k int)\n\
+    attach check pos on t k >= 0\n\
+    detach pos on t\n\
+    drop t\n\
+    create u using heap (k int)\n";
+
 /// 62 pages are left to the heap, with four rows in each.
 #[test]
 fn pages_run_out(rt: HostRuntime) {
     let alloc = rt.alloc();
     let mut script = filling(&rt, alloc, CREATE, 249, "delete t @000000020000\n");
     add_insert(&rt, &mut script, &GREATEST);
+    script.push_str(FULL).expect(&rt, "memory");
     let sink = written(&rt, alloc, &MAKING, script, SIZE);
     assert!(rt;
         is_parted(
             sink.held(),
             ACCEPTED,
             b"ok @0000003f0003\n",
-            b"! room data 64 64\nok\nok @000000020000\n"
+            b"! room data 64 64\nok\nok @000000020000\n! room data 64 64\nok\nok\nok\nok\n"
         )
     );
     drop(sink);
