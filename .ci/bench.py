@@ -1,4 +1,5 @@
-"""Runs the proved program over a personnel workload, over a file and over memory, at two sizes, and says whether its cost for a command stays flat."""
+"""Runs the proved program over a personnel workload, over a file and over memory, at two sizes, and says whether its cost for a command stays flat;
+and over long lines, and says whether its cost for a byte of a line does."""
 
 import os
 import resource
@@ -86,6 +87,49 @@ def measure(folder, name):
     return costs
 
 
+# What makes a line long: many comparisons, one text, or a text without end; the first piece, what is repeated, and the last one.
+FORMS = [
+    ("a predicate", "attach check c on r a < 10", " or not (a < 10 and b <> 'x')", ""),
+    ("a text", "insert r values ('", "x", "')"),
+    ("a text without end", "insert r values ('", "'", ""),
+]
+SHORT, LONG, BYTES = 512, 4_096, 4_194_304
+
+
+def lines_of(form, length):
+    """As many lines of the form as have all bytes together, each of the length."""
+    _, front, piece, back = form
+    line = front + piece * ((length - len(front) - len(back)) // len(piece)) + back
+    return [line.ljust(length)] * (BYTES // length)
+
+
+def reading(folder, lines):
+    """The seconds of the processor in which the program refuses these lines, none of which it can carry out; the least of three runs."""
+    words = [PROGRAM, "--store", os.path.join(folder, "lines"), "--create"]
+    text = "".join(line + "\n" for line in lines).encode()
+    times = []
+    for _ in range(3):
+        was = resource.getrusage(resource.RUSAGE_CHILDREN)
+        ran = subprocess.run(words, input=text, stdout=subprocess.PIPE, timeout=110)
+        now = resource.getrusage(resource.RUSAGE_CHILDREN)
+        os.remove(words[2])
+        replies = ran.stdout.decode().splitlines()
+        if ran.returncode or len(replies) != len(lines) or not all(reply.startswith("! ") for reply in replies):
+            sys.exit(f"lines of {len(lines[0]) if lines else 0} bytes: status {ran.returncode}, {len(replies)} replies to {len(lines)} lines, {replies[:1]}")
+        times.append(now.ru_utime + now.ru_stime - was.ru_utime - was.ru_stime)
+    return min(times)
+
+
+def measure_lines(folder):
+    """Says for each form how much longer as many bytes take in long lines than in short ones. A cost that grew with the square would be eight times."""
+    none = reading(folder, [])
+    for form in FORMS:
+        short, long = (reading(folder, lines_of(form, length)) - none for length in (SHORT, LONG))
+        print(f"{form[0]}: {1e9 * long / BYTES:.0f} ns of the processor a byte in lines of {LONG} bytes, {long / short:.1f} times that in lines of {SHORT}")
+        if long > 2 * short:
+            sys.exit(f"{form[0]} of {LONG} bytes takes more than 16 times what one of {SHORT} does")
+
+
 if __name__ == "__main__":
     places = [("a file", None)] + ([("memory", MEMORY)] if has_room(MEMORY) else [])
     for name, place in places:
@@ -94,3 +138,6 @@ if __name__ == "__main__":
         if large > MOST * small:
             sys.exit(f"over {name} a command takes {large / small:.1f} times as long where there are ten times the rows")
     print("the cost of a command stays flat")
+    with tempfile.TemporaryDirectory() as folder:
+        measure_lines(folder)
+    print("the cost of a byte of a line stays flat")
