@@ -1,5 +1,5 @@
 -- Attaching a rule without a mirror, on an engine at work.
-use Rattle.std.proofs.Common.{◌≡◌, ℕ, sum, ◌+◌, ◌<◌, ◌≤◌, ◌==◌, nat_le, nat_lt, Bool, true, false, cond, ◌||◌, List, [], ◌∷◌, ◌++◌, length, map, Option, Some, None, is_none, bytes_eq, arith, refl, sym, ap, subst, ◌∙◌}
+use Rattle.std.proofs.Common.{◌≡◌, ℕ, ◌+◌, ◌<◌, ◌≤◌, ◌==◌, nat_le, nat_lt, Bool, true, false, cond, ◌||◌, List, [], ◌∷◌, ◌++◌, length, map, Option, Some, None, is_none, bytes_eq, arith, refl, sym, ap, subst, ◌∙◌}
 use Rattle.std.specs.List.{Any}
 use Rattle.std.proofs.lemmas.Bool.Decides.{nat_tests}
 use Rattle.std.proofs.lemmas.List.Elements.{All-weaker}
@@ -18,7 +18,7 @@ use Rattle.sb_fold.specs.declared.refusal.Refusal.TheVariants.{TooLong as LongRo
 use Rattle.sb_fold.specs.Building.{build, has_long_row}
 use Rattle.sb_fold.specs.Extensions.{Extensions, box_of}
 use Rattle.sb_fold.specs.Need.{need}
-use Rattle.sb_fold.specs.Outcome.{Going, Gone}
+use Rattle.sb_fold.specs.Outcome.{Going, Gone, Leads as RunsTo, refuse}
 use Rattle.sb_deferred.specs.Complete.{AreMirrored}
 use Rattle.sb_deferred.proofs.CatalogLemmas.{with-rule-complete}
 use Rattle.sb_deferred.proofs.RelationLemmas.{relation_same}
@@ -30,7 +30,7 @@ use Rattle.sb_registry.specs.Boxes.{Meanings, attachment_of}
 use Rattle.sb_drive.specs.declared.space.SpaceFault.{SpaceFault}
 use Rattle.sb_drive.specs.declared.space.SpaceFault.TheVariants.{DataFull}
 use Rattle.sb_drive.specs.Slots.{AreWhole, Slots, owned}
-use Rattle.sb_drive.specs.Spaces.{Wanted}
+use Rattle.sb_drive.specs.Spaces.{LeadsWithin, Wanted}
 use Rattle.sb_drive.proofs.SpacesLemmas.{ArePages-few}
 use Rattle.sb_forms.specs.Pages.{page_count}
 use Rattle.sb_standing.specs.Lacking.{WhereShort}
@@ -39,23 +39,29 @@ use Rattle.sb_standing.proofs.KeptLemmas.{IsThere, kept_at-relation}
 use Rattle.sb_standing.proofs.RuleLemmas.{with_rule-alone}
 use Rattle.sb_tables.specs.Work.{Work as Beside}
 use Rattle.sb_tables.specs.Opened.{IsDurable}
-use Rattle.sb_tables.specs.Working.{AreNamedApart, ArePaired, IsLicensed, IsNoneGone, IsShortOf, Stands, extensions_of}
-use Rattle.sb_tables.specs.Owned.{IsTabled, pages_of}
+use Rattle.sb_tables.specs.Working.{AreNamedApart, ArePaired, IsLicensed, IsNoneGone, IsPaid, IsShortOf, Stands, extensions_of}
+use Rattle.sb_tables.specs.Owned.{IsTabled}
 use Rattle.sb_tables.specs.Refusals.{refusal_of}
 use Rattle.sb_tables.specs.Weights.{resting}
 use Rattle.sb_tables.proofs.Beside.{beside-is-full, rest-has-room}
 use Rattle.sb_tables.proofs.LackingLemmas.{all_meant}
-use Rattle.sb_tables.proofs.StandsLemmas.{durable-kept}
+use Rattle.sb_tables.proofs.Measuring.{held_pages}
+use Rattle.sb_tables.proofs.PaidLemmas.{Spends}
+use Rattle.sb_tables.proofs.StandsLemmas.{durable-kept, paid_charged}
 use Rattle.sb_tables.specs.Keeping.{KeepsDb}
+use Rattle.sb_tables.specs.Measures.{IsWithin}
 use Rattle.sb_tables.proofs.DetachedLemmas.{keeps-more}
 use Rattle.sb_building.specs.declared.attaching.Attaching.TheVariants.{TooLarge, TooLong, Vetoed, Attached}
 use Rattle.sb_building.specs.Attaching.{HasEnded, MayAdd, MayAttach, Stores, new_attached}
+use Rattle.sb_building.specs.Costs.{build_cost}
 use Rattle.sb_building.specs.Instances.{Site}
 use Rattle.sb_building.specs.Lacking.{IsShortBuilding, IsWithinBuild}
+use Rattle.sb_building.proofs.CostLemmas.{spent_build}
+use Rattle.sb_building.proofs.EndedLemmas.{within-own}
 use Rattle.sb_building.proofs.NameLemmas.{apart-attached}
 use Rattle.sb_building.proofs.PairLemmas.{mirrored-alone, paired-alone}
 use Rattle.sb_building.proofs.PointLemmas.{at_build, need-aside}
-use Rattle.sb_building.proofs.WorkLemmas.{Comes, IsClosed, IsRefusedSo, Stands-other, leads_attached, leads_long, leads_vetoed, reached, reached_db, reached_gone, reached_queue, reached_used}
+use Rattle.sb_building.proofs.WorkLemmas.{Comes, IsClosed, Stands-other, leads_attached, leads_long, leads_vetoed, reached, reached_db, reached_gone, reached_queue, reached_used}
 
 -- ---- the extension of the rule is the live box
 attach_rules-live : (code : ℕ) (live spare : List Attachment) (box : Attachment) → attachment_of code live ≡ Some box → attach_rules code (map (λ x. x.rules) (live ++ spare)) ≡ Some box.rules
@@ -134,7 +140,7 @@ MayAdd-alone m db relation name rule may = record {
 }
 
 -- ---- what an engine stands for
-module _ {S : Type 0} (Has : Wanted → Slots → S → Type 0) (m : Meanings) (root : ℕ) (g : Going) (old : S) (w : Beside) (stands : Stands Has m root g old w) (relation name : Name) (rule : Rule)
+module _ {S : Type 0} (Has : Wanted → Slots → S → Type 0) (Spent : ℕ → S → Type 0) (m : Meanings) (root : ℕ) (g : Going) (old : S) (w : Beside) (stands : Stands Has Spent m root g old w) (relation name : Name) (rule : Rule)
     (may : MayAttach m g.db relation name rule) where
   pub here : IsThere stands.kept relation may.own
   here = kept_at-relation stands.kept relation may.own (ap (λ (d : Db). relation_at d relation) (sym stands.db) ∙ may.there)
@@ -168,26 +174,37 @@ module _ {S : Type 0} (Has : Wanted → Slots → S → Type 0) (m : Meanings) (
   unfolding HasEnded
   attach_large new ended = ended
 
-  pub attach_long : (new : S) → HasEnded Has m root site_of relation name rule may_add.box.rules new TooLong → IsRefusedSo (build ext relation name rule) g (LongRow relation)
+  pub attach_long : (new : S) → HasEnded Has m root site_of relation name rule may_add.box.rules new TooLong
+      → RunsTo (build ext relation name rule) g [] (refuse (LongRow relation)) (reached ext relation name rule g)
   unfolding HasEnded
-  attach_long new ended = record { after = _; leads = leads_long ext relation name rule g (ap (λ (d : Db). has_long_row d relation rule) stands.db ∙ ended) }
+  attach_long new ended = leads_long ext relation name rule g (ap (λ (d : Db). has_long_row d relation rule) stands.db ∙ ended)
 
-  pub attach_vetoed : (new : S) → HasEnded Has m root site_of relation name rule may_add.box.rules new Vetoed → IsRefusedSo (build ext relation name rule) g (Veto relation name)
+  pub attach_vetoed : (new : S) → HasEnded Has m root site_of relation name rule may_add.box.rules new Vetoed
+      → RunsTo (build ext relation name rule) g [] (refuse (Veto relation name)) (reached ext relation name rule g)
   unfolding HasEnded
-  attach_vetoed new ended = record { after = _; leads = leads_vetoed ext relation name rule g (short_rows ended.0) (holds_as false ended.1) }
+  attach_vetoed new ended = leads_vetoed ext relation name rule g (short_rows ended.0) (holds_as false ended.1)
+
+  -- its build has paid for what was changed
+  pub paid_built : (Leads : ℕ → S → S → Type 0) → Spends Spent Leads → (new : S) → LeadsWithin Leads (build_cost ext (db_of stands.kept) relation rule) old new
+      → IsPaid Spent 0 (reached ext relation name rule g).trail.spent new
+  paid_built Leads spends new within =
+      subst (λ (n : ℕ). IsPaid Spent 0 n new)
+      (sym (spent_build ext relation rule g (durable-kept m root stands.slots w.gone.items stands.kept stands.keeps stands.lasting g.db stands.db relation)))
+      (paid_charged Has Spent m root Leads spends g old new w (build_cost ext g.db relation rule) stands
+      (subst (λ (d : Db). LeadsWithin Leads (build_cost ext d relation rule) old new) (sym stands.db) within))
 
   -- it is attached
   pub attach_made : (new : S) (v : Beside) → IsClosed w v → v.gone.items ≡ w.gone.items → HasEnded Has m root site_of relation name rule may_add.box.rules new Attached
-      → Comes Has m root (build ext relation name rule) g new v
+      → IsPaid Spent 0 (reached ext relation name rule g).trail.spent new → Comes Has Spent m root (build ext relation name rule) g new v
   unfolding HasEnded
-  attach_made new v closed gone ended = record {
+  attach_made new v closed gone ended paid = record {
     after = _;
     leads = leads_attached ext relation name rule g (short_rows ended.0) (holds_as true ended.1);
     stands =
-        Stands-other Has m root g _ after old new w v stands (ap (λ (d : Db). with_rule d relation name rule) (reached_db ext relation name rule g)) (reached_queue ext relation name rule g) (reached_used ext relation name rule g) closed
-        (subst (λ (l : List ℕ). KeepsDb Has m root l (sum (reached ext relation name rule g).gone.durable) after new) (sym gone)
-        (keeps-more Has m root w.gone.items (pages_of stands.slots w.gone.items) _ after new held
-        (subst (λ (d : Db). KeepsDb Has m root w.gone.items (pages_of stands.slots w.gone.items) d new) (ap (λ (d : Db). with_attached d relation name rule) (sym stands.db) ∙ sym alone) ended.2)))
+        Stands-other Has Spent m root g _ after old new w v stands paid (ap (λ (d : Db). with_rule d relation name rule) (reached_db ext relation name rule g)) (reached_queue ext relation name rule g) (reached_used ext relation name rule g) closed
+        (subst (λ (l : List ℕ). KeepsDb Has m root l (reached ext relation name rule g).gone.durable after new) (sym gone)
+        (keeps-more Has m root w.gone.items own_pages _ after new held
+        (subst (λ (d : Db). KeepsDb Has m root w.gone.items own_pages d new) (ap (λ (d : Db). with_attached d relation name rule) (sym stands.db) ∙ sym alone) ended.2)))
         (subst AreMirrored (sym alone) (mirrored-alone g.db relation name rule may.own may.there may.new may.single stands.mirrored))
         (subst ArePaired (sym alone) (paired-alone g.db relation name rule may.own may.there may.new may.main stands.paired))
         (subst AreNamedApart (sym alone) (apart-attached g.db relation name rule may.own may.there may.new stands.apart))
@@ -203,8 +220,13 @@ module _ {S : Type 0} (Has : Wanted → Slots → S → Type 0) (m : Meanings) (
       alone : with_rule g.db relation name rule ≡ with_attached g.db relation name rule
       alone = with_rule-alone g.db relation name rule may.single
 
-      held : pages_of stands.slots w.gone.items ≤ sum (reached ext relation name rule g).gone.durable
-      held = omega (arith, stands.aside, ap (λ (x : Gone). sum x.durable) (reached_gone ext relation name rule g))
+      own_pages : List ℕ
+      own_pages = map (λ o. page_count (owned stands.slots o)) w.gone.items
+
+      held : IsWithin own_pages (reached ext relation name rule g).gone.durable
+      held =
+          subst (λ (x : Gone). IsWithin own_pages x.durable) (sym (reached_gone ext relation name rule g))
+          (within-own stands.slots w.gone.items g.gone.durable stands.aside)
 
       missing : first_missing g.db (relation ∷ []) ≡ None
       missing = ap (λ (o : Option Relation). cond (is_none o) (Some relation) None) may.there
@@ -222,7 +244,7 @@ module _ {S : Type 0} (Has : Wanted → Slots → S → Type 0) (m : Meanings) (
         → Any (IsShortOf total (table it.space + page_count (owned it.slots 1)) ext) (reached ext relation name rule g).trail.points
     short_point total new small it =
         let pages = λ (o : ℕ). ArePages-few stands.slots o (whole stands.want stands.slots old stands.has) (few stands.want stands.slots old stands.has) in
-        let within = rest-has-room m IsDurable root stands.slots w.gone.items stands.kept g.gone 0 (all_meant m root stands.slots stands.kept stands.lasting stands.keeps.tables) pages stands.keeps stands.aside in
+        let within = rest-has-room m IsDurable root stands.slots w.gone.items stands.kept g.gone 0 (all_meant m root stands.slots stands.kept stands.lasting stands.keeps.tables) pages stands.keeps (held_pages stands.slots w.gone.items g.gone.durable stands.aside) in
         let full = beside-is-full m IsDurable root stands.slots it.slots w.gone.items stands.kept it.owner it.pages (table it.space) total (need ext true (resting (db_of stands.kept) g.gone 0)) stands.keeps within small
         (tabled stands.want it.slots it.space it.has) it.short in
         let same = ap (λ (d : Db). need ext true (resting d g.gone 0)) stands.db in

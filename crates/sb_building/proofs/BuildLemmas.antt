@@ -6,8 +6,9 @@ use Rattle.std.proofs.lemmas.List.Folds.{list_any-append}
 use Rattle.sb_value.specs.declared.schema.Column.{Column}
 use Rattle.sb_value.specs.Order.{bytes_cmp}
 use Rattle.sb_rule.specs.declared.rule.Rule.{Rule}
-use Rattle.sb_relation.specs.Db.{Key, Row, Rows}
+use Rattle.sb_relation.specs.Db.{Key, Name, Row, Rows}
 use Rattle.sb_relation.specs.Lawful.{is_long_for}
+use Rattle.sb_fold.specs.Extensions.{Extensions}
 use Rattle.sb_ctx.specs.declared.instance.Instance.{Instance}
 use Rattle.sb_ctx.specs.Attachment.{Attachment}
 use Rattle.sb_ctx.specs.AttachAnswers.{Holds}
@@ -15,14 +16,19 @@ use Rattle.sb_ctx.specs.MethodAnswers.{row_above}
 use Rattle.sb_registry.specs.Boxes.{Meanings}
 use Rattle.sb_drive.specs.declared.space.SpaceFault.{SpaceFault}
 use Rattle.sb_drive.specs.Slots.{Slots, owned}
-use Rattle.sb_drive.specs.Spaces.{Leaves, LeadsOn, Wanted}
+use Rattle.sb_drive.specs.Spaces.{Leaves, LeadsOn, LeadsWithin, Wanted}
+use Rattle.sb_drive.proofs.SpacesLemmas.{GoesOn, LeadsWithin-more, LeadsWithin-none}
 use Rattle.sb_rows.specs.Live.{HasRows}
+use Rattle.sb_rows.specs.Scans.{rows_above}
+use Rattle.sb_rows.proofs.ScansLemmas.{rows_above-all, rows_above-next}
 use Rattle.sb_standing.specs.Lacking.{IsShort, WhereShort}
 use Rattle.sb_standing.specs.Tables.{KeepsOthers, db_of, table_of}
 use Rattle.sb_tables.specs.Opened.{IsDurable}
 use Rattle.sb_tables.specs.Working.{extensions_of}
+use Rattle.sb_tables.proofs.SpendingLemmas.{within_then}
 use Rattle.sb_building.specs.Attaching.{HasBegun}
 use Rattle.sb_building.specs.Building.{HasNoLong, HoldsBuilt, IsBuilt, IsBuiltOver, IsNext, content_built}
+use Rattle.sb_building.specs.Costs.{rest_cost, row_cost, rows_cost}
 use Rattle.sb_building.specs.Held.{holds_of}
 use Rattle.sb_building.specs.Instances.{IsSite, Site}
 use Rattle.sb_building.specs.Lacking.{IsShortBuilding, bound_with}
@@ -41,6 +47,17 @@ pub record IsBuildingUp {S : Type 0} (Has : Wanted → Slots → S → Type 0) (
   pub read : IsRead x.one.relation.rows built last count
   pub held : holds_of (Some box.rules) (db_of x.kept) inst.relation rule built ≡ true
   pub content : Holds box inst (owned slots inst.owner) (content_built box inst rule (db_of x.kept) built)
+
+-- what was led from the first space on costs, with the rows that are left, what all rows cost
+pub record HasLed {S : Type 0} (Leads : ℕ → S → S → Type 0) (ext : Extensions) (x : Site) (name : Name) (rule : Rule) (built : Rows) (last : Option Key) (first space : S) : Type 0 where
+  pub done : ℕ
+  pub leads : LeadsWithin Leads done first space
+  pub left : done + rest_cost ext (db_of x.kept) name rule built (rows_above last x.one.relation.rows) ≡ rows_cost ext (db_of x.kept) name rule x.one.relation.rows
+
+-- so far, with what it has cost
+pub record IsPaidUp {S : Type 0} (Has : Wanted → Slots → S → Type 0) (Leads : ℕ → S → S → Type 0) (m : Meanings) (root : ℕ) (x : Site) (inst : Instance) (rule : Rule) (box : Attachment) (last : Option Key) (count : ℕ) (first space : S) : Type 0 where
+  pub up : IsBuildingUp Has m root x inst rule box last count space
+  pub led : HasLed Leads (extensions_of m) x inst.relation rule up.built last first space
 
 never_long : (a b c : Bool) → b ≡ true → (a || (b || c)) ≡ false → ⊥
 never_long true b c for_it against = absurd (cc)
@@ -144,6 +161,76 @@ module _ {S : Type 0} (Has : Wanted → Slots → S → Type 0) (m : Meanings) (
     -- no more rows than there are
     pub building-few : 2 ^ 48 ≤ count → ⊥
     building-few many = IsRead-few x.one.relation.rows up.built last count (2 ^ 48) (rows_are Has m root here inst rule box space up.site).few many up.read
+
+-- ---- what it costs
+module _ {S : Type 0} (Has : Wanted → Slots → S → Type 0) (Leads : ℕ → S → S → Type 0) (goes_on : GoesOn Leads) (m : Meanings) (root : ℕ) (x : Site) (inst : Instance) (rule : Rule) (box : Attachment) where
+  -- the most that all rows cost
+  abbrev most : ℕ
+  most = rows_cost (extensions_of m) (db_of x.kept) inst.relation rule x.one.relation.rows
+
+  -- what one row costs, and those behind it
+  abbrev of_row : Rows → Key × Row → ℕ
+  of_row built row = row_cost (extensions_of m) (db_of x.kept) inst.relation rule built row
+
+  abbrev of_rest : Rows → Rows → ℕ
+  of_rest built rows = rest_cost (extensions_of m) (db_of x.kept) inst.relation rule built rows
+
+  pub paid-none : (space : S) → IsSite Has m root x inst rule box space → HoldsBuilt x box inst rule [] → Leads 0 space space → IsPaidUp Has Leads m root x inst rule box None 0 space space
+  unfolding building-none
+  paid-none space site over stays = record {
+    up = building-none Has m root x inst rule box space site over;
+    led = record {
+      done = 0;
+      leads = LeadsWithin-none Leads 0 space space stays;
+      left = omega (arith, ap (of_rest []) (rows_above-all x.one.relation.rows));
+    };
+  }
+
+  module _ (last : Option Key) (count : ℕ) (first old : S) (paid : IsPaidUp Has Leads m root x inst rule box last count first old) where
+    -- it costs no more than all rows
+    pub paid-all : LeadsWithin Leads most first old
+    paid-all = LeadsWithin-more Leads paid.led.done most first old (omega (arith, paid.led.left)) paid.led.leads
+
+    -- a call that looks costs nothing
+    pub paid-looking : (new : S) → Leads 0 old new → LeadsWithin Leads most first new
+    paid-looking new looks = within_then Leads goes_on paid.led.done 0 most first old new (omega (arith, paid.led.left)) paid.led.leads (LeadsWithin-none Leads 0 old new looks)
+
+    pub paid-later : (new : S) → ((want : Wanted) (s : Slots) → Has want s old → Has want s new) → Leads 0 old new → IsPaidUp Has Leads m root x inst rule box last count first new
+    unfolding building-later
+    paid-later new later looks = record {
+      up = building-later Has m root x inst rule box last count old new later paid.up;
+      led = record {
+        done = paid.led.done;
+        leads = within_then Leads goes_on paid.led.done 0 paid.led.done first old new (omega arith) paid.led.leads (LeadsWithin-none Leads 0 old new looks);
+        left = paid.led.left;
+      };
+    }
+
+    module _ (row : Key × Row) (new : S) (is : row_above last x.one.relation.rows ≡ Some row) (costs : LeadsWithin Leads (of_row paid.up.built row) old new) where
+      -- the next row is one of those that are left
+      left_with : paid.led.done + (of_row paid.up.built row + of_rest (paid.up.built ++ row ∷ []) (rows_above (Some row.0) x.one.relation.rows)) ≡ most
+      left_with =
+          omega (
+            arith,
+            paid.led.left,
+            ap (of_rest paid.up.built) (rows_above-next last x.one.relation.rows row (rising Has m root x inst rule box last count old paid.up) is),
+          )
+
+      -- what it costs is within what all rows cost
+      pub paid-row : LeadsWithin Leads most first new
+      paid-row = within_then Leads goes_on paid.led.done (of_row paid.up.built row) most first old new (omega (arith, left_with)) paid.led.leads costs
+
+      -- with one more
+      pub paid-next : Leaves Has inst.owner x.want paid.up.slots new (IsBuilt box inst rule (db_of x.kept) paid.up.built row true) → IsPaidUp Has Leads m root x inst rule box (Some row.0) (count + 1) first new
+      unfolding building-next
+      paid-next left = record {
+        up = building-next Has m root x inst rule box last count old paid.up row new is left;
+        led = record {
+          done = paid.led.done + of_row paid.up.built row;
+          leads = within_then Leads goes_on paid.led.done (of_row paid.up.built row) (paid.led.done + of_row paid.up.built row) first old new (omega arith) paid.led.leads costs;
+          left = omega (arith, left_with);
+        };
+      }
 
 -- ---- want of a page
 -- where no page is left for the next row, none is left beside the owner that has come

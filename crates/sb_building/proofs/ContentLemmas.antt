@@ -47,7 +47,7 @@ standing_buckets-more (Foreign code desc) built row = refl
 with_rows-there : (db : Db) (name : Name) (r : Relation) (rows : Rows) → relation_at db name ≡ Some r → with_rows db name rows ≡ with_relation db name (record r { rows = rows })
 with_rows-there db name r rows there = ap (λ (o : Option Relation). elim o as (λ _. Db) [ None ↦ db | Some q ↦ with_relation db name (record q { rows = rows }) ]) there
 
-at-rows : (db : Db) (name : Name) (r : Relation) (rows : Rows) → relation_at db name ≡ Some r → relation_at (with_rows db name rows) name ≡ Some (record r { rows = rows })
+pub at-rows : (db : Db) (name : Name) (r : Relation) (rows : Rows) → relation_at db name ≡ Some r → relation_at (with_rows db name rows) name ≡ Some (record r { rows = rows })
 at-rows db name r rows there = ap (λ (d : Db). relation_at d name) (with_rows-there db name r rows there) ∙ relation_same db name (record r { rows = rows })
 
 pub IsOver-next : (db : Db) (name : Name) (r : Relation) (schema : List Column) (built : Rows) (row : Key × Row) → relation_at db name ≡ Some r → AreRows schema r.rows → IsNext r.rows built row → IsOver db name built row

@@ -1,8 +1,9 @@
 -- What is left once a rule is attached.
-use Rattle.std.proofs.Common.{◌≡◌, ℕ, suc, ◌≤◌, true, List, [], ◌∷◌, length, map, Option, Some, None, arith, refl, sym, ap, subst, ◌∙◌}
+use Rattle.std.proofs.Common.{◌≡◌, ℕ, suc, ◌≤◌, true, List, [], ◌∷◌, length, map, sum_by, Option, Some, None, arith, refl, sym, ap, subst, ◌∙◌}
 use Rattle.std.specs.List.{list_any}
 use Rattle.std.specs.FinMap.Entries.{put}
 use Rattle.std.proofs.lemmas.List.Elements.{All-map}
+use Rattle.std.proofs.lemmas.List.Sums.{sum_by-cons}
 use Rattle.std.proofs.lemmas.Option.{same_Some}
 use Rattle.sb_value.specs.declared.schema.Column.{Column}
 use Rattle.sb_node.specs.Entries.{key_cmp}
@@ -16,7 +17,7 @@ use Rattle.sb_relation.specs.Lawful.{is_long_for}
 use Rattle.sb_relation.specs.Limits.{descriptor_len}
 use Rattle.sb_relation.specs.Rules.{holds}
 use Rattle.sb_fold.specs.Building.{has_long_row}
-use Rattle.sb_forms.specs.Pages.{Pages}
+use Rattle.sb_forms.specs.Pages.{Pages, page_count}
 use Rattle.sb_forms.specs.Maps.{map_in}
 use Rattle.sb_ctx.specs.declared.instance.Instance.{Instance}
 use Rattle.sb_ctx.specs.Attachment.{Attachment}
@@ -40,9 +41,10 @@ use Rattle.sb_standing.proofs.StandLemmas.{StandRules-keeps}
 use Rattle.sb_rows.specs.Live.{HasRows}
 use Rattle.sb_tables.specs.OpenRelation.{OpenRelation}
 use Rattle.sb_tables.specs.Opened.{IsDurable, IsOpen, rule_of}
-use Rattle.sb_tables.specs.Owned.{pages_of}
 use Rattle.sb_tables.specs.Working.{IsLasting}
 use Rattle.sb_tables.specs.Keeping.{KeepsDb}
+use Rattle.sb_tables.specs.Measures.{AreHeld, IsWithin}
+use Rattle.sb_tables.proofs.Measuring.{held-alike}
 use Rattle.sb_tables.proofs.TakenLemmas.{gone-beside}
 use Rattle.sb_building.specs.Attaching.{HasBegun, IsEntryOf, IsRoomy, IsStore, MayAdd, Stores, new_attached}
 use Rattle.sb_building.specs.Building.{content_built}
@@ -51,6 +53,20 @@ use Rattle.sb_building.specs.Instances.{Site}
 use Rattle.sb_building.proofs.ContentLemmas.{content-all}
 use Rattle.sb_building.proofs.HeldLemmas.{holds-all}
 
+-- ---- owners with the pages that they have
+sum-mapped : (f h : ℕ → ℕ) (xs : List ℕ) → sum_by f (map h xs) ≡ sum_by (λ x. f (h x)) xs
+sum-mapped f h [] = refl
+sum-mapped f h (x ∷ xs) = omega (arith, sum-mapped f h xs, sum_by-cons f (h x) (map h xs), sum_by-cons (λ y. f (h y)) x xs)
+
+-- they are held by these
+held-own : (s : Slots) (owners : List ℕ) → AreHeld s owners (map (λ o. page_count (owned s o)) owners)
+held-own s owners f is = omega (arith, sum-mapped f (λ o. page_count (owned s o)) owners)
+
+-- which are within any bounds that hold them
+pub within-own : (s : Slots) (owners bounds : List ℕ) → AreHeld s owners bounds → IsWithin (map (λ o. page_count (owned s o)) owners) bounds
+within-own s owners bounds held f is = omega (arith, sum-mapped f (λ o. page_count (owned s o)) owners, held f is)
+
+-- ---- the relation that is open
 module _ {S : Type 0} (Has : Wanted → Slots → S → Type 0) (m : Meanings) (root : ℕ) (x : Site) (name : Name) (stores : Stores m root x name) where
   pub store_of : (old : S) → Has x.want x.slots old → IsStore Has m root x name old
   store_of old has = record { has = has; tables = stores.keeps.tables; stand = StandRules-keeps m IsDurable root x.slots x.gone x.kept stores.keeps; there = stores.there }
@@ -148,7 +164,7 @@ module _ {S : Type 0} (Has : Wanted → Slots → S → Type 0) (m : Meanings) (
           → IsStorableDescriptor (record x.one.descriptor { attachments = with_described d x.one.descriptor.attachments })
           → Leaves Has 2 x.want pages new_space
           (λ after. map_in root after ≡ Some (put key_cmp name (descriptor_spelling (record x.one.descriptor { attachments = with_described d x.one.descriptor.attachments })) (map entry_of x.kept)))
-          → KeepsDb Has m root x.gone (pages_of x.slots x.gone) (with_attached (db_of x.kept) name label rule) new_space
+          → KeepsDb Has m root x.gone (map (λ o. page_count (owned x.slots o)) x.gone) (with_attached (db_of x.kept) name label rule) new_space
       KeepsDb-attached pages new_space others holds storable left =
           let one = attached_kept d new x.one in
           let kept = put_kept one x.kept in
@@ -174,11 +190,9 @@ module _ {S : Type 0} (Has : Wanted → Slots → S → Type 0) (m : Meanings) (
             kept = kept;
             has = left.has;
             is = sym (db_of-attached x.kept x.one d new there_by_name refl ∙ ap (λ (n : Name). with_attached (db_of x.kept) n label rule) one_named);
-            few = omega (
-              arith,
-              gone-beside x.slots left.slots (owners_in x.kept) x.gone inst.owner begun.none stores.keeps.own
-                  (λ o other catalogue. left.others o catalogue ∙ others o other ∙ begun.others o other),
-            );
+            held = held-alike x.slots left.slots x.gone (map (λ o. page_count (owned x.slots o)) x.gone)
+                (λ f. gone-beside f x.slots left.slots (owners_in x.kept) x.gone inst.owner begun.none stores.keeps.own
+                (λ o other catalogue. left.others o catalogue ∙ others o other ∙ begun.others o other)) (held-own x.slots x.gone);
             keeps = Keeps-attached m IsDurable root x.slots left.slots x.gone x.kept x.one d new stores.keeps attaches;
             lasting =
                 let IsOf : Kept → Type 0 = λ k. IsLasting k.descriptor in

@@ -7,19 +7,22 @@ use Rattle.sb_rule.specs.declared.rule.Rule.TheVariants.{TreeIndex, HashIndex, J
 use Rattle.sb_rule.specs.Spelling.{rule_code, rule_spelling}
 use Rattle.sb_relation.specs.Content.{Content}
 use Rattle.sb_relation.specs.Db
-use Rattle.sb_relation.specs.Db.{Name, Relation, Db}
+use Rattle.sb_relation.specs.Db.{Name, Relation, Db, schema_at}
 use Rattle.sb_relation.specs.Fits.{MayStand}
+use Rattle.sb_fold.specs.Costs.{prepare_cost}
 use Rattle.sb_forms.specs.Pages.{Pages, new_pages}
 use Rattle.sb_ctx.specs.declared.instance.Instance.{Instance}
 use Rattle.sb_ctx.specs.Attachment.{Attachment, IsOwned, JoinsAnother, StandsOn, keeps_pages}
-use Rattle.sb_ctx.specs.AttachAnswers.{Holds}
+use Rattle.sb_ctx.specs.AttachAnswers.{Holds, first_content}
+use Rattle.sb_ctx.specs.declared.calls.AttachCall.TheVariants.{Prepare}
 use Rattle.sb_ctx.specs.Laws.{IsAttachment}
 use Rattle.sb_registry.specs.Boxes.{Meanings, attachment_of}
 use Rattle.sb_registry.specs.Live.{IsLiveRule}
 use Rattle.sb_registry.specs.Runs.{IsSound}
 use Rattle.sb_drive.specs.declared.space.SpaceFault.{SpaceFault}
 use Rattle.sb_drive.specs.Slots.{Slots, owned}
-use Rattle.sb_drive.specs.Spaces.{Leaves, LeadsOn, Wanted}
+use Rattle.sb_drive.specs.Spaces.{Leaves, LeadsOn, LeadsWithin, Wanted}
+use Rattle.sb_drive.proofs.SpacesLemmas.{GoesOn, LeadsWithin-on}
 use Rattle.sb_catalog.specs.declared.descriptor.Attached.{Attached}
 use Rattle.sb_catalog.specs.declared.descriptor.Descriptor.{Descriptor}
 use Rattle.sb_catalog.specs.Descriptors.{IsCountedRule}
@@ -35,6 +38,8 @@ use Rattle.sb_tables.specs.Working.{extensions_of}
 use Rattle.sb_building.specs.Attaching.{HasBegun, IsEntered, IsEntryOf, IsStore, MayAdd}
 use Rattle.sb_building.specs.Instances.{HasNewPages, HoldsFirst, IsApart, IsPlaced, IsSite, Site}
 use Rattle.sb_building.specs.Lacking.{IsShortBuilding, bound_over}
+use Rattle.sb_tables.proofs.SpendingLemmas.{within_then}
+use Rattle.sb_building.proofs.ChargeLemmas.{first-is-charged, live-by-rule, schema-own}
 use Rattle.sb_building.proofs.ContentLemmas.{content-first}
 use Rattle.sb_building.proofs.LackingLemmas.{short_own}
 use Rattle.sb_building.proofs.SiteLemmas.{Tables-apart}
@@ -303,3 +308,21 @@ module _ {S : Type 0} (Has : Wanted → Slots → S → Type 0) (m : Meanings) (
           (tables-begun Has m root x name label rule d old mid later store may new_entry placed_own looks)
           (full live (record x { slots = placed_own.slots }) rule (site-begun Has m root x name label rule d old mid later store may new_entry placed_own looks inst inst_is live)
           (pages-begun Has m root x name label rule d old mid later store may new_entry placed_own looks inst inst_is live) may.joinless))
+
+      -- its owner and its content cost no more than the definitions charge for them
+      pub prepared_charged : (Leads : ℕ → S → S → Type 0) → GoesOn Leads → LeadsWithin Leads (cond (keeps_pages (rule_code rule)) 2 0) old mid → Leads 0 mid later
+          → ((own : IsLiveRule m inst) (y : Site) (r : Rule) → IsSite Has m root y inst r own.box later → HasNewPages y own.box inst
+          → LeadsWithin Leads (own.box.cost Prepare (first_content own.box inst r (db_of y.kept)) (first_content own.box inst r (db_of y.kept))) later after)
+          → LeadsWithin Leads (prepare_cost (extensions_of m) (schema_at (db_of x.kept) name) rule) old after
+      prepared_charged Leads goes_on owner none costs =
+          let db = db_of x.kept in
+          let first = first_content live.box inst rule db in
+          let site = site-begun Has m root x name label rule d old mid later store may new_entry placed_own looks inst inst_is live in
+          let stands = site.stands in
+          let columns : schema_at db name ≡ inst.schema =
+          ap (λ (n : Name). schema_at db n) (sym (ap (λ (i : Instance). i.relation) is)) ∙ schema-own live.box inst rule db stands in
+          let charged = first-is-charged m live.box inst db rule (live-by-rule m inst live rule db stands) live.law stands may.joinless in
+          within_then Leads goes_on (cond (keeps_pages (rule_code rule)) 2 0) (live.box.cost Prepare first first) _ old mid after
+          (omega (arith, charged, ap (λ (c : List Column). prepare_cost (extensions_of m) c rule) columns)) owner
+          (LeadsWithin-on Leads (live.box.cost Prepare first first) mid later after goes_on none
+          (costs live (record x { slots = placed_own.slots }) rule site (pages-begun Has m root x name label rule d old mid later store may new_entry placed_own looks inst inst_is live)))

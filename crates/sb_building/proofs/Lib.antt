@@ -1,5 +1,6 @@
 pub use Rattle.sb_tables.proofs.OpenedLemmas
 pub use Rattle.sb_tables.proofs.OpeningLemmas
+pub use Rattle.sb_tables.proofs.PaidLemmas
 pub use Rattle.sb_tables.proofs.RefusedLemmas
 pub use Rattle.sb_tables.proofs.StandingLemmas
 pub mod RowsLemmas
@@ -8,6 +9,7 @@ pub mod ContentLemmas
 pub mod SiteLemmas
 pub mod LackingLemmas
 pub mod BoundLemmas
+pub mod ChargeLemmas
 pub mod InstanceLemmas
 pub mod PlaceLemmas
 pub mod EndedLemmas
@@ -19,5 +21,7 @@ pub mod CallLemmas
 pub mod BuildLemmas
 pub mod WorkLemmas
 pub mod PointLemmas
+pub mod CostLemmas
+pub mod SpentLemmas
 pub mod AttachLemmas
 pub mod DetachLemmas

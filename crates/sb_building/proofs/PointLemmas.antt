@@ -6,7 +6,7 @@ use Rattle.sb_rule.specs.declared.change.Change.TheVariants.{Insert}
 use Rattle.sb_rule.specs.declared.rule.Rule.{Rule}
 use Rattle.sb_rule.specs.declared.rule.Rule.TheVariants.{TreeIndex, HashIndex, JoinIndex, Stats, Check, Refers, Trigger, Foreign}
 use Rattle.sb_relation.specs.Buckets.{first_buckets, next_buckets, standing_buckets}
-use Rattle.sb_relation.specs.Db.{Name, Key, Row, Rows, Db, rows_at, with_rows}
+use Rattle.sb_relation.specs.Db.{Name, Key, Row, Rows, Db, rows_at, schema_at, with_rows}
 use Rattle.sb_fold.specs.Building.{build_rows, built_bound, built_point, reach_build, with_gone}
 use Rattle.sb_fold.specs.Costs.{descriptor_cost, descriptors_of, prepare_cost, rule_cost}
 use Rattle.sb_fold.specs.Extensions.{Extensions, is_durable_at}
@@ -19,7 +19,7 @@ use Rattle.sb_building.proofs.ContentLemmas.{standing_buckets-more}
 use Rattle.sb_building.proofs.WorkLemmas.{goes_rows}
 
 -- ---- buckets over no rows
-standing_buckets-none : (rule : Rule) → standing_buckets rule [] ≡ first_buckets rule
+pub standing_buckets-none : (rule : Rule) → standing_buckets rule [] ≡ first_buckets rule
 standing_buckets-none (TreeIndex columns unique) = refl
 standing_buckets-none (HashIndex columns) = refl
 standing_buckets-none (JoinIndex side columns other others) = refl
@@ -69,7 +69,7 @@ module _ (ext : Extensions) (name : Name) (rule : Rule) (P : Reached → Type 0)
       first = built_bound ext g.db name rule (first_buckets rule) []
 
       cost : ℕ
-      cost = prepare_cost rule + descriptors_of rule * descriptor_cost ext g.db
+      cost = prepare_cost ext (schema_at g.db name) rule + descriptors_of rule * descriptor_cost ext g.db
 
       prepared : Going
       prepared = built_point ext name first cost g

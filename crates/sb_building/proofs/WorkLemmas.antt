@@ -1,5 +1,5 @@
 -- Attaching and detaching by the definitions, and what an engine stands for then.
-use Rattle.std.proofs.Common.{◌≡◌, ◌⊎◌, inl, inr, ℕ, sum, ◌+◌, ◌≤◌, Bool, true, false, not, List, [], ◌∷◌, drop, Option, Some, None, arith, refl, sym, ap, subst, ◌∙◌}
+use Rattle.std.proofs.Common.{◌≡◌, ◌⊎◌, inl, inr, ℕ, ◌+◌, ◌≤◌, Bool, true, false, not, List, [], ◌∷◌, drop, Option, Some, None, arith, refl, sym, ap, subst, ◌∙◌}
 use Rattle.std.proofs.lemmas.List.Elements.{All-nil}
 use Rattle.sb_rule.specs.declared.rule.Rule.{Rule}
 use Rattle.sb_relation.specs.Build.{with_rule}
@@ -15,13 +15,12 @@ use Rattle.sb_deferred.specs.Complete.{AreMirrored, IsComplete}
 use Rattle.sb_cascade.specs.Fitting.{AllFit, AllMayStand}
 use Rattle.sb_cascade.specs.Runs.{EndsBy, GoesOn, StopsFrom, is_free}
 use Rattle.sb_cascade.proofs.Forward.{IsForward, forward_at, forward_change, forward_made, forward_next, forward_refuse, goes_here, goes_then}
-use Rattle.sb_cascade.proofs.Stopping.{stops_free}
 use Rattle.sb_registry.specs.Boxes.{Meanings}
 use Rattle.sb_drive.specs.Slots.{Slots}
 use Rattle.sb_drive.specs.Spaces.{Wanted}
 use Rattle.sb_tables.specs.OpenRelation.{OpenRelation}
 use Rattle.sb_tables.specs.Work.{Work as Beside}
-use Rattle.sb_tables.specs.Working.{AreNamedApart, AreOpened, ArePaired, IsNoneGone, IsOpened, Stands, extensions_of}
+use Rattle.sb_tables.specs.Working.{AreNamedApart, AreOpened, ArePaired, IsNoneGone, IsOpened, IsPaid, Stands, extensions_of}
 use Rattle.sb_tables.specs.Keeping.{KeepsDb}
 
 -- ---- trails
@@ -34,9 +33,6 @@ goes_at db aside cost t = record { points = _; more = refl; spent = at_least t.s
 pub goes_rows : (ext : Extensions) (name : Name) (rule : Rule) (rows : Rows) (buckets : ℕ) (built : Rows) (g : Going) → GoesOn g.trail (build_rows ext name rule buckets built rows g).trail
 goes_rows ext name rule [] buckets built g = goes_here g.trail
 goes_rows ext name rule (row ∷ rows) buckets built g = goes_then (goes_at _ _ _ g.trail) (goes_rows ext name rule rows _ _ _)
-
-goes_build : (ext : Extensions) (name : Name) (rule : Rule) (g : Going) → GoesOn g.trail (reach_build ext name rule g).trail
-goes_build ext name rule g = goes_then (goes_at _ _ _ g.trail) (goes_rows ext name rule (rows_at g.db name) _ [] _)
 
 forward_if : (b : Bool) (r : Refusal) → IsForward (refuse_if b r)
 forward_if true r = forward_refuse r
@@ -57,10 +53,6 @@ forward_first ext relation name rule =
     forward_next _ _ (forward_at (λ g. refuse_if (has_long_row g.db relation rule) (TooLong relation)) (λ g. forward_if _ _)) (λ _.
     forward_next _ _ (forward_at (λ g. refuse_if (not (holds (box_of ext rule) g.db relation rule)) (Veto relation name)) (λ g. forward_if _ _)) (λ _.
     forward_change (λ g. with_db (with_rule g.db relation name rule) g) (λ g. goes_here g.trail)))
-
-pub forward_build : (ext : Extensions) (relation name : Name) (rule : Rule) → IsForward (build ext relation name rule)
-forward_build ext relation name rule =
-    forward_next _ _ (forward_change (reach_build ext relation rule) (goes_build ext relation rule)) (λ _. forward_first ext relation name rule)
 
 pub forward_detach : (ext : Extensions) (relation name : Name) → IsForward (detach ext relation name)
 forward_detach ext relation name = forward_change (λ g. detach_one ext relation (rule_at g.db relation name) g) (λ g. of_one g (rule_at g.db relation name))
@@ -179,10 +171,10 @@ pub record IsClosed (w v : Beside) : Type 0 where
   pub picks : v.picks.items ≡ w.picks.items
 
 -- it stands for another database, once nothing is open
-pub Stands-other : {S : Type 0} (Has : Wanted → Slots → S → Type 0) (m : Meanings) (root : ℕ) (g h : Going) (db : Db) (old new : S) (w v : Beside) → Stands Has m root g old w → h.db ≡ db → h.queue ≡ g.queue → h.used ≡ g.used → IsClosed w v
-    → KeepsDb Has m root v.gone.items (sum h.gone.durable) db new → AreMirrored db → ArePaired db → AreNamedApart db → IsComplete db g.queue → AllMayStand (box_of (extensions_of m)) db → AllFit db g.queue.actions
-    → (IsNoneGone h.gone → v.gone.items ≡ []) → Stands Has m root h new v
-Stands-other Has m root g h db old new w v stands is queue used closed keeps mirrored paired apart complete rules fit gone = record {
+pub Stands-other : {S : Type 0} (Has : Wanted → Slots → S → Type 0) (Spent : ℕ → S → Type 0) (m : Meanings) (root : ℕ) (g h : Going) (db : Db) (old new : S) (w v : Beside) → Stands Has Spent m root g old w → IsPaid Spent 0 h.trail.spent new → h.db ≡ db → h.queue ≡ g.queue → h.used ≡ g.used → IsClosed w v
+    → KeepsDb Has m root v.gone.items h.gone.durable db new → AreMirrored db → ArePaired db → AreNamedApart db → IsComplete db g.queue → AllMayStand (box_of (extensions_of m)) db → AllFit db g.queue.actions
+    → (IsNoneGone h.gone → v.gone.items ≡ []) → Stands Has Spent m root h new v
+Stands-other Has Spent m root g h db old new w v stands paid is queue used closed keeps mirrored paired apart complete rules fit gone = record {
   want = keeps.want;
   slots = keeps.slots;
   kept = keeps.kept;
@@ -192,7 +184,8 @@ Stands-other Has m root g h db old new w v stands is queue used closed keeps mir
   lasting = keeps.lasting;
   mirrored = subst AreMirrored (sym is) mirrored;
   paired = subst ArePaired (sym is) paired;
-  aside = keeps.few;
+  aside = keeps.held;
+  paid = paid;
   apart = subst AreNamedApart (sym is) apart;
   complete = subst (IsComplete h.db) (sym queue) (subst (λ (d : Db). IsComplete d g.queue) (sym is) complete);
   opened = subst (λ (l : List OpenRelation). AreOpened m keeps.kept l) (sym closed.opened) (All-nil (IsOpened m keeps.kept));
@@ -204,21 +197,17 @@ Stands-other Has m root g h db old new w v stands is queue used closed keeps mir
 }
 
 -- the work comes to an end without picks, and there it stands
-pub record Comes {S : Type 0} (Has : Wanted → Slots → S → Type 0) (m : Meanings) (root : ℕ) (work : Work (Unit {0})) (g : Going) (new : S) (v : Beside) : Type 0 where
+pub record Comes {S : Type 0} (Has : Wanted → Slots → S → Type 0) (Spent : ℕ → S → Type 0) (m : Meanings) (root : ℕ) (work : Work (Unit {0})) (g : Going) (new : S) (v : Beside) : Type 0 where
   pub after : Going
   pub leads : Leads work g [] (made tt) after
-  pub stands : Stands Has m root after new v
+  pub stands : Stands Has Spent m root after new v
 
--- the work is refused so, without picks
-pub record IsRefusedSo (work : Work (Unit {0})) (g : Going) (r : Refusal) : Type 0 where
-  pub after : Going
-  pub leads : Leads work g [] (refuse r) after
-
--- refused so, or for want of memory
-pub stops_either : {R : Type 0} (Stopped : Refusal → Trail → R → Type 0) (work : Work (Unit {0})) (g : Going) (r s : Refusal) (new : R) → (s ≡ r) ⊎ (s ≡ NoMemory) → is_free r ≡ false → IsRefusedSo work g r → IsForward work
-    → ((t : Trail) → Stopped r t new) → ((t : Trail) → Stopped NoMemory t new) → StopsFrom Stopped work g s new
-stops_either Stopped work g r s new (inl is) quiet so forward stopped none =
-    subst (λ (x : Refusal). StopsFrom Stopped work g x new) (sym is)
-    (subst (λ b. EndsBy Stopped b work g r new) (sym quiet) (record { picks = []; after = so.after; leads = so.leads; stopped = stopped so.after.trail }))
-stops_either Stopped work g r s new (inr is) quiet so forward stopped none =
-    subst (λ (x : Refusal). StopsFrom Stopped work g x new) (sym is) (stops_free Stopped work NoMemory new g refl forward (none g.trail))
+-- a build that is refused so, or for want of memory, stops once all rows are built
+pub stops_either : {R : Type 0} (Stopped : Refusal → Trail → R → Type 0) (new : R) (ext : Extensions) (relation name : Name) (rule : Rule) (r s : Refusal) (g : Going) → (s ≡ r) ⊎ (s ≡ NoMemory) → is_free r ≡ false
+    → Leads (build ext relation name rule) g [] (refuse r) (reached ext relation name rule g) → Stopped r (reached ext relation name rule g).trail new → Stopped NoMemory (reached ext relation name rule g).trail new
+    → StopsFrom Stopped (build ext relation name rule) g s new
+stops_either Stopped new ext relation name rule r s g (inl is) quiet so stopped none =
+    subst (λ (x : Refusal). StopsFrom Stopped (build ext relation name rule) g x new) (sym is)
+    (subst (λ b. EndsBy Stopped b (build ext relation name rule) g r new) (sym quiet) (record { picks = []; after = reached ext relation name rule g; leads = so; stopped = stopped }))
+stops_either Stopped new ext relation name rule r s g (inr is) quiet so stopped none =
+    subst (λ (x : Refusal). StopsFrom Stopped (build ext relation name rule) g x new) (sym is) (build_stops Stopped new ext relation name rule NoMemory g refl none)

@@ -1,5 +1,5 @@
 -- Rules that come.
-use Rattle.std.specs.Prelude.{◌≡◌, ℕ, ◌<◌, ◌≤◌, true, false, [], Some, None, length}
+use Rattle.std.specs.Prelude.{◌≡◌, ℕ, ◌<◌, ◌≤◌, true, false, [], Some, None, length, map}
 use Rattle.sb_pred.specs.Spelling.{IsStorableName}
 use Rattle.sb_rule.specs.declared.rule.Rule.{Rule}
 use Rattle.sb_rule.specs.Spelling.{rule_code}
@@ -23,7 +23,7 @@ use Rattle.sb_catalog.specs.Descriptors.{descriptor_spelling, IsCountedRule, IsS
 use Rattle.sb_standing.specs.Tables.{KeepsOthers, Tables, db_of, kept_at}
 use Rattle.sb_standing.specs.Standing.{IsOwner, Keeps, StandRules, is_join, with_described}
 use Rattle.sb_tables.specs.Opened.{IsDurable, OwnsPages}
-use Rattle.sb_tables.specs.Owned.{pages_of}
+use Rattle.sb_forms.specs.Pages.{page_count}
 use Rattle.sb_tables.specs.Working.{AreLasting}
 use Rattle.sb_tables.specs.Keeping.{KeepsDb}
 use Rattle.sb_building.specs.declared.attaching.Attaching.{Attaching}
@@ -121,4 +121,4 @@ HasEnded Has m root x relation name rule box new Vetoed =
     (has_long_row (db_of x.kept) relation rule ≡ false) × (holds (Some box) (db_of x.kept) relation rule ≡ false)
 HasEnded Has m root x relation name rule box new Done =
     (has_long_row (db_of x.kept) relation rule ≡ false) × (holds (Some box) (db_of x.kept) relation rule ≡ true)
-    × KeepsDb Has m root x.gone (pages_of x.slots x.gone) (with_attached (db_of x.kept) relation name rule) new
+    × KeepsDb Has m root x.gone (map (λ o. page_count (owned x.slots o)) x.gone) (with_attached (db_of x.kept) relation name rule) new

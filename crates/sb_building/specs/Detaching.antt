@@ -1,12 +1,13 @@
 -- Rules that go.
-use Rattle.std.specs.Prelude.{◌≡◌, ℕ, ◌+◌, List, Option, Some, None, bytes_eq, option_and_then, option_map}
+use Rattle.std.specs.Prelude.{◌≡◌, ℕ, ◌*◌, ◌++◌, List, Option, Some, None, bytes_eq, option_and_then, option_map}
 use Rattle.std.specs.List.{find}
 use Rattle.sb_rule.specs.declared.rule.Rule.{Rule}
 use Rattle.sb_relation.specs.Build.{main_of, mirror_name, mirror_of}
 use Rattle.sb_relation.specs.Db.{Name, Attached, Db}
 use Rattle.sb_fold.specs.Building.{rule_at, without_attached}
+use Rattle.sb_fold.specs.Costs.{descriptor_cost}
 use Rattle.sb_fold.specs.Extensions.{Extensions}
-use Rattle.sb_tables.specs.Removal.{taken_bound}
+use Rattle.sb_tables.specs.Removal.{taken_bounds}
 use Rattle.sb_catalog.specs.declared.descriptor.Attached.{Attached as Described}
 
 -- An attachment can be taken off: it is there, and is no mirror.
@@ -28,8 +29,13 @@ abbrev pub without_both : Db → Name → Name → Option (Name × Name) → Db
 without_both db relation name None = without_attached db relation name
 without_both db relation name (Some (other, label)) = without_attached (without_attached db relation name) other label
 
--- the most pages of both
-abbrev pub both_bound : Extensions → Db → Name → Name → Option (Name × Name) → ℕ
-both_bound ext db relation name None = taken_bound ext db relation name
-both_bound ext db relation name (Some (other, label)) =
-    taken_bound ext db relation name + taken_bound ext (without_attached db relation name) other label
+-- the most pages of each instance of both
+abbrev pub both_bounds : Extensions → Db → Name → Name → Option (Name × Name) → List ℕ
+both_bounds ext db relation name None = taken_bounds ext db relation name
+both_bounds ext db relation name (Some (other, label)) =
+    taken_bounds ext db relation name ++ taken_bounds ext (without_attached db relation name) other label
+
+-- what their descriptors cost
+abbrev pub both_cost : Extensions → Db → Option (Name × Name) → ℕ
+both_cost ext db None = descriptor_cost ext db
+both_cost ext db (Some mirror) = 2 * descriptor_cost ext db

@@ -14,6 +14,7 @@ pub use Rattle.sb_tables.specs.Working
 pub mod Held
 pub mod Instances
 pub mod Building
+pub mod Costs
 pub mod Attaching
 pub mod Lacking
 pub mod Detaching

@@ -7,7 +7,7 @@ ghost use Rattle.sb_fold.specs.Building.{build, has_long_row};
 ghost use Rattle.sb_fold.specs.Outcome.{Going};
 ghost use Rattle.sb_fold.specs.declared.refusal.Refusal.TheVariants as refusal;
 ghost use Rattle.sb_cascade.specs.Runs.{MadeFrom, StopsFrom};
-ghost use Rattle.sb_drive.specs.Spaces.{LeadsOn};
+ghost use Rattle.sb_drive.specs.Spaces.{LeadsOn, LeadsWithin};
 ghost use Rattle.sb_catalog.specs.Descriptors.{IsCountedRule, IsStorableAttached};
 ghost use Rattle.sb_registry.specs.Live.{IsLiveRule};
 ghost use Rattle.sb_standing.specs.Lacking.{WhereShort};
@@ -17,6 +17,7 @@ ghost use Rattle.sb_tables.specs.Refusals.{HasFaultCause, HasRefusalCause, refus
 ghost use Rattle.sb_tables.specs.Working.{Goes, IsServing, IsStoppedFor, StandsFor, extensions_in, extensions_of};
 ghost use Rattle.sb_tables.specs.Keeping.{Closes};
 ghost use Rattle.sb_building.specs.Attaching.{HasBegun, HasEnded, MayAdd, MayAttach, Stores};
+ghost use Rattle.sb_building.specs.Costs.{build_cost, build_left};
 ghost use Rattle.sb_building.specs.Instances.{Site};
 ghost use Rattle.sb_building.specs.Lacking.{IsShortBuilding};
 
@@ -56,12 +57,12 @@ pub fn attach<B: Boxes, S: Owners>(
 ) -> Result<(), Refusal>
     requires ready { IsServing S.is_ready B.meanings running.old }
 
-    ensures made { OnOk result ((g : Going) → StandsFor S.has B.meanings g running.old
+    ensures made { OnOk result ((g : Going) → StandsFor S.has S.spent B.meanings g running.old
         → MayAttach (B.meanings running.old.boxes.now) g.db relation.now name.now rule.now
-        → MadeFrom (StandsFor S.has B.meanings) (build (extensions_in B.meanings running.old) relation.now name.now rule.now) g tt running.new) }
-    ensures refused { IfErr result (λ r. (g : Going) → StandsFor S.has B.meanings g running.old
+        → MadeFrom (StandsFor S.has S.spent B.meanings) (build (extensions_in B.meanings running.old) relation.now name.now rule.now) g tt running.new) }
+    ensures refused { IfErr result (λ r. (g : Going) → StandsFor S.has S.spent B.meanings g running.old
         → MayAttach (B.meanings running.old.boxes.now) g.db relation.now name.now rule.now
-        → StopsFrom (IsStoppedFor S.has S.leads S.fails S.table B.meanings)
+        → StopsFrom (IsStoppedFor S.has S.spent S.leads S.fails S.table B.meanings)
         (build (extensions_in B.meanings running.old) relation.now name.now rule.now) g r running.new) }
     ensures fault { IfErr result (λ r. HasFaultCause S.fails r running.new.space.now) }
     ensures closes { Closes running.old running.new }
@@ -111,6 +112,9 @@ fn attach_copy<S: Owners, B: Boxes>(
     ensures full { IfErr result (λ e. (x : Site) → S.has x.want x.slots space.old → Stores (B.meanings boxes.now) place.root x relation.now
         → MayAdd (B.meanings boxes.now) (db_of x.kept) relation.now name.now rule.now
         → WhereShort e (IsShortBuilding S.has S.leads (extensions_of (B.meanings boxes.now)) x relation.now rule.now space.new)) }
+    ensures costs { (x : Site) → S.has x.want x.slots space.old → Stores (B.meanings boxes.now) place.root x relation.now
+        → MayAdd (B.meanings boxes.now) (db_of x.kept) relation.now name.now rule.now
+        → LeadsWithin S.leads (build_cost (extensions_of (B.meanings boxes.now)) (db_of x.kept) relation.now rule.now) space.old space.new }
     ensures fault { IfErr result (λ e. HasFaultCause S.fails (refusal_of e) space.new) }
     ensures leads { LeadsOn S.leads space.old space.new }
     ensures ready { S.is_ready space.new }
@@ -145,6 +149,9 @@ fn attach_rule<S: Owners, B: Boxes>(
     ensures full { IfErr result (λ e. (x : Site) → S.has x.want x.slots space.old → Stores (B.meanings boxes.now) place.root x relation.now
         → MayAdd (B.meanings boxes.now) (db_of x.kept) relation.now name.now rule
         → WhereShort e (IsShortBuilding S.has S.leads (extensions_of (B.meanings boxes.now)) x relation.now rule space.new)) }
+    ensures costs { (x : Site) → S.has x.want x.slots space.old → Stores (B.meanings boxes.now) place.root x relation.now
+        → MayAdd (B.meanings boxes.now) (db_of x.kept) relation.now name.now rule
+        → LeadsWithin S.leads (build_cost (extensions_of (B.meanings boxes.now)) (db_of x.kept) relation.now rule) space.old space.new }
     ensures fault { IfErr result (λ e. HasFaultCause S.fails (refusal_of e) space.new) }
     ensures leads { LeadsOn S.leads space.old space.new }
     ensures ready { S.is_ready space.new }
@@ -195,6 +202,10 @@ fn attach_to<S: Owners, B: Boxes>(
         → x.one.descriptor ≡ one.descriptor
         → MayAdd (B.meanings boxes.now) (db_of x.kept) one.name label.now rule
         → WhereShort e (IsShortBuilding S.has S.leads (extensions_of (B.meanings boxes.now)) x one.name rule space.new)) }
+    ensures costs { (x : Site) → S.has x.want x.slots space.old → Stores (B.meanings boxes.now) place.root x one.name
+        → x.one.descriptor ≡ one.descriptor
+        → MayAdd (B.meanings boxes.now) (db_of x.kept) one.name label.now rule
+        → LeadsWithin S.leads (build_cost (extensions_of (B.meanings boxes.now)) (db_of x.kept) one.name rule) space.old space.new }
     ensures fault { IfErr result (λ e. HasFaultCause S.fails (refusal_of e) space.new) }
     ensures leads { LeadsOn S.leads space.old space.new }
     ensures ready { S.is_ready space.new }
@@ -261,6 +272,10 @@ fn build_on<S: PageSpace, B: Boxes>(
         → HasBegun S.has (B.meanings boxes.now) place.root x inst.now attached.rule live.box space.old
         → has_long_row (db_of x.kept) one.name attached.rule ≡ false
         → WhereShort e (IsShortBuilding S.has S.leads (extensions_of (B.meanings boxes.now)) x one.name attached.rule space.new)) }
+    ensures costs { (live : IsLiveRule (B.meanings boxes.now) inst.now) (x : Site) → Stores (B.meanings boxes.now) place.root x one.name → x.one.descriptor ≡ one.descriptor
+        → MayAdd (B.meanings boxes.now) (db_of x.kept) one.name attached.name attached.rule
+        → HasBegun S.has (B.meanings boxes.now) place.root x inst.now attached.rule live.box space.old
+        → LeadsWithin S.leads (build_left (extensions_of (B.meanings boxes.now)) (db_of x.kept) one.name attached.rule) space.old space.new }
     ensures fault { IfErr result (λ e. HasFaultCause S.fails (refusal_of e) space.new) }
     ensures leads { LeadsOn S.leads space.old space.new }
     ensures ready { S.is_ready space.new }

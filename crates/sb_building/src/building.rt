@@ -6,7 +6,9 @@ ghost use Rattle.sb_rule.specs.Spelling.{SpellsRule};
 ghost use Rattle.sb_relation.specs.Db.{Rows};
 ghost use Rattle.sb_relation.specs.Keys.{is_record_key};
 ghost use Rattle.sb_ctx.specs.Attachment.{MayHold};
-ghost use Rattle.sb_drive.specs.Spaces.{LeadsOn, Leaves};
+ghost use Rattle.sb_ctx.specs.AttachAnswers.{first_content};
+ghost use Rattle.sb_ctx.specs.declared.calls.AttachCall.TheVariants.{Prepare};
+ghost use Rattle.sb_drive.specs.Spaces.{LeadsOn, LeadsWithin, Leaves};
 ghost use Rattle.sb_registry.specs.Live.{IsLive, IsLiveRule};
 ghost use Rattle.sb_standing.specs.Lacking.{IsShort, WhereShort};
 ghost use Rattle.sb_standing.specs.Standing.{is_join};
@@ -16,6 +18,7 @@ ghost use Rattle.sb_tables.specs.Refusals.{HasFaultCause, HasRefusalCause, refus
 ghost use Rattle.sb_tables.specs.Working.{extensions_of};
 ghost use Rattle.sb_building.specs.Attaching.{HasBegun};
 ghost use Rattle.sb_building.specs.Building.{HasNoLong, HoldsBuilt, IsBuilt, IsBuiltOver, IsNext, is_done};
+ghost use Rattle.sb_building.specs.Costs.{row_cost, rows_cost};
 ghost use Rattle.sb_building.specs.Instances.{HasNewPages, HoldsFirst, IsSite, Site};
 ghost use Rattle.sb_building.specs.Lacking.{IsShortBuilding, bound_over, bound_with};
 
@@ -53,6 +56,10 @@ pub(crate) fn prepare<S: PageSpace, B: Boxes>(
         → IsSite S.has (B.meanings boxes.now) place.root x inst.now rule live.box space.old → HasNewPages x live.box inst.now
         → is_join rule ≡ false
         → WhereShort e (IsShort x.slots inst.now.owner (bound_over (extensions_of (B.meanings boxes.now)) (db_of x.kept) inst.now.relation rule []))) }
+    ensures costs { (live : IsLiveRule (B.meanings boxes.now) inst.now) (x : Site) (rule : Policy)
+        → IsSite S.has (B.meanings boxes.now) place.root x inst.now rule live.box space.old → HasNewPages x live.box inst.now
+        → LeadsWithin S.leads (live.box.cost Prepare (first_content live.box inst.now rule (db_of x.kept)) (first_content live.box inst.now rule (db_of x.kept)))
+        space.old space.new }
     ensures fault { IfErr result (λ e. HasFaultCause S.fails (refusal_of e) space.new) }
     ensures leads { LeadsOn S.leads space.old space.new }
     ensures ready { S.is_ready space.new }
@@ -99,6 +106,10 @@ pub(crate) fn build_rows<S: PageSpace, B: Boxes>(
         → HasBegun S.has (B.meanings boxes.now) place.root x inst.now rule.now live.box space.old → table.now ≡ table_of IsDurable x.one
         → is_join rule.now ≡ false
         → WhereShort e (IsShortBuilding S.has S.leads (extensions_of (B.meanings boxes.now)) x inst.now.relation rule.now space.new)) }
+    ensures costs { (live : IsLiveRule (B.meanings boxes.now) inst.now) (x : Site)
+        → IsSite S.has (B.meanings boxes.now) place.root x inst.now rule.now live.box space.old → table.now ≡ table_of IsDurable x.one
+        → HoldsBuilt x live.box inst.now rule.now [] → is_join rule.now ≡ false
+        → LeadsWithin S.leads (rows_cost (extensions_of (B.meanings boxes.now)) (db_of x.kept) inst.now.relation rule.now x.one.relation.rows) space.old space.new }
     ensures fault { IfErr result (λ e. HasFaultCause S.fails (refusal_of e) space.new) }
     ensures leads { LeadsOn S.leads space.old space.new }
     ensures ready { S.is_ready space.new }
@@ -149,6 +160,10 @@ fn build_row<S: PageSpace, B: Boxes>(
         → IsNext x.one.relation.rows built (key.now, row) → HoldsBuilt x live.box inst.now rule built → is_join rule ≡ false
         → WhereShort e (IsShort x.slots inst.now.owner
         (bound_with (extensions_of (B.meanings boxes.now)) (db_of x.kept) inst.now.relation rule built (key.now, row)))) }
+    ensures costs { (live : IsLiveRule (B.meanings boxes.now) inst.now) (x : Site) (rule : Policy) (built : Rows)
+        → IsSite S.has (B.meanings boxes.now) place.root x inst.now rule live.box space.old
+        → IsNext x.one.relation.rows built (key.now, row) → HoldsBuilt x live.box inst.now rule built
+        → LeadsWithin S.leads (row_cost (extensions_of (B.meanings boxes.now)) (db_of x.kept) inst.now.relation rule built (key.now, row)) space.old space.new }
     ensures fault { IfErr result (λ e. HasFaultCause S.fails (refusal_of e) space.new) }
     ensures leads { LeadsOn S.leads space.old space.new }
     ensures ready { S.is_ready space.new }

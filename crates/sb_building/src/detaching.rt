@@ -1,16 +1,17 @@
 //! Rules that go.
 
-ghost use Rattle.std.specs.Prelude.{◌≡◌, ℕ, ◌+◌, IfErr, IfOk, List, OnOk, Some, bytes_eq, option_copied, true};
+ghost use Rattle.std.specs.Prelude.{◌≡◌, ℕ, ◌++◌, IfErr, IfOk, List, OnOk, Some, bytes_eq, option_copied, true};
 ghost use Rattle.std.specs.List.{find};
 ghost use Rattle.sb_relation.specs.Db.{Attached as Standing, Db};
 ghost use Rattle.sb_fold.specs.Building as fold;
 ghost use Rattle.sb_fold.specs.Outcome.{Going};
 ghost use Rattle.sb_cascade.specs.Runs.{MadeFrom, StopsFrom, is_free};
+ghost use Rattle.sb_drive.specs.Spaces.{LeadsWithin};
 ghost use Rattle.sb_tables.specs.Refusals.{HasFaultCause, HasRefusalCause, refusal_of};
 ghost use Rattle.sb_tables.specs.Working.{Goes, IsServing, IsStoppedFor, StandsFor, extensions_in};
 ghost use Rattle.sb_registry.specs.Runs.{Looks};
 ghost use Rattle.sb_tables.specs.Keeping.{Closes, IsFullBy, KeepsDb, KeepsIn, KeepsWithinIn};
-ghost use Rattle.sb_building.specs.Detaching.{MayDetach, both_bound, mirror_among, mirror_named, without_both};
+ghost use Rattle.sb_building.specs.Detaching.{MayDetach, both_bounds, both_cost, mirror_among, mirror_named, without_both};
 
 use sb_catalog::Attached;
 use sb_drive::{PageSpace, SpaceFault};
@@ -29,10 +30,10 @@ pub fn detach<B: Boxes, S: PageSpace>(
 ) -> Result<(), Refusal>
     requires ready { IsServing S.is_ready B.meanings running.old }
 
-    ensures made { OnOk result ((g : Going) → StandsFor S.has B.meanings g running.old → MayDetach g.db relation.now name.now
-        → MadeFrom (StandsFor S.has B.meanings) (fold.detach (extensions_in B.meanings running.old) relation.now name.now) g tt running.new) }
-    ensures refused { IfErr result (λ r. (g : Going) → StandsFor S.has B.meanings g running.old → MayDetach g.db relation.now name.now
-        → StopsFrom (IsStoppedFor S.has S.leads S.fails S.table B.meanings)
+    ensures made { OnOk result ((g : Going) → StandsFor S.has S.spent B.meanings g running.old → MayDetach g.db relation.now name.now
+        → MadeFrom (StandsFor S.has S.spent B.meanings) (fold.detach (extensions_in B.meanings running.old) relation.now name.now) g tt running.new) }
+    ensures refused { IfErr result (λ r. (g : Going) → StandsFor S.has S.spent B.meanings g running.old → MayDetach g.db relation.now name.now
+        → StopsFrom (IsStoppedFor S.has S.spent S.leads S.fails S.table B.meanings)
         (fold.detach (extensions_in B.meanings running.old) relation.now name.now) g r running.new) }
     ensures fault { IfErr result (λ r. HasFaultCause S.fails r running.new.space.now) }
     ensures closes { Closes running.old running.new }
@@ -63,13 +64,15 @@ fn detach_both<B: Boxes, S: PageSpace>(
 ) -> Result<(), Refusal>
     requires ready { IsServing S.is_ready B.meanings running.old }
 
-    ensures detached { OnOk result ((aside : ℕ) (db : Db) → KeepsIn S.has B.meanings aside db running.old
-        → KeepsIn S.has B.meanings (aside + both_bound (extensions_in B.meanings running.old) db relation.now name.now mirror)
+    ensures detached { OnOk result ((aside : List ℕ) (db : Db) → KeepsIn S.has B.meanings aside db running.old
+        → KeepsIn S.has B.meanings (aside ++ both_bounds (extensions_in B.meanings running.old) db relation.now name.now mirror)
         (without_both db relation.now name.now mirror) running.new) }
-    ensures refused { IfErr result (λ r. (aside : ℕ) (db : Db) → KeepsIn S.has B.meanings aside db running.old
+    ensures refused { IfErr result (λ r. (aside : List ℕ) (db : Db) → KeepsIn S.has B.meanings aside db running.old
         → HasRefusalCause S.fails r running.new.space.now) }
-    ensures licensed { IfErr result (λ r. (aside most : ℕ) (db : Db) → KeepsWithinIn S.has B.meanings aside most db running.old
+    ensures licensed { IfErr result (λ r. (aside : List ℕ) (most : ℕ) (db : Db) → KeepsWithinIn S.has B.meanings aside most db running.old
         → IsFullBy S.has S.leads S.table most r running.new.space.now) }
+    ensures costs { (aside : List ℕ) (db : Db) → KeepsIn S.has B.meanings aside db running.old
+        → LeadsWithin S.leads (both_cost (extensions_in B.meanings running.old) db mirror) running.old.space.now running.new.space.now }
     ensures fault { IfErr result (λ r. HasFaultCause S.fails r running.new.space.now) }
     ensures free { IfErr result (λ r. is_free r ≡ true) }
     ensures closes { Closes running.old running.new }
@@ -104,10 +107,10 @@ fn mirror_at<S: PageSpace, B: Boxes>(
     requires ready { S.is_ready space.old }
     requires owner { place.owner ≡ 2 }
 
-    ensures mirror { IfOk result (λ mirror. (gone : List ℕ) (aside : ℕ) (db : Db) (a : Standing)
+    ensures mirror { IfOk result (λ mirror. (gone aside : List ℕ) (db : Db) (a : Standing)
         → KeepsDb S.has (B.meanings boxes.now) place.root gone aside db space.old → fold.rule_at db relation.now name.now ≡ Some a
         → mirror ≡ mirror_named relation.now name.now a.rule) }
-    ensures refused { IfErr result (λ e. (gone : List ℕ) (aside : ℕ) (db : Db) → KeepsDb S.has (B.meanings boxes.now) place.root gone aside db space.old
+    ensures refused { IfErr result (λ e. (gone aside : List ℕ) (db : Db) → KeepsDb S.has (B.meanings boxes.now) place.root gone aside db space.old
         → HasRefusalCause S.fails (refusal_of e) space.new) }
     ensures looks { Looks S.has S.leads S.fails space.old space.new result }
     ensures ready { S.is_ready space.new }

@@ -1,12 +1,14 @@
 //! New instances of attachments. Values that aren't handed on go by calls of `drop`.
 
-ghost use Rattle.std.specs.Prelude.{◌≡◌, ◌≤◌, IfErr, IfOk, IsUtf8, length};
+ghost use Rattle.std.specs.Prelude.{◌≡◌, ◌≤◌, cond, IfErr, IfOk, IsUtf8, length};
 ghost use Rattle.sb_rule.specs.Spelling.{rule_code};
 ghost use Rattle.sb_relation.specs.Db as db;
+ghost use Rattle.sb_relation.specs.Db.{schema_at};
+ghost use Rattle.sb_fold.specs.Costs.{prepare_cost};
 ghost use Rattle.sb_ctx.specs.Attachment.{keeps_pages};
 ghost use Rattle.sb_ctx.specs.View.{nothing};
 ghost use Rattle.sb_drive.specs.Slots.{Slots};
-ghost use Rattle.sb_drive.specs.Spaces.{IsFull, LeadsOn, Wanted};
+ghost use Rattle.sb_drive.specs.Spaces.{IsFull, LeadsOn, LeadsWithin, Wanted};
 ghost use Rattle.sb_drive.specs.declared.turns.Ask.TheVariants.{Fresh};
 ghost use Rattle.sb_catalog.specs.Descriptors.{IsCountedRule, IsInstance, IsStorableAttached};
 ghost use Rattle.sb_registry.specs.Live.{IsLiveRule};
@@ -64,6 +66,9 @@ pub(crate) fn begin<S: Owners, B: Boxes>(
         → IsStore S.has (B.meanings boxes.now) place.root x opened.now.name space.old → x.one.descriptor ≡ opened.now.descriptor
         → MayAdd (B.meanings boxes.now) (db_of x.kept) opened.now.name label.now rule
         → WhereShort e (IsShortBuilding S.has S.leads (extensions_of (B.meanings boxes.now)) x opened.now.name rule space.new)) }
+    ensures costs { (x : Site) → IsStore S.has (B.meanings boxes.now) place.root x opened.now.name space.old → x.one.descriptor ≡ opened.now.descriptor
+        → MayAdd (B.meanings boxes.now) (db_of x.kept) opened.now.name label.now rule
+        → LeadsWithin S.leads (prepare_cost (extensions_of (B.meanings boxes.now)) (schema_at (db_of x.kept) opened.now.name) rule) space.old space.new }
     ensures fault { IfErr result (λ e. HasFaultCause S.fails (refusal_of e) space.new) }
     ensures leads { LeadsOn S.leads space.old space.new }
     ensures ready { S.is_ready space.new }
@@ -103,7 +108,7 @@ fn new_entry<S: Owners>(
     ensures refused { IfErr result (λ e. HasRefusalCause S.fails (refusal_of e) space.new) }
     ensures full { IfErr result (λ e. (want : Wanted) (s : Slots) → S.has want s space.old
         → IsFull (S.durable space.old) (S.total space.old) s nothing Fresh e) }
-    ensures leads { LeadsOn S.leads space.old space.new }
+    ensures leads { LeadsWithin S.leads (cond (keeps_pages (rule_code rule)) 2 0) space.old space.new }
     ensures ready { S.is_ready space.new }
 {
     let code = code_of(&rule);
@@ -161,7 +166,7 @@ fn new_place<S: Owners>(space: &mut S, alloc: Global, code: u16) -> Result<(u16,
     ensures refused { IfErr result (λ e. HasRefusalCause S.fails (refusal_of e) space.new) }
     ensures full { IfErr result (λ e. (want : Wanted) (s : Slots) → S.has want s space.old
         → IsFull (S.durable space.old) (S.total space.old) s nothing Fresh e) }
-    ensures leads { LeadsOn S.leads space.old space.new }
+    ensures leads { LeadsWithin S.leads (cond (keeps_pages code) 2 0) space.old space.new }
     ensures ready { S.is_ready space.new }
 {
     if !keeps_pages(code) {

@@ -4,9 +4,10 @@ ghost use Rattle.std.specs.Prelude.{◌≡◌, ◌*◌, ◌<◌, ◌≤◌, ◌�
 ghost use Rattle.std.specs.FinMap.Entries.{put};
 ghost use Rattle.std.specs.List.{position_or_len};
 ghost use Rattle.sb_node.specs.Entries.{key_cmp};
+ghost use Rattle.sb_fold.specs.Costs.{tree_cost};
 ghost use Rattle.sb_forms.specs.Maps.{map_in};
 ghost use Rattle.sb_drive.specs.Slots.{owned};
-ghost use Rattle.sb_drive.specs.Spaces.{LeadsOn, Leaves};
+ghost use Rattle.sb_drive.specs.Spaces.{LeadsOn, LeadsWithin, Leaves};
 ghost use Rattle.sb_catalog.specs.Descriptors.{descriptor_spelling, IsStorableAttached, IsStorableDescriptor};
 ghost use Rattle.sb_standing.specs.Lacking.{IsShort, WhereShort};
 ghost use Rattle.sb_standing.specs.Standing.{with_described};
@@ -55,6 +56,8 @@ pub(crate) fn place_rule<S: PageSpace>(
     ensures full { IfErr result (λ e. (x : Site) → S.has x.want x.slots space.old
         → map_in place.root (owned x.slots 2) ≡ Some (map entry_of x.kept)
         → WhereShort e (IsShort x.slots 2 (2 * length (map entry_of x.kept)))) }
+    ensures costs { (x : Site) → S.has x.want x.slots space.old → map_in place.root (owned x.slots 2) ≡ Some (map entry_of x.kept)
+        → LeadsWithin S.leads (tree_cost (length (map entry_of x.kept))) space.old space.new }
     ensures fault { IfErr result (λ e. HasFaultCause S.fails (refusal_of e) space.new) }
     ensures leads { LeadsOn S.leads space.old space.new }
     ensures ready { S.is_ready space.new }

@@ -3,21 +3,26 @@ use Rattle.std.specs.Prelude.{◌≡◌, ◌≢◌, ◌+◌, ◌*◌, ◌<◌, �
 use Rattle.std.specs.Ordering.{is_lt}
 use Rattle.sb_value.specs.declared.value.Value.{Value}
 use Rattle.sb_value.specs.Order.{bytes_cmp}
+use Rattle.sb_rule.specs.declared.change.Change.{Change}
+use Rattle.sb_rule.specs.declared.change.Change.TheVariants as change
 use Rattle.sb_forms.specs.Content.{Content, no_content, are_rising}
-use Rattle.sb_forms.specs.Db.{Key, Rows}
+use Rattle.sb_forms.specs.Db.{Key, Row, Rows, rows_at, with_rows}
 use Rattle.sb_forms.specs.Lawful.{AreRows}
 use Rattle.sb_fold.specs.Bounds.{plain_bound}
-use Rattle.sb_fold.specs.Costs.{tree_cost}
+use Rattle.sb_fold.specs.Costs.{prepare_cost, rule_cost, tree_cost}
+use Rattle.sb_fold.specs.Extensions.{Extensions}
 use Rattle.sb_forms.specs.Pages.{Pages, ArePages, page_count}
 use Rattle.sb_forms.specs.HeapPages.{heap_rows}
 use Rattle.sb_forms.specs.TreePages.{tree_rows}
 use Rattle.sb_ctx.specs.declared.instance.Instance.{Instance}
 use Rattle.sb_ctx.specs.declared.calls.AttachCall.{AttachCall}
+use Rattle.sb_ctx.specs.declared.calls.AttachCall.TheVariants as ask
 use Rattle.sb_ctx.specs.declared.calls.MethodCall.{MethodCall}
 use Rattle.sb_ctx.specs.declared.calls.MethodCall.TheVariants as call
 use Rattle.sb_ctx.specs.View.{HeldPages, AreSomeOf}
 use Rattle.sb_ctx.specs.Method.{Method}
-use Rattle.sb_ctx.specs.Attachment.{Attachment, keeps_pages}
+use Rattle.sb_ctx.specs.Attachment.{Attachment, IsChangeOf, keeps_pages}
+use Rattle.sb_ctx.specs.AttachAnswers.{AreBuilt, OverDb, content_after, content_over, content_over_rows, content_with, first_content}
 
 -- the storage method of code 1 is durable, keeps its rows in the pages of a heap, and edits ten of them at most
 pub record IsHeap (m : Method) : Type 0 where
@@ -72,10 +77,25 @@ are_rising_keys [] = true
 are_rising_keys (k ∷ []) = true
 are_rising_keys (k ∷ next ∷ keys) = is_lt (bytes_cmp k next) && are_rising_keys (next ∷ keys)
 
+-- An attachment with a code of ours that keeps pages edits no more of them than the definitions charge for its rule, with two pages for a new instance.
+pub record IsCharged (a : Attachment) : Type 0 where
+  pub prepares : (ext : Extensions) (inst : Instance) → OverDb a inst (λ rule db.
+      2 + a.cost ask.Prepare (first_content a inst rule db) (first_content a inst rule db) ≤ prepare_cost ext inst.schema rule)
+  pub builds : (ext : Extensions) (inst : Instance) → OverDb a inst (λ rule db.
+      (built : Rows) (buckets : ℕ) (key : Key) (row : Row) → AreBuilt (rows_at db inst.relation) built key row
+      → a.cost (ask.Build key row) (content_over_rows a inst rule db built buckets) (content_with a inst rule db built buckets key row)
+      ≤ rule_cost ext (with_rows db inst.relation built) inst.relation rule buckets (change.Insert key row))
+  pub changes : (ext : Extensions) (inst : Instance) → OverDb a inst (λ rule db.
+      (buckets : ℕ) (c : Change) → IsChangeOf (rows_at db inst.relation) c
+      → a.cost (ask.Changed c) (content_over a inst rule db buckets) (content_after a inst rule db buckets c)
+      ≤ rule_cost ext db inst.relation rule buckets c)
+
 -- The same of an attachment, whose searches find rising keys. One that keeps no pages is formed without an owner and without pages, has no content, and edits nothing.
 pub record IsAttachment (a : Attachment) : Type 0 where
   pub pageless : keeps_pages a.rules.code ≡ false → (inst : Instance) (P : Pages) → inst.owner ≡ 0 → ((n : ℕ) → P n ≡ []) → a.content inst P ≡ Some no_content
   pub searches : (content : Content) (query : List Value) → are_rising_keys (a.hits content query) ≡ true
   pub idle : keeps_pages a.rules.code ≡ false → (c : AttachCall) (before after : Content) → a.cost c before after ≡ 0
   pub standard : a.rules.code < 1000 → (content : Content) → a.bound content ≤ standard_bound a.rules.code content
+  pub charged : keeps_pages a.rules.code ≡ true → a.rules.code < 1000 → IsCharged a
+  pub inserts : (key : Key) (row : Row) (before after : Content) → a.cost (ask.Build key row) before after ≤ a.cost (ask.Changed (change.Insert key row)) before after
   pub formed : (inst : Instance) (P : Pages) (content : Content) → a.content inst P ≡ Some content → HoldContent a inst P content

@@ -42,7 +42,10 @@ use Rattle.sb_drive.specs.declared.space.SpaceFault.{SpaceFault}
 use Rattle.sb_drive.specs.declared.space.SpaceFault.TheVariants as fault
 use Rattle.sb_weights.specs.Owned.{IsTabled}
 use Rattle.sb_weights.specs.Weights.{AreMeant, changing}
+use Rattle.sb_fold.specs.Costs.{rule_cost}
+use Rattle.sb_weights.proofs.Charged.{asking-is-charged}
 use Rattle.sb_weights.proofs.Lacking.{asking-is-full}
+use Rattle.sb_weights.proofs.Measuring.{held_pages}
 use Rattle.sb_catalog.specs.declared.descriptor.Attached.{Attached}
 use Rattle.sb_catalog.specs.declared.descriptor.Descriptor.{Descriptor}
 use Rattle.sb_catalog.specs.Descriptors.{IsStorableAttached, described, standing}
@@ -56,20 +59,22 @@ use Rattle.sb_standing.specs.Asked.{changed_kept}
 use Rattle.sb_standing.proofs.AskedLaws.{CanAsk-next}
 use Rattle.sb_standing.proofs.AskedLemmas.{Keeps-asked}
 use Rattle.sb_standing.proofs.KeptChangedLemmas.{db_of-changed, kept_at-with_changed, rising-before, with_changed}
-use Rattle.sb_standing.proofs.KeptLemmas.{kept_at-relation}
+use Rattle.sb_standing.proofs.KeptLemmas.{kept_at-relation, relation_at-there}
 use Rattle.sb_asking.specs.OpenRelation.{OpenRelation}
 use Rattle.sb_asking.specs.Opened.{IsDurable, IsOpen}
-use Rattle.sb_asking.specs.Verdicts.{Admits, IsNext, LacksAsked, LeavesAsked, Situation}
+use Rattle.sb_asking.specs.Verdicts.{Admits, CostsAsked, IsNext, LacksAsked, LeavesAsked, Situation, asked_cost}
 use Rattle.sb_wishes.specs.Outcomes.{MayBeMade}
 use Rattle.sb_engine.specs.declared.running.Work.{Work}
 use Rattle.sb_engine.specs.Asking.{with_late}
+use Rattle.sb_engine.specs.Licensed.{paid_for}
 use Rattle.sb_engine.specs.Opening.{IsKeeping}
 use Rattle.sb_engine.specs.Refusals.{refusal_of}
-use Rattle.sb_engine.specs.Working.{AreNamedApart, AreOpened, ArePaired, IsLicensed, IsShortOf, Stands, StandsAsking, extensions_of, open_at, queue_first}
+use Rattle.sb_engine.specs.Working.{AreNamedApart, AreOpened, ArePaired, IsLicensed, IsPaid, IsShortOf, Stands, StandsAsking, cost_from, extensions_of, open_at, queue_first}
 use Rattle.sb_engine.proofs.LateLemmas.{left-late, queue_first-all, queue_first-more}
 use Rattle.sb_engine.proofs.OpenedLemmas.{has_open}
 use Rattle.sb_engine.proofs.PairedLemmas.{changed-apart, changed-paired}
-use Rattle.sb_engine.proofs.GoneLemmas.{aside-others}
+use Rattle.sb_engine.proofs.GoneLemmas.{held-others}
+use Rattle.sb_engine.proofs.PaidLemmas.{Spends, attachments_there, cost_next, paid_within}
 use Rattle.sb_engine.proofs.LackingLemmas.{all_meant, any_last, meant_before}
 use Rattle.sb_engine.proofs.RowLemmas.{lasting-changed}
 use Rattle.sb_standing.proofs.StandLemmas.{StandRules-asks}
@@ -162,9 +167,6 @@ pub box_live : (m : Meanings) (rule : Rule) (code : ℕ) (box : Attachment) → 
 box_live m rule code box same live = ap (λ (n : ℕ). attach_rules n (boxes_of m).attachments) same ∙ live_first code box m.attachments m.spare_attachments live
 
 -- ---- the attachment that is asked
-attachments_there : (db : Db) (name : Name) (r : Relation) → relation_at db name ≡ Some r → attachments_at db name ≡ r.attachments
-attachments_there db name r there = ap (λ (o : Option Relation). elim o as (λ _. List Db.Attached) [ None ↦ [] | Some r ↦ r.attachments ]) there
-
 -- the relation before, its attachment of this number there, and the same after the change
 pub record IsAsked (m : Meanings) (before : List Kept) (name : Name) (c : Change) (one : OpenRelation) (i : ℕ) (d : Attached) (db : Db) : Type 0 where
   pub k : Kept
@@ -181,8 +183,8 @@ pub record IsAsked (m : Meanings) (before : List Kept) (name : Name) (c : Change
   pub code : rule_code after.rule ≡ d.code
 
 -- a relation that is open while a change of it is asked
-module _ {S : Type 0} (Has : Wanted → Slots → S → Type 0) (m : Meanings) (root : ℕ) (name : Name) (c : Change) (i : ℕ) (g : Going) (space : S) (w : Work) (one : OpenRelation)
-    (asking : StandsAsking Has m root name c i g space w) (at : open_at w.opened.items name ≡ Some one) where
+module _ {S : Type 0} (Has : Wanted → Slots → S → Type 0) (Spent : ℕ → S → Type 0) (m : Meanings) (root : ℕ) (name : Name) (c : Change) (i : ℕ) (g : Going) (space : S) (w : Work)
+    (one : OpenRelation) (asking : StandsAsking Has Spent m root name c i g space w) (at : open_at w.opened.items name ≡ Some one) where
   pub record HasBefore : Type 0 where
     pub k : Kept
     pub at_before : kept_at asking.before name ≡ Some k
@@ -261,7 +263,7 @@ module _ {S : Type 0} (Has : Wanted → Slots → S → Type 0) (m : Meanings) (
 
   -- ---- no attachment is left
   pub asked_all : slice_get one.descriptor.attachments i ≡ None → MayBeMade one.descriptor.schema one.descriptor.attachments c
-      → (length (attachments_at g.db name) ≤ i) × Stands Has m root (queue_late name c g) space w
+      → (length (attachments_at g.db name) ≤ i) × Stands Has Spent m root (queue_late name c g) space w
   asked_all none made =
       let b = has_before in
       let few : length one.descriptor.attachments ≤ i = get-length one.descriptor.attachments i none in
@@ -290,6 +292,7 @@ module _ {S : Type 0} (Has : Wanted → Slots → S → Type 0) (m : Meanings) (
           picked = asking.picked;
           gone = asking.gone;
           aside = asking.aside;
+          paid = paid_for asking.paid;
           apart = subst AreNamedApart (sym db_changed) (changed-apart (db_of asking.before) name c asking.apart);
           rules = asking.rules;
           fit = All-append (IsFitting g.db) g.queue.actions (waiting_actions g.db name c) asking.fit (all-waiting-fits (box_of (extensions_of m)) g.db name c asking.rules (change_fits made));
@@ -365,9 +368,10 @@ module _ {S : Type 0} (Has : Wanted → Slots → S → Type 0) (m : Meanings) (
       (o : Vec OpenRelation Global) (q : Queue) → attachment_of d.code m.attachments ≡ Some box
       → Admits (Some box.rules) (changed (db_of asking.before) name c) name asked.a.rule c now late checks
       → (leaves : LeavesAsked Has m root asking.want asking.slots (situation d asked) c mid) → Has asking.want leaves.slots new → label ≡ d.name
+      → IsPaid Spent (cost_from (extensions_of m) (db_of asking.before) name c (i + 1)) g.trail.spent new
       → AreOpened m (changed_kept name c asking.before) o.items → w.done ≤ length w.queue.actions → q ≡ with_late w.queue name label late checks
-      → Admitted (extensions_of m) name c i g now × StandsAsking Has m root name c (i + 1) g new (record w { opened = o; queue = q })
-  asked_more d asked box now late checks label mid new o q live says leaves has same opened within put =
+      → Admitted (extensions_of m) name c i g now × StandsAsking Has Spent m root name c (i + 1) g new (record w { opened = o; queue = q })
+  asked_more d asked box now late checks label mid new o q live says leaves has same paid opened within put =
       let back : changed (db_of asking.before) name c ≡ g.db = sym db_changed in
       let late_is : late ≡ late_actions g.db name asked.after.rule c = says.late_are ∙ ap (λ (db : Db). late_actions db name asked.a.rule c) back ∙ ap (λ (rule : Rule). late_actions g.db name rule c) (sym asked.rule) in
       let checks_is : checks ≡ late_checks g.db name asked.after.rule c = says.checks_are ∙ ap (λ (db : Db). late_checks db name asked.a.rule c) back ∙ ap (λ (rule : Rule). late_checks g.db name rule c) (sym asked.rule) in (
@@ -398,17 +402,29 @@ module _ {S : Type 0} (Has : Wanted → Slots → S → Type 0) (m : Meanings) (
               ∙ queue_first-more i name c g asked.after asked.there;
           picked = asking.picked;
           gone = asking.gone;
-          aside = omega (
-            arith,
-            asking.aside,
-            aside-others asking.slots leaves.slots (owners_in asking.before) w.gone.items d.owner (its_owner d asked) leaves.others asking.asks.own,
-          );
+          aside = held-others asking.slots leaves.slots (owners_in asking.before) w.gone.items g.gone.durable d.owner (its_owner d asked) leaves.others asking.asks.own
+              asking.aside;
+          paid = paid;
           apart = asking.apart;
           come = asking.come;
           rules = asking.rules;
           fit = asking.fit;
         },
       )
+
+  -- ---- no more was changed than was paid for it
+  pub asked_paid : (Leads : ℕ → S → S → Type 0) → Spends Spent Leads → (new : S) (d : Attached) (asked : IsAsked m asking.before name c one i d g.db)
+      → CostsAsked Leads m (situation d asked) c space new → IsPaid Spent (cost_from (extensions_of m) (db_of asking.before) name c (i + 1)) g.trail.spent new
+  asked_paid Leads spends new d asked costs =
+      let ext = extensions_of m in
+      let db = db_of asking.before in
+      let cost = asked_cost (situation d asked) costs.box c in
+      let in_db : slice_get (attachments_at db name) i ≡ Some asked.a =
+      ap (λ (l : List Db.Attached). slice_get l i) (attachments_there db name asked.k.relation (relation_at-there asking.before name asked.k asked.at)) ∙ asked.attached in
+      let charged : cost ≤ rule_cost ext db name asked.a.rule asked.a.buckets c =
+      asking-is-charged m IsDurable root asking.slots w.gone.items asking.before name c i asked.k d asked.a costs.box asking.asks asked.at asked.described asked.attached costs.live in
+      paid_within Spent Leads spends space new cost (cost_from ext db name c i) g.trail.spent (cost_from ext db name c (i + 1)) g.trail.spent
+      (omega (arith, charged, cost_next ext db name c i asked.a in_db)) costs.within asking.paid
 
   -- ---- no page was left for it
   pub asked_full : (Leads : ℕ → S → S → Type 0) (table : S → ℕ) (new : S) (e : SpaceFault) (d : Attached) (asked : IsAsked m asking.before name c one i d g.db)
@@ -424,7 +440,7 @@ module _ {S : Type 0} (Has : Wanted → Slots → S → Type 0) (m : Meanings) (
         (any_last (IsShortOf total (table space + page_count (owned asking.slots 1)) (extensions_of m)) asking.come.points
         (changing (db_of asking.before) name c g.gone asking.come.spent)
         (asking-is-full m IsDurable root asking.slots w.gone.items asking.before g.gone asking.come.spent name c i asked.k d asked.a
-        lacks.box (table space) total meant pages asking.asks asking.aside asked.at asked.described
+        lacks.box (table space) total meant pages asking.asks (held_pages asking.slots w.gone.items g.gone.durable asking.aside) asked.at asked.described
         asked.attached lacks.live small tabled lacks.short));
   }
     where

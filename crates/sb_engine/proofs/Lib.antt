@@ -4,6 +4,7 @@ pub use Rattle.sb_weights.proofs.Bounded
 pub use Rattle.sb_weights.proofs.Catalogue
 pub use Rattle.sb_weights.proofs.Coming
 pub use Rattle.sb_weights.proofs.Meant
+pub use Rattle.sb_weights.proofs.Measuring
 pub use Rattle.sb_weights.proofs.Weighing
 pub mod OpenedLemmas
 pub mod PicksLemmas
@@ -21,3 +22,5 @@ pub mod FailingLemmas
 pub mod WalkLemmas
 pub mod MatchingLemmas
 pub mod GoneLemmas
+pub mod PaidLemmas
+pub use Rattle.sb_weights.proofs.Charged

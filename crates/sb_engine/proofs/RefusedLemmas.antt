@@ -15,7 +15,7 @@ use Rattle.sb_fold.specs.declared.refusal.Refusal.TheVariants as refusal
 use Rattle.sb_registry.specs.Boxes.{Meanings}
 use Rattle.sb_engine.specs.Licensed.{definite_roomless, roomless_licence}
 use Rattle.sb_engine.specs.Refusals.{HasFaultCause, HasRefusalCause, IsRefusedBy, refusal_of}
-use Rattle.sb_engine.specs.Working.{IsStoppedIn}
+use Rattle.sb_engine.specs.Working.{IsPaid, IsStoppedIn}
 
 -- it is none that a definition gives
 pub free_refusal : (e : SpaceFault) → is_free (refusal_of e) ≡ true
@@ -76,18 +76,20 @@ definite_cause Fails (refusal.Damaged page) now is = absurd (true≢false is)
 definite_cause Fails refusal.Fault now is = absurd (true≢false is)
 
 -- the refusal of a reading call
-pub read_stop : {S : Type 0} (Has : Wanted → Slots → S → Type 0) (Leads : ℕ → S → S → Type 0) (Fails : SpaceFault → S → S → Type 0) (table : S → ℕ) (m : Meanings) (e : SpaceFault)
-    (trail : Trail) (now : S) → IsReadFault e → HasRefusalCause Fails (refusal_of e) now
-    → IsStoppedIn Has Leads Fails table m (refusal_of e) trail now
-read_stop Has Leads Fails table m e trail now read cause = record {
+pub read_stop : {S : Type 0} (Has : Wanted → Slots → S → Type 0) (Spent : ℕ → S → Type 0) (Leads : ℕ → S → S → Type 0) (Fails : SpaceFault → S → S → Type 0) (table : S → ℕ) (m : Meanings) (e : SpaceFault)
+    (trail : Trail) (now : S) → IsReadFault e → HasRefusalCause Fails (refusal_of e) now → IsPaid Spent 0 trail.spent now
+    → IsStoppedIn Has Spent Leads Fails table m (refusal_of e) trail now
+read_stop Has Spent Leads Fails table m e trail now read cause paid = record {
   cause = cause;
+  paid = paid;
   licensed = roomless_licence Has Leads table m (refusal_of e) trail now (roomless_refusal e read);
 }
 
 -- one that a definition gives
-pub definite_stop : {S : Type 0} (Has : Wanted → Slots → S → Type 0) (Leads : ℕ → S → S → Type 0) (Fails : SpaceFault → S → S → Type 0) (table : S → ℕ) (m : Meanings) (r : Refusal)
-    (trail : Trail) (now : S) → is_free r ≡ false → IsStoppedIn Has Leads Fails table m r trail now
-definite_stop Has Leads Fails table m r trail now is = record {
+pub definite_stop : {S : Type 0} (Has : Wanted → Slots → S → Type 0) (Spent : ℕ → S → Type 0) (Leads : ℕ → S → S → Type 0) (Fails : SpaceFault → S → S → Type 0) (table : S → ℕ) (m : Meanings) (r : Refusal)
+    (trail : Trail) (now : S) → is_free r ≡ false → IsPaid Spent 0 trail.spent now → IsStoppedIn Has Spent Leads Fails table m r trail now
+definite_stop Has Spent Leads Fails table m r trail now is paid = record {
+  paid = paid;
   cause = definite_cause Fails r now is;
   licensed = roomless_licence Has Leads table m r trail now (definite_roomless r is);
 }

@@ -18,11 +18,12 @@ use Rattle.sb_asking.specs.OpenRelation.{OpenRelation}
 use Rattle.sb_asking.specs.Opened.{IsDurable}
 use Rattle.sb_engine.specs.declared.running.Work.{Work}
 use Rattle.sb_engine.specs.Opening.{IsKeeping}
-use Rattle.sb_engine.specs.Working.{AreOpened, Stands}
+use Rattle.sb_engine.specs.Working.{AreOpened, IsPaid, Stands}
 use Rattle.sb_engine.proofs.LateLemmas.{drop_first}
 use Rattle.sb_standing.proofs.StandLemmas.{StandRules-keeps}
 
-module _ {S : Type 0} (Has : Wanted → Slots → S → Type 0) (m : Meanings) (root : ℕ) (g : Going) (old new : S) (w : Work) (stands : Stands Has m root g old w) where
+module _ {S : Type 0} (Has : Wanted → Slots → S → Type 0) (Spent : ℕ → S → Type 0) (m : Meanings) (root : ℕ) (g : Going) (old new : S) (w : Work)
+    (stands : Stands Has Spent m root g old w) where
   -- its pages keep what is open
   pub keeping_of : IsKeeping Has m root stands.want stands.slots stands.kept old w.opened.items
   keeping_of = record { has = stands.has; tables = stands.keeps.tables; opened = stands.opened }
@@ -31,8 +32,8 @@ module _ {S : Type 0} (Has : Wanted → Slots → S → Type 0) (m : Meanings) (
   rules_of = StandRules-keeps m IsDurable root stands.slots w.gone.items stands.kept stands.keeps
 
   -- a call that looks leaves it
-  pub stands_later : ((want : Wanted) (s : Slots) → Has want s old → Has want s new) → Stands Has m root g new w
-  stands_later later = record {
+  pub stands_later : ((want : Wanted) (s : Slots) → Has want s old → Has want s new) → IsPaid Spent 0 g.trail.spent new → Stands Has Spent m root g new w
+  stands_later later paid = record {
     want = stands.want;
     slots = stands.slots;
     kept = stands.kept;
@@ -48,6 +49,7 @@ module _ {S : Type 0} (Has : Wanted → Slots → S → Type 0) (m : Meanings) (
     picked = stands.picked;
     gone = stands.gone;
     aside = stands.aside;
+    paid = paid;
     apart = stands.apart;
     rules = stands.rules;
     fit = stands.fit;
@@ -67,9 +69,10 @@ module _ {S : Type 0} (Has : Wanted → Slots → S → Type 0) (m : Meanings) (
       subst (λ (db : Db). IsFitting db a) stands.db (All-head (IsFitting g.db) a (drop (w.done + 1) w.queue.actions) fit)
 
   -- it was taken out
-  pub stands_taken : (a : Action) (o : Vec OpenRelation Global) → slice_get w.queue.actions w.done ≡ Some a → ((want : Wanted) (s : Slots) → Has want s old → Has want s new) → AreOpened m stands.kept o.items
-      → (rest : List Action) × (g.queue.actions ≡ a ∷ rest) × Stands Has m root (with_actions rest g) new (record w { opened = o; done = w.done + 1 })
-  stands_taken a o at later opened =
+  pub stands_taken : (a : Action) (o : Vec OpenRelation Global) → slice_get w.queue.actions w.done ≡ Some a → ((want : Wanted) (s : Slots) → Has want s old → Has want s new) → IsPaid Spent 0 g.trail.spent new
+      → AreOpened m stands.kept o.items
+      → (rest : List Action) × (g.queue.actions ≡ a ∷ rest) × Stands Has Spent m root (with_actions rest g) new (record w { opened = o; done = w.done + 1 })
+  stands_taken a o at later paid opened =
       let rest = drop (w.done + 1) w.queue.actions in
       let waits = waiting_first a at in (
         rest,
@@ -90,6 +93,7 @@ module _ {S : Type 0} (Has : Wanted → Slots → S → Type 0) (m : Meanings) (
           picked = stands.picked;
           gone = stands.gone;
           aside = stands.aside;
+          paid = paid;
           apart = stands.apart;
           rules = stands.rules;
           fit = All-tail (IsFitting g.db) a rest (subst (λ (l : List Action). AllFit g.db l) waits stands.fit);

@@ -8,6 +8,7 @@ pub use Rattle.sb_asking.specs.Refusals as MapRefusals
 pub use Rattle.sb_wishes.specs.Wished
 pub use Rattle.sb_weights.specs.Beside
 pub use Rattle.sb_weights.specs.Coming
+pub use Rattle.sb_weights.specs.Measures
 pub use Rattle.sb_weights.specs.Owned
 pub use Rattle.sb_weights.specs.Weights
 pub mod Working

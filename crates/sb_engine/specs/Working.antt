@@ -1,5 +1,5 @@
 -- What an engine at work on a transaction stands for.
-use Rattle.std.specs.Prelude.{◌≡◌, ℕ, ◌+◌, ◌≤◌, List, [], ◌∷◌, ◌++◌, length, map, filter, drop, take, All, Option, Some, None, sum, bytes_eq}
+use Rattle.std.specs.Prelude.{◌≡◌, ℕ, ◌+◌, ◌<◌, ◌≤◌, List, [], ◌∷◌, ◌++◌, length, map, filter, drop, take, All, Option, Some, None, sum_by, bytes_eq}
 use Rattle.std.specs.List.{Any, find, flat_map}
 use Rattle.sb_pred.specs.Typing.{term_kind}
 use Rattle.std.specs.Prelude.{true, false}
@@ -11,6 +11,7 @@ use Rattle.sb_relation.specs.Db.{Name, Attached, Db}
 use Rattle.sb_relation.specs.Fits.{action_fits, action_places, first_unnamed, relation_of}
 use Rattle.sb_relation.specs.Rules.{late_actions, late_checks}
 use Rattle.sb_fold.specs.Building.{rule_at}
+use Rattle.sb_fold.specs.Costs.{rule_cost}
 use Rattle.sb_fold.specs.Extensions.{Extensions, box_of}
 use Rattle.sb_fold.specs.Fold.{attachments_at}
 use Rattle.sb_fold.specs.Need.{need}
@@ -42,7 +43,7 @@ use Rattle.sb_engine.specs.declared.running.Running.{Running}
 use Rattle.sb_engine.specs.declared.running.Work.{Work}
 use Rattle.sb_engine.specs.Refusals.{HasRefusalCause}
 pub use Rattle.sb_weights.specs.Rooms.{extensions_of}
-use Rattle.sb_weights.specs.Owned.{pages_of}
+use Rattle.sb_weights.specs.Measures.{AreHeld}
 use Rattle.sb_weights.specs.Weights.{changing}
 
 -- ---- what is open
@@ -123,6 +124,17 @@ ArePaired db = (relation : Name) → All (λ a. HasMainOf db a (main_of relation
 abbrev pub AreNamedApart : Db → Type 0
 AreNamedApart db = (relation label : Name) → length (filter (λ a. bytes_eq a.name label) (attachments_at db relation)) ≤ 1
 
+-- ---- what was changed
+-- A trail that has paid for so many changes: fewer were made, and fewer still where so many are left to come.
+pub record IsPaid {S : Type 0} (Spent : ℕ → S → Type 0) (rest paid : ℕ) (space : S) : Type 0 where
+  pub changes : ℕ
+  pub within : changes + rest < paid
+  pub spent : Spent changes space
+
+-- what a change of a relation costs at its attachments, from this one on, over the database before
+abbrev pub cost_from : Extensions → Db → Name → Change → ℕ → ℕ
+cost_from ext db name c i = sum_by (λ a. rule_cost ext db name a.rule a.buckets c) (drop i (attachments_at db name))
+
 -- ---- what the engine stands for
 -- no storage method of the relations counts its keys, since they outlive the run
 abbrev pub IsLasting : Descriptor → Type 0
@@ -145,8 +157,8 @@ pub record Serves {S : Type 0} (IsReady : S → Type 0) (m : Meanings) (place : 
   pub within : w.done ≤ length w.queue.actions
 
 -- Work has come so far: the pages keep its database, whose deferred rules are told by what waits, and what waits fits; what was picked is noted; no
--- owner is to go where nothing was dropped or detached, and those that are to go have no more pages than are held aside.
-pub record Stands {S : Type 0} (Has : Wanted → Slots → S → Type 0) (m : Meanings) (root : ℕ) (g : Going) (space : S) (w : Work) : Type 0 where
+-- owner is to go where nothing was dropped or detached, and those that are to go are held aside; fewer changes were made than were paid for.
+pub record Stands {S : Type 0} (Has : Wanted → Slots → S → Type 0) (Spent : ℕ → S → Type 0) (m : Meanings) (root : ℕ) (g : Going) (space : S) (w : Work) : Type 0 where
   pub want : Wanted
   pub slots : Slots
   pub kept : List Kept
@@ -161,14 +173,16 @@ pub record Stands {S : Type 0} (Has : Wanted → Slots → S → Type 0) (m : Me
   pub waits : left_of w ≡ g.queue
   pub picked : w.picks.items ≡ g.used
   pub gone : IsNoneGone g.gone → w.gone.items ≡ []
-  pub aside : pages_of slots w.gone.items ≤ sum g.gone.durable
+  pub aside : AreHeld slots w.gone.items g.gone.durable
+  pub paid : IsPaid Spent 0 g.trail.spent space
   pub apart : AreNamedApart g.db
   pub rules : AllMayStand (box_of (extensions_of m)) g.db
   pub fit : AllFit g.db g.queue.actions
 
 -- The same while a change of a relation was asked of so many of its attachments alone: the pages keep the changed database but for what the others
--- are to make of it, and what the first ones put off waits behind the rest. The change is the point that the work has come to.
-pub record StandsAsking {S : Type 0} (Has : Wanted → Slots → S → Type 0) (m : Meanings) (root : ℕ) (name : Name) (c : Change) (i : ℕ) (g : Going)
+-- are to make of it, and what the first ones put off waits behind the rest. The change is the point that the work has come to, and what it costs at the
+-- others was paid for.
+pub record StandsAsking {S : Type 0} (Has : Wanted → Slots → S → Type 0) (Spent : ℕ → S → Type 0) (m : Meanings) (root : ℕ) (name : Name) (c : Change) (i : ℕ) (g : Going)
     (space : S) (w : Work) : Type 0 where
   pub want : Wanted
   pub slots : Slots
@@ -185,7 +199,8 @@ pub record StandsAsking {S : Type 0} (Has : Wanted → Slots → S → Type 0) (
   pub waits : left_of w ≡ queue_first i name c g
   pub picked : w.picks.items ≡ g.used
   pub gone : IsNoneGone g.gone → w.gone.items ≡ []
-  pub aside : pages_of slots w.gone.items ≤ sum g.gone.durable
+  pub aside : AreHeld slots w.gone.items g.gone.durable
+  pub paid : IsPaid Spent (cost_from (extensions_of m) (db_of before) name c i) g.trail.spent space
   pub apart : AreNamedApart (db_of before)
   pub come : HasCome g.trail (db_of before) name c g.gone
   pub rules : AllMayStand (box_of (extensions_of m)) g.db
@@ -218,18 +233,20 @@ abbrev pub IsServing : {B S : Type 0} → (S → Type 0) → (B → Meanings) �
 IsServing IsReady meanings a = Serves IsReady (meanings a.boxes.now) a.place a.space.now a.work.now
 
 -- it stands for work that has come so far
-abbrev pub StandsFor : {B S : Type 0} → (Wanted → Slots → S → Type 0) → (B → Meanings) → Going → Running B S → Type 0
-StandsFor Has meanings g a = Stands Has (meanings a.boxes.now) a.place.root g a.space.now a.work.now
+abbrev pub StandsFor : {B S : Type 0} → (Wanted → Slots → S → Type 0) → (ℕ → S → Type 0) → (B → Meanings) → Going → Running B S → Type 0
+StandsFor Has Spent meanings g a = Stands Has Spent (meanings a.boxes.now) a.place.root g a.space.now a.work.now
 
--- It was stopped by a refusal, whose cause its space has, and where that is want of a page, the work had come so far that pages may be wanting.
-pub record IsStoppedIn {S : Type 0} (Has : Wanted → Slots → S → Type 0) (Leads : ℕ → S → S → Type 0) (Fails : SpaceFault → S → S → Type 0) (table : S → ℕ)
+-- It was stopped by a refusal, whose cause its space has, and where that is want of a page, the work had come so far that pages may be wanting. Fewer
+-- changes were made than the work had paid for.
+pub record IsStoppedIn {S : Type 0} (Has : Wanted → Slots → S → Type 0) (Spent : ℕ → S → Type 0) (Leads : ℕ → S → S → Type 0) (Fails : SpaceFault → S → S → Type 0) (table : S → ℕ)
     (m : Meanings) (r : Refusal) (trail : Trail) (now : S) : Type 0 where
   pub cause : HasRefusalCause Fails r now
   pub licensed : IsLicensed Has Leads table m r trail now
+  pub paid : IsPaid Spent 0 trail.spent now
 
-abbrev pub IsStoppedFor : {B S : Type 0} → (Wanted → Slots → S → Type 0) → (ℕ → S → S → Type 0) → (SpaceFault → S → S → Type 0) → (S → ℕ) → (B → Meanings)
+abbrev pub IsStoppedFor : {B S : Type 0} → (Wanted → Slots → S → Type 0) → (ℕ → S → Type 0) → (ℕ → S → S → Type 0) → (SpaceFault → S → S → Type 0) → (S → ℕ) → (B → Meanings)
     → Refusal → Trail → Running B S → Type 0
-IsStoppedFor Has Leads Fails table meanings r trail a = IsStoppedIn Has Leads Fails table (meanings a.boxes.now) r trail a.space.now
+IsStoppedFor Has Spent Leads Fails table meanings r trail a = IsStoppedIn Has Spent Leads Fails table (meanings a.boxes.now) r trail a.space.now
 
 -- the extensions that it has
 abbrev pub extensions_in : {B S : Type 0} → (B → Meanings) → Running B S → Extensions

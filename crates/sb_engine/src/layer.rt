@@ -31,11 +31,11 @@ impl<B: Boxes, S: PageSpace> Layer for Running<'_, B, S> {
 
     ghost extensions = { λ a. extensions_in B.meanings a };
 
-    ghost stands = { λ g a. StandsFor S.has B.meanings g a };
+    ghost stands = { λ g a. StandsFor S.has S.spent B.meanings g a };
 
-    ghost asks = { λ name c i g a. StandsAsking S.has (B.meanings a.boxes.now) a.place.root name c i g a.space.now a.work.now };
+    ghost asks = { λ name c i g a. StandsAsking S.has S.spent (B.meanings a.boxes.now) a.place.root name c i g a.space.now a.work.now };
 
-    ghost stopped = { λ r trail a. IsStoppedFor S.has S.leads S.fails S.table B.meanings r trail a };
+    ghost stopped = { λ r trail a. IsStoppedFor S.has S.spent S.leads S.fails S.table B.meanings r trail a };
 
     ghost failed = { λ a. IsRefusedBy S.fails refusal.Fault a.space.now };
 
@@ -47,9 +47,9 @@ impl<B: Boxes, S: PageSpace> Layer for Running<'_, B, S> {
 
     ghost leads = { λ a b. GoesOpen S.leads a b };
 
-    ghost stops = { λ r g a quiet stands. quiet_stop S.has S.leads S.fails S.table B.meanings r g.trail a quiet };
+    ghost stops = { λ r g a quiet stands. quiet_stop S.has S.spent S.leads S.fails S.table B.meanings r g.trail a quiet stands.paid };
 
-    ghost stops_asking = { λ r name c i g a quiet asks. quiet_stop S.has S.leads S.fails S.table B.meanings r g.trail a quiet };
+    ghost stops_asking = { λ r name c i g a quiet asks. quiet_stop S.has S.spent S.leads S.fails S.table B.meanings r g.trail a quiet asks.paid };
 
     ghost stays = { λ a. stays S.leads S.stays a };
 

@@ -21,7 +21,7 @@ use Rattle.sb_txn.specs.Parts.{Parts, parts}
 use Rattle.sb_txn.specs.State.{State as StoreState}
 use Rattle.sb_session.specs.Calls.{IsOnlyFault, KeepsWanted, Remains}
 use Rattle.sb_session.specs.Commits.{LeavesOldOrFinished, StaysOpen, StopsAt, is_wanting}
-use Rattle.sb_session.specs.Transactions.{IsAt, Rests, WasBegun}
+use Rattle.sb_session.specs.Transactions.{IsAt, IsPaidAt, Rests, WasBegun}
 use Rattle.sb_execution.specs.Endings.{EndsAlone, HasAnswered}
 use Rattle.sb_execution.specs.Serving.{may_have_changed}
 use Rattle.sb_execution.proofs.AloneLemmas.{EndsAlone-fault, EndsAlone-refused, fallen_commit, leaves_alone, left_by, moments_abort, refuses_commit, remains_abort, remains_alone, rests_abort, was_up}
@@ -44,9 +44,9 @@ module _ {D : Type 0} (told : D → Option Story) (len faults : D → ℕ) (m : 
 
   -- ---- the commit was refused
   module _ {K : Type 0} (r : Refusal) (kept : Remains {T = K} told len faults e b t v (Err r))
-      (stops : (want : Wanted) (g : Going) → IsAt m place want tx g here w → StopsAt told len faults m tx g r (record { disk = e; store = t })) where
+      (stops : (want : Wanted) (g : Going) → IsAt m place want tx g here w → IsPaidAt g here → StopsAt told len faults m tx g r (record { disk = e; store = t }) (record { disk = b; store = v })) where
     -- and the transaction is over
-    pub EndsAlone-over : ((want : Wanted) (g : Going) → IsAt m place want tx g here w → LeavesOldOrFinished m place.root want g here between) → ((r ≡ refusal.Fault → ⊥) → KeepsWanted here between)
+    pub EndsAlone-over : ((want : Wanted) (g : Going) → IsAt m place want tx g here w → IsPaidAt g here → LeavesOldOrFinished m place.root want g here between) → ((r ≡ refusal.Fault → ⊥) → KeepsWanted here between)
         → (v.book.down ≡ false → v.book.actives ≡ [])
         → (v.book.down ≡ false → (m : Meanings) (root : ℕ) (want : Wanted) (db : Db) → WasBegun m root want db tx here → Rests m root want db between)
         → OnFault r (v.book.down ≡ true) → EndsAlone told len faults m place c d b s v (Err r)
@@ -58,7 +58,7 @@ module _ {D : Type 0} (told : D → Option Story) (len faults : D → ℕ) (m : 
         (fallen_commit told len faults m place c d e s t tx w answer has b v moments)
         none
         (λ off want x of. aborted off m place.root want (committed x) (has.comes.begun has.up want x of))
-        (refuses_commit told len faults m place c d e s t tx w answer has r stops)
+        (refuses_commit told len faults m place c d e s t tx w answer has r (record { disk = b; store = v }) stops)
 
     -- and the transaction goes on, and is aborted then
     module _ (now : EngineWork) (stays : StaysOpen tx here between w now) (f : D) (u : StoreState) (leaves : KeepsWanted between (parts told len f u)) where
@@ -77,7 +77,7 @@ module _ {D : Type 0} (told : D → Option Story) (len faults : D → ℕ) (m : 
           (λ off want x of.
           rests_abort told len faults m place c d e s t tx w answer has {K = K} b f v u now r stays kept
           (λ m root want db was. rests m root want db (subst (λ (k : ℕ). WasBegun m root want db k between) (sym number) was)) has.up want x of)
-          (refuses_commit told len faults m place c d e s t tx w answer has r stops)
+          (refuses_commit told len faults m place c d e s t tx w answer has r (record { disk = b; store = v }) stops)
 
       -- and the disk failed in that
       pub EndsAlone-not_let_go : (q : Refusal) → Remains {T = Unit {0}} told len faults b f v u (Err q) → IsOnlyFault q u → EndsAlone told len faults m place c d f s u (Err q)

@@ -10,9 +10,9 @@ use Rattle.sb_relation.specs.Db.{Db, Key}
 use Rattle.sb_fold.specs.declared.refusal.Refusal.{Refusal}
 use Rattle.sb_fold.specs.declared.refusal.Refusal.TheVariants as refusal
 use Rattle.sb_fold.specs.Extensions.{Extensions}
-use Rattle.sb_fold.specs.Finish.{finish, freed}
+use Rattle.sb_fold.specs.Finish.{finish}
 use Rattle.sb_fold.specs.Outcome.{Going, Work, made, refuse, Leads, ◌>>=◌}
-use Rattle.sb_fold.proofs.LeadsLemmas.{leads_next, leads_on, leads_refused}
+use Rattle.sb_fold.proofs.LeadsLemmas.{leads_on}
 use Rattle.sb_cascade.specs.Runs.{EndsBy, OnFault, is_free, is_room}
 use Rattle.sb_engine.specs.Refusals.{HasRefusalCause}
 use Rattle.sb_engine.proofs.RefusedLemmas.{of_fault}
@@ -32,32 +32,37 @@ use Rattle.sb_map.specs.declared.place.Place.{Place}
 use Rattle.sb_txn.specs.Parts.{Parts, parts}
 use Rattle.sb_txn.specs.State.{State as StoreState}
 use Rattle.sb_session.specs.Calls.{IsOnlyFault, KeepsWanted, Remains}
-use Rattle.sb_session.specs.Commits.{FailsOn, Finishes, IsDone, LeavesEither, LeavesOldOrFinished, IsStoppedOn, Mounted, StaysOpen, StopsAt}
-use Rattle.sb_session.specs.Transactions.{IsAt, IsCommitted, Rests, WasBegun}
+use Rattle.sb_session.specs.Commits.{FailsOn, Finishes, IsDone, LeavesEither, LeavesOldOrFinished, IsStoppedOn, Mounted, StaysOpen, StopsAt, finish_and_free, is_wanting}
+use Rattle.sb_session.specs.Transactions.{IsAt, IsCommitted, IsPaidAt, Rests, WasBegun}
 use Rattle.sb_session.proofs.EndLemmas.{Remains-behind}
-use Rattle.sb_execution.specs.Serving.{IsPosedIn, may_have_committed}
-use Rattle.sb_session.specs.Ends.{IsFree, IsStep, is_end}
-use Rattle.sb_session.specs.Sessions.{HasFailed, IsNext, IsOpenFor, Lacks, LeavesNext, LeavesOldOrNext, WantsPages}
+use Rattle.sb_execution.specs.Serving.{HasPaid, IsPosedIn, may_have_committed}
+use Rattle.sb_session.specs.Ends.{IsFree, IsLacking, IsStep, is_end}
+use Rattle.sb_session.specs.Sessions.{HasFailed, IsNext, IsOpenFor, Lacks, LeavesNext, LeavesOldOrNext, WantsRoom}
 use Rattle.sb_session.proofs.Carried.{end_of_given}
-use Rattle.sb_session.proofs.CommitSteps.{committed-push, with_committed}
+use Rattle.sb_session.proofs.CommitSteps.{committed-push, freed_leads, freed_refused, with_committed}
 use Rattle.sb_session.proofs.OpenLemmas.{Outside, outside_at}
 use Rattle.sb_session.proofs.RoomLemmas.{Lacks-there}
 use Rattle.sb_execution.specs.Endings.{AnswersCommand, ComesAlone, EndsAlone, HasAnswered, IsLeftSo, IsOf, going_alone}
 use Rattle.sb_execution.proofs.CallLemmas.{KeepsWanted-then, KeepsWanted-works, Remains-then, err_fault, has_failed, leaves_behind, not_both, ok_err, still_up}
 use Rattle.sb_execution.proofs.EndLemmas.{Ends-by, Ends-stepped, ends_given, may_want_room-works, none_committed, told_none}
-use Rattle.sb_execution.proofs.PagesLemmas.{pages_finished, pages_given, pages_roomless}
+use Rattle.sb_execution.proofs.PagesLemmas.{room_finished, room_given, room_roomless}
 use Rattle.sb_execution.proofs.ReplyLemmas.{answered_given, given_no_fault, is_free_reply, tells_answer}
 use Rattle.sb_execution.proofs.StepsOf.{Steps-stopped_alone, Steps-worked_alone, with_open}
 
+-- where room is wanting, something is
+room_wanting : (r : Refusal) → is_room r ≡ true → is_wanting r ≡ true
+room_wanting (refusal.Room room) is = refl
+room_wanting r is = absurd (false≢true is)
+
 -- why a command is refused: as the definitions say, or for a cause; and for want of room only where it may be wanting, by the numbers of these sizes;
--- and for want of a page where its step comes so far
+-- and where its step comes so far
 pub record Refuses {D : Type 0} (faults : D → ℕ) (m : Meanings) (c : Command) (x : State) (r : Refusal) (g : Geometry) : Type 0 where
   pub given : is_free r ≡ false → Steps (extensions_of m) x c (Refused r) (with_open x None)
   pub there : Mounted D
   pub cause : is_free r ≡ true → HasRefusalCause (FailsOn faults) r there
   pub sizes : is_room r ≡ true → there.store.pool.geometry ≡ g
   pub lacks : is_room r ≡ true → may_want_room x c ≡ true
-  pub pages : WantsPages m g.pages x c (Refused r)
+  pub room : WantsRoom m g.pages x c (Refused r)
 
 module _ {D : Type 0} (told : D → Option Story) (len faults : D → ℕ) (m : Meanings) (place : Place) (c : Command)
     (d f : D) (s u : StoreState) (up : s.book.down ≡ false) where
@@ -112,7 +117,7 @@ module _ {D : Type 0} (told : D → Option Story) (len faults : D → ℕ) (m : 
         (λ is. absurd (let e = only.is in cc))
         (λ is. failed_so r remains is only.down want x of (inl (left_by still want x of)))
         (λ page is. absurd (let e = only.is in cc));
-    pages = λ want x of posed. pages_roomless m s.pool.geometry.pages x c r (ap is_room only.is);
+    room = λ want x of posed. room_roomless m s.pool.geometry.pages x c r (ap is_room only.is);
     leaves = λ not. still;
     none = λ off. not_both u.book.down off only.down;
     fault = λ is. only.down;
@@ -141,6 +146,9 @@ module _ {D : Type 0} (told : D → Option Story) (len faults : D → ℕ) (m : 
       leaves = inl (left_by (still (none_committed c r (λ is. false≢true (sym not ∙ ap is_end is)))) want x of);
     }
 
+    lacking : (want : Wanted) (x : State) → Of want x → IsPosedIn m x c → is_end r ≡ false → (Cause : Type 0) → Cause → IsLacking (LeftBy want x (Refused r)) Cause ext x c
+    lacking want x of posed not Cause cause = record { up = of.up; cause = cause; after = x; left = inl refl; stands = as_it_was want x of posed not }
+
     given_step : (want : Wanted) (x : State) → Of want x → IsPosedIn m x c → is_free r ≡ false → IsStep (LeftBy want x (Refused r)) ext x c (Refused r)
     given_step want x of posed given = record {
       after = with_open x None;
@@ -161,19 +169,15 @@ module _ {D : Type 0} (told : D → Option Story) (len faults : D → ℕ) (m : 
     EndsAlone-refused = record {
       ends = λ want x of posed. let why = refuses want x of posed in Ends-by (LeftBy want x (Refused r)) (Lacks s.pool.geometry) (HasFailed faults d f) ext x c r
           (λ given. given_step want x of posed given)
-          (λ room is. record {
-            up = of.up;
-            cause = (
-              Lacks-there faults s.pool.geometry why.there (why.sizes (ap is_room is)) room
-                  (subst (λ (r : Refusal). HasRefusalCause (FailsOn faults) r why.there) is (why.cause (ap is_free is))),
-              why.lacks (ap is_room is),
-            );
-            stands = as_it_was want x of posed (ap is_end is);
-          })
-          (λ is. record { up = of.up; cause = may x; stands = as_it_was want x of posed (ap is_end is) })
+          (λ room is. lacking want x of posed (ap is_end is) (Lacks s.pool.geometry room × (may_want_room x c ≡ true)) (
+            Lacks-there faults s.pool.geometry why.there (why.sizes (ap is_room is)) room
+                (subst (λ (r : Refusal). HasRefusalCause (FailsOn faults) r why.there) is (why.cause (ap is_free is))),
+            why.lacks (ap is_room is),
+          ))
+          (λ is. lacking want x of posed (ap is_end is) (may_want_memory x c ≡ true) (may x))
           (λ is. failed_so r remains is (of_fault r (u.book.down ≡ true) faulted is) want x of (fallen want x of posed))
           (λ page is. subst (λ (r : Refusal). HasRefusalCause (FailsOn faults) r why.there) is (why.cause (ap is_free is)));
-      pages = λ want x of posed. (refuses want x of posed).pages;
+      room = λ want x of posed. (refuses want x of posed).room;
       leaves = still;
       none = none;
       fault = λ is. let same : r ≡ refusal.Fault = cc in of_fault r (u.book.down ≡ true) faulted same;
@@ -185,7 +189,7 @@ module _ {D : Type 0} (told : D → Option Story) (len faults : D → ℕ) (m : 
       → Each (λ want x. (is_free_reply r ≡ false) × IsStep (LeftBy want x r) ext x c r) → EndsAlone told len faults m place c d f s u (Ok r)
   EndsAlone-done r told_none remains leaves none steps = record {
     ends = λ want x of posed. let to = steps want x of posed in Ends-stepped (LeftBy want x r) (Lacks s.pool.geometry) (HasFailed faults d f) ext x c r to.0 to.1;
-    pages = λ want x of posed. pages_given m s.pool.geometry.pages x c r (steps want x of posed).0;
+    room = λ want x of posed. room_given m s.pool.geometry.pages x c r (steps want x of posed).0;
     leaves = leaves;
     none = none;
     fault = λ is. absurd (told_none is);
@@ -260,15 +264,15 @@ module _ {D : Type 0} (told : D → Option Story) (len faults : D → ℕ) (m : 
       (leaves_so_far told len faults m place d e s t tx has.comes).leaves.each want out.rests.has.now out.rests.has.stands.store
 
   -- work and the work that finishes it
-  leads_whole_way : (work : Work Answer) (g h k : Going) (ps qs : List Key) → Leads work g ps (made answer) h → Leads (finish (extensions_of m)) h qs (made tt) k
-      → Leads (finished (extensions_of m) work) g (ps ++ qs) (made answer) (freed k)
+  leads_whole_way : (work : Work Answer) (g h k : Going) (ps qs : List Key) → Leads work g ps (made answer) h → Leads (finish_and_free (extensions_of m)) h qs (made tt) k
+      → Leads (finished (extensions_of m) work) g (ps ++ qs) (made answer) k
   leads_whole_way work g h k ps qs one two =
-      let run = leads_on (λ (answer : Answer). finish (extensions_of m) >>= λ _. freeing answer) one (leads_next (λ _. freeing answer) two) in
-      record { leads = run.leads }
+      leads_on (λ (answer : Answer). finish (extensions_of m) >>= λ _. freeing answer) one (freed_leads (extensions_of m) answer h qs k two)
 
-  leads_to_refusal : (work : Work Answer) (g h k : Going) (ps qs : List Key) (r : Refusal) → Leads work g ps (made answer) h → Leads (finish (extensions_of m)) h qs (refuse r) k
+  leads_to_refusal : (work : Work Answer) (g h k : Going) (ps qs : List Key) (r : Refusal) → Leads work g ps (made answer) h → Leads (finish_and_free (extensions_of m)) h qs (refuse r) k
       → Leads (finished (extensions_of m) work) g (ps ++ qs) (refuse r) k
-  leads_to_refusal work g h k ps qs r one two = leads_on (λ (answer : Answer). finish (extensions_of m) >>= λ _. freeing answer) one (leads_refused (λ _. freeing answer) two)
+  leads_to_refusal work g h k ps qs r one two =
+      leads_on (λ (answer : Answer). finish (extensions_of m) >>= λ _. freeing answer) one (freed_refused (extensions_of m) answer h qs k r two)
 
   module _ (f : D) (u : StoreState) where
     abbrev to : Parts
@@ -279,7 +283,7 @@ module _ {D : Type 0} (told : D → Option Story) (len faults : D → ℕ) (m : 
         → Steps (extensions_of m) x c (answered answer run.after.used) (with_committed x run.after.db)
     committed_step want x of posed IsSo run =
         let why = has.answers want x of posed in
-        Steps-worked_alone (extensions_of m) x c of.up (none_in want x of) why.work why.is (why.run.picks ++ run.picks) (freed run.after) answer why.passed
+        Steps-worked_alone (extensions_of m) x c of.up (none_in want x of) why.work why.is (why.run.picks ++ run.picks) run.after answer why.passed
         (leads_whole_way why.work (going_alone x) why.run.after run.after why.run.picks run.picks why.run.leads run.leads)
 
     -- what a crash left since the commit began, beside what it left before
@@ -300,7 +304,7 @@ module _ {D : Type 0} (told : D → Option Story) (len faults : D → ℕ) (m : 
         }
 
     -- the disk failed, and what a crash left may be what a step commits
-    pub fallen_commit : ((want : Wanted) (g : Going) → IsAt m place want tx g here w → LeavesOldOrFinished m place.root want g here to)
+    pub fallen_commit : ((want : Wanted) (g : Going) → IsAt m place want tx g here w → IsPaidAt g here → LeavesOldOrFinished m place.root want g here to)
         → (want : Wanted) (x : State) → Begun want x → IsPosedIn m x c → LeavesOldOrNext m place.root want (extensions_of m) x c (downed x) from to
     fallen_commit moments want x of posed =
         let why : AnswersCommand m place want c x here tx w answer = has.answers want x of posed in
@@ -314,11 +318,11 @@ module _ {D : Type 0} (told : D → Option Story) (len faults : D → ℕ) (m : 
         run.stands.pages
         (subst (λ (db : Db). IsCommitted m place.root t.pool.geometry.pages run.stands.pages db) (sym (committed-push x run.after.db)) run.stands.committed)
         run.stands.leaves))
-        (moments want why.run.after why.run.stands)
+        (moments want why.run.after why.run.stands.0 why.run.stands.1)
 
     -- ---- it was committed
     pub EndsAlone-committed : {K : Type 0} (held : K) (picks : List Key) → Remains told len faults e f t u (Ok held) → (u.book.down ≡ false → u.book.actives ≡ [])
-        → ((want : Wanted) (g : Going) → IsAt m place want tx g here w → Finishes m g (IsDone m place.root want picks here) to)
+        → ((want : Wanted) (g : Going) → IsAt m place want tx g here w → IsPaidAt g here → Finishes m g (IsDone m place.root want picks here) to)
         → EndsAlone told len faults m place c d f s u (Ok (answered answer picks))
     EndsAlone-committed {K} held picks remains none done =
         EndsAlone-done told len faults m place c d f s u (was_up told len faults m place d e s t tx has.comes) (answered answer picks)
@@ -328,7 +332,7 @@ module _ {D : Type 0} (told : D → Option Story) (len faults : D → ℕ) (m : 
         none
         (λ want x of posed.
         let why = has.answers want x of posed in
-        let run = done want why.run.after why.run.stands in
+        let run = done want why.run.after why.run.stands.0 why.run.stands.1 in
         let given = answered_given answer picks in (
           given,
           record {
@@ -352,32 +356,35 @@ module _ {D : Type 0} (told : D → Option Story) (len faults : D → ℕ) (m : 
         ))
 
   -- ---- it wasn't
-  module _ (r : Refusal) (stops : (want : Wanted) (g : Going) → IsAt m place want tx g here w → StopsAt told len faults m tx g r (record { disk = e; store = t })) where
-    size : (want : Wanted) (x : State) (of : Begun want x) (posed : IsPosedIn m x c) → is_room r ≡ true
-        → (stops want (has.answers want x of posed).run.after (has.answers want x of posed).run.stands).there.store.pool.geometry ≡ s.pool.geometry
+  module _ (r : Refusal) (new : Mounted D)
+      (stops : (want : Wanted) (g : Going) → IsAt m place want tx g here w → IsPaidAt g here → StopsAt told len faults m tx g r (record { disk = e; store = t }) new) where
+    stop_at : (want : Wanted) (x : State) (of : Begun want x) (posed : IsPosedIn m x c)
+        → StopsAt told len faults m tx (has.answers want x of posed).run.after r (record { disk = e; store = t }) new
+    stop_at want x of posed = let run = (has.answers want x of posed).run in stops want run.after run.stands.0 run.stands.1
+
+    size : (want : Wanted) (x : State) (of : Begun want x) (posed : IsPosedIn m x c) → is_room r ≡ true → (stop_at want x of posed).there.store.pool.geometry ≡ s.pool.geometry
     size want x of posed room =
-        let why = has.answers want x of posed in
-        ((stops want why.run.after why.run.stands).led (λ is. false≢true (sym (ap is_room is) ∙ room))).1.geometry ∙ same_size told len faults m place d e s t tx has.comes
+        ((stop_at want x of posed).led (λ is. false≢true (sym (ap is_room is) ∙ room))).1.geometry ∙ same_size told len faults m place d e s t tx has.comes
 
     pub refuses_commit : (want : Wanted) (x : State) → Begun want x → IsPosedIn m x c → Refuses faults m c x r s.pool.geometry
     refuses_commit want x of posed =
         let why = has.answers want x of posed in
-        let stop = stops want why.run.after why.run.stands in
+        let stop = stop_at want x of posed in
         record {
           given = λ given.
-              let run : EndsBy (IsStoppedOn faults m) false (finish (extensions_of m)) why.run.after r stop.there =
-              subst (λ (b : Bool). EndsBy (IsStoppedOn faults m) b (finish (extensions_of m)) why.run.after r stop.there) given stop.stops in
+              let run : EndsBy (IsStoppedOn faults m) false (finish_and_free (extensions_of m)) why.run.after r stop.there =
+              subst (λ (b : Bool). EndsBy (IsStoppedOn faults m) b (finish_and_free (extensions_of m)) why.run.after r stop.there) given stop.stops in
               Steps-stopped_alone (extensions_of m) x c of.up (none_in want x of) why.work why.is (why.run.picks ++ run.picks) run.after r why.passed
               (leads_to_refusal why.work (going_alone x) why.run.after run.after why.run.picks run.picks r why.run.leads run.leads);
           there = stop.there;
           cause = λ free.
-              let broken : EndsBy (IsStoppedOn faults m) true (finish (extensions_of m)) why.run.after r stop.there =
-              subst (λ (b : Bool). EndsBy (IsStoppedOn faults m) b (finish (extensions_of m)) why.run.after r stop.there) free stop.stops in
+              let broken : EndsBy (IsStoppedOn faults m) true (finish_and_free (extensions_of m)) why.run.after r stop.there =
+              subst (λ (b : Bool). EndsBy (IsStoppedOn faults m) b (finish_and_free (extensions_of m)) why.run.after r stop.there) free stop.stops in
               broken.stopped.cause;
           sizes = λ room. size want x of posed room;
           lacks = λ room. may_want_room-works (extensions_of m) x c why.work why.is;
-          pages = pages_finished faults m s.pool.geometry.pages x c of.up why.work why.is why.passed stop.there r
-              (λ room. ap (λ (g : Geometry). g.pages) (size want x of posed room)) (none_in want x of) (λ h p. IsAt m place want tx h p w) answer here why.run stop.stops;
+          room = room_finished faults m x c of.up why.work why.is why.passed stop.there r (none_in want x of) s.pool.geometry.pages
+              (λ room. ap (λ (g : Geometry). g.pages) (size want x of posed room)) (λ room. stop.up (room_wanting r room)) (HasPaid m place want tx w) answer here why.run stop.stops;
         }
 
   -- ---- the transaction went on, and was aborted then

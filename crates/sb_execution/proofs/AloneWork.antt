@@ -1,5 +1,5 @@
 -- The ways in which a transaction of one command ends, by what the calls on the way promise.
-use Rattle.std.proofs.Common.{◌≡◌, inl, ℕ, true, false, List, [], Option, Some, None, Result, Ok, Err, refl, sym, ap, ◌∙◌, subst}
+use Rattle.std.proofs.Common.{◌≡◌, inl, ℕ, true, false, List, [], Option, Some, None, Result, Ok, Err, refl, sym, ap, ◌∙◌, subst, arith}
 use Rattle.std.proofs.lemmas.Bool.{false≢true}
 use Rattle.sb_disk.specs.Disk.{Story}
 use Rattle.sb_disk.specs.Moments.{LeavesOnly}
@@ -24,6 +24,7 @@ use Rattle.sb_plain.specs.Step.{work_of}
 use Rattle.sb_registry.specs.Boxes.{Meanings}
 use Rattle.sb_drive.specs.Spaces.{Wanted}
 use Rattle.sb_map.specs.declared.place.Place.{Place}
+use Rattle.sb_space.specs.Spent.{HasSpent}
 use Rattle.sb_txn.specs.Clauses.{Leads}
 use Rattle.sb_txn.specs.Parts.{Parts, parts}
 use Rattle.sb_txn.specs.State.{State as StoreState}
@@ -31,11 +32,11 @@ use Rattle.sb_space.specs.declared.transactions.Tx.{Tx}
 use Rattle.sb_session.specs.Transaction.{Transaction}
 use Rattle.sb_session.specs.Calls.{IsOnlyFault, KeepsWanted, Remains}
 use Rattle.sb_session.specs.Commits.{FailsOn, IsLed}
-use Rattle.sb_session.specs.Sessions.{WantsPages}
+use Rattle.sb_session.specs.Sessions.{WantsRoom}
 use Rattle.sb_session.specs.Transactions.{IsAt, IsFirst, IsUsable, Rests, WasBegun}
 use Rattle.sb_session.proofs.CallLemmas.{Remains-answered, up-earlier, up-later}
 use Rattle.sb_statements.specs.declared.answers.Answer as code
-use Rattle.sb_execution.specs.Serving.{IsAnswered, IsPosedIn, IsSeenIn, IsServed, IsUnservedOn, is_managing}
+use Rattle.sb_execution.specs.Serving.{HasPaid, IsAnswered, IsPosedIn, IsSeenIn, IsServed, IsUnservedOn, is_managing}
 use Rattle.sb_statements.specs.Statements.{answer_of}
 use Rattle.sb_session.specs.declared.session.Savepoint.{Savepoint}
 use Rattle.sb_session.proofs.OpenLemmas.{Outside, outside_at}
@@ -45,8 +46,8 @@ use Rattle.sb_reads.specs.Reads.{is_reading}
 use Rattle.sb_execution.specs.Endings.{ComesAlone, EndsAlone, HasAnswered, IsOf, Passes, going_alone}
 use Rattle.sb_execution.proofs.AloneLemmas.{EndsAlone-done, EndsAlone-fault, EndsAlone-refused, leaves_alone, leaves_so_far, left_by, read_so, remains_alone, same_size}
 use Rattle.sb_execution.proofs.CallLemmas.{Remains-err, Remains-led, Remains-then, not_both, ok_err}
-use Rattle.sb_execution.proofs.EndLemmas.{at_some, free_room, may_want_memory-works, roomless, seen_alone, unserved_alone, unserved_cause, unserved_pages_alone, unserved_room, work_there}
-use Rattle.sb_execution.proofs.PagesLemmas.{pages_roomless}
+use Rattle.sb_execution.proofs.EndLemmas.{at_some, free_room, may_want_memory-works, roomless, seen_alone, unserved_alone, unserved_cause, unserved_room, unserved_wants_alone, work_there}
+use Rattle.sb_execution.proofs.PagesLemmas.{room_roomless}
 use Rattle.sb_execution.proofs.ReplyLemmas.{answer_no_fault, read_given, refused_given}
 use Rattle.sb_execution.proofs.StepsOf.{Steps-read_alone, Steps-refused_alone, with_open}
 
@@ -63,6 +64,7 @@ module _ {D : Type 0} (told : D → Option Story) (len faults : D → ℕ) (m : 
     (pages_first : Leads (parts told len d s) (parts told len b bs) (λ now. now))
     (begun : (m : Meanings) (root : ℕ) (want : Wanted) (db : Db) → Rests m root want db (parts told len d s) → WasBegun m root want db a.tx.store.number (parts told len b bs))
     (at : (m : Meanings) (place : Place) (want : Wanted) (g : Going) → place.owner ≡ 2 → IsFirst g → Rests m place.root want g.db (parts told len d s) → IsAt m place want a.tx.store.number g (parts told len b bs) a.work)
+    (fresh : HasSpent 0 bs)
     -- the command was served
     (tx : y.tx ≡ a.tx) (serves : IsUsable m place a.tx.store.number (parts told len e t) y.work)
     (led : IsLed told len faults a.tx.store.number (record { disk = b; store = bs }) (record { disk = e; store = t }))
@@ -85,8 +87,9 @@ module _ {D : Type 0} (told : D → Option Story) (len faults : D → ℕ) (m : 
   out : (want : Wanted) (x : State) → IsOf m place want x from None → Outside m place want (committed x) from x.transaction
   out want x of = outside_at m place want (committed x) from x.transaction of.stands
 
-  at_command : (want : Wanted) (x : State) → IsOf m place want x from None → IsAt m place want n (going_alone x) (parts told len b bs) a.work
-  at_command want x of = at m place want (going_alone x) owner (record { queue = refl; used = refl }) (out want x of).rests
+  at_command : (want : Wanted) (x : State) → IsOf m place want x from None → HasPaid m place want n a.work (going_alone x) (parts told len b bs)
+  at_command want x of =
+      (at m place want (going_alone x) owner (record { queue = refl; used = refl }) (out want x of).rests, record { changes = 0; within = omega arith; spent = fresh })
 
   pub comes : ComesAlone told len faults m place d e s t last
   comes = subst (λ (k : ℕ). ComesAlone told len faults m place d e s t k) (sym last_number) (record {
@@ -145,7 +148,7 @@ module _ {D : Type 0} (told : D → Option Story) (len faults : D → ℕ) (m : 
         EndsAlone-behind : ((x : State) → may_want_memory x c ≡ true) → (r : Refusal) → OnFault r (t.book.down ≡ true)
             → ((want : Wanted) (x : State) → IsOf m place want x from None → IsPosedIn m x c
             → (is_free r ≡ false → Steps (extensions_of m) x c (Refused r) (with_open x None)) × (is_free r ≡ true → HasRefusalCause (FailsOn faults) r (record { disk = e; store = t }))
-            × (is_room r ≡ true → may_want_room x c ≡ true) × WantsPages m s.pool.geometry.pages x c (Refused r))
+            × (is_room r ≡ true → may_want_room x c ≡ true) × WantsRoom m s.pool.geometry.pages x c (Refused r))
             → EndsAlone told len faults m place c d f s u (Err r)
         EndsAlone-behind may r faulted why =
             EndsAlone-refused told len faults m place c d f s u up may r
@@ -160,12 +163,12 @@ module _ {D : Type 0} (told : D → Option Story) (len faults : D → ℕ) (m : 
               cause = both.1;
               sizes = λ room. same_size told len faults m place d e s t last comes;
               lacks = both.2;
-              pages = both.3;
+              room = both.3;
             })
 
         -- the command wasn't served
         pub EndsAlone-back : is_managing c ≡ false → (r : Refusal) → OnFault r (t.book.down ≡ true)
-            → ((want : Wanted) (x : State) (g : Going) → IsAt m place want n g (parts told len b bs) a.work → IsSeenIn m false ones x g → IsPosedIn m x c
+            → ((want : Wanted) (x : State) (g : Going) → HasPaid m place want n a.work g (parts told len b bs) → IsSeenIn m false ones x g → IsPosedIn m x c
             → IsUnservedOn faults m x c g r (record { disk = e; store = t })) → EndsAlone told len faults m place c d f s u (Err r)
         EndsAlone-back works r faulted unserved =
             EndsAlone-behind (λ x. may_want_memory-works x c works) r faulted
@@ -174,13 +177,13 @@ module _ {D : Type 0} (told : D → Option Story) (len faults : D → ℕ) (m : 
               λ given. unserved_alone faults m x c works r (record { disk = e; store = t }) of.up given (out want x of).none why,
               unserved_cause faults m x c works r (record { disk = e; store = t }) (going_alone x) why,
               unserved_room faults m x c works r (record { disk = e; store = t }) (going_alone x) why,
-              unserved_pages_alone faults m x c works r (record { disk = e; store = t }) of.up s.pool.geometry.pages
-                  (λ room. ap (λ (g : Geometry). g.pages) (same_size told len faults m place d e s t last comes)) (out want x of).none why,
+              unserved_wants_alone faults m x c works r (record { disk = e; store = t }) of.up s.pool.geometry.pages
+                  (λ room. ap (λ (g : Geometry). g.pages) (same_size told len faults m place d e s t last comes)) still (out want x of).none why,
             ))
 
         -- a test refuses it
         pub EndsAlone-tested : ((x : State) → may_want_memory x c ≡ true) → (r : Refusal) → OnFault r ⊥
-            → ((want : Wanted) (x : State) (g : Going) → IsAt m place want n g (parts told len b bs) a.work → IsSeenIn m false ones x g → Some r ≡ refused (extensions_of m) x c)
+            → ((want : Wanted) (x : State) (g : Going) → HasPaid m place want n a.work g (parts told len b bs) → IsSeenIn m false ones x g → Some r ≡ refused (extensions_of m) x c)
             → EndsAlone told len faults m place c d f s u (Err r)
         EndsAlone-tested may r tested refuses =
             EndsAlone-behind may r (on_fault r (t.book.down ≡ true) (λ is. absurd (of_fault r ⊥ tested is)))
@@ -189,12 +192,12 @@ module _ {D : Type 0} (told : D → Option Story) (len faults : D → ℕ) (m : 
               λ given. Steps-refused_alone (extensions_of m) x c of.up (out want x of).none r is,
               λ free. absurd (false≢true (sym (refused_given (extensions_of m) x c r is) ∙ free)),
               λ room. absurd (false≢true (sym (refused_given (extensions_of m) x c r is) ∙ free_room r room)),
-              pages_roomless m s.pool.geometry.pages x c r (roomless r (refused_given (extensions_of m) x c r is)),
+              room_roomless m s.pool.geometry.pages x c r (roomless r (refused_given (extensions_of m) x c r is)),
             ))
 
         -- a look of the tests was refused
         pub EndsAlone-looked : ((x : State) → may_want_memory x c ≡ true) → (r : Refusal) → OnFault r (t.book.down ≡ true) → is_free r ≡ true → is_room r ≡ false
-            → ((want : Wanted) (x : State) (g : Going) → IsAt m place want n g (parts told len b bs) a.work → IsSeenIn m false ones x g → HasRefusalCause (FailsOn faults) r (record { disk = e; store = t }))
+            → ((want : Wanted) (x : State) (g : Going) → HasPaid m place want n a.work g (parts told len b bs) → IsSeenIn m false ones x g → HasRefusalCause (FailsOn faults) r (record { disk = e; store = t }))
             → EndsAlone told len faults m place c d f s u (Err r)
         EndsAlone-looked may r faulted free none_lacks cause =
             EndsAlone-behind may r faulted
@@ -202,11 +205,11 @@ module _ {D : Type 0} (told : D → Option Story) (len faults : D → ℕ) (m : 
               λ given. absurd (false≢true (sym given ∙ free)),
               λ also. cause want x (going_alone x) (at_command want x of) (seen want x of),
               λ room. absurd (false≢true (sym none_lacks ∙ room)),
-              pages_roomless m s.pool.geometry.pages x c r none_lacks,
+              room_roomless m s.pool.geometry.pages x c r none_lacks,
             ))
 
         -- no test refuses it
-        pub Passes-alone : ((want : Wanted) (x : State) (g : Going) → IsAt m place want n g (parts told len b bs) a.work → IsSeenIn m false ones x g → None ≡ refused (extensions_of m) x c)
+        pub Passes-alone : ((want : Wanted) (x : State) (g : Going) → HasPaid m place want n a.work g (parts told len b bs) → IsSeenIn m false ones x g → None ≡ refused (extensions_of m) x c)
             → Passes told len faults m place c d f s u
         Passes-alone passed = record {
           passed = λ want x of. sym (passed want x (going_alone x) (at_command want x of) (seen want x of));
@@ -217,23 +220,23 @@ module _ {D : Type 0} (told : D → Option Story) (len faults : D → ℕ) (m : 
 
         -- behind a reading
         pub EndsAlone-reads : (r : Reply) (came : Served) → came ≡ served.Read r → IsAnswered came
-            → (t.book.down ≡ false → (want : Wanted) (x : State) (g : Going) → IsAt m place want n g (parts told len b bs) a.work → IsSeenIn m false ones x g → IsPosedIn m x c
-            → IsServed (λ h p. IsAt m place want n h p y.work) m x c g came here) → EndsAlone told len faults m place c d f s u (Ok r)
+            → (t.book.down ≡ false → (want : Wanted) (x : State) (g : Going) → HasPaid m place want n a.work g (parts told len b bs) → IsSeenIn m false ones x g → IsPosedIn m x c
+            → IsServed (HasPaid m place want n y.work) m x c g came here) → EndsAlone told len faults m place c d f s u (Ok r)
         EndsAlone-reads r came is answers serves_so =
             EndsAlone-done told len faults m place c d f s u up r
             (answer_no_fault r (subst (λ (one : Served). IsAnswered one) is answers))
             (remains_alone told len faults m place d e s t last comes y.work {T = Unit {0}} {U = Reply} f u (Ok tt) (Ok r) (λ is. ok_err tt refusal.Fault is) remains)
             (λ not. moments) (λ off. none)
             (λ want x of posed.
-            let did : IsServed (λ h p. IsAt m place want n h p y.work) m x c (going_alone x) (served.Read r) here =
-            subst (λ (one : Served). IsServed (λ h p. IsAt m place want n h p y.work) m x c (going_alone x) one here) is (serves_so still want x (going_alone x) (at_command want x of) (seen want x of) posed) in
+            let did : IsServed (HasPaid m place want n y.work) m x c (going_alone x) (served.Read r) here =
+            subst (λ (one : Served). IsServed (HasPaid m place want n y.work) m x c (going_alone x) one here) is (serves_so still want x (going_alone x) (at_command want x of) (seen want x of) posed) in
             read_so told len faults m place c d f s u up r want x (rests_so want x of) (moments_so want x of) (read_given (extensions_of m) (view x) c r did.1)
             (Steps-read_alone (extensions_of m) x c of.up (out want x of).none r did.0 did.1))
 
   -- ---- the command was answered
   pub has_answered : is_managing c ≡ false → is_reading c ≡ false → (ones : List Savepoint) → ones ≡ [] → (answer : code.Answer) (came : Served) → came ≡ served.Worked answer → t.book.down ≡ false
-      → (t.book.down ≡ false → (want : Wanted) (x : State) (g : Going) → IsAt m place want n g (parts told len b bs) a.work → IsSeenIn m false ones x g → IsPosedIn m x c
-      → IsServed (λ h p. IsAt m place want n h p y.work) m x c g came here)
+      → (t.book.down ≡ false → (want : Wanted) (x : State) (g : Going) → HasPaid m place want n a.work g (parts told len b bs) → IsSeenIn m false ones x g → IsPosedIn m x c
+      → IsServed (HasPaid m place want n y.work) m x c g came here)
       → HasAnswered told len faults m place c d e s t last y.work (answer_of answer)
   has_answered works changes ones listed answer came is still serves_so = record {
     works = works;
@@ -241,15 +244,15 @@ module _ {D : Type 0} (told : D → Option Story) (len faults : D → ℕ) (m : 
     up = still;
     comes = comes;
     answers = λ want x of posed.
-        let did : IsServed (λ h p. IsAt m place want n h p y.work) m x c (going_alone x) (served.Worked answer) here =
-        subst (λ (one : Served). IsServed (λ h p. IsAt m place want n h p y.work) m x c (going_alone x) one here) is
+        let did : IsServed (HasPaid m place want n y.work) m x c (going_alone x) (served.Worked answer) here =
+        subst (λ (one : Served). IsServed (HasPaid m place want n y.work) m x c (going_alone x) one here) is
         (serves_so still want x (going_alone x) (at_command want x of) (seen_alone m place want x from ones listed of (out want x of).none) posed) in
         let there = work_there (extensions_of m) (view x) c works did.1 in
         record {
           passed = did.0;
           work = there.0;
           is = there.1;
-          run = subst (λ (k : ℕ). MadeFrom (λ h p. IsAt m place want k h p y.work) there.0 (going_alone x) (answer_of answer) here) (sym last_number)
-              (at_some (work_of (extensions_of m) c) there.0 (λ work. MadeFrom (λ h p. IsAt m place want n h p y.work) work (going_alone x) (answer_of answer) here) there.1 did.2);
+          run = subst (λ (k : ℕ). MadeFrom (HasPaid m place want k y.work) there.0 (going_alone x) (answer_of answer) here) (sym last_number)
+              (at_some (work_of (extensions_of m) c) there.0 (λ work. MadeFrom (HasPaid m place want n y.work) work (going_alone x) (answer_of answer) here) there.1 did.2);
         };
   }

@@ -1,5 +1,5 @@
 -- How commands on relations end, by what they reply and by why they are refused.
-use Rattle.std.proofs.Common.{◌≡◌, ℕ, ◌+◌, Bool, true, false, not, ◌||◌, ◌&&◌, List, [], ◌∷◌, map, Option, Some, None, IfSome, is_some, refl, sym, ap, ◌∙◌, subst}
+use Rattle.std.proofs.Common.{◌≡◌, inl, inr, ℕ, ◌+◌, Bool, true, false, not, ◌||◌, ◌&&◌, List, [], ◌∷◌, map, Option, Some, None, IfSome, is_some, refl, sym, ap, ◌∙◌, subst, arith}
 use Rattle.std.proofs.lemmas.Bool.{false≢true}
 use Rattle.sb_relation.specs.Db.{Name, Db}
 use Rattle.sb_fold.specs.declared.refusal.Refusal.{Refusal}
@@ -11,7 +11,7 @@ use Rattle.sb_fold.specs.Outcome.{Going, Gone, Queue, Trail, Work, ◌>>=◌}
 use Rattle.sb_fold.proofs.LeadsLemmas.{leads_refused}
 use Rattle.sb_cascade.specs.Runs.{EndsBy, StopsFrom, is_free, is_room}
 use Rattle.sb_engine.specs.Refusals.{HasRefusalCause}
-use Rattle.sb_engine.specs.Working.{extensions_of}
+use Rattle.sb_engine.specs.Working.{IsPaid, extensions_of}
 use Rattle.sb_plain.specs.declared.command.Command.{Command}
 use Rattle.sb_plain.specs.declared.command.Command.TheVariants as command
 use Rattle.sb_plain.specs.declared.reply.Reply.{Reply}
@@ -21,25 +21,27 @@ use Rattle.sb_plain.specs.State.{downed}
 use Rattle.sb_plain.specs.Step.{Steps}
 use Rattle.sb_plain.specs.Reading.{read}
 use Rattle.sb_plain.specs.State.{Point as PlainPoint, State, Transaction, committed, no_queue, none_gone, view}
-use Rattle.sb_plain.specs.Step.{Answer, freeing, work_of}
+use Rattle.sb_plain.specs.Step.{Answer, freeing, step, work_of}
 use Rattle.sb_registry.specs.Boxes.{Meanings}
 use Rattle.sb_drive.specs.Spaces.{Wanted}
 use Rattle.sb_map.specs.declared.place.Place.{Place}
+use Rattle.sb_space.specs.Spent.{HasSpent}
 use Rattle.sb_txn.specs.Parts.{Parts}
 use Rattle.sb_engine.specs.declared.running.Work.{Work as EngineWork}
 use Rattle.sb_session.specs.Commits.{FailsOn, IsStoppedOn, Mounted}
 use Rattle.sb_session.specs.declared.session.Open.{Open}
 use Rattle.sb_session.specs.declared.session.Savepoint.{Savepoint}
-use Rattle.sb_session.specs.Ends.{Ends, IsFree, IsStep, ends_with}
-use Rattle.sb_session.specs.Sessions.{AreSavepoints, IsInside, WantsPages}
+use Rattle.sb_session.specs.Ends.{Ends, IsFree, IsLacking, IsStep, MayHaveSpent, ends_with}
+use Rattle.sb_session.specs.Sessions.{AreSavepoints, IsInside, WantsRoom}
 use Rattle.sb_session.proofs.Carried.{Ends-given, end_of_given}
 use Rattle.sb_session.proofs.CommitSteps.{going_on}
+use Rattle.sb_session.proofs.OpenLemmas.{paid_more}
 use Rattle.sb_reads.specs.Reads.{is_reading}
 use Rattle.sb_execution.specs.Endings.{IsOf, going_alone}
-use Rattle.sb_execution.specs.Serving.{IsSeenIn, IsUnservedOn, Looked, Tested, Worked, is_managing, can_commit, may_have_changed, may_have_committed}
-use Rattle.sb_execution.proofs.PagesLemmas.{pages_inside, pages_roomless, pages_worked}
+use Rattle.sb_execution.specs.Serving.{IsRefusedIn, IsSeenIn, IsUnservedOn, Looked, Tested, Worked, is_managing, can_commit, may_have_changed, may_have_committed}
+use Rattle.sb_execution.proofs.PagesLemmas.{paid_past, past_inside, room_inside, room_roomless, room_worked}
 use Rattle.sb_execution.proofs.ReplyLemmas.{is_free_reply, refused_given}
-use Rattle.sb_execution.proofs.StepsOf.{Steps-refused_alone, Steps-refused_inside, Steps-stopped_alone, Steps-stopped_inside, with_open, with_spent_in}
+use Rattle.sb_execution.proofs.StepsOf.{Steps-refused_alone, Steps-refused_inside, Steps-stopped_alone, Steps-stopped_inside, open_same, open_spent, with_open, with_spent_in}
 
 -- ---- replies that end no session
 pub ends_given : (r : Reply) → is_free_reply r ≡ false → ends_with r ≡ false
@@ -52,8 +54,8 @@ module _ (S : State → Type 0) (Lacks : Room → Type 0) (HasFailed : Type 0) (
   Ends-stepped r given step = step
 
   -- by the kind of the refusal
-  pub Ends-by : (r : Refusal) → (is_free r ≡ false → IsStep S ext s c (reply.Refused r)) → ((room : Room) → r ≡ refusal.Room room → IsFree S (Lacks room × (may_want_room s c ≡ true)) s s)
-      → (r ≡ refusal.NoMemory → IsFree S (may_want_memory s c ≡ true) s s) → (r ≡ refusal.Fault → IsFree S HasFailed s (downed s)) → ((page : ℕ) → r ≡ refusal.Damaged page → ⊥)
+  pub Ends-by : (r : Refusal) → (is_free r ≡ false → IsStep S ext s c (reply.Refused r)) → ((room : Room) → r ≡ refusal.Room room → IsLacking S (Lacks room × (may_want_room s c ≡ true)) ext s c)
+      → (r ≡ refusal.NoMemory → IsLacking S (may_want_memory s c ≡ true) ext s c) → (r ≡ refusal.Fault → IsFree S HasFailed s (downed s)) → ((page : ℕ) → r ≡ refusal.Damaged page → ⊥)
       → Ends S Lacks HasFailed ext s c (reply.Refused r)
   Ends-by (refusal.Room room) step lacks wants failed damaged = lacks room refl
   Ends-by refusal.NoMemory step lacks wants failed damaged = wants refl
@@ -69,9 +71,12 @@ module _ (S T : State → Type 0) (Lacks : Room → Type 0) (HasFailed : Type 0)
   free_wider : (Cause : Type 0) (now : State) → IsFree S Cause s now → IsFree T Cause s now
   free_wider Cause now free = record { up = free.up; cause = free.cause; stands = wider now free.stands }
 
+  lacking_wider : (Cause : Type 0) → IsLacking S Cause ext s c → IsLacking T Cause ext s c
+  lacking_wider Cause lacks = record { up = lacks.up; cause = lacks.cause; after = lacks.after; left = lacks.left; stands = wider lacks.after lacks.stands }
+
   pub Ends-as : (r : Reply) → Ends S Lacks HasFailed ext s c r → Ends T Lacks HasFailed ext s c r
-  Ends-as (reply.Refused (refusal.Room room)) ends = free_wider (Lacks room × (may_want_room s c ≡ true)) s ends
-  Ends-as (reply.Refused refusal.NoMemory) ends = free_wider (may_want_memory s c ≡ true) s ends
+  Ends-as (reply.Refused (refusal.Room room)) ends = lacking_wider (Lacks room × (may_want_room s c ≡ true)) ends
+  Ends-as (reply.Refused refusal.NoMemory) ends = lacking_wider (may_want_memory s c ≡ true) ends
   Ends-as (reply.Refused refusal.Fault) ends = free_wider HasFailed (downed s) ends
   Ends-as (reply.Refused (refusal.Damaged page)) ends = ends
   Ends-as (reply.Refused r) ends = step_wider (reply.Refused r) ends
@@ -136,60 +141,90 @@ module _ {D : Type 0} (faults : D → ℕ) (m : Meanings) (s : State) (c : Comma
   abbrev Stopped : Refusal → Trail → Mounted D → Type 0
   Stopped = IsStoppedOn faults m
 
+  -- by its work
+  abbrev IsRefused : Going → Type 0
+  IsRefused g = IsRefusedIn Stopped m c g r new
+
+  stop_by : (work : Work Answer) → work_of ext c ≡ Some work → (g : Going) → IsRefused g → StopsFrom Stopped work g r new
+  stop_by work is g stops = at_some (work_of ext c) work (λ work. StopsFrom Stopped work g r new) is stops
+
+  broken_by : (work : Work Answer) → work_of ext c ≡ Some work → (g : Going) → IsRefused g → is_free r ≡ true → EndsBy Stopped true work g r new
+  broken_by work is g stops free = subst (λ (b : Bool). EndsBy Stopped b work g r new) free (stop_by work is g stops)
+
+  refused_by : (work : Work Answer) → work_of ext c ≡ Some work → (g : Going) → IsRefused g → is_free r ≡ false → EndsBy Stopped false work g r new
+  refused_by work is g stops given = subst (λ (b : Bool). EndsBy Stopped b work g r new) given (stop_by work is g stops)
+
   -- for want of room or memory, or by a fault: what has the cause
   pub unserved_cause : (g : Going) → IsUnservedOn faults m s c g r new → is_free r ≡ true → HasRefusalCause (FailsOn faults) r new
-  unserved_cause g (Tested is) free = absurd (false≢true (sym (refused_given ext s c r is) ∙ free))
+  unserved_cause g (Tested is stopped) free = absurd (false≢true (sym (refused_given ext s c r is) ∙ free))
   unserved_cause g (Worked passed none stops) free =
       let there = work_there ext (view s) c works none in
-      let stop : StopsFrom Stopped there.0 g r new = at_some (work_of ext c) there.0 (λ work. StopsFrom Stopped work g r new) there.1 stops in
-      let broken : EndsBy Stopped true there.0 g r new = subst (λ (b : Bool). EndsBy Stopped b there.0 g r new) free stop in
-      broken.stopped.cause
-  unserved_cause g (Looked free none cause) also = cause
+      (broken_by there.0 there.1 g stops free).stopped.cause
+  unserved_cause g (Looked free none stopped) also = stopped.cause
 
   -- for want of room only where it may be wanting
   pub unserved_room : (g : Going) → IsUnservedOn faults m s c g r new → is_room r ≡ true → may_want_room s c ≡ true
-  unserved_room g (Tested is) room = absurd (false≢true (sym (refused_given ext s c r is) ∙ free_room r room))
+  unserved_room g (Tested is stopped) room = absurd (false≢true (sym (refused_given ext s c r is) ∙ free_room r room))
   unserved_room g (Worked passed none stops) room = let there = work_there ext (view s) c works none in may_want_room-works ext s c there.0 there.1
-  unserved_room g (Looked free none cause) room = absurd (false≢true (sym none ∙ room))
+  unserved_room g (Looked free none stopped) room = absurd (false≢true (sym none ∙ room))
 
-  -- as the definitions say: it is a step
-  module _ (up : s.down ≡ false) (given : is_free r ≡ false) where
-    pub unserved_inside : (t : Transaction) → s.transaction ≡ Some t → IsUnservedOn faults m s c (going_on t) r new
-        → (n : ℕ) × Steps ext s c (reply.Refused r) (with_open s (Some (with_spent_in n t)))
-    unserved_inside t inside (Tested is) = (t.spent + 1, Steps-refused_inside ext s c up t inside r is)
-    unserved_inside t inside (Worked passed none stops) =
+  module _ (up : s.down ≡ false) where
+    -- as the definitions say: it is a step, which spends as much as was paid for
+    pub unserved_inside : is_free r ≡ false → (t : Transaction) → s.transaction ≡ Some t → IsUnservedOn faults m s c (going_on t) r new
+        → (n : ℕ) × Steps ext s c (reply.Refused r) (with_open s (Some (with_spent_in n t))) × IsPaid HasSpent 0 (n + 1) new.store
+    unserved_inside given t inside (Tested is stopped) = (
+      t.spent + 1,
+      Steps-refused_inside ext s c up t inside r is,
+      paid_more HasSpent (t.spent + 1) (t.spent + 1 + 1) new.store (omega arith) stopped.paid,
+    )
+    unserved_inside given t inside (Worked passed none stops) =
         let there = work_there ext (view s) c works none in
-        let stop : StopsFrom Stopped there.0 (going_on t) r new = at_some (work_of ext c) there.0 (λ work. StopsFrom Stopped work (going_on t) r new) there.1 stops in
-        let run : EndsBy Stopped false there.0 (going_on t) r new = subst (λ (b : Bool). EndsBy Stopped b there.0 (going_on t) r new) given stop in
-        (run.after.trail.spent, Steps-stopped_inside ext s c up t inside there.0 there.1 run.picks run.after r passed run.leads)
-    unserved_inside t inside (Looked free none cause) = absurd (false≢true (sym given ∙ free))
+        let run = refused_by there.0 there.1 (going_on t) stops given in
+        let n : ℕ = run.after.trail.spent in (
+          n,
+          Steps-stopped_inside ext s c up t inside there.0 there.1 run.picks run.after r passed run.leads,
+          paid_more HasSpent n (n + 1) new.store (omega arith) run.stopped.paid,
+        )
+    unserved_inside given t inside (Looked free none stopped) = absurd (false≢true (sym given ∙ free))
 
-    pub unserved_alone : s.transaction ≡ None → IsUnservedOn faults m s c (going_alone s) r new → Steps ext s c (reply.Refused r) (with_open s None)
-    unserved_alone outside (Tested is) = Steps-refused_alone ext s c up outside r is
-    unserved_alone outside (Worked passed none stops) =
+    pub unserved_alone : is_free r ≡ false → s.transaction ≡ None → IsUnservedOn faults m s c (going_alone s) r new → Steps ext s c (reply.Refused r) (with_open s None)
+    unserved_alone given outside (Tested is stopped) = Steps-refused_alone ext s c up outside r is
+    unserved_alone given outside (Worked passed none stops) =
         let there = work_there ext (view s) c works none in
-        let stop : StopsFrom Stopped there.0 (going_alone s) r new = at_some (work_of ext c) there.0 (λ work. StopsFrom Stopped work (going_alone s) r new) there.1 stops in
-        let run : EndsBy Stopped false there.0 (going_alone s) r new = subst (λ (b : Bool). EndsBy Stopped b there.0 (going_alone s) r new) given stop in
+        let run = refused_by there.0 there.1 (going_alone s) stops given in
         Steps-stopped_alone ext s c up outside there.0 there.1 run.picks run.after r passed (leads_refused (λ (answer : Answer). finish ext >>= λ _. freeing answer) run.leads)
-    unserved_alone outside (Looked free none cause) = absurd (false≢true (sym given ∙ free))
+    unserved_alone given outside (Looked free none stopped) = absurd (false≢true (sym given ∙ free))
 
-  -- for want of a page only where its step comes so far that pages may be wanting
-  module _ (up : s.down ≡ false) (pages : ℕ) (size : is_room r ≡ true → new.store.pool.geometry.pages ≡ pages) where
-    pub unserved_pages_inside : (t : Transaction) → s.transaction ≡ Some t → IsUnservedOn faults m s c (going_on t) r new → WantsPages m pages s c (reply.Refused r)
-    unserved_pages_inside t inside (Tested is) = pages_roomless m pages s c r (roomless r (refused_given ext s c r is))
-    unserved_pages_inside t inside (Worked passed none stops) =
+    -- otherwise the state stays, but for what a step spends where the work had come so far
+    pub unserved_left : is_free r ≡ true → (t : Transaction) → s.transaction ≡ Some t → IsUnservedOn faults m s c (going_on t) r new
+        → (n : ℕ) × MayHaveSpent ext s c (with_open s (Some (with_spent_in n t))) × IsPaid HasSpent 0 (n + 1) new.store
+    unserved_left free t inside (Tested is stopped) = absurd (false≢true (sym (refused_given ext s c r is) ∙ free))
+    unserved_left free t inside (Worked passed none stops) =
         let there = work_there ext (view s) c works none in
-        let stop : StopsFrom Stopped there.0 (going_on t) r new = at_some (work_of ext c) there.0 (λ work. StopsFrom Stopped work (going_on t) r new) there.1 stops in
-        pages_inside faults m pages s c up there.0 there.1 passed new r size t inside stop
-    unserved_pages_inside t inside (Looked free none cause) = pages_roomless m pages s c r none
+        let broken = broken_by there.0 there.1 (going_on t) stops free in
+        let past = past_inside faults m s c up there.0 there.1 passed new r t inside broken in
+        let n : ℕ = (step ext s c past.picks).spent in (
+          n,
+          inr (past.picks, open_spent s t up inside n),
+          paid_more HasSpent n (n + 1) new.store (omega arith) (paid_past ext s c broken.trail past new.store broken.stopped.paid),
+        )
+    unserved_left free t inside (Looked also none stopped) = (t.spent, inl (open_same s t up inside), stopped.paid)
 
-    pub unserved_pages_alone : s.transaction ≡ None → IsUnservedOn faults m s c (going_alone s) r new → WantsPages m pages s c (reply.Refused r)
-    unserved_pages_alone outside (Tested is) = pages_roomless m pages s c r (roomless r (refused_given ext s c r is))
-    unserved_pages_alone outside (Worked passed none stops) =
-        let there = work_there ext (view s) c works none in
-        let stop : StopsFrom Stopped there.0 (going_alone s) r new = at_some (work_of ext c) there.0 (λ work. StopsFrom Stopped work (going_alone s) r new) there.1 stops in
-        pages_worked faults m pages s c up there.0 there.1 passed new r size outside stop
-    unserved_pages_alone outside (Looked free none cause) = pages_roomless m pages s c r none
+    -- for want of room only where its step comes so far that room may be wanting
+    module _ (pages : ℕ) (size : is_room r ≡ true → new.store.pool.geometry.pages ≡ pages) (still : new.store.book.down ≡ false) where
+      pub unserved_wants_inside : (t : Transaction) → s.transaction ≡ Some t → IsUnservedOn faults m s c (going_on t) r new → WantsRoom m pages s c (reply.Refused r)
+      unserved_wants_inside t inside (Tested is stopped) = room_roomless m pages s c r (roomless r (refused_given ext s c r is))
+      unserved_wants_inside t inside (Worked passed none stops) =
+          let there = work_there ext (view s) c works none in
+          room_inside faults m s c up there.0 there.1 passed new r t inside pages size (λ room. still) (stop_by there.0 there.1 (going_on t) stops)
+      unserved_wants_inside t inside (Looked free none stopped) = room_roomless m pages s c r none
+
+      pub unserved_wants_alone : s.transaction ≡ None → IsUnservedOn faults m s c (going_alone s) r new → WantsRoom m pages s c (reply.Refused r)
+      unserved_wants_alone outside (Tested is stopped) = room_roomless m pages s c r (roomless r (refused_given ext s c r is))
+      unserved_wants_alone outside (Worked passed none stops) =
+          let there = work_there ext (view s) c works none in
+          room_worked faults m s c up there.0 there.1 passed new r outside pages size (λ room. still) (stop_by there.0 there.1 (going_alone s) stops)
+      unserved_wants_alone outside (Looked free none stopped) = room_roomless m pages s c r none
 
 -- ---- what is seen of a transaction
 module _ (m : Meanings) (place : Place) (want : Wanted) where

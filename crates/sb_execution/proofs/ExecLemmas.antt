@@ -21,23 +21,23 @@ use Rattle.sb_vectors.specs.Vectors.{AreSameBoxes}
 use Rattle.sb_execution.specs.Serving.{IsPosedIn, may_have_changed, may_have_committed}
 use Rattle.sb_session.specs.declared.session.Session.{Session}
 use Rattle.sb_session.specs.Ends.{Ends, ends_with, picked_reply, reply_of}
-use Rattle.sb_session.specs.Sessions.{CanRun, HasFailed, IsFor, KeepsSession, Lacks, StandsBehind, WantsPages, parts_of, sizes_of}
+use Rattle.sb_session.specs.Sessions.{CanRun, HasFailed, IsFor, KeepsSession, Lacks, StandsBehind, WantsRoom, parts_of, sizes_of}
 use Rattle.sb_session.proofs.Behind.{Ends-behind_for}
 use Rattle.sb_session.proofs.Commands.{Carried-down}
 use Rattle.sb_session.proofs.SameBoxes.{same-boxes}
 use Rattle.sb_session.proofs.WantLemmas.{KeepsWanted-none}
 use Rattle.sb_execution.specs.Endings.{Executed}
-use Rattle.sb_execution.proofs.PagesLemmas.{pages_roomless}
+use Rattle.sb_execution.proofs.PagesLemmas.{room_roomless}
 
 module _ {B D : Type 0} (meanings : B → Meanings) (told : D → Option Story) (len faults : D → ℕ) (c : Command) (d e : D) (x y : Session B) where
   module _ (r : Reply) (same : AreSameBoxes (meanings x.boxes) (meanings y.boxes)) (keeps : KeepsSession len faults d e x y r) (runs : CanRun meanings told len e y) where
     -- whatever pages were wanted, they still are
     pub Executed-kept : ((want : Wanted) (s : State) → IsFor meanings told len want s d x → IsPosedIn (meanings x.boxes) s c
         → Ends (λ t. IsFor meanings told len want t e y) (Lacks (sizes_of x)) (HasFailed faults d e) (extensions_of (meanings x.boxes)) s c r)
-        → ((want : Wanted) (s : State) → IsFor meanings told len want s d x → IsPosedIn (meanings x.boxes) s c → WantsPages (meanings x.boxes) (sizes_of x).pages s c r)
+        → ((want : Wanted) (s : State) → IsFor meanings told len want s d x → IsPosedIn (meanings x.boxes) s c → WantsRoom (meanings x.boxes) (sizes_of x).pages s c r)
         → KeepsWanted (parts_of told len d x) (parts_of told len e y) → Executed meanings told len faults c d e x y r
-    Executed-kept ends pages leaves = record {
-      pages = pages;
+    Executed-kept ends room leaves = record {
+      room = room;
       ends = λ want s for posed. Ends-behind_for meanings told len c d e x y leaves.leaves want s for faults r (ends want s for posed);
       leaves = λ not. leaves;
       same = same;
@@ -67,17 +67,17 @@ pub Executed-down : {B D : Type 0} (meanings : B → Meanings) (told : D → Opt
 Executed-down meanings told len faults c d x runs down =
     let carried = Carried-down meanings told len faults d x runs c down in
     Executed-kept meanings told len faults c d d x x (Refused refusal.Down) (same-boxes (meanings x.boxes)) carried.keeps carried.runs (λ want s for posed. carried.ends want s for)
-    (λ want s for posed. pages_roomless (meanings x.boxes) (sizes_of x).pages s c refusal.Down refl) (leaves_still told len d d x x refl refl)
+    (λ want s for posed. room_roomless (meanings x.boxes) (sizes_of x).pages s c refusal.Down refl) (leaves_still told len d d x x refl refl)
 
 module _ {B D : Type 0} (meanings : B → Meanings) (told : D → Option Story) (len faults : D → ℕ) (c : Command) (d e : D) (x y : Session B) (r : Reply)
     (same : AreSameBoxes (meanings x.boxes) (meanings y.boxes)) (keeps : KeepsSession len faults d e x y r) (runs : CanRun meanings told len e y) where
   -- other pages may be wanted then
   pub Executed-moved : ((want : Wanted) (s : State) → IsFor meanings told len want s d x → IsPosedIn (meanings x.boxes) s c
       → Ends (StandsBehind meanings told len want (extensions_of (meanings x.boxes)) s c d e x y) (Lacks (sizes_of x)) (HasFailed faults d e) (extensions_of (meanings x.boxes)) s c r)
-      → ((want : Wanted) (s : State) → IsFor meanings told len want s d x → IsPosedIn (meanings x.boxes) s c → WantsPages (meanings x.boxes) (sizes_of x).pages s c r)
+      → ((want : Wanted) (s : State) → IsFor meanings told len want s d x → IsPosedIn (meanings x.boxes) s c → WantsRoom (meanings x.boxes) (sizes_of x).pages s c r)
       → (may_have_committed c (is_some x.open) r ≡ false → KeepsWanted (parts_of told len d x) (parts_of told len e y)) → Executed meanings told len faults c d e x y r
-  Executed-moved ends pages leaves = record {
-    pages = pages;
+  Executed-moved ends room leaves = record {
+    room = room;
     ends = λ want s for posed. ends want s for posed;
     leaves = leaves;
     same = same;

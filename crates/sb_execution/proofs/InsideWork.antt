@@ -13,6 +13,7 @@ use Rattle.sb_plain.specs.State.{State, committed}
 use Rattle.sb_registry.specs.Boxes.{Meanings}
 use Rattle.sb_drive.specs.Spaces.{Wanted}
 use Rattle.sb_map.specs.declared.place.Place.{Place}
+use Rattle.sb_space.specs.Spent.{HasSpent}
 use Rattle.sb_txn.specs.Parts.{Parts, parts}
 use Rattle.sb_txn.specs.State.{State as StoreState}
 use Rattle.sb_space.specs.declared.transactions.Tx.{Tx}
@@ -23,7 +24,7 @@ use Rattle.sb_session.specs.Commits.{IsLed}
 use Rattle.sb_session.specs.Transactions.{IsAt, IsNotBehind, IsPointOf, IsTrimmed, IsUsable, WasBegun, WasSo, unused}
 use Rattle.sb_session.proofs.CallLemmas.{up-earlier, up-later}
 use Rattle.sb_session.proofs.EndLemmas.{Remains-behind, Remains-stopped}
-use Rattle.sb_execution.specs.Serving.{IsAnswered, IsPosedIn, IsSeenIn, IsServed, IsUnservedOn, is_managing}
+use Rattle.sb_execution.specs.Serving.{HasPaid, IsAnswered, IsPosedIn, IsSeenIn, IsServed, IsUnservedOn, is_managing}
 use Rattle.sb_session.specs.declared.session.Open.{Open}
 use Rattle.sb_session.specs.declared.session.Savepoint.{Savepoint}
 use Rattle.sb_session.specs.Sessions.{CanGoOn, going_in}
@@ -81,10 +82,12 @@ module _ {D : Type 0} (told : D → Option Story) (len faults : D → ℕ) (m : 
   abbrev within : (want : Wanted) (a : State) → IsOf m place want a from (Some o) → Inside m place want (committed a) from o a.transaction
   within want a of = inside_at m place want (committed a) from o a.transaction of.stands
 
-  at_command : (want : Wanted) (a : State) (of : IsOf m place want a from (Some o)) → IsAt m place want n (going_on (within want a of).of) from x.work
+  at_command : (want : Wanted) (a : State) (of : IsOf m place want a from (Some o)) → HasPaid m place want n x.work (going_on (within want a of).of) from
   at_command want a of =
-      let in_it = within want a of in
-      at_work want (going_on in_it.of) (IsAt-same m place want first (going_in in_it.of) (going_on in_it.of) from o.transaction.work refl refl refl refl in_it.inside.at)
+      let in_it = within want a of in (
+        at_work want (going_on in_it.of) (IsAt-same m place want first (going_in in_it.of) (going_on in_it.of) from o.transaction.work refl refl refl refl in_it.inside.at),
+        in_it.inside.spent,
+      )
 
   seen : (points : List Savepoint) → points ≡ o.points.items → (want : Wanted) (a : State) (of : IsOf m place want a from (Some o)) → IsSeenIn m true points a (going_on (within want a of).of)
   seen points listed want a of =
@@ -96,8 +99,8 @@ module _ {D : Type 0} (told : D → Option Story) (len faults : D → ℕ) (m : 
       (begun : t.book.down ≡ false → (m : Meanings) (root : ℕ) (want : Wanted) (db : Db) → WasBegun m root want db n from → WasBegun m root want db n here) where
     -- ---- it was served
     module _ (ones : List Savepoint) (listed : ones ≡ o.points.items) (sv : Served) (r : Reply) (now : Open) (still : t.book.down ≡ false)
-        (served : t.book.down ≡ false → (want : Wanted) (a : State) (g : Going) → IsAt m place want n g from x.work → IsSeenIn m true ones a g → IsPosedIn m a c
-        → IsServed (λ h p. IsAt m place want n h p y.work) m a c g sv here)
+        (served : t.book.down ≡ false → (want : Wanted) (a : State) (g : Going) → HasPaid m place want n x.work g from → IsSeenIn m true ones a g → IsPosedIn m a c
+        → IsServed (HasPaid m place want n y.work) m a c g sv here)
         (replies : IsReplied sv y.work now.transaction.work r) (put : now.transaction.tx ≡ y.tx) (kept : now.points.items ≡ o.points.items) (answers : IsAnswered sv) where
       stays_served : Stays m place n from here x.work y.work
       stays_served = record { usable = serves; begun = λ want db is. begun still m place.root want db is; was = λ want g one so. points still m want g one so; stand = stand }
@@ -142,7 +145,7 @@ module _ {D : Type 0} (told : D → Option Story) (len faults : D → ℕ) (m : 
           (earlier : (m : Meanings) (place : Place) (want : Wanted) (g : Going) (one : Point) → IsNotBehind one point → WasSo m place want y.tx.store.number g one here y.work → WasSo m place want y.tx.store.number g one there z.work)
           (back_stand : (one : Point) → IsNotBehind one point → IsPointOf y.tx.store.number one here y.work → IsPointOf y.tx.store.number one there z.work)
           (back_begun : (m : Meanings) (root : ℕ) (want : Wanted) (db : Db) → WasBegun m root want db y.tx.store.number here → WasBegun m root want db y.tx.store.number there)
-          (back_usable : (m : Meanings) (place : Place) → place.owner ≡ 2 → IsUsable m place y.tx.store.number there z.work) (owner : place.owner ≡ 2) where
+          (back_usable : (m : Meanings) (place : Place) → place.owner ≡ 2 → IsUsable m place y.tx.store.number there z.work) (back_spent : (k : ℕ) → HasSpent k t → HasSpent k u) (owner : place.owner ≡ 2) where
         still : t.book.down ≡ false
         still = up-earlier told len faults e f t u (Ok tt) remains (up-later told len faults e f t u tt remains)
 
@@ -162,7 +165,7 @@ module _ {D : Type 0} (told : D → Option Story) (len faults : D → ℕ) (m : 
         }
 
         pub EndsInside-back : (now : Open) (ones : List Savepoint) → ones ≡ o.points.items → now.transaction ≡ z → now.points.items ≡ o.points.items → (r : Refusal) → OnFault r (t.book.down ≡ true)
-            → ((want : Wanted) (a : State) (g : Going) → IsAt m place want n g from x.work → IsSeenIn m true ones a g → IsPosedIn m a c → IsUnservedOn faults m a c g r (record { disk = e; store = t }))
+            → ((want : Wanted) (a : State) (g : Going) → HasPaid m place want n x.work g from → IsSeenIn m true ones a g → IsPosedIn m a c → IsUnservedOn faults m a c g r (record { disk = e; store = t }))
             → EndsInside told len faults m place c d f s u o now (Err r)
         EndsInside-back now ones listed is kept r faulted refused =
             EndsInside-refused told len faults m place c works d f s u o now up (all_leaves (Ok tt) remains) (ap (λ (a : Transaction). a.tx.store.number) is ∙ ap (λ (a : Tx). a.store.number) (back_tx ∙ tx ∙ same)) kept
@@ -174,4 +177,5 @@ module _ {D : Type 0} (told : D → Option Story) (len faults : D → ℕ) (m : 
             (subst (λ (k : ℕ). IsAt m place want k (unused g) there z.work) number
             (at_first (λ k. IsAt m place want k (unused g) there z.work)
             (back m place want (unused g) owner (at_last (λ k. WasSo m place want k (unused g) point here y.work) (points still m want (unused g) point (marked m place want (unused g) (at_work want g at))))))))
+            back_spent
             (λ want a of posed. refused want a (going_on (within want a of).of) (at_command want a of) (seen ones listed want a of) posed)

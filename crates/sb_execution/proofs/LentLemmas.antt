@@ -15,24 +15,25 @@ use Rattle.sb_txn.specs.Parts.{Parts, parts}
 use Rattle.sb_txn.specs.State.{State as Stored}
 use Rattle.sb_space.specs.declared.durable.Durable.{Durable}
 use Rattle.sb_space.specs.Durable.{parts_in}
+use Rattle.sb_space.specs.Spent.{HasSpent}
 use Rattle.sb_space.specs.View.{lent}
 use Rattle.sb_space.specs.Works.{Works}
 use Rattle.sb_space.specs.Works as space
 use Rattle.sb_engine.specs.declared.running.Work.{Work}
 use Rattle.sb_engine.specs.Refusals.{HasRefusalCause}
-use Rattle.sb_engine.specs.Working.{IsStoppedIn, extensions_of}
+use Rattle.sb_engine.specs.Working.{IsPaid, IsStoppedIn, extensions_of}
 use Rattle.sb_engine.specs.Working as engine
 use Rattle.sb_session.specs.Point.{Point}
 use Rattle.sb_session.specs.Commits.{FailsOn, IsLed, IsStoppedOn, Mounted}
-use Rattle.sb_session.specs.Driven.{HasLent, IsServed as IsReadyLent, LeadsLent, WorksOn}
+use Rattle.sb_session.specs.Driven.{HasLent, IsServed as IsReadyLent, LeadsLent, SpentLent, WorksOn}
 use Rattle.sb_execution.proofs.CallLemmas.{KeepsWanted-works}
-use Rattle.sb_session.specs.Transactions.{IsAt, IsPointOf, IsUsable, WasBegun, WasSo}
+use Rattle.sb_session.specs.Transactions.{IsAt, IsPaidAt, IsPointOf, IsUsable, WasBegun, WasSo}
 use Rattle.sb_session.proofs.DrivenLemmas.{Stands-at, driven-begun, driven-each, driven-points, driven-stands}
 use Rattle.sb_session.proofs.FinishLemmas.{HasCause-map}
 use Rattle.sb_session.proofs.LentLemmas.{FailsLent, IsStoreLent}
 use Rattle.sb_session.proofs.LicenceLemmas.{licensed-lent, table_of}
 use Rattle.sb_session.specs.declared.session.Savepoint.{Savepoint}
-use Rattle.sb_execution.specs.Serving.{IsPosedIn, IsSeenIn, IsServed, IsUnservedIn, IsUnservedOn}
+use Rattle.sb_execution.specs.Serving.{HasPaid, IsPosedIn, IsSeenIn, IsServed, IsUnservedIn, IsUnservedOn}
 use Rattle.sb_execution.specs.declared.serving.Served.{Served}
 use Rattle.sb_execution.proofs.WorkLemmas.{IsServed-map, IsUnserved-map}
 
@@ -57,7 +58,7 @@ module _ {D : Type 0} (told : D → Option Story) (len faults : D → ℕ) (m : 
   end = parts told len e b.store.now
 
   abbrev StandsLent : Going → Durable D → Work → Type 0
-  StandsLent g d u = engine.Stands (HasLent told len) m place.root g d u
+  StandsLent g d u = engine.Stands (HasLent told len) SpentLent m place.root g d u
 
   to_end : (P : ℕ → Parts → Type 0) → P (lent a).tx (parts_in told len (lent b)) → P tx end
   to_end P so =
@@ -70,23 +71,30 @@ module _ {D : Type 0} (told : D → Option Story) (len faults : D → ℕ) (m : 
       (subst (λ (d : D). P tx (parts told len d a.store.now)) (sym is.disk_is)
       (subst (λ (s : Stored). P tx (parts told len disk s)) (sym is.store_is) so))
 
-  module _ (want : Wanted) (g : Going) (at : IsAt m place want tx g start v) where
+  -- what was paid for over what is lent is paid for in its store
+  paid_lent : (n : ℕ) → IsPaid SpentLent 0 n b → IsPaid HasSpent 0 n b.store.now
+  paid_lent n paid = record { changes = paid.changes; within = paid.within; spent = paid.spent }
+
+  module _ (want : Wanted) (g : Going) (at : HasPaid m place want tx v g start) where
     at_lent : IsAt m place want (lent a).tx g (parts_in told len (lent a)) v
-    at_lent = to_lent (λ n p. IsAt m place want n g p v) at
+    at_lent = to_lent (λ n p. IsAt m place want n g p v) at.0
 
     stands_lent : StandsLent g a v
-    stands_lent = Stands-at told len faults m place want g a v at_lent
+    stands_lent = Stands-at told len faults m place want g a v at_lent (to_lent (λ n p. IsPaidAt g p) at.1)
 
     came : b.store.now.book.down ≡ false → (h : Going) → StandsLent h b w → IsAt m place want tx h end w
     came up h stands = to_end (λ n p. IsAt m place want n h p w) (driven-stands told len faults m place want g h a b v w at_lent works.leads serves stands up)
 
+    came_paid : b.store.now.book.down ≡ false → (h : Going) → StandsLent h b w → HasPaid m place want tx w h end
+    came_paid up h stands = (came up h stands, paid_lent h.trail.spent stands.paid)
+
   module _ (inside : Bool) (points : List Savepoint) (c : Command) where
     pub served-lent : (r : Result Served Refusal)
         → IfOk r (λ x. (s : State) (g : Going) → StandsLent g a v → IsSeenIn m inside points s g → IsPosedIn m s c → IsServed (λ h y. StandsLent h y w) m s c g x b)
-        → IfOk r (λ x. b.store.now.book.down ≡ false → (want : Wanted) (s : State) (g : Going) → IsAt m place want tx g start v → IsSeenIn m inside points s g → IsPosedIn m s c
-        → IsServed (λ h p. IsAt m place want tx h p w) m s c g x end)
+        → IfOk r (λ x. b.store.now.book.down ≡ false → (want : Wanted) (s : State) (g : Going) → HasPaid m place want tx v g start → IsSeenIn m inside points s g → IsPosedIn m s c
+        → IsServed (HasPaid m place want tx w) m s c g x end)
     served-lent (Ok x) served = λ up want s g at seen posed.
-        IsServed-map (λ h y. StandsLent h y w) (λ h p. IsAt m place want tx h p w) m s c g x b end (came want g at up) (served s g (stands_lent want g at) seen posed)
+        IsServed-map (λ h y. StandsLent h y w) (HasPaid m place want tx w) m s c g x b end (came_paid want g at up) (served s g (stands_lent want g at) seen posed)
     served-lent (Err r) served = tt
 
     abbrev mount : Durable D → Mounted D
@@ -97,36 +105,40 @@ module _ {D : Type 0} (told : D → Option Story) (len faults : D → ℕ) (m : 
         subst (λ (d : D). HasRefusalCause (FailsOn faults) r (record { disk = d; store = b.store.now })) (sym same)
         (HasCause-map (FailsLent faults) (FailsOn faults) mount (λ fault x y fails. fails) r b cause)
 
-    stops_lent : (r : Refusal) (trail : Trail) → IsStoppedIn (HasLent told len) (LeadsLent told len faults) (FailsLent faults) table_of m r trail b
+    stops_lent : (r : Refusal) (trail : Trail) → IsStoppedIn (HasLent told len) SpentLent (LeadsLent told len faults) (FailsLent faults) table_of m r trail b
         → IsStoppedOn faults m r trail (record { disk = e; store = b.store.now })
-    stops_lent r trail stopped = record { cause = caused r stopped.cause; licensed = licensed-lent told len faults m b trail r serves.ready.few stopped.cause stopped.licensed }
+    stops_lent r trail stopped = record {
+      cause = caused r stopped.cause;
+      licensed = licensed-lent told len faults m b trail r serves.ready.few stopped.cause stopped.licensed;
+      paid = paid_lent trail.spent stopped.paid;
+    }
 
     pub unserved-lent : (r : Result Served Refusal)
-        → IfErr r (λ r'. (s : State) (g : Going) → StandsLent g a v → IsSeenIn m inside points s g → IsPosedIn m s c → IsUnservedIn (HasLent told len) (LeadsLent told len faults) (FailsLent faults) table_of m s c g r' b)
-        → IfErr r (λ r'. (want : Wanted) (s : State) (g : Going) → IsAt m place want tx g start v → IsSeenIn m inside points s g → IsPosedIn m s c
+        → IfErr r (λ r'. (s : State) (g : Going) → StandsLent g a v → IsSeenIn m inside points s g → IsPosedIn m s c → IsUnservedIn (HasLent told len) SpentLent (LeadsLent told len faults) (FailsLent faults) table_of m s c g r' b)
+        → IfErr r (λ r'. (want : Wanted) (s : State) (g : Going) → HasPaid m place want tx v g start → IsSeenIn m inside points s g → IsPosedIn m s c
         → IsUnservedOn faults m s c g r' (record { disk = e; store = b.store.now }))
     unserved-lent (Ok x) unserved = tt
     unserved-lent (Err r) unserved = λ want s g at seen posed.
-        IsUnserved-map (FailsLent faults) (FailsOn faults) (IsStoppedIn (HasLent told len) (LeadsLent told len faults) (FailsLent faults) table_of m)
-        (IsStoppedOn faults m) m s c g r b (record { disk = e; store = b.store.now }) (caused r) (stops_lent r)
+        IsUnserved-map (IsStoppedIn (HasLent told len) SpentLent (LeadsLent told len faults) (FailsLent faults) table_of m) (IsStoppedOn faults m) m s c g r b
+        (record { disk = e; store = b.store.now }) (stops_lent r)
         (unserved s g (stands_lent want g at) seen posed)
 
     -- ---- tests
     pub tested-lent : (r : Result (Option Refusal) Refusal)
         → IfOk r (λ o. (s : State) (g : Going) → StandsLent g a v → IsSeenIn m inside points s g → o ≡ refused (extensions_of m) s c)
-        → IfOk r (λ o. (want : Wanted) (s : State) (g : Going) → IsAt m place want tx g start v → IsSeenIn m inside points s g → o ≡ refused (extensions_of m) s c)
+        → IfOk r (λ o. (want : Wanted) (s : State) (g : Going) → HasPaid m place want tx v g start → IsSeenIn m inside points s g → o ≡ refused (extensions_of m) s c)
     tested-lent (Ok o) tested = λ want s g at seen. tested s g (stands_lent want g at) seen
     tested-lent (Err r) tested = tt
 
     pub stays-lent : (r : Result (Option Refusal) Refusal)
         → IfOk r (λ o. (s : State) (g : Going) → StandsLent g a v → IsSeenIn m inside points s g → StandsLent g b w)
-        → IfOk r (λ o. b.store.now.book.down ≡ false → (want : Wanted) (s : State) (g : Going) → IsAt m place want tx g start v → IsSeenIn m inside points s g → IsAt m place want tx g end w)
+        → IfOk r (λ o. b.store.now.book.down ≡ false → (want : Wanted) (s : State) (g : Going) → HasPaid m place want tx v g start → IsSeenIn m inside points s g → IsAt m place want tx g end w)
     stays-lent (Ok o) stays = λ up want s g at seen. came want g at up g (stays s g (stands_lent want g at) seen)
     stays-lent (Err r) stays = tt
 
     pub untested-lent : (r : Result (Option Refusal) Refusal)
         → IfErr r (λ r'. (s : State) (g : Going) → StandsLent g a v → IsSeenIn m inside points s g → HasRefusalCause (FailsLent faults) r' b)
-        → IfErr r (λ r'. (want : Wanted) (s : State) (g : Going) → IsAt m place want tx g start v → IsSeenIn m inside points s g
+        → IfErr r (λ r'. (want : Wanted) (s : State) (g : Going) → HasPaid m place want tx v g start → IsSeenIn m inside points s g
         → HasRefusalCause (FailsOn faults) r' (record { disk = e; store = b.store.now }))
     untested-lent (Ok o) untested = tt
     untested-lent (Err r) untested = λ want s g at seen. caused r (untested s g (stands_lent want g at) seen)

@@ -31,7 +31,7 @@ use Rattle.sb_execution.specs.Endings.{Executed, IsOf, Passes}
 use Rattle.sb_execution.proofs.CallLemmas.{ok_err, still_up}
 use Rattle.sb_execution.proofs.EndLemmas.{Ends-as, Ends-since}
 use Rattle.sb_execution.proofs.ExecLemmas.{KeepsSession-then}
-use Rattle.sb_execution.proofs.PagesLemmas.{pages_unwanted}
+use Rattle.sb_execution.proofs.PagesLemmas.{room_unwanted}
 
 module _ {B D : Type 0} (meanings : B → Meanings) (told : D → Option Story) (len faults : D → ℕ) (c : Command) (d e : D) (x y : Session B)
     (runs : CanRun meanings told len d x) (up : x.down ≡ false) (none : x.open ≡ None)
@@ -91,7 +91,7 @@ module _ {B D : Type 0} (meanings : B → Meanings) (told : D → Option Story) 
       → Ends (λ t. IsFor meanings told len want t f z) (Lacks (sizes_of y)) (HasFailed faults e f) (extensions_of (meanings y.boxes)) s c r)
       → Executed meanings told len faults c d f x z r
   Executed-tested f z r disk space same keeps runs_on ends = record {
-    pages = λ want s for posed. pages_unwanted _ _ _ _ m (sizes_of x).pages s c r (unwanted s) (ends want s (IsFor-tested want s for) (passes.passed want s (of_state want s for)));
+    room = λ want s for posed. room_unwanted _ _ _ _ m (sizes_of x).pages s c r (unwanted s) (ends want s (IsFor-tested want s for) (passes.passed want s (of_state want s for)));
     ends = λ want s for posed.
         Ends-as (λ t. IsFor meanings told len want t f z) (StandsBehind meanings told len want (extensions_of m) s c d f x z) (Lacks (sizes_of x)) (HasFailed faults d f) (extensions_of m) s c
         (λ t is. record {

@@ -1,5 +1,5 @@
 -- What is seen is what the definitions say.
-use Rattle.std.proofs.Common.{◌≡◌, ℕ, ◌||◌, Bool, true, false, true≢false, cond, List, [], ◌∷◌, map, All, Option, Some, None, is_some, option_map, bytes_eq, ◌≤◌, sum, length, drop, refl, sym, ap, ◌∙◌, subst}
+use Rattle.std.proofs.Common.{◌≡◌, ℕ, ◌||◌, Bool, true, false, true≢false, cond, List, [], ◌∷◌, map, All, Option, Some, None, is_some, option_map, bytes_eq, length, drop, refl, sym, ap, ◌∙◌, subst}
 use Rattle.std.specs.List.{list_any, slice_get}
 use Rattle.std.proofs.lemmas.List.{length-map}
 use Rattle.std.proofs.lemmas.List.Elements.{All-head, All-tail}
@@ -29,8 +29,8 @@ use Rattle.sb_session.specs.declared.session.Savepoint.{Savepoint}
 use Rattle.sb_engine.specs.declared.running.Work.{Work}
 use Rattle.sb_engine.specs.Refusals.{refusal_of}
 use Rattle.sb_engine.specs.OpenRelation.{OpenRelation}
-use Rattle.sb_engine.specs.Owned.{pages_of}
-use Rattle.sb_engine.specs.Working.{AreNamedApart, AreOpened, ArePaired, IsNoneGone, IsOpened, Stands, extensions_of, left_of, open_at}
+use Rattle.sb_engine.specs.Measures.{AreHeld}
+use Rattle.sb_engine.specs.Working.{AreNamedApart, AreOpened, ArePaired, IsNoneGone, IsOpened, IsPaid, Stands, extensions_of, left_of, open_at}
 use Rattle.sb_engine.proofs.OpenedLemmas.{open_at-all, open_at-name}
 use Rattle.sb_engine.proofs.LateLemmas.{drop_first, drop_none}
 use Rattle.sb_execution.specs.Serving.{IsSeenIn, waiting_in}
@@ -138,10 +138,11 @@ none_waits s g waits none = of_actions g.queue.actions (ap (λ (q : Queue). is_m
     of_actions (a ∷ actions) is = absurd (true≢false is)
 
 -- ---- work that stands
-module _ {S : Type 0} (Has : Wanted → Slots → S → Type 0) (m : Meanings) (root : ℕ) where
-  -- over a space that has the same pages
-  pub stands-same : (g : Going) (a b : S) (w : Work) (stands : Stands Has m root g a w) → Has stands.want stands.slots b → Stands Has m root g b w
-  stands-same g a b w stands has = record {
+module _ {S : Type 0} (Has : Wanted → Slots → S → Type 0) (Spent : ℕ → S → Type 0) (m : Meanings) (root : ℕ) where
+  -- over a space that has the same pages, and of which no more was spent
+  pub stands-same : (g : Going) (a b : S) (w : Work) (stands : Stands Has Spent m root g a w) → Has stands.want stands.slots b → IsPaid Spent 0 g.trail.spent b
+      → Stands Has Spent m root g b w
+  stands-same g a b w stands has paid = record {
     want = stands.want;
     slots = stands.slots;
     kept = stands.kept;
@@ -157,15 +158,16 @@ module _ {S : Type 0} (Has : Wanted → Slots → S → Type 0) (m : Meanings) (
     picked = stands.picked;
     gone = stands.gone;
     aside = stands.aside;
+    paid = paid;
     apart = stands.apart;
     rules = stands.rules;
     fit = stands.fit;
   }
 
-  -- it doesn't tell what was spent
-  stands-going : (g h : Going) (a : S) (w : Work) → g.db ≡ h.db → g.queue ≡ h.queue → g.used ≡ h.used → g.gone ≡ h.gone
-      → Stands Has m root g a w → Stands Has m root h a w
-  stands-going g h a w db queue used gone stands = record {
+  -- for work of which the same is told, and which has paid as well
+  stands-going : (g h : Going) (a : S) (w : Work) → g.db ≡ h.db → g.queue ≡ h.queue → g.used ≡ h.used → g.gone ≡ h.gone → IsPaid Spent 0 h.trail.spent a
+      → Stands Has Spent m root g a w → Stands Has Spent m root h a w
+  stands-going g h a w db queue used gone paid stands = record {
     want = stands.want;
     slots = stands.slots;
     kept = stands.kept;
@@ -180,7 +182,8 @@ module _ {S : Type 0} (Has : Wanted → Slots → S → Type 0) (m : Meanings) (
     waits = stands.waits ∙ queue;
     picked = stands.picked ∙ used;
     gone = λ none. stands.gone (subst (λ (x : Gone). IsNoneGone x) (sym gone) none);
-    aside = subst (λ (x : Gone). pages_of stands.slots w.gone.items ≤ sum x.durable) gone stands.aside;
+    aside = subst (λ (x : Gone). AreHeld stands.slots w.gone.items x.durable) gone stands.aside;
+    paid = paid;
     apart = subst (λ (d : Db). AreNamedApart d) db stands.apart;
     rules = subst (λ (d : Db). AllMayStand (box_of (extensions_of m)) d) db stands.rules;
     fit = subst (λ (d : Db). AllFit d h.queue.actions) db (subst (λ (q : Queue). AllFit g.db q.actions) queue stands.fit);
@@ -188,11 +191,12 @@ module _ {S : Type 0} (Has : Wanted → Slots → S → Type 0) (m : Meanings) (
 
   -- where both are the work of one state, the one stands where the other does
   pub stands-seen : (inside other : Bool) (points others : List Savepoint) (s : State) (g h : Going) (a b : S) (v w : Work) → w ≡ v
-      → IsSeenIn m inside points s g → Stands Has m root g a v → IsSeenIn m other others s h → Stands Has m root h b w → Stands Has m root g b v
-  stands-seen inside other points others s g h a b v w same seen stands again then =
-      subst (λ (x : Work). Stands Has m root g b x) same
+      → IsSeenIn m inside points s g → Stands Has Spent m root g a v → IsSeenIn m other others s h → IsPaid Spent 0 g.trail.spent b → Stands Has Spent m root h b w
+      → Stands Has Spent m root g b v
+  stands-seen inside other points others s g h a b v w same seen stands again paid then =
+      subst (λ (x : Work). Stands Has Spent m root g b x) same
       (stands-going h g b w (sym again.db ∙ seen.db) (sym again.queue ∙ seen.queue)
-      (sym then.picked ∙ ap (λ (x : Work). x.picks.items) same ∙ stands.picked) (sym again.gone ∙ seen.gone) then)
+      (sym then.picked ∙ ap (λ (x : Work). x.picks.items) same ∙ stands.picked) (sym again.gone ∙ seen.gone) paid then)
 
 -- ---- refusals
 -- no definition gives it

@@ -18,7 +18,7 @@ use Rattle.sb_execution.specs.Serving.{IsPosedIn}
 use Rattle.sb_session.specs.declared.session.Open.{Open}
 use Rattle.sb_session.specs.declared.session.Session.{Session}
 use Rattle.sb_session.specs.Ends.{Ends, ends_with}
-use Rattle.sb_session.specs.Sessions.{CanRun, HasFailed, IsFor, IsOpenFor, KeepsSession, Lacks, LeavesOldOrNext, StandsBehind, WantsPages, parts_of, sizes_of}
+use Rattle.sb_session.specs.Sessions.{CanRun, HasFailed, IsFor, IsOpenFor, KeepsSession, Lacks, LeavesOldOrNext, StandsBehind, WantsRoom, parts_of, sizes_of}
 use Rattle.sb_session.proofs.Carried.{CanRun-as, IsFor-as, keeps-for}
 use Rattle.sb_execution.specs.Endings.{EndsAlone, EndsInside, IsLeft, IsLeftSo, IsOf, reply_by}
 use Rattle.sb_execution.proofs.CallLemmas.{has_failed, still_up}
@@ -86,9 +86,9 @@ module _ {B D : Type 0} (meanings : B → Meanings) (told : D → Option Story) 
           (λ t left. IsFor-as meanings told len want s d e x y for want t (Some after) q same_boxes place put now (ends ∙ sym left.down) left.live left.spare left.stands)
           (reply_by result) (ended.ends want s (of_state (Some before) some want s for) posed))
 
-      pub pages_within : (want : Wanted) (s : State) → IsFor meanings told len want s d x → IsPosedIn m s c → WantsPages m (sizes_of x).pages s c r
-      pages_within want s for posed =
-          subst (λ (r : Reply). WantsPages m (sizes_of x).pages s c r) (sym replies) (ended.pages want s (of_state (Some before) some want s for) posed)
+      pub room_within : (want : Wanted) (s : State) → IsFor meanings told len want s d x → IsPosedIn m s c → WantsRoom m (sizes_of x).pages s c r
+      room_within want s for posed =
+          subst (λ (r : Reply). WantsRoom m (sizes_of x).pages s c r) (sym replies) (ended.room want s (of_state (Some before) some want s for) posed)
 
       pub runs_inside : CanRun meanings told len e y
       runs_inside = CanRun-as meanings told len d e x y (Some after) q runs same_boxes place put now remains.geometry remains.ready stays_up (λ on. ended.goes (sym ends ∙ on))
@@ -112,9 +112,9 @@ module _ {B D : Type 0} (meanings : B → Meanings) (told : D → Option Story) 
           })
           (reply_by result) (ended.ends want s (of_state None none want s for) posed))
 
-      pub pages_outside : (want : Wanted) (s : State) → IsFor meanings told len want s d x → IsPosedIn m s c → WantsPages m (sizes_of x).pages s c r
-      pages_outside want s for posed =
-          subst (λ (r : Reply). WantsPages m (sizes_of x).pages s c r) (sym replies) (ended.pages want s (of_state None none want s for) posed)
+      pub room_outside : (want : Wanted) (s : State) → IsFor meanings told len want s d x → IsPosedIn m s c → WantsRoom m (sizes_of x).pages s c r
+      room_outside want s for posed =
+          subst (λ (r : Reply). WantsRoom m (sizes_of x).pages s c r) (sym replies) (ended.room want s (of_state None none want s for) posed)
 
       pub runs_alone : CanRun meanings told len e y
       runs_alone = CanRun-as meanings told len d e x y None q runs same_boxes place still now remains.geometry remains.ready stays_up (λ on. ended.none (stays_up on))

@@ -1,5 +1,5 @@
 -- What goes on standing of a transaction while a command works in it.
-use Rattle.std.proofs.Common.{◌≡◌, ℕ, ◌≤◌, List, sum, length, take, get_or, All, Some, sym, ap, ◌∙◌, subst, arith}
+use Rattle.std.proofs.Common.{◌≡◌, ℕ, ◌+◌, ◌≤◌, List, length, take, get_or, All, Some, sym, ap, ◌∙◌, subst, arith}
 use Rattle.sb_relation.specs.Db.{Db}
 use Rattle.sb_fold.specs.Outcome.{Going, Queue}
 use Rattle.sb_deferred.specs.Waiting.{IsWithin}
@@ -9,10 +9,11 @@ use Rattle.sb_map.specs.declared.place.Place.{Place}
 use Rattle.sb_standing.specs.Standing.{Keeps}
 use Rattle.sb_engine.specs.OpenRelation.{OpenRelation}
 use Rattle.sb_engine.specs.Opened.{IsDurable, IsOpen}
+use Rattle.sb_space.specs.Spent.{HasSpent}
 use Rattle.sb_txn.specs.Parts.{Parts}
 use Rattle.sb_engine.specs.declared.running.Work.{Work}
-use Rattle.sb_engine.specs.Owned.{pages_of}
-use Rattle.sb_engine.specs.Working.{AreOpened}
+use Rattle.sb_engine.specs.Measures.{AreHeld}
+use Rattle.sb_engine.specs.Working.{AreOpened, IsPaid}
 use Rattle.sb_session.specs.Point.{Point}
 use Rattle.sb_session.specs.Transactions.{IsAt, IsPointOf, IsUsable, WasBegun, WasSo, unused, waited_at}
 use Rattle.sb_session.proofs.WorkLemmas.{left_same}
@@ -45,7 +46,7 @@ module _ (m : Meanings) (place : Place) where
     settled = so.settled;
     waited = ap (waited_at point) queue ∙ so.waited;
     gone = λ none. ap (take point.gone) gone ∙ so.gone none;
-    aside = subst (λ (xs : List ℕ). pages_of so.slots (take point.gone xs) ≤ sum g.gone.durable) (sym gone) so.aside;
+    aside = subst (λ (xs : List ℕ). AreHeld so.slots (take point.gone xs) g.gone.durable) (sym gone) so.aside;
   }
 
   -- its picks were taken
@@ -70,7 +71,7 @@ module _ (m : Meanings) (place : Place) where
     waits = left_same v w taken.done taken.queue ∙ at.waits;
     picked = taken.picks;
     gone = λ none. taken.gone ∙ at.gone none;
-    aside = subst (λ (xs : List ℕ). pages_of at.slots xs ≤ sum g.gone.durable) (sym taken.gone) at.aside;
+    aside = subst (λ (xs : List ℕ). AreHeld at.slots xs g.gone.durable) (sym taken.gone) at.aside;
   }
 
   -- ---- what goes on standing
@@ -113,8 +114,8 @@ module _ (m : Meanings) (place : Place) where
     )
 
     pub IsInside-stays : (want : Wanted) (db : Db) (t u : PlainTransaction) → u.points ≡ t.points → IsInside m place want db p o t
-        → IsAt m place want tx (going_in u) q now.transaction.work → IsInside m place want db q now u
-    IsInside-stays want db t u same inside at = record {
+        → IsAt m place want tx (going_in u) q now.transaction.work → IsPaid HasSpent 0 (u.spent + 1) q.store → IsInside m place want db q now u
+    IsInside-stays want db t u same inside at paid = record {
       at = subst (λ (n : ℕ). IsAt m place want n (going_in u) q now.transaction.work) (sym number) at;
       begun = subst (λ (n : ℕ). WasBegun m place.root want db n q) (sym number) (stays.begun want db inside.begun);
       points = subst (λ (n : ℕ). AreSavepoints m place want n q now.transaction.work now.points.items u.points) (sym number)
@@ -122,4 +123,5 @@ module _ (m : Meanings) (place : Place) where
           (let P : List PlainPoint → Type 0 = λ ps. AreSavepoints m place want tx q now.transaction.work o.points.items ps in
           subst P (sym same)
           (AreSavepoints-kept m place want tx p q o.transaction.work now.transaction.work (stays.was want) o.points.items t.points inside.points)));
+      spent = paid;
     }

@@ -12,7 +12,7 @@ use Rattle.sb_plain.specs.declared.reply.Reply.TheVariants.{Refused}
 use Rattle.sb_plain.specs.Step.{Steps}
 use Rattle.sb_plain.specs.Reading.{read}
 use Rattle.sb_plain.specs.Refusing.{refused}
-use Rattle.sb_plain.specs.State.{State, Transaction, kept, paid, view}
+use Rattle.sb_plain.specs.State.{State, Transaction, kept, paid, view, with_spent}
 use Rattle.sb_plain.specs.Step.{Answer, Turn, answered, answering, carry_out, changing, commit_of, finished, if_up, managing, step, tested, turn_of, work_of}
 use Rattle.sb_session.proofs.StepLemmas.{Steps-refused, at_fields}
 use Rattle.sb_session.proofs.CommitSteps.{going_on, with_committed}
@@ -31,6 +31,14 @@ worked t g = record { db = g.db; queue = g.queue; points = t.points; gone = g.go
 -- a state that isn't down, with this transaction
 abbrev pub with_open : State → Option Transaction → State
 with_open s o = record s { transaction = o; down = false }
+
+-- a state with its own transaction is itself, and with more spent there it is that state but for what was spent
+module _ (s : State) (t : Transaction) (up : s.down ≡ false) (inside : s.transaction ≡ Some t) where
+  pub open_same : with_open s (Some t) ≡ s
+  open_same = at_fields (λ (s : State). with_open s (Some t) ≡ s) s (Some t) false inside up refl
+
+  pub open_spent : (n : ℕ) → with_open s (Some (with_spent_in n t)) ≡ with_spent n s
+  open_spent n = at_fields (λ (s : State). with_open s (Some (with_spent_in n t)) ≡ with_spent n s) s (Some t) false inside up refl
 
 -- ---- what is carried out of a command that no test refuses
 up_paid : (s : State) → s.down ≡ false → if_up s ≡ paid s

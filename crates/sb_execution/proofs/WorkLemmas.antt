@@ -15,7 +15,7 @@ use Rattle.sb_map.specs.declared.place.Place.{Place}
 use Rattle.sb_engine.specs.declared.running.Running.{Running}
 use Rattle.sb_engine.specs.declared.running.Work.{Work}
 use Rattle.sb_engine.specs.Goings.{front_none}
-use Rattle.sb_engine.specs.Refusals.{HasFaultCause, HasRefusalCause}
+use Rattle.sb_engine.specs.Refusals.{HasFaultCause}
 use Rattle.sb_engine.specs.Working.{IsStoppedFor, IsStoppedIn, Stands, StandsFor, extensions_of}
 use Rattle.sb_session.specs.Driven.{WorksOn}
 use Rattle.sb_session.proofs.FinishLemmas.{StopsFrom-map}
@@ -42,50 +42,50 @@ pub IsRefusedIn-map : {S T : Type 0} (P : Refusal → Trail → S → Type 0) (Q
 IsRefusedIn-map P Q m c g r a b gives refused =
     if_some (work_of (extensions_of m) c) (λ work. StopsFrom P work g r a) (λ work. StopsFrom Q work g r b) (λ work stops. StopsFrom-map P Q work g r a b gives stops) refused
 
-module _ {B S : Type 0} (Has : Wanted → Slots → S → Type 0) (Leads : ℕ → S → S → Type 0) (Fails : SpaceFault → S → S → Type 0) (table : S → ℕ) (meanings : B → Meanings) (boxes : B) (place : Place) (x y : S) (w v : Work) (a b : Running B S)
+module _ {B S : Type 0} (Has : Wanted → Slots → S → Type 0) (Spent : ℕ → S → Type 0) (Leads : ℕ → S → S → Type 0) (Fails : SpaceFault → S → S → Type 0) (table : S → ℕ) (meanings : B → Meanings) (boxes : B) (place : Place) (x y : S) (w v : Work) (a b : Running B S)
     (lent : IsLent boxes place x w a) (end : IsLent boxes place y v b) (c : Command) where
   abbrev IsSo : Going → Meanings → Place → S → Work → Type 0
-  IsSo g m q z u = Stands Has m q.root g z u
+  IsSo g m q z u = Stands Has Spent m q.root g z u
 
-  stands_in : (g : Going) → Stands Has (meanings boxes) place.root g x w → StandsFor Has meanings g a
+  stands_in : (g : Going) → Stands Has Spent (meanings boxes) place.root g x w → StandsFor Has Spent meanings g a
   stands_in g stands = parts-to meanings boxes place x w a lent (IsSo g) stands
 
   may_in : (g : Going) → MayWork (meanings boxes) g c → MayWork (meanings a.boxes.now) g c
   may_in g may = subst (λ (d : B). MayWork (meanings d) g c) (sym lent.boxes_are) may
 
-  work-made : (answer : Answer) → IsDone Has meanings c a answer b → (g : Going) → Stands Has (meanings boxes) place.root g x w → MayWork (meanings boxes) g c
-      → Makes (λ h z. Stands Has (meanings boxes) place.root h z v) (meanings boxes) c g answer y
+  work-made : (answer : Answer) → IsDone Has Spent meanings c a answer b → (g : Going) → Stands Has Spent (meanings boxes) place.root g x w → MayWork (meanings boxes) g c
+      → Makes (λ h z. Stands Has Spent (meanings boxes) place.root h z v) (meanings boxes) c g answer y
   work-made answer done g stands may =
-      Makes-map (λ h d. StandsFor Has meanings h d) (λ h z. Stands Has (meanings boxes) place.root h z v) (meanings boxes) c g answer b y
+      Makes-map (λ h d. StandsFor Has Spent meanings h d) (λ h z. Stands Has Spent (meanings boxes) place.root h z v) (meanings boxes) c g answer b y
       (λ h so. parts-from meanings boxes place y v b end (IsSo h) so)
-      (subst (λ (d : B). Makes (λ h e. StandsFor Has meanings h e) (meanings d) c g answer b) lent.boxes_are (done g (stands_in g stands) (may_in g may)))
+      (subst (λ (d : B). Makes (λ h e. StandsFor Has Spent meanings h e) (meanings d) c g answer b) lent.boxes_are (done g (stands_in g stands) (may_in g may)))
 
   abbrev By : Refusal → Trail → Running B S → Type 0
-  By = IsStoppedFor Has Leads Fails table meanings
+  By = IsStoppedFor Has Spent Leads Fails table meanings
 
   abbrev In : Refusal → Trail → S → Type 0
-  In = IsStoppedIn Has Leads Fails table (meanings boxes)
+  In = IsStoppedIn Has Spent Leads Fails table (meanings boxes)
 
   stops_in : (r : Refusal) (trail : Trail) → By r trail b → In r trail y
   stops_in r trail is =
-      subst (λ (d : B). IsStoppedIn Has Leads Fails table (meanings d) r trail y) end.boxes_are
-      (subst (λ (z : S). IsStoppedIn Has Leads Fails table (meanings b.boxes.now) r trail z) end.space_is is)
+      subst (λ (d : B). IsStoppedIn Has Spent Leads Fails table (meanings d) r trail y) end.boxes_are
+      (subst (λ (z : S). IsStoppedIn Has Spent Leads Fails table (meanings b.boxes.now) r trail z) end.space_is is)
 
-  work-stopped : (r : Refusal) → IsStopped Has Leads Fails table meanings c a r b → (g : Going) → Stands Has (meanings boxes) place.root g x w → MayWork (meanings boxes) g c
+  work-stopped : (r : Refusal) → IsStopped Has Spent Leads Fails table meanings c a r b → (g : Going) → Stands Has Spent (meanings boxes) place.root g x w → MayWork (meanings boxes) g c
       → IsRefusedIn In (meanings boxes) c g r y
   work-stopped r stopped g stands may =
       if_some (work_of (extensions_of (meanings boxes)) c) (λ work. StopsFrom By work g r b) (λ work. StopsFrom In work g r y)
       (λ work stops. StopsFrom-map By In work g r b y (stops_in r) stops)
       (subst (λ (d : B). IfSome (work_of (extensions_of (meanings d)) c) (λ work. StopsFrom By work g r b)) lent.boxes_are (stopped g (stands_in g stands) (may_in g may)))
 
-  pub works-made : (r : Result Answered Refusal) → IfOk r (λ answer. IsDone Has meanings c a (answer_of answer) b)
-      → IfOk r (λ answer. (g : Going) → Stands Has (meanings boxes) place.root g x w → MayWork (meanings boxes) g c
-      → Makes (λ h z. Stands Has (meanings boxes) place.root h z v) (meanings boxes) c g (answer_of answer) y)
+  pub works-made : (r : Result Answered Refusal) → IfOk r (λ answer. IsDone Has Spent meanings c a (answer_of answer) b)
+      → IfOk r (λ answer. (g : Going) → Stands Has Spent (meanings boxes) place.root g x w → MayWork (meanings boxes) g c
+      → Makes (λ h z. Stands Has Spent (meanings boxes) place.root h z v) (meanings boxes) c g (answer_of answer) y)
   works-made (Ok answer) done = work-made (answer_of answer) done
   works-made (Err r) done = tt
 
-  pub works-stopped : (r : Result Answered Refusal) → IfErr r (λ e. IsStopped Has Leads Fails table meanings c a e b)
-      → IfErr r (λ e. (g : Going) → Stands Has (meanings boxes) place.root g x w → MayWork (meanings boxes) g c → IsRefusedIn In (meanings boxes) c g e y)
+  pub works-stopped : (r : Result Answered Refusal) → IfErr r (λ e. IsStopped Has Spent Leads Fails table meanings c a e b)
+      → IfErr r (λ e. (g : Going) → Stands Has Spent (meanings boxes) place.root g x w → MayWork (meanings boxes) g c → IsRefusedIn In (meanings boxes) c g e y)
   works-stopped (Ok answer) stopped = tt
   works-stopped (Err r) stopped = work-stopped r stopped
 
@@ -112,9 +112,8 @@ pub IsServed-map : {S T : Type 0} (P : Going → S → Type 0) (Q : Going → T 
 IsServed-map P Q m s c g (served.Read reply) a b gives is = (is.0, is.1, gives g is.2)
 IsServed-map P Q m s c g (served.Worked answer) a b gives is = (is.0, is.1, Makes-map P Q m c g (answer_of answer) a b gives is.2)
 
-pub IsUnserved-map : {S T : Type 0} (P : SpaceFault → S → S → Type 0) (Q : SpaceFault → T → T → Type 0) (Before : Refusal → Trail → S → Type 0) (Behind : Refusal → Trail → T → Type 0)
-    (m : Meanings) (s : State) (c : Command) (g : Going) (r : Refusal) (a : S) (b : T)
-    → (HasRefusalCause P r a → HasRefusalCause Q r b) → ((trail : Trail) → Before r trail a → Behind r trail b) → IsUnserved P Before m s c g r a → IsUnserved Q Behind m s c g r b
-IsUnserved-map P Q Before Behind m s c g r a b gives stops (Tested is) = Tested is
-IsUnserved-map P Q Before Behind m s c g r a b gives stops (Worked none unread refused) = Worked none unread (IsRefusedIn-map Before Behind m c g r a b stops refused)
-IsUnserved-map P Q Before Behind m s c g r a b gives stops (Looked free none cause) = Looked free none (gives cause)
+pub IsUnserved-map : {S T : Type 0} (Before : Refusal → Trail → S → Type 0) (Behind : Refusal → Trail → T → Type 0) (m : Meanings) (s : State) (c : Command) (g : Going) (r : Refusal) (a : S) (b : T)
+    → ((trail : Trail) → Before r trail a → Behind r trail b) → IsUnserved Before m s c g r a → IsUnserved Behind m s c g r b
+IsUnserved-map Before Behind m s c g r a b stops (Tested is stopped) = Tested is (stops g.trail stopped)
+IsUnserved-map Before Behind m s c g r a b stops (Worked none unread refused) = Worked none unread (IsRefusedIn-map Before Behind m c g r a b stops refused)
+IsUnserved-map Before Behind m s c g r a b stops (Looked free none stopped) = Looked free none (stops g.trail stopped)

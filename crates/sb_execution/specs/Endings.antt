@@ -21,15 +21,15 @@ use Rattle.sb_engine.specs.declared.running.Work.{Work as EngineWork}
 use Rattle.sb_engine.specs.Working.{extensions_of}
 use Rattle.sb_session.specs.Calls.{KeepsWanted, Remains}
 use Rattle.sb_session.specs.Commits.{IsLed, Mounted}
-use Rattle.sb_session.specs.Transactions.{IsAt, Rests, WasBegun}
+use Rattle.sb_session.specs.Transactions.{Rests, WasBegun}
 use Rattle.sb_vectors.specs.Vectors.{AreSameBoxes, live_codes, spare_codes}
 use Rattle.sb_reads.specs.Reads.{is_reading}
-use Rattle.sb_execution.specs.Serving.{IsPosedIn, is_managing, may_have_committed}
+use Rattle.sb_execution.specs.Serving.{HasPaid, IsPosedIn, is_managing, may_have_committed}
 use Rattle.sb_statements.specs.Statements.{answer_of}
 use Rattle.sb_session.specs.declared.session.Open.{Open}
 use Rattle.sb_session.specs.Ends.{Ends, ends_with}
 use Rattle.sb_session.specs.declared.session.Session.{Session}
-use Rattle.sb_session.specs.Sessions.{CanGoOn, CanRun, HasFailed, IsFor, IsOpenFor, KeepsSession, Lacks, LeavesOldOrNext, StandsBehind, WantsPages, parts_of, sizes_of}
+use Rattle.sb_session.specs.Sessions.{CanGoOn, CanRun, HasFailed, IsFor, IsOpenFor, KeepsSession, Lacks, LeavesOldOrNext, StandsBehind, WantsRoom, parts_of, sizes_of}
 use Rattle.sb_execution.specs.declared.serving.Served.{Served}
 use Rattle.sb_execution.specs.declared.serving.Served.TheVariants as served
 
@@ -82,8 +82,8 @@ pub record EndsInside {D : Type 0} (told : D → Option Story) (len faults : D �
   pub ends : (want : Wanted) (x : State) → IsOf m place want x (parts told len d s) (Some o) → IsPosedIn m x c
       → Ends (IsLeft m place want x (parts told len e t) (Some now) (reply_by result)) (Lacks s.pool.geometry) (HasFailed faults d e)
       (extensions_of m) x c (reply_by result)
-  pub pages : (want : Wanted) (x : State) → IsOf m place want x (parts told len d s) (Some o) → IsPosedIn m x c
-      → WantsPages m s.pool.geometry.pages x c (reply_by result)
+  pub room : (want : Wanted) (x : State) → IsOf m place want x (parts told len d s) (Some o) → IsPosedIn m x c
+      → WantsRoom m s.pool.geometry.pages x c (reply_by result)
   pub leaves : KeepsWanted (parts told len d s) (parts told len e t)
   pub goes : ends_with (reply_by result) ≡ false → CanGoOn m place (parts told len e t) (Some now)
   pub fault : reply_by result ≡ Refused Fault → t.book.down ≡ true
@@ -97,8 +97,8 @@ pub record EndsAlone {D : Type 0} (told : D → Option Story) (len faults : D �
   pub ends : (want : Wanted) (x : State) → IsOf m place want x (parts told len d s) None → IsPosedIn m x c
       → Ends (IsLeftSo m place want x c (parts told len d s) (parts told len e t) None (reply_by result)) (Lacks s.pool.geometry) (HasFailed faults d e)
       (extensions_of m) x c (reply_by result)
-  pub pages : (want : Wanted) (x : State) → IsOf m place want x (parts told len d s) None → IsPosedIn m x c
-      → WantsPages m s.pool.geometry.pages x c (reply_by result)
+  pub room : (want : Wanted) (x : State) → IsOf m place want x (parts told len d s) None → IsPosedIn m x c
+      → WantsRoom m s.pool.geometry.pages x c (reply_by result)
   pub leaves : may_have_committed c false (reply_by result) ≡ false → KeepsWanted (parts told len d s) (parts told len e t)
   pub none : t.book.down ≡ false → t.book.actives ≡ []
   pub fault : reply_by result ≡ Refused Fault → t.book.down ≡ true
@@ -125,7 +125,7 @@ pub record AnswersCommand (m : Meanings) (place : Place) (want : Wanted) (c : Co
   pub passed : refused (extensions_of m) x c ≡ None
   pub work : Work Answer
   pub is : work_of (extensions_of m) c ≡ Some work
-  pub run : MadeFrom (λ h p. IsAt m place want tx h p w) work (going_alone x) answer p
+  pub run : MadeFrom (HasPaid m place want tx w) work (going_alone x) answer p
 
 -- With work that gives the answer the transaction of the command has come here.
 pub record HasAnswered {D : Type 0} (told : D → Option Story) (len faults : D → ℕ) (m : Meanings) (place : Place) (c : Command)
@@ -155,8 +155,8 @@ pub record Executed {B D : Type 0} (meanings : B → Meanings) (told : D → Opt
   pub ends : (want : Wanted) (s : State) → IsFor meanings told len want s d x → IsPosedIn (meanings x.boxes) s c
       → Ends (StandsBehind meanings told len want (extensions_of (meanings x.boxes)) s c d e x y) (Lacks (sizes_of x)) (HasFailed faults d e)
       (extensions_of (meanings x.boxes)) s c r
-  pub pages : (want : Wanted) (s : State) → IsFor meanings told len want s d x → IsPosedIn (meanings x.boxes) s c
-      → WantsPages (meanings x.boxes) (sizes_of x).pages s c r
+  pub room : (want : Wanted) (s : State) → IsFor meanings told len want s d x → IsPosedIn (meanings x.boxes) s c
+      → WantsRoom (meanings x.boxes) (sizes_of x).pages s c r
   pub leaves : may_have_committed c (is_some x.open) r ≡ false → KeepsWanted (parts_of told len d x) (parts_of told len e y)
   pub same : AreSameBoxes (meanings x.boxes) (meanings y.boxes)
   pub keeps : KeepsSession len faults d e x y r

@@ -18,9 +18,9 @@ pub record IsReady {B S : Type 0} (Ready : S → Type 0) (a : Seen B S) : Type 0
   pub owner : a.place.owner ≡ 2
 
 -- Work has come so far, and it is that of the state.
-pub record Sees {B S : Type 0} (Has : Wanted → Slots → S → Type 0) (meanings : B → Meanings) (s : State) (a : Seen B S) : Type 0 where
+pub record Sees {B S : Type 0} (Has : Wanted → Slots → S → Type 0) (Spent : ℕ → S → Type 0) (meanings : B → Meanings) (s : State) (a : Seen B S) : Type 0 where
   pub going : Going
-  pub stands : Stands Has (meanings a.boxes.now) a.place.root going a.space.now a.work.now
+  pub stands : Stands Has Spent (meanings a.boxes.now) a.place.root going a.space.now a.work.now
   pub seen : IsSeenIn (meanings a.boxes.now) a.inside a.points.now s going
 
 -- The same boxes, work and place, of which the same is told; the space was only looked at.

@@ -107,8 +107,8 @@ module _ {B S : Type 0} (Leads : ℕ → S → S → Type 0) (Fails : SpaceFault
       (sound_fault failed.fault (same ∙ sound)))
 
 -- ---- what is seen
-module _ {B S : Type 0} (Has : Wanted → Slots → S → Type 0) (meanings : B → Meanings) (s : State) (a : Seen B S)
-    (sees : Sees Has meanings s a) where
+module _ {B S : Type 0} (Has : Wanted → Slots → S → Type 0) (Spent : ℕ → S → Type 0) (meanings : B → Meanings) (s : State) (a : Seen B S)
+    (sees : Sees Has Spent meanings s a) where
   abbrev kept : List Kept
   kept = sees.stands.kept
 

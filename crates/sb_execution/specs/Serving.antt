@@ -16,10 +16,13 @@ use Rattle.sb_registry.specs.Boxes.{Meanings}
 use Rattle.sb_drive.specs.Slots.{Slots}
 use Rattle.sb_drive.specs.Spaces.{Wanted}
 use Rattle.sb_drive.specs.declared.space.SpaceFault.{SpaceFault}
-use Rattle.sb_engine.specs.Refusals.{HasRefusalCause}
+use Rattle.sb_map.specs.declared.place.Place.{Place}
+use Rattle.sb_txn.specs.Parts.{Parts}
+use Rattle.sb_engine.specs.declared.running.Work.{Work as EngineWork}
 use Rattle.sb_engine.specs.Working.{IsStoppedIn, extensions_of}
 use Rattle.sb_vectors.specs.Vectors.{live_codes, spare_codes}
-use Rattle.sb_session.specs.Commits.{FailsOn, IsStoppedOn, Mounted}
+use Rattle.sb_session.specs.Commits.{IsStoppedOn, Mounted}
+use Rattle.sb_session.specs.Transactions.{IsAt, IsPaidAt}
 use Rattle.sb_session.specs.declared.session.Savepoint.{Savepoint}
 use Rattle.sb_reads.specs.Reads.{IsAnswer, is_reading}
 use Rattle.sb_statements.specs.Posed.{IsPosed, IsWhere}
@@ -109,18 +112,23 @@ IsServed IsSo m s c g (served.Read reply) new =
 IsServed IsSo m s c g (served.Worked answer) new =
     (refused (extensions_of m) s c ≡ None) × (read (extensions_of m) (view s) c ≡ None) × Makes IsSo m c g (answer_of answer) new
 
--- A command is refused: by a test; or by its work; or the space has refused a look at its pages, to which no room is wanting.
-pub data IsUnserved {S : Type 0} (Fails : SpaceFault → S → S → Type 0) (Stopped : Refusal → Trail → S → Type 0) (m : Meanings) (s : State) (c : Command)
-    (g : Going) (r : Refusal) (new : S) : Type 0 where
-  Tested : refused (extensions_of m) s c ≡ Some r → IsUnserved Fails Stopped m s c g r new
+-- A command is refused: by a test; or by its work; or the space has refused a look at its pages, to which no room is wanting. A test and a look stop it
+-- where it began.
+pub data IsUnserved {S : Type 0} (Stopped : Refusal → Trail → S → Type 0) (m : Meanings) (s : State) (c : Command) (g : Going) (r : Refusal)
+    (new : S) : Type 0 where
+  Tested : refused (extensions_of m) s c ≡ Some r → Stopped r g.trail new → IsUnserved Stopped m s c g r new
   Worked : refused (extensions_of m) s c ≡ None → read (extensions_of m) (view s) c ≡ None → IsRefusedIn Stopped m c g r new
-      → IsUnserved Fails Stopped m s c g r new
-  Looked : is_free r ≡ true → is_room r ≡ false → HasRefusalCause Fails r new → IsUnserved Fails Stopped m s c g r new
+      → IsUnserved Stopped m s c g r new
+  Looked : is_free r ≡ true → is_room r ≡ false → Stopped r g.trail new → IsUnserved Stopped m s c g r new
+
+-- work in the transaction has come so far, and has paid for its changes
+abbrev pub HasPaid : Meanings → Place → Wanted → ℕ → EngineWork → Going → Parts → Type 0
+HasPaid m place want tx w g p = IsAt m place want tx g p w × IsPaidAt g p
 
 -- of a command over a space of pages, and of one over a store
-abbrev pub IsUnservedIn : {S : Type 0} → (Wanted → Slots → S → Type 0) → (ℕ → S → S → Type 0) → (SpaceFault → S → S → Type 0) → (S → ℕ) → Meanings → State
-    → Command → Going → Refusal → S → Type 0
-IsUnservedIn Has Leads Fails table m s c g r new = IsUnserved Fails (IsStoppedIn Has Leads Fails table m) m s c g r new
+abbrev pub IsUnservedIn : {S : Type 0} → (Wanted → Slots → S → Type 0) → (ℕ → S → Type 0) → (ℕ → S → S → Type 0) → (SpaceFault → S → S → Type 0) → (S → ℕ)
+    → Meanings → State → Command → Going → Refusal → S → Type 0
+IsUnservedIn Has Spent Leads Fails table m s c g r new = IsUnserved (IsStoppedIn Has Spent Leads Fails table m) m s c g r new
 
 abbrev pub IsUnservedOn : {D : Type 0} → (D → ℕ) → Meanings → State → Command → Going → Refusal → Mounted D → Type 0
-IsUnservedOn faults m s c g r new = IsUnserved (FailsOn faults) (IsStoppedOn faults m) m s c g r new
+IsUnservedOn faults m s c g r new = IsUnserved (IsStoppedOn faults m) m s c g r new

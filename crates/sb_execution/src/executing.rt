@@ -11,7 +11,7 @@ ghost use Rattle.sb_execution.specs.Serving.{IsPosedIn, may_have_committed};
 ghost use Rattle.sb_execution.specs.Endings.{Executed};
 ghost use Rattle.sb_session.specs.Ends.{Ends, is_open_behind};
 ghost use Rattle.sb_session.specs.Ends as answers;
-ghost use Rattle.sb_session.specs.Sessions.{CanRun, HasFailed, IsFor, KeepsSession, Lacks, StandsBehind, WantsPages, parts_of, sizes_of};
+ghost use Rattle.sb_session.specs.Sessions.{CanRun, HasFailed, IsFor, KeepsSession, Lacks, StandsBehind, WantsRoom, parts_of, sizes_of};
 ghost use Rattle.sb_session.specs.Calls.{KeepsWanted};
 ghost use Rattle.sb_vectors.specs.Vectors.{AreSameBoxes};
 
@@ -26,9 +26,9 @@ use sb_vectors::Vectors;
 use std::alloc::Global;
 
 /// Carries out a command. Its reply is that of a step of the plain database, and the session stands for what the step leads to. Where room or memory
-/// is wanting all stays as it was; where the disk fails a call the session is down. All along a crash leaves what was committed, or what the step commits;
-/// where the disk failed, it may leave what some other step of the command commits. Where no database can have been committed, a crash leaves the pages
-/// that were wanted, whatever they stand for.
+/// is wanting all stays as it was, but for what was spent; where the disk fails a call the session is down. All along a crash leaves what was
+/// committed, or what the step commits; where the disk failed, it may leave what some other step of the command commits. Where no database can have
+/// been committed, a crash leaves the pages that were wanted, whatever they stand for.
 pub fn exec<B: Vectors, D: Disk>(
     session: &mut Session<B>,
     disk: &mut D,
@@ -40,8 +40,8 @@ pub fn exec<B: Vectors, D: Disk>(
     ensures ends { (want : Wanted) (s : State) → IsFor B.meanings D.told D.len want s disk.old session.old → IsPosedIn (B.meanings session.old.boxes) s command.now
         → Ends (StandsBehind B.meanings D.told D.len want (extensions_of (B.meanings session.old.boxes)) s command.now disk.old disk.new session.old session.new)
         (Lacks (sizes_of session.old)) (HasFailed D.faults disk.old disk.new) (extensions_of (B.meanings session.old.boxes)) s command.now result }
-    ensures pages { (want : Wanted) (s : State) → IsFor B.meanings D.told D.len want s disk.old session.old → IsPosedIn (B.meanings session.old.boxes) s command.now
-        → WantsPages (B.meanings session.old.boxes) (sizes_of session.old).pages s command.now result }
+    ensures room { (want : Wanted) (s : State) → IsFor B.meanings D.told D.len want s disk.old session.old → IsPosedIn (B.meanings session.old.boxes) s command.now
+        → WantsRoom (B.meanings session.old.boxes) (sizes_of session.old).pages s command.now result }
     ensures leaves { may_have_committed command.now (is_some session.old.open) result ≡ false
         → KeepsWanted (parts_of D.told D.len disk.old session.old) (parts_of D.told D.len disk.new session.new) }
     ensures open { session.new.down ≡ false → is_some session.new.open ≡ is_open_behind command.now (is_some session.old.open) result }

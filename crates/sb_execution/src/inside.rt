@@ -9,7 +9,7 @@ ghost use Rattle.sb_execution.specs.Endings.{EndsInside};
 ghost use Rattle.sb_session.specs.Calls.{KeepsWanted};
 ghost use Rattle.sb_txn.specs.Parts.{parts};
 ghost use Rattle.sb_session.specs.Ends.{Ends};
-ghost use Rattle.sb_session.specs.Sessions.{CanGoOn, CanRun, HasFailed, IsFor, KeepsSession, Lacks, WantsPages, parts_of, sizes_of};
+ghost use Rattle.sb_session.specs.Sessions.{CanGoOn, CanRun, HasFailed, IsFor, KeepsSession, Lacks, WantsRoom, parts_of, sizes_of};
 
 use crate::replies::{reply_to, told};
 use crate::serving::serve_in;
@@ -37,8 +37,8 @@ pub(crate) fn exec_inside<B: Vectors, D: Disk>(
     ensures ends { (want : Wanted) (s : State) → IsFor B.meanings D.told D.len want s disk.old session.old → IsPosedIn (B.meanings session.old.boxes) s command.now
         → Ends (λ t. IsFor B.meanings D.told D.len want t disk.new session.new) (Lacks (sizes_of session.old)) (HasFailed D.faults disk.old disk.new)
         (extensions_of (B.meanings session.old.boxes)) s command.now result }
-    ensures pages { (want : Wanted) (s : State) → IsFor B.meanings D.told D.len want s disk.old session.old → IsPosedIn (B.meanings session.old.boxes) s command.now
-        → WantsPages (B.meanings session.old.boxes) (sizes_of session.old).pages s command.now result }
+    ensures room { (want : Wanted) (s : State) → IsFor B.meanings D.told D.len want s disk.old session.old → IsPosedIn (B.meanings session.old.boxes) s command.now
+        → WantsRoom (B.meanings session.old.boxes) (sizes_of session.old).pages s command.now result }
     ensures any_moment { KeepsWanted (parts_of D.told D.len disk.old session.old) (parts_of D.told D.len disk.new session.new) }
     ensures open { is_some session.new.open ≡ true }
     ensures boxes { session.new.boxes ≡ session.old.boxes }

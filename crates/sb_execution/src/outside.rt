@@ -10,7 +10,7 @@ ghost use Rattle.sb_execution.specs.Serving.{IsPosedIn, is_managing, may_have_co
 ghost use Rattle.sb_statements.specs.Statements.{answer_of};
 ghost use Rattle.sb_execution.specs.Endings.{EndsAlone, HasAnswered, Passes};
 ghost use Rattle.sb_session.specs.Ends.{Ends};
-ghost use Rattle.sb_session.specs.Sessions.{CanRun, HasFailed, IsFor, KeepsSession, Lacks, StandsBehind, WantsPages, parts_of, sizes_of};
+ghost use Rattle.sb_session.specs.Sessions.{CanRun, HasFailed, IsFor, KeepsSession, Lacks, StandsBehind, WantsRoom, parts_of, sizes_of};
 ghost use Rattle.sb_session.specs.Transactions.{IsUsable};
 ghost use Rattle.sb_txn.specs.Clauses.{IsReady};
 ghost use Rattle.sb_session.specs.Calls.{KeepsWanted};
@@ -44,8 +44,8 @@ pub(crate) fn exec_outside<B: Vectors, D: Disk>(
     ensures ends { (want : Wanted) (s : State) → IsFor B.meanings D.told D.len want s disk.old session.old → IsPosedIn (B.meanings session.old.boxes) s command.now
         → Ends (StandsBehind B.meanings D.told D.len want (extensions_of (B.meanings session.old.boxes)) s command.now disk.old disk.new session.old session.new)
         (Lacks (sizes_of session.old)) (HasFailed D.faults disk.old disk.new) (extensions_of (B.meanings session.old.boxes)) s command.now result }
-    ensures pages { (want : Wanted) (s : State) → IsFor B.meanings D.told D.len want s disk.old session.old → IsPosedIn (B.meanings session.old.boxes) s command.now
-        → WantsPages (B.meanings session.old.boxes) (sizes_of session.old).pages s command.now result }
+    ensures room { (want : Wanted) (s : State) → IsFor B.meanings D.told D.len want s disk.old session.old → IsPosedIn (B.meanings session.old.boxes) s command.now
+        → WantsRoom (B.meanings session.old.boxes) (sizes_of session.old).pages s command.now result }
     ensures leaves { may_have_committed command.now false result ≡ false → KeepsWanted (parts_of D.told D.len disk.old session.old) (parts_of D.told D.len disk.new session.new) }
     ensures open { session.new.open ≡ session.old.open }
     ensures boxes { session.new.boxes ≡ session.old.boxes }

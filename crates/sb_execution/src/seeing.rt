@@ -35,15 +35,15 @@ pub(crate) fn refusal_over<B: Vectors, S: Owners>(
 ) -> Result<Option<Refusal>, Refusal>
     requires ready { engine.Serves S.is_ready (B.meanings boxes.now) place space.old work.now }
 
-    ensures refused { IfOk result (λ r. (s : State) (g : Going) → engine.Stands S.has (B.meanings boxes.now) place.root g space.old work.now
+    ensures refused { IfOk result (λ r. (s : State) (g : Going) → engine.Stands S.has S.spent (B.meanings boxes.now) place.root g space.old work.now
         → IsSeenIn (B.meanings boxes.now) inside points.now s g
         → r ≡ refused (extensions_of (B.meanings boxes.now)) s command.now) }
-    ensures stands { IfOk result (λ r. (s : State) (g : Going) → engine.Stands S.has (B.meanings boxes.now) place.root g space.old work.now
+    ensures stands { IfOk result (λ r. (s : State) (g : Going) → engine.Stands S.has S.spent (B.meanings boxes.now) place.root g space.old work.now
         → IsSeenIn (B.meanings boxes.now) inside points.now s g
-        → engine.Stands S.has (B.meanings boxes.now) place.root g space.new work.now) }
+        → engine.Stands S.has S.spent (B.meanings boxes.now) place.root g space.new work.now) }
     ensures free { IfErr result (λ r. is_free r ≡ true) }
     ensures room { IfErr result (λ r. is_room r ≡ false) }
-    ensures cause { IfErr result (λ r. (s : State) (g : Going) → engine.Stands S.has (B.meanings boxes.now) place.root g space.old work.now
+    ensures cause { IfErr result (λ r. (s : State) (g : Going) → engine.Stands S.has S.spent (B.meanings boxes.now) place.root g space.old work.now
         → IsSeenIn (B.meanings boxes.now) inside points.now s g → HasRefusalCause S.fails r space.new) }
     ensures tested { IfOk result (λ r. IfSome r (λ x. OnFault x ⊥)) }
     ensures fault { IfErr result (λ r. HasFaultCause S.fails r space.new) }

@@ -35,7 +35,7 @@ impl<B: Vectors, S: PageSpace> Catalogue for Seen<'_, B, S> {
 
     ghost extensions = { λ a. extensions_of (B.meanings a.boxes.now) };
 
-    ghost sees = { λ s a. Sees S.has B.meanings s a };
+    ghost sees = { λ s a. Sees S.has S.spent B.meanings s a };
 
     ghost leads = { λ a b. LooksOn S.leads a b };
 
@@ -108,9 +108,9 @@ impl<B: Vectors, S: PageSpace> Catalogue for Seen<'_, B, S> {
 
     ghost same = { λ a b leads. same B.meanings S.leads a b leads };
 
-    ghost rising = { λ s a sees. rising S.has B.meanings s a sees };
+    ghost rising = { λ s a sees. rising S.has S.spent B.meanings s a sees };
 
-    ghost few = { λ s a sees. few S.has B.meanings s a sees };
+    ghost few = { λ s a sees. few S.has S.spent B.meanings s a sees };
 }
 
 /// The descriptor of an open relation.

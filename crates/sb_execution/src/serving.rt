@@ -13,7 +13,7 @@ ghost use Rattle.sb_engine.specs.Working as engine;
 ghost use Rattle.sb_plain.specs.Refusing.{refused};
 ghost use Rattle.sb_plain.specs.State.{State};
 ghost use Rattle.sb_reads.specs.Reads.{is_reading};
-ghost use Rattle.sb_execution.specs.Serving.{IsAnswered, IsPosedIn, IsRefusedIn, IsSeenIn, IsServed, IsUnservedIn, IsUnservedOn, Makes, MayServe, is_read};
+ghost use Rattle.sb_execution.specs.Serving.{HasPaid, IsAnswered, IsPosedIn, IsRefusedIn, IsSeenIn, IsServed, IsUnservedIn, IsUnservedOn, Makes, MayServe, is_read};
 ghost use Rattle.sb_statements.specs.Statements.{MayWork, answer_of};
 ghost use Rattle.sb_session.specs.Driven.{WorksOn};
 ghost use Rattle.sb_session.specs.Calls.{KeepsWanted};
@@ -55,11 +55,11 @@ fn work_over<B: Boxes, S: Owners>(
 ) -> Result<Answer, Refusal>
     requires ready { engine.Serves S.is_ready (B.meanings boxes.now) place space.old work.old }
 
-    ensures made { IfOk result (λ x. (g : Going) → engine.Stands S.has (B.meanings boxes.now) place.root g space.old work.old
+    ensures made { IfOk result (λ x. (g : Going) → engine.Stands S.has S.spent (B.meanings boxes.now) place.root g space.old work.old
         → MayWork (B.meanings boxes.now) g command.now
-        → Makes (λ h y. engine.Stands S.has (B.meanings boxes.now) place.root h y work.new) (B.meanings boxes.now) command.now g (answer_of x) space.new) }
-    ensures refused { IfErr result (λ r. (g : Going) → engine.Stands S.has (B.meanings boxes.now) place.root g space.old work.old
-        → MayWork (B.meanings boxes.now) g command.now → IsRefusedIn (IsStoppedIn S.has S.leads S.fails S.table (B.meanings boxes.now)) (B.meanings boxes.now)
+        → Makes (λ h y. engine.Stands S.has S.spent (B.meanings boxes.now) place.root h y work.new) (B.meanings boxes.now) command.now g (answer_of x) space.new) }
+    ensures refused { IfErr result (λ r. (g : Going) → engine.Stands S.has S.spent (B.meanings boxes.now) place.root g space.old work.old
+        → MayWork (B.meanings boxes.now) g command.now → IsRefusedIn (IsStoppedIn S.has S.spent S.leads S.fails S.table (B.meanings boxes.now)) (B.meanings boxes.now)
         command.now g r space.new) }
     ensures fault { IfErr result (λ r. HasFaultCause S.fails r space.new) }
     ensures works { WorksOn S.leads space.old space.new work.old work.new }
@@ -81,13 +81,13 @@ fn carry_out<B: Boxes, S: Owners>(
 ) -> Result<Served, Refusal>
     requires ready { engine.Serves S.is_ready (B.meanings boxes.now) place space.old work.old }
 
-    ensures served { IfOk result (λ x. (s : State) (g : Going) → engine.Stands S.has (B.meanings boxes.now) place.root g space.old work.old
+    ensures served { IfOk result (λ x. (s : State) (g : Going) → engine.Stands S.has S.spent (B.meanings boxes.now) place.root g space.old work.old
         → MayServe (B.meanings boxes.now) s command.now g
-        → IsServed (λ h y. engine.Stands S.has (B.meanings boxes.now) place.root h y work.new) (B.meanings boxes.now) s command.now g x space.new) }
+        → IsServed (λ h y. engine.Stands S.has S.spent (B.meanings boxes.now) place.root h y work.new) (B.meanings boxes.now) s command.now g x space.new) }
     ensures reads { IfOk result (λ x. is_read x ≡ is_reading command.now) }
     ensures answer { IfOk result IsAnswered }
-    ensures refused { IfErr result (λ r. (s : State) (g : Going) → engine.Stands S.has (B.meanings boxes.now) place.root g space.old work.old
-        → MayServe (B.meanings boxes.now) s command.now g → IsUnservedIn S.has S.leads S.fails S.table (B.meanings boxes.now) s command.now g r space.new) }
+    ensures refused { IfErr result (λ r. (s : State) (g : Going) → engine.Stands S.has S.spent (B.meanings boxes.now) place.root g space.old work.old
+        → MayServe (B.meanings boxes.now) s command.now g → IsUnservedIn S.has S.spent S.leads S.fails S.table (B.meanings boxes.now) s command.now g r space.new) }
     ensures fault { IfErr result (λ r. HasFaultCause S.fails r space.new) }
     ensures works { WorksOn S.leads space.old space.new work.old work.new }
     ensures ready { engine.Serves S.is_ready (B.meanings boxes.now) place space.new work.new }
@@ -116,14 +116,14 @@ fn serve<B: Vectors, S: Owners>(
 ) -> Result<Served, Refusal>
     requires ready { engine.Serves S.is_ready (B.meanings boxes.now) place space.old work.old }
 
-    ensures served { IfOk result (λ x. (s : State) (g : Going) → engine.Stands S.has (B.meanings boxes.now) place.root g space.old work.old
+    ensures served { IfOk result (λ x. (s : State) (g : Going) → engine.Stands S.has S.spent (B.meanings boxes.now) place.root g space.old work.old
         → IsSeenIn (B.meanings boxes.now) inside points.now s g → IsPosedIn (B.meanings boxes.now) s command.now
-        → IsServed (λ h y. engine.Stands S.has (B.meanings boxes.now) place.root h y work.new) (B.meanings boxes.now) s command.now g x space.new) }
+        → IsServed (λ h y. engine.Stands S.has S.spent (B.meanings boxes.now) place.root h y work.new) (B.meanings boxes.now) s command.now g x space.new) }
     ensures reads { IfOk result (λ x. is_read x ≡ is_reading command.now) }
     ensures answer { IfOk result IsAnswered }
-    ensures refused { IfErr result (λ r. (s : State) (g : Going) → engine.Stands S.has (B.meanings boxes.now) place.root g space.old work.old
+    ensures refused { IfErr result (λ r. (s : State) (g : Going) → engine.Stands S.has S.spent (B.meanings boxes.now) place.root g space.old work.old
         → IsSeenIn (B.meanings boxes.now) inside points.now s g → IsPosedIn (B.meanings boxes.now) s command.now
-        → IsUnservedIn S.has S.leads S.fails S.table (B.meanings boxes.now) s command.now g r space.new) }
+        → IsUnservedIn S.has S.spent S.leads S.fails S.table (B.meanings boxes.now) s command.now g r space.new) }
     ensures fault { IfErr result (λ r. HasFaultCause S.fails r space.new) }
     ensures works { WorksOn S.leads space.old space.new work.old work.new }
     ensures ready { engine.Serves S.is_ready (B.meanings boxes.now) place space.new work.new }
@@ -151,14 +151,14 @@ pub(crate) fn serve_in<B: Vectors, D: Disk>(
     requires usable { IsUsable (B.meanings boxes.now) place transaction.old.tx.store.number (parts D.told D.len disk.old space.old.store) transaction.old.work }
 
     ensures served { IfOk result (λ x. space.new.store.book.down ≡ false → (want : Wanted) (s : State) (g : Going)
-        → IsAt (B.meanings boxes.now) place want transaction.old.tx.store.number g (parts D.told D.len disk.old space.old.store) transaction.old.work
+        → HasPaid (B.meanings boxes.now) place want transaction.old.tx.store.number transaction.old.work g (parts D.told D.len disk.old space.old.store)
         → IsSeenIn (B.meanings boxes.now) inside points.now s g → IsPosedIn (B.meanings boxes.now) s command.now
-        → IsServed (λ h p. IsAt (B.meanings boxes.now) place want transaction.old.tx.store.number h p transaction.new.work) (B.meanings boxes.now) s
+        → IsServed (HasPaid (B.meanings boxes.now) place want transaction.old.tx.store.number transaction.new.work) (B.meanings boxes.now) s
         command.now g x (parts D.told D.len disk.new space.new.store)) }
     ensures reads { IfOk result (λ x. is_read x ≡ is_reading command.now) }
     ensures answer { IfOk result IsAnswered }
     ensures refused { IfErr result (λ r. (want : Wanted) (s : State) (g : Going)
-        → IsAt (B.meanings boxes.now) place want transaction.old.tx.store.number g (parts D.told D.len disk.old space.old.store) transaction.old.work
+        → HasPaid (B.meanings boxes.now) place want transaction.old.tx.store.number transaction.old.work g (parts D.told D.len disk.old space.old.store)
         → IsSeenIn (B.meanings boxes.now) inside points.now s g → IsPosedIn (B.meanings boxes.now) s command.now
         → IsUnservedOn D.faults (B.meanings boxes.now) s command.now g r (record { disk = disk.new; store = space.new.store })) }
     ensures fault { IfErr result (λ r. OnFault r (space.new.store.book.down ≡ true)) }
@@ -205,16 +205,16 @@ pub(crate) fn test_in<B: Vectors, D: Disk>(
     requires usable { IsUsable (B.meanings boxes.now) place transaction.now.tx.store.number (parts D.told D.len disk.old space.old.store) transaction.now.work }
 
     ensures refused { IfOk result (λ r. (want : Wanted) (s : State) (g : Going)
-        → IsAt (B.meanings boxes.now) place want transaction.now.tx.store.number g (parts D.told D.len disk.old space.old.store) transaction.now.work
+        → HasPaid (B.meanings boxes.now) place want transaction.now.tx.store.number transaction.now.work g (parts D.told D.len disk.old space.old.store)
         → IsSeenIn (B.meanings boxes.now) inside points.now s g → r ≡ refused (extensions_of (B.meanings boxes.now)) s command.now) }
     ensures at { IfOk result (λ r. space.new.store.book.down ≡ false → (want : Wanted) (s : State) (g : Going)
-        → IsAt (B.meanings boxes.now) place want transaction.now.tx.store.number g (parts D.told D.len disk.old space.old.store) transaction.now.work
+        → HasPaid (B.meanings boxes.now) place want transaction.now.tx.store.number transaction.now.work g (parts D.told D.len disk.old space.old.store)
         → IsSeenIn (B.meanings boxes.now) inside points.now s g
         → IsAt (B.meanings boxes.now) place want transaction.now.tx.store.number g (parts D.told D.len disk.new space.new.store) transaction.now.work) }
     ensures free { IfErr result (λ r. is_free r ≡ true) }
     ensures room { IfErr result (λ r. is_room r ≡ false) }
     ensures cause { IfErr result (λ r. (want : Wanted) (s : State) (g : Going)
-        → IsAt (B.meanings boxes.now) place want transaction.now.tx.store.number g (parts D.told D.len disk.old space.old.store) transaction.now.work
+        → HasPaid (B.meanings boxes.now) place want transaction.now.tx.store.number transaction.now.work g (parts D.told D.len disk.old space.old.store)
         → IsSeenIn (B.meanings boxes.now) inside points.now s g
         → HasRefusalCause (FailsOn D.faults) r (record { disk = disk.new; store = space.new.store })) }
     ensures tested { IfOk result (λ r. IfSome r (λ x. OnFault x ⊥)) }

@@ -83,14 +83,15 @@ guests = record {
     attachments = [];
   };
   methods =
-      record { code = 1001; bound = λ n. n + 2; cost = λ rows c. length rows + 50 }
-      ∷ record { code = 1000; bound = λ n. 4 * n + 1; cost = λ rows c. 100 * length rows + kind_of c }
+      record { code = 1001; bound = λ n. n + 2; prepare = 4; cost = λ rows c. length rows + 50 }
+      ∷ record { code = 1000; bound = λ n. 4 * n + 1; prepare = 3; cost = λ rows c. 100 * length rows + kind_of c }
       ∷ [];
   attachments =
-      record { code = 1001; bound = λ desc schema rows buckets. 6; cost = λ desc schema rows buckets c. 5 }
+      record { code = 1001; bound = λ desc schema rows buckets. 6; prepare = λ desc schema. 1; cost = λ desc schema rows buckets c. 5 }
       ∷ record {
         code = 1000;
         bound = λ desc schema rows buckets. 1000 * buckets + 100 * length desc + 10 * length schema + length rows;
+        prepare = λ desc schema. 7 + 10 * length desc + length schema;
         cost = λ desc schema rows buckets c. 10000 * buckets + 1000 * length desc + 100 * length schema + 10 * length rows + kind_of c;
       }
       ∷ [];

@@ -1,5 +1,5 @@
 -- Worked examples of hashes, of buckets, and of what operations cost.
-use Rattle.std.specs.Prelude.{◌≡◌, refl, ℕ, ◌+◌, ◌-◌, ◌*◌, ◌^◌, codes, List, [], ◌∷◌, ◌++◌, true, false, map, pos, Some, None}
+use Rattle.std.specs.Prelude.{◌≡◌, refl, ℕ, ◌+◌, ◌-◌, ◌*◌, ◌^◌, codes, List, [], ◌∷◌, ◌++◌, true, false, length, map, pos, Some, None}
 use Rattle.std.specs.List.{range_with_len}
 use Rattle.sb_pred.specs.Tree.{Always}
 use Rattle.sb_rule.specs.declared.action.Action.TheVariants as action
@@ -10,7 +10,7 @@ use Rattle.sb_rule.specs.declared.rule.Mode.TheVariants.{Restrict, Cascade}
 use Rattle.sb_rule.specs.declared.rule.Side.TheVariants.{Main, Mirror}
 use Rattle.sb_rule.specs.declared.rule.Rule.{Rule}
 use Rattle.sb_rule.specs.declared.rule.Rule.TheVariants.{HashIndex, Stats, Check, Refers, Trigger, Foreign}
-use Rattle.sb_relation.specs.Db.{Attached}
+use Rattle.sb_relation.specs.Db.{Attached, schema_at}
 use Rattle.sb_fold.specs.Costs.{digits, tree_cost, operations, hash_of, whole_round, bucket_number, next_split, partners, method_cost, rule_cost, change_cost, prepare_cost, descriptors_of, descriptor_cost, if_durable, create_cost, free_cost}
 use Rattle.sb_fold.specs.Extensions.{Extensions, is_durable_method}
 use Rattle.sb_fold.proofs.Samples.{two, rows, named, relation, alone, index, pairs, pairs_mirror, both, none, guests}
@@ -196,9 +196,12 @@ a_guest_that_ends_with_the_run = refl
 abbrev rules : List Rule
 rules = index ∷ hash ∷ pairs ∷ pairs_mirror ∷ Stats (codes "b") (pos 0) (pos 1) ∷ Foreign 1000 [] ∷ without_pages
 
--- two for each that has pages, and one to prepare it, but 20 of a hash index
-prepared : map prepare_cost rules ≡ 3 ∷ 22 ∷ 3 ∷ 0 ∷ 3 ∷ 3 ∷ 0 ∷ 0 ∷ 0 ∷ 0 ∷ []
+-- two for each that has pages, and one to prepare it, but 20 of a hash index, and of a guest what it says itself
+prepared : map (prepare_cost guests (schema_at both (codes "l"))) rules ≡ 3 ∷ 22 ∷ 3 ∷ 0 ∷ 3 ∷ (2 + (7 + length (schema_at both (codes "l")))) ∷ 0 ∷ 0 ∷ 0 ∷ 0 ∷ []
 prepared = refl
+
+none_prepares : prepare_cost none [] (Foreign 1000 []) ≡ 2
+none_prepares = refl
 
 described : map descriptors_of rules ≡ 1 ∷ 1 ∷ 2 ∷ 2 ∷ 1 ∷ 1 ∷ 1 ∷ 2 ∷ 2 ∷ 1 ∷ []
 described = refl
@@ -213,8 +216,8 @@ among_relations_of_guests = refl
 where_they_outlive_the_run : map (λ name. if_durable none both name 5) (codes "l" ∷ codes "t" ∷ codes "q" ∷ []) ≡ 5 ∷ 0 ∷ 5 ∷ []
 where_they_outlive_the_run = refl
 
--- 3 and a descriptor
-new_relations : map (create_cost guests both) (1 ∷ 2 ∷ 3 ∷ 1000 ∷ 1001 ∷ []) ≡ 31 ∷ 31 ∷ 0 ∷ 31 ∷ 0 ∷ []
+-- 3 and a descriptor, of a guest 2 and what it says itself
+new_relations : map (create_cost guests both) (1 ∷ 2 ∷ 3 ∷ 1000 ∷ 1001 ∷ []) ≡ 31 ∷ 31 ∷ 0 ∷ 33 ∷ 0 ∷ []
 new_relations = refl
 
 -- those that have pages

@@ -67,7 +67,8 @@ abbrev pub reach_build : Extensions → Name → Rule → Going → Going
 reach_build ext name rule going =
     let buckets : ℕ = first_buckets rule in
     let pages : ℕ = built_bound ext going.db name rule buckets [] in
-    let prepared : Going = built_point ext name pages (prepare_cost rule + descriptors_of rule * descriptor_cost ext going.db) going in
+    let prepared : Going = built_point ext name pages
+    (prepare_cost ext (schema_at going.db name) rule + descriptors_of rule * descriptor_cost ext going.db) going in
     build_rows ext name rule buckets [] (rows_at going.db name) prepared
 
 -- some row that stands has too long a code in the columns

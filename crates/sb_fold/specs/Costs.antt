@@ -110,14 +110,23 @@ change_cost ext db name r c =
 abbrev pub descriptor_cost : Extensions → Db → ℕ
 descriptor_cost ext db = 2 * tree_cost (length (filter (λ e. is_durable_method ext e.1.method) db))
 
+-- the pages of a new instance of a foreign extension, by what it says itself
+abbrev pub foreign_prepare : Option AttachRoom → List ℕ → List Column → ℕ
+foreign_prepare None desc schema = 0
+foreign_prepare (Some room) desc schema = room.prepare desc schema
+
+abbrev pub foreign_method_prepare : Option MethodRoom → ℕ
+foreign_method_prepare None = 0
+foreign_method_prepare (Some room) = room.prepare
+
 -- two for a new instance, and the pages that it prepares
-abbrev pub prepare_cost : Rule → ℕ
-prepare_cost (TreeIndex columns unique) = 3
-prepare_cost (HashIndex columns) = 22
-prepare_cost (JoinIndex Main columns other others) = 3
-prepare_cost (Stats column low width) = 3
-prepare_cost (Foreign code desc) = 3
-prepare_cost _ = 0
+abbrev pub prepare_cost : Extensions → List Column → Rule → ℕ
+prepare_cost ext schema (TreeIndex columns unique) = 3
+prepare_cost ext schema (HashIndex columns) = 22
+prepare_cost ext schema (JoinIndex Main columns other others) = 3
+prepare_cost ext schema (Stats column low width) = 3
+prepare_cost ext schema (Foreign code desc) = 2 + foreign_prepare (attach_room ext code) desc schema
+prepare_cost ext schema _ = 0
 
 -- the descriptors that an attachment stands in: its relation's, and that of its mirror
 abbrev pub descriptors_of : Rule → ℕ
@@ -130,7 +139,9 @@ abbrev pub if_durable : Extensions → Db → Name → ℕ → ℕ
 if_durable ext db name cost = cond (is_durable_at ext db name) cost 0
 
 abbrev pub create_cost : Extensions → Db → ℕ → ℕ
-create_cost ext db method = cond (is_durable_method ext method) (3 + descriptor_cost ext db) 0
+create_cost ext db method =
+    cond (is_durable_method ext method)
+    (2 + cond (nat_lt method 1000) 1 (foreign_method_prepare (method_room ext method)) + descriptor_cost ext db) 0
 
 -- an instance that has pages is freed for 33
 abbrev pub free_cost : List ℕ → ℕ

@@ -8,16 +8,19 @@ use Rattle.sb_rule.specs.Spelling.{rule_code}
 use Rattle.sb_relation.specs.Db.{Name, Rows, Db, relation_at}
 use Rattle.sb_relation.specs.Foreign.{MethodRules, AttachRules, Boxes, method_rules, attach_rules}
 
--- of a storage method: the pages that so many rows take at most, and those that a change of these rows edits
+-- of a storage method: the pages that so many rows take at most, those that a new instance edits, and those that a change of these rows edits
 pub record MethodRoom : Type 0 where
   pub code : ℕ
   pub bound : ℕ → ℕ
+  pub prepare : ℕ
   pub cost : Rows → Change → ℕ
 
--- of an attachment, by its desc, the columns and rows of its relation and its buckets: the pages that it takes at most, and those that a change edits
+-- of an attachment, by its desc, the columns and rows of its relation and its buckets: the pages that it takes at most, those that a new instance
+-- edits, and those that a change edits
 pub record AttachRoom : Type 0 where
   pub code : ℕ
   pub bound : List ℕ → List Column → Rows → ℕ → ℕ
+  pub prepare : List ℕ → List Column → ℕ
   pub cost : List ℕ → List Column → Rows → ℕ → Change → ℕ
 
 -- the extensions that are there

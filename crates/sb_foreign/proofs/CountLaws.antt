@@ -65,7 +65,7 @@ some_page page rows is none = absurd (no (sym is ∙ ap count_in none))
     no e = cc
 
 pub IsAttachment-count : IsAttachment count
-IsAttachment-count = record { pageless = λ is. cc; searches = λ content query. refl; idle = λ is. cc; standard = λ ours content. omega (arith, ours); formed = λ inst P content holds. kept inst P content (IsFormed-held inst P content holds) }
+IsAttachment-count = record { pageless = λ is. cc; searches = λ content query. refl; idle = λ is. cc; standard = λ ours content. omega (arith, ours); charged = λ keeps ours. absurd (omega (arith, ours)); inserts = λ key row before after. omega arith; formed = λ inst P content holds. kept inst P content (IsFormed-held inst P content holds) }
   where
     whole : (inst : Instance) (P : Pages) (rows : ℕ) → count_in (P inst.root) ≡ Some rows → (held : HeldPages) (n : ℕ) → AreSomeOf held P → ((n == inst.root) && has_no_count (held n)) ≡ false
     whole inst P rows there held n some = by (n == inst.root) (held n) refl refl

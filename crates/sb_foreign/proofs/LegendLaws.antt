@@ -29,7 +29,7 @@ legend_content = content_of legend_image [] 0
 
 -- its entries rise
 pub IsAttachment-legend : IsAttachment legend
-IsAttachment-legend = record { pageless = λ is. cc; searches = λ content query. refl; idle = λ is. cc; standard = λ ours content. omega (arith, ours); formed = HoldContent-always legend_rules legend_content refl }
+IsAttachment-legend = record { pageless = λ is. cc; searches = λ content query. refl; idle = λ is. cc; standard = λ ours content. omega (arith, ours); charged = λ keeps ours. absurd (omega (arith, ours)); inserts = λ key row before after. omega arith; formed = HoldContent-always legend_rules legend_content refl }
 
 boundless_legend : IsBoundlessFor legend
 boundless_legend = record { bound = λ content. refl; cost = λ c before after. refl; path = λ inst P c n. refl; code = refl }

@@ -23,7 +23,7 @@ use Rattle.sb_foreign.specs.Limits.{limit, limit_rules, is_within}
 use Rattle.sb_foreign.proofs.WatchedLaws.{of_row, of_none, Keeps-new, HoldContent-always}
 
 pub IsAttachment-limit : IsAttachment limit
-IsAttachment-limit = record { pageless = λ is. cc; searches = λ content query. refl; idle = λ is. cc; standard = λ ours content. omega (arith, ours); formed = HoldContent-always limit_rules no_content refl }
+IsAttachment-limit = record { pageless = λ is. cc; searches = λ content query. refl; idle = λ is. cc; standard = λ ours content. omega (arith, ours); charged = λ keeps ours. absurd (omega (arith, ours)); inserts = λ key row before after. omega arith; formed = HoldContent-always limit_rules no_content refl }
 
 boundless_limit : IsBoundlessFor limit
 boundless_limit = record { bound = λ content. refl; cost = λ c before after. refl; path = λ inst P c n. refl; code = refl }

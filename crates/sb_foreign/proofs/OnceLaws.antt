@@ -32,7 +32,7 @@ use Rattle.sb_foreign.specs.Onces.{once, once_rules, number_row, asked, is_once,
 use Rattle.sb_foreign.proofs.WatchedLaws.{of_row, of_none, Keeps-new, HoldContent-always}
 
 pub IsAttachment-once : IsAttachment once
-IsAttachment-once = record { pageless = λ is. cc; searches = λ content query. refl; idle = λ is. cc; standard = λ ours content. omega (arith, ours); formed = HoldContent-always once_rules no_content refl }
+IsAttachment-once = record { pageless = λ is. cc; searches = λ content query. refl; idle = λ is. cc; standard = λ ours content. omega (arith, ours); charged = λ keeps ours. absurd (omega (arith, ours)); inserts = λ key row before after. omega arith; formed = HoldContent-always once_rules no_content refl }
 
 boundless_once : IsBoundlessFor once
 boundless_once = record { bound = λ content. refl; cost = λ c before after. refl; path = λ inst P c n. refl; code = refl }

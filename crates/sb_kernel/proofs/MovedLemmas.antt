@@ -8,7 +8,7 @@ use Rattle.sb_images.specs.Images.{IsOldOrNew, Restores}
 use Rattle.sb_log.specs.declared.geometry.Geometry.{Geometry}
 use Rattle.sb_fold.specs.declared.refusal.Refusal.TheVariants.{Syntax}
 use Rattle.sb_fold.specs.declared.refusal.Refusal.TheVariants as refusal
-use Rattle.sb_fold.specs.declared.refusal.Room.TheVariants.{Data}
+use Rattle.sb_fold.specs.declared.refusal.Room.TheVariants.{Data, Gates, Log, Temp}
 use Rattle.sb_plain.specs.declared.command.Command.{Command}
 use Rattle.sb_plain.specs.declared.reply.Reply.{Reply}
 use Rattle.sb_plain.specs.declared.reply.Reply.TheVariants.{Refused}
@@ -27,12 +27,12 @@ use Rattle.sb_vectors.specs.Vectors.{AreSameBoxes}
 use Rattle.sb_opening.specs.Naming.{all_live}
 use Rattle.sb_opening.specs.Session.{Session}
 use Rattle.sb_opening.specs.Ends.{Ends}
-use Rattle.sb_opening.specs.Sessions.{HasFailed, IsFor, IsNext, KeepsSession, Lacks, LeavesNext, LeavesOldOrNext, StandsBehind, WantsPages, parts_of, sizes_of}
+use Rattle.sb_opening.specs.Sessions.{HasFailed, IsFor, IsNext, KeepsSession, Lacks, LeavesNext, LeavesOldOrNext, StandsBehind, WantsRoom, parts_of, sizes_of}
 use Rattle.sb_opening.proofs.MoveLists.{found_more}
 use Rattle.sb_opening.proofs.SameBoxes.{same-then}
 use Rattle.sb_execution.specs.Serving.{IsPosedIn}
 use Rattle.sb_kernel.specs.World.{World, IsNow}
-use Rattle.sb_kernel.specs.Plays.{AreBoxesOf, MayWantPages}
+use Rattle.sb_kernel.specs.Plays.{AreBoxesOf, MayWantRoom}
 use Rattle.sb_kernel.specs.Crashes.{IsLeft, IsMade}
 use Rattle.sb_kernel.specs.Answering.{HasMoved, HasReplied}
 use Rattle.sb_kernel.proofs.PlayLemmas.{Comes, Ends-comes}
@@ -72,25 +72,30 @@ HasReplied-bad w line column d x up is = record {
       boxes = w.meanings x.boxes;
       are = record { same = now.same; live = now.stands.is.live; spare = now.stands.is.spare };
       moves = (refl, refl);
-      pages = tt;
+      room = tt;
     };
     now = now;
     leaves = leaves-still w m d x s now (sym now.stands.is.down ∙ up);
   };
 }
 
--- ---- want of a page
+-- ---- want of room
 may_want : (m : Meanings) (g : Geometry) (IsSo : State → Type 0) (Failed : Type 0) (s : State) (c : Command) (reply : Reply)
-    → Ends IsSo (Lacks g) Failed (extensions_of m) s c reply → WantsPages m g.pages s c reply → MayWantPages m g s (Says c) reply
+    → Ends IsSo (Lacks g) Failed (extensions_of m) s c reply → WantsRoom m g.pages s c reply → MayWantRoom m g s (Says c) reply
 may_want m g IsSo Failed s c (Refused (refusal.Room (Data used total))) ends wants =
     record { wants = ends.cause.1; picks = wants.0; lacks = (ends.cause.0.0, ends.cause.0.1, wants.1) }
+may_want m g IsSo Failed s c (Refused (refusal.Room (Log used more total))) ends wants =
+    record { wants = ends.cause.1; picks = wants.0; lacks = (ends.cause.0.2, ends.cause.0.1, wants.1) }
+may_want m g IsSo Failed s c (Refused (refusal.Room (Gates used total))) ends wants =
+    record { wants = ends.cause.1; picks = wants.0; lacks = (ends.cause.0.0, ends.cause.0.1, wants.1) }
+may_want m g IsSo Failed s c (Refused (refusal.Room (Temp used total))) ends wants = absurd ends.cause.0
 may_want m g IsSo Failed s c reply ends wants = tt
 
 -- ---- a command
 module _ {B D : Type 0} (w : World B D) (c : Command) (old new : D) (x y : Session B) (reply : Reply) (up : x.down ≡ false)
     (ends : (want : Wanted) (s : State) → IsFor w.meanings w.told w.len want s old x → IsPosedIn (w.meanings x.boxes) s c
     → Ends (StandsBehind w.meanings w.told w.len want (extensions_of (w.meanings x.boxes)) s c old new x y) (Lacks (sizes_of x)) (HasFailed w.faults old new) (extensions_of (w.meanings x.boxes)) s c reply)
-    (pages : (want : Wanted) (s : State) → IsFor w.meanings w.told w.len want s old x → IsPosedIn (w.meanings x.boxes) s c → WantsPages (w.meanings x.boxes) (sizes_of x).pages s c reply)
+    (room : (want : Wanted) (s : State) → IsFor w.meanings w.told w.len want s old x → IsPosedIn (w.meanings x.boxes) s c → WantsRoom (w.meanings x.boxes) (sizes_of x).pages s c reply)
     (same : AreSameBoxes (w.meanings x.boxes) (w.meanings y.boxes)) (keeps : KeepsSession w.len w.faults old new x y reply)
     (kept : Keeps w (Says c ∷ []) (reply ∷ []) old new x y) where
   abbrev n : Meanings
@@ -138,7 +143,7 @@ module _ {B D : Type 0} (w : World B D) (c : Command) (old new : D) (x y : Sessi
       Ends-comes Behind (Lacks (sizes_of x)) (HasFailed w.faults old new) (extensions_of n) s c reply (ends want s for posed) in
       record {
         state = comes.state;
-        moves = record { boxes = n; are = are; moves = comes.ends; pages = may_want n (sizes_of x) Behind (HasFailed w.faults old new) s c reply (ends want s for posed) (pages want s for posed) };
+        moves = record { boxes = n; are = are; moves = comes.ends; room = may_want n (sizes_of x) Behind (HasFailed w.faults old new) s c reply (ends want s for posed) (room want s for posed) };
         now = record {
           same = same-then m n (w.meanings y.boxes) now.same same;
           root = ap (λ (p : Place). p.root) keeps.place ∙ now.root ∙ ap (λ (h : Geometry). table_len h.pages) (sym keeps.geometry);

@@ -12,7 +12,7 @@ use Rattle.sb_grammar.specs.Columns.{Item, Says, Bad}
 use Rattle.sb_registry.specs.Boxes.{Meanings}
 use Rattle.sb_execution.specs.Working.{extensions_of}
 use Rattle.sb_log.specs.declared.geometry.Geometry.{Geometry}
-use Rattle.sb_opening.specs.Ends.{Ends, IsFree, IsStep}
+use Rattle.sb_opening.specs.Ends.{Ends, IsFree, IsLacking, IsStep}
 use Rattle.sb_opening.specs.Sessions.{Lacks}
 use Rattle.sb_execution.proofs.EndLemmas.{Ends-since}
 use Rattle.sb_kernel.specs.Plays.{Moves, MovesBy, Plays, last_state}
@@ -44,7 +44,7 @@ module _ (m : Meanings) (g : Geometry) where
       boxes = moves.boxes;
       are = moves.are;
       moves = Moves-since (extensions_of moves.boxes) s item reply t moves.moves;
-      pages = moves.pages;
+      room = moves.room;
     }
 
     pub Plays-since : (s : State) (items : List Item) (replies : List Reply) (states : List State) → Plays m g Failed s items replies states → Plays m g HasFailed s items replies states
@@ -69,9 +69,12 @@ module _ (Stands : State → Type 0) (Lacks : Room → Type 0) (HasFailed : Type
   this_free : (Cause : Type 0) (now : State) → IsFree Stands Cause s now → IsFree (λ u. now ≡ u) Cause s now
   this_free Cause now free = record { up = free.up; cause = free.cause; stands = refl }
 
+  this_lacking : (Cause : Type 0) (lacks : IsLacking Stands Cause ext s c) → IsLacking (λ u. lacks.after ≡ u) Cause ext s c
+  this_lacking Cause lacks = record { up = lacks.up; cause = lacks.cause; after = lacks.after; left = lacks.left; stands = refl }
+
   pub Ends-comes : (r : Reply) → Ends Stands Lacks HasFailed ext s c r → Comes Stands Lacks HasFailed ext s c r
-  Ends-comes (Refused (refusal.Room room)) ends = record { state = s; ends = this_free (Lacks room × (may_want_room s c ≡ true)) s ends; stands = ends.stands }
-  Ends-comes (Refused refusal.NoMemory) ends = record { state = s; ends = this_free (may_want_memory s c ≡ true) s ends; stands = ends.stands }
+  Ends-comes (Refused (refusal.Room room)) ends = record { state = ends.after; ends = this_lacking (Lacks room × (may_want_room s c ≡ true)) ends; stands = ends.stands }
+  Ends-comes (Refused refusal.NoMemory) ends = record { state = ends.after; ends = this_lacking (may_want_memory s c ≡ true) ends; stands = ends.stands }
   Ends-comes (Refused refusal.Fault) ends = record { state = downed s; ends = this_free HasFailed (downed s) ends; stands = ends.stands }
   Ends-comes (Refused (refusal.Damaged page)) ends = absurd ends
   Ends-comes (Refused r) ends = record { state = ends.after; ends = this_step (Refused r) ends; stands = ends.stands }

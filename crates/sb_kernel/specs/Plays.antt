@@ -3,7 +3,6 @@ use Rattle.std.specs.Prelude.{◌≡◌, List, [], ◌∷◌}
 use Rattle.sb_fold.specs.declared.refusal.Refusal.TheVariants.{Syntax}
 use Rattle.sb_fold.specs.declared.refusal.Refusal.TheVariants as refusal
 use Rattle.sb_fold.specs.declared.refusal.Room.{Room}
-use Rattle.sb_fold.specs.declared.refusal.Room.TheVariants.{Data}
 use Rattle.sb_fold.specs.Extensions.{Extensions}
 use Rattle.sb_plain.specs.declared.reply.Reply.{Reply}
 use Rattle.sb_plain.specs.declared.reply.Reply.TheVariants.{Refused}
@@ -33,17 +32,17 @@ pub record AreBoxesOf (m : Meanings) (s : State) (now : Meanings) : Type 0 where
 abbrev pub sizes_in : Geometry → Sizes
 sizes_in g = record { pages = g.pages; log = g.log }
 
--- want of a page is the reply to an item only where it is a command that has the licence
-abbrev pub MayWantPages : Meanings → Geometry → State → Item → Reply → Type 0
-MayWantPages m g s (Says c) (Refused (refusal.Room (Data used total))) = LacksRoom (extensions_of m) (sizes_in g) s c (Data used total)
-MayWantPages m g s item reply = Unit {0}
+-- want of room is the reply to an item only where it is a command that has the licence
+abbrev pub MayWantRoom : Meanings → Geometry → State → Item → Reply → Type 0
+MayWantRoom m g s (Says c) (Refused (refusal.Room room)) = LacksRoom (extensions_of m) (sizes_in g) s c room
+MayWantRoom m g s item reply = Unit {0}
 
 -- so it is with the boxes in that order, in a store of these sizes
 pub record MovesBy (m : Meanings) (g : Geometry) (HasFailed : Type 0) (s : State) (item : Item) (reply : Reply) (t : State) : Type 0 where
   pub boxes : Meanings
   pub are : AreBoxesOf m s boxes
   pub moves : Moves (Lacks g) HasFailed (extensions_of boxes) s item reply t
-  pub pages : MayWantPages boxes g s item reply
+  pub room : MayWantRoom boxes g s item reply
 
 -- the replies to items, and the state after each
 abbrev pub Plays : Meanings → Geometry → (HasFailed : Type 0) → State → List Item → List Reply → List State → Type 0

@@ -1,20 +1,26 @@
 -- The states of plays.
-use Rattle.std.proofs.Common.{◌≡◌, ◌≤◌, ◌<◌, ℕ, suc, Bool, true, false, List, [], ◌∷◌, Option, refl, sym, subst, arith}
+use Rattle.std.proofs.Common.{◌≡◌, ⊎_elim, ◌≤◌, ◌<◌, ℕ, suc, Bool, true, false, List, [], ◌∷◌, ◌++◌, Option, Some, None, refl, sym, subst, arith}
 use Rattle.std.specs.Prelude.{All, nat_lt, nat_le}
 use Rattle.std.proofs.lemmas.Bool.{ltb-true, ltb-false, leb-true, leb-false}
 use Rattle.std.proofs.lemmas.List.Elements.{All-nil, All-cons, All-head, All-tail}
 use Rattle.sb_disk.specs.Disk.{Story}
 use Rattle.sb_disk.specs.Moments.{MayLeave, moment}
+use Rattle.sb_relation.specs.Db.{Key}
+use Rattle.sb_fold.specs.Extensions.{Extensions}
 use Rattle.sb_fold.specs.declared.refusal.Refusal.TheVariants as refusal
 use Rattle.sb_plain.specs.declared.command.Command.{Command}
 use Rattle.sb_plain.specs.declared.reply.Reply.{Reply}
 use Rattle.sb_plain.specs.declared.reply.Reply.TheVariants.{Refused}
-use Rattle.sb_plain.specs.State.{State, committed}
+use Rattle.sb_plain.specs.State.{State, Transaction, committed, with_spent}
+use Rattle.sb_plain.specs.Step.{step}
+use Rattle.sb_lawful.specs.Laws.{HasDotlessNames, open_ones}
+use Rattle.sb_lawful_rows.specs.States.{MayBeOpen}
+use Rattle.sb_said.specs.Laws.{HasLimits, IsLawfulWithin}
 use Rattle.sb_grammar.specs.Columns.{Item, Says, Bad}
 use Rattle.sb_lines.specs.Lines.{asking, whole_lines, lines_of}
 use Rattle.sb_registry.specs.Boxes.{Meanings}
 use Rattle.sb_kernel.specs.Working.{extensions_of}
-use Rattle.sb_kernel.specs.Ends.{Ends}
+use Rattle.sb_kernel.specs.Ends.{Ends, MayHaveSpent}
 use Rattle.sb_kernel.specs.Geometry.{Geometry}
 use Rattle.sb_kernel.specs.Sessions.{Lacks}
 use Rattle.sb_kernel.specs.declared.ending.Ending.TheVariants.{InputEnded, SourceFailed, MostTaken, Stopped}
@@ -35,12 +41,32 @@ answers-written SourceFailed taken items answers = items-written (asking (whole_
 answers-written MostTaken taken items answers = items-written (asking (whole_lines taken)) items answers
 answers-written (Stopped stop) taken items answers = first-written (asking (lines_of taken)) items answers
 
+-- ---- what was spent
+-- it says nothing of databases
+pub spent-lawful : (ext : Extensions) (n : ℕ) (s : State) → IsLawfulWithin ext s → IsLawfulWithin ext (with_spent n s)
+spent-lawful ext n s within = by s.transaction within.along.lawful.open_one within.along.names within.limits
+  where
+    by : (o : Option Transaction) → MayBeOpen ext o → All HasDotlessNames (s.commits ++ open_ones o) → All HasLimits (s.commits ++ open_ones o)
+        → IsLawfulWithin ext (elim o as (λ _. State) [ None ↦ s | Some t ↦ record s { transaction = Some (record t { spent = n }) } ])
+    by None open_one names limits = within
+    by (Some t) open_one names limits = record {
+      along = record { lawful = record { commits = within.along.lawful.commits; open_one = record { stands = open_one.stands; points = open_one.points } }; names = names };
+      limits = limits;
+    }
+
 module _ (m : Meanings) (g : Geometry) (HasFailed : Type 0) where
+  left : (ext : Extensions) (s : State) (c : Command) (t : State) → MayHaveSpent ext s c t → IsLawfulFor m s → IsLawfulFor m t
+  left ext s c t spent lawful = ⊎_elim
+      (λ (same : t ≡ s). subst (IsLawfulFor m) (sym same) lawful)
+      (λ (by : (picks : List Key) × (t ≡ with_spent (step ext s c picks).spent s)).
+      subst (IsLawfulFor m) (sym by.1) (spent-lawful (extensions_of m) (step ext s c by.0).spent s lawful))
+      spent
+
   -- ---- one command
   comes : (s : State) (c : Command) (boxes : Meanings) → AreBoxesOf m s boxes → IsWritten c → IsLawfulFor m s → (reply : Reply) (t : State)
       → Ends (λ u. t ≡ u) (Lacks g) HasFailed (extensions_of boxes) s c reply → IsLawfulFor m t
-  comes s c boxes are is lawful (Refused (refusal.Room room)) t ends = subst (IsLawfulFor m) (sym ends.stands) lawful
-  comes s c boxes are is lawful (Refused refusal.NoMemory) t ends = subst (IsLawfulFor m) (sym ends.stands) lawful
+  comes s c boxes are is lawful (Refused (refusal.Room room)) t ends = subst (IsLawfulFor m) (sym ends.stands) (left (extensions_of boxes) s c ends.after ends.left lawful)
+  comes s c boxes are is lawful (Refused refusal.NoMemory) t ends = subst (IsLawfulFor m) (sym ends.stands) (left (extensions_of boxes) s c ends.after ends.left lawful)
   comes s c boxes are is lawful (Refused refusal.Fault) t ends = subst (IsLawfulFor m) (sym ends.stands) (down-lawful (extensions_of m) s lawful)
   comes s c boxes are is lawful (Refused (refusal.Damaged page)) t ends = absurd ends
   comes s c boxes are is lawful (Refused r) t ends = subst (IsLawfulFor m) (sym ends.stands) (stepped m s c boxes are (Refused r) ends.after ends.steps is lawful)

@@ -204,8 +204,8 @@ a_hash_index_is_built_row_by_row = refl
 abbrev falling : Extensions
 falling = record {
   boxes = record { methods = []; attachments = [] };
-  methods = record { code = 2; bound = λ n. 1; cost = λ rows c. 1 } ∷ [];
-  attachments = record { code = 1000; bound = λ desc schema rows buckets. 9 - length rows; cost = λ desc schema rows buckets c. 1 } ∷ [];
+  methods = record { code = 2; bound = λ n. 1; prepare = 1; cost = λ rows c. 1 } ∷ [];
+  attachments = record { code = 1000; bound = λ desc schema rows buckets. 9 - length rows; prepare = λ desc schema. 1; cost = λ desc schema rows buckets c. 1 } ∷ [];
 }
 
 the_pages_before_a_row_are_held_aside_where_they_are_more :

@@ -26,8 +26,8 @@ extensions = record {
       image = λ desc schema rows. record { entries = []; sums = pos (length rows) ∷ [] };
     } ∷ [];
   };
-  methods = record { code = 1001; bound = λ n. n + 1; cost = λ n c. 10 } ∷ [];
-  attachments = record { code = 1000; bound = λ desc schema rows buckets. 3; cost = λ desc schema rows buckets c. 2 } ∷ [];
+  methods = record { code = 1001; bound = λ n. n + 1; prepare = 1; cost = λ n c. 10 } ∷ [];
+  attachments = record { code = 1000; bound = λ desc schema rows buckets. 3; prepare = λ desc schema. 1; cost = λ desc schema rows buckets c. 2 } ∷ [];
 }
 
 abbrev opened : State

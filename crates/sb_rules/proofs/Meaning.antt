@@ -68,8 +68,8 @@ no_content-only code inst P content is = by (inst.owner == 0 && page_count P == 
     by true is = same_Some no_content content is
     by false is = cc
 
-pub IsAttachment-pageless : (code : ℕ) → IsAttachment (pageless code)
-IsAttachment-pageless code = record { pageless = λ none_kept inst P owner none. formed code inst P owner none; searches = λ content query. refl; idle = λ none_kept c before after. refl; standard = λ ours content. omega arith; formed = holds code }
+pub IsAttachment-pageless : (code : ℕ) → keeps_pages code ≡ false → IsAttachment (pageless code)
+IsAttachment-pageless code none = record { pageless = λ none_kept inst P owner none. formed code inst P owner none; searches = λ content query. refl; idle = λ none_kept c before after. refl; standard = λ ours content. omega arith; charged = λ keeps. absurd (true≢false (sym keeps ∙ none)); inserts = λ key row before after. omega arith; formed = holds code }
 
 -- ---- nothing is made of the pages
 and_false : (b : Bool) → (b && false) ≡ false

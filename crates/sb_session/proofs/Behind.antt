@@ -19,7 +19,7 @@ use Rattle.sb_txn.specs.Parts.{Parts}
 use Rattle.sb_transactions.specs.Working.{extensions_of}
 use Rattle.sb_session.specs.declared.session.Open.{Open}
 use Rattle.sb_session.specs.declared.session.Session.{Session}
-use Rattle.sb_session.specs.Ends.{Ends, IsFree, IsStep}
+use Rattle.sb_session.specs.Ends.{Ends, IsFree, IsLacking, IsStep}
 use Rattle.sb_session.specs.Sessions.{HasFailed, IsFor, IsOpenFor, Lacks, StandsBehind, StandsFor, parts_of, sizes_of}
 
 -- ---- ends of other states
@@ -30,9 +30,12 @@ module _ (S T : State → Type 0) (Lacks : Room → Type 0) (HasFailed : Type 0)
   free-wider : (Cause : Type 0) (now : State) → IsFree S Cause s now → IsFree T Cause s now
   free-wider Cause now free = record { up = free.up; cause = free.cause; stands = wider now free.stands }
 
+  lacking-wider : (Cause : Type 0) → IsLacking S Cause ext s c → IsLacking T Cause ext s c
+  lacking-wider Cause lacks = record { up = lacks.up; cause = lacks.cause; after = lacks.after; left = lacks.left; stands = wider lacks.after lacks.stands }
+
   pub Ends-wider : (r : Reply) → Ends S Lacks HasFailed ext s c r → Ends T Lacks HasFailed ext s c r
-  Ends-wider (reply.Refused (refusal.Room room)) ends = free-wider (Lacks room × (may_want_room s c ≡ true)) s ends
-  Ends-wider (reply.Refused refusal.NoMemory) ends = free-wider (may_want_memory s c ≡ true) s ends
+  Ends-wider (reply.Refused (refusal.Room room)) ends = lacking-wider (Lacks room × (may_want_room s c ≡ true)) ends
+  Ends-wider (reply.Refused refusal.NoMemory) ends = lacking-wider (may_want_memory s c ≡ true) ends
   Ends-wider (reply.Refused refusal.Fault) ends = free-wider HasFailed (downed s) ends
   Ends-wider (reply.Refused (refusal.Damaged page)) ends = ends
   Ends-wider (reply.Refused (refusal.Syntax column)) ends = step-wider (reply.Refused (refusal.Syntax column)) ends

@@ -1,5 +1,5 @@
 -- What each way in which a command ends leaves of a session.
-use Rattle.std.proofs.Common.{◌≡◌, ⊎_elim, ℕ, ◌+◌, ◌≤◌, ◌||◌, Bool, true, false, List, All, Option, Some, None, Ok, Err, Result, refl, sym, ap, ◌∙◌, subst, arith}
+use Rattle.std.proofs.Common.{◌≡◌, ⊎_elim, inl, ℕ, ◌+◌, ◌≤◌, ◌||◌, Bool, true, false, List, All, Option, Some, None, Ok, Err, Result, refl, sym, ap, ◌∙◌, subst, arith}
 use Rattle.std.proofs.lemmas.Bool.{false≢true}
 use Rattle.std.proofs.Math.Bool.{or-false}
 use Rattle.sb_disk.specs.Causes.{Rose}
@@ -166,7 +166,7 @@ module _ {B D : Type 0} (meanings : B → Meanings) (told : D → Option Story) 
     down = is.down;
     live = is.live;
     spare = is.spare;
-    stands = λ up. IsOpenFor-spent (meanings x.boxes) x.place want (committed s) (parts_of told len d x) (t.spent + 1) x.open t (is.stands up);
+    stands = λ up. IsOpenFor-spent (meanings x.boxes) x.place want (committed s) (parts_of told len d x) (t.spent + 1) x.open t (omega arith) (is.stands up);
   }
 
   pub IsFor-paid : (want : Wanted) (d : D) (x : Session B) (s : State) → IsFor meanings told len want s d x → IsFor meanings told len want (if_up s) d x
@@ -253,7 +253,13 @@ module _ {B D : Type 0} (meanings : B → Meanings) (told : D → Option Story) 
         → Carried meanings told len faults c d d x y (Refused refusal.NoMemory)
     Carried-memory up may =
         unchanged (Refused refusal.NoMemory) refl
-        (λ want s is. record { up = sym is.down ∙ up; cause = may want s is; stands = IsFor-same meanings told len d x y same want s is })
+        (λ want s is. record {
+          up = sym is.down ∙ up;
+          cause = may want s is;
+          after = s;
+          left = inl refl;
+          stands = IsFor-same meanings told len d x y same want s is;
+        })
 
   -- ---- the disk failed
   module _ (d e : D) (x y : Session B) (space : Space) (same : y.space ≡ space) (boxes : meanings y.boxes ≡ meanings x.boxes) (place : y.place ≡ x.place) (up : x.down ≡ false) (runs : CanRun meanings told len d x) where

@@ -22,6 +22,7 @@ use Rattle.sb_transactions.specs.Place.{Place}
 use Rattle.sb_txn.specs.Parts.{Parts, parts}
 use Rattle.sb_transactions.specs.Working.{extensions_of}
 use Rattle.sb_transactions.specs.Space.{Space}
+use Rattle.sb_transactions.specs.Spent.{HasSpent}
 use Rattle.sb_transactions.specs.Tx.{Tx}
 use Rattle.sb_transactions.specs.declared.transactions.Point.{Point}
 use Rattle.sb_transactions.specs.declared.transactions.Transaction.{Transaction}
@@ -88,8 +89,8 @@ module _ {B D : Type 0} (meanings : B → Meanings) (told : D → Option Story) 
           → ((m : Meanings) (root : ℕ) (want : Wanted) (db : Db) → Rests m root want db (parts_of told len d x) → WasBegun m root want db t.tx.store.number (parts told len e space.store))
           → ((m : Meanings) (place : Place) (want : Wanted) (g : Going) → place.owner ≡ 2 → IsFirst g → Rests m place.root want g.db (parts_of told len d x)
           → IsAt m place want t.tx.store.number g (parts told len e space.store) t.work)
-          → Carried meanings told len faults command.Begin d e x y ok
-      Carried-begin t o remains none is same points usable begun at =
+          → HasSpent 0 space.store → Carried meanings told len faults command.Begin d e x y ok
+      Carried-begin t o remains none is same points usable begun at spent =
           let m : Meanings = meanings x.boxes in
           let q : Parts = parts told len e space.store in
           Carried-ok meanings told len faults command.Begin d e x y space now boxes place up runs t (Some o) remains down is (
@@ -105,6 +106,7 @@ module _ {B D : Type 0} (meanings : B → Meanings) (told : D → Option Story) 
                 (at m x.place want (going_in (first_spent s)) runs.owner (record { queue = refl; used = refl }) out.rests);
             begun = subst (λ (t : Transaction). WasBegun m x.place.root want (committed s) t.tx.store.number q) (sym same) (begun m x.place.root want (committed s) out.rests);
             points = subst (λ (ones : List Savepoint). AreSavepoints m x.place want o.transaction.tx.store.number q o.transaction.work ones []) (sym points) tt;
+            spent = record { changes = 0; within = omega arith; spent = spent };
           }))
 
       pub Carried-abort : (o : Open) → Remains {T = Unit {0}} told len faults d e x.space.store space.store (Ok tt) → x.open ≡ Some o → y.open ≡ None → space.store.book.actives ≡ []
@@ -157,7 +159,8 @@ module _ {B D : Type 0} (meanings : B → Meanings) (told : D → Option Story) 
             → WasSo m place want number g other to new.transaction.work)
             (stand : (other : Point) → IsNotBehind other mark → IsPointOf number other from old.transaction.work → IsPointOf number other to new.transaction.work)
             (begun : (m : Meanings) (root : ℕ) (want : Wanted) (db : Db) → WasBegun m root want db number from → WasBegun m root want db number to)
-            (usable : (m : Meanings) (place : Place) → place.owner ≡ 2 → IsUsable m place number to new.transaction.work) where
+            (usable : (m : Meanings) (place : Place) → place.owner ≡ 2 → IsUsable m place number to new.transaction.work)
+            (spent : (n : ℕ) → HasSpent n x.space.store → HasSpent n space.store) where
           can_go : CanGoOn (meanings x.boxes) x.place from (Some old) → CanGoOn (meanings x.boxes) x.place to (Some new)
           can_go goes = (
             subst (λ (n : ℕ). IsUsable (meanings x.boxes) x.place n to new.transaction.work) (sym same) (usable (meanings x.boxes) x.place runs.owner),
@@ -185,6 +188,9 @@ module _ {B D : Type 0} (meanings : B → Meanings) (told : D → Option Story) 
                     (subst (λ (ones : List Savepoint). AreSavepoints m x.place want number to new.transaction.work ones (points_to name within.of.points)) (sym kept)
                     (AreSavepoints-back m x.place want number from to old.transaction.work new.transaction.work mark (earlier m x.place want) (take (i + 1) old.points.items)
                     (points_to name within.of.points) (less order) at_first.kept));
+                spent =
+                    let paid = within.inside.spent in
+                    record { changes = paid.changes; within = paid.within; spent = spent paid.changes paid.spent };
               })
 
           pub Carried-rollback : Remains {T = Unit {0}} told len faults d e x.space.store space.store (Ok tt) → Carried meanings told len faults (command.Rollback name) d e x y ok
@@ -325,6 +331,7 @@ module _ {B D : Type 0} (meanings : B → Meanings) (told : D → Option Story) 
                   (subst (λ (ones : List Savepoint). AreSavepoints m x.place want tx_number here old.transaction.work ones (t.points ++ point ∷ [])) (sym saved.points)
                   (AreSavepoints-push m x.place want tx_number here old.transaction.work old.points.items t.points last point within.inside.points
                   (record { name = refl; was = saved.was m x.place want (going_at point) (told d) (len d) at_mark })));
+              spent = within.inside.spent;
             })
 
         pub Carried-savepoint : Carried meanings told len faults (command.Savepoint name) d d x y ok

@@ -1,5 +1,5 @@
 -- What becomes of a session in a commit.
-use Rattle.std.proofs.Common.{◌≡◌, ⊎_elim, inl, inr, ◌⊎◌, ℕ, ◌||◌, Bool, true, false, not, get_or, List, [], All, Option, Some, None, Ok, Err, Result, refl, sym, ap, ◌∙◌, subst}
+use Rattle.std.proofs.Common.{◌≡◌, ⊎_elim, inl, inr, ◌⊎◌, ℕ, ◌+◌, ◌≤◌, ◌||◌, Bool, true, false, not, get_or, List, [], ◌++◌, All, Option, Some, None, Ok, Err, Result, refl, sym, ap, ◌∙◌, subst, arith}
 use Rattle.std.proofs.lemmas.Bool.{false≢true}
 use Rattle.std.proofs.Math.Bool.{or-false}
 use Rattle.sb_disk.specs.Causes.{Rose}
@@ -12,15 +12,14 @@ use Rattle.sb_fold.specs.declared.refusal.Refusal.{Refusal}
 use Rattle.sb_fold.specs.declared.refusal.Refusal.TheVariants as refusal
 use Rattle.sb_fold.specs.declared.refusal.Room.{Room}
 use Rattle.sb_fold.specs.Extensions.{Extensions}
-use Rattle.sb_fold.specs.Finish.{finish}
 use Rattle.sb_fold.specs.Outcome.{Going, Trail, Work}
-use Rattle.sb_cascade.specs.Runs.{EndsBy, OnFault, RefusedFrom, StopsFrom, is_free, is_room}
+use Rattle.sb_cascade.specs.Runs.{BrokenFrom, EndsBy, OnFault, RefusedFrom, StopsFrom, is_free, is_room}
 use Rattle.sb_plain.specs.declared.command.Command.TheVariants as command
 use Rattle.sb_plain.specs.declared.reply.Reply.{Reply}
 use Rattle.sb_plain.specs.declared.reply.Reply.TheVariants as reply
 use Rattle.sb_plain.specs.Licences.{may_want_memory, may_want_room}
 use Rattle.sb_plain.specs.State.{downed}
-use Rattle.sb_plain.specs.Step.{Steps}
+use Rattle.sb_plain.specs.Step.{Steps, step}
 use Rattle.sb_plain.specs.State.{State, Transaction as PlainTransaction, committed}
 use Rattle.sb_registry.specs.Boxes.{Meanings}
 use Rattle.sb_drive.specs.Spaces.{Wanted}
@@ -30,22 +29,23 @@ use Rattle.sb_transactions.specs.Refusals.{HasRefusalCause}
 use Rattle.sb_transactions.specs.Working.{IsNoneGone, extensions_of}
 use Rattle.sb_transactions.specs.Work.{Work as EngineWork}
 use Rattle.sb_transactions.specs.Space.{Space}
+use Rattle.sb_transactions.specs.Spent.{HasSpent}
 use Rattle.sb_transactions.specs.Tx.{Tx}
 use Rattle.sb_transactions.specs.declared.transactions.Transaction.{Transaction}
 use Rattle.sb_transactions.specs.Calls.{IsOnlyFault, Remains}
-use Rattle.sb_transactions.specs.Commits.{FailsOn, Finishes, IsDone, IsStoppedOn, LeavesEither, LeavesOldOrFinished, Mounted, StaysOpen, StopsAt, is_wanting}
-use Rattle.sb_transactions.specs.Transactions.{HasNothingLeft, IsAt, IsCommitted, IsPointOf, IsUsable, Rests, WasBegun}
+use Rattle.sb_transactions.specs.Commits.{FailsOn, Finishes, IsDone, IsStoppedOn, LeavesEither, LeavesOldOrFinished, Mounted, StaysOpen, StopsAt, finish_and_free, is_wanting}
+use Rattle.sb_transactions.specs.Transactions.{HasNothingLeft, IsAt, IsCommitted, IsPaidAt, IsPointOf, IsUsable, Rests, WasBegun}
 use Rattle.sb_session.specs.declared.session.Open.{Open}
 use Rattle.sb_session.specs.declared.session.Session.{Session}
-use Rattle.sb_session.specs.Ends.{Ends, IsFree, IsStep, ends_with, is_end}
-use Rattle.sb_session.specs.Sessions.{AreSavepoints, CanGoOn, CanRun, HasFailed, IsFor, IsInside, IsOpenFor, KeepsSession, Lacks, LeavesNext, LeavesOldOrNext, StandsBehind, StandsFor, going_in, parts_of, sizes_of, WantsPages}
+use Rattle.sb_session.specs.Ends.{Ends, IsFree, IsStep, MayHaveSpent, ends_with, is_end}
+use Rattle.sb_session.specs.Sessions.{AreSavepoints, CanGoOn, CanRun, HasFailed, IsFor, IsInside, KeepsSession, Lacks, LeavesNext, LeavesOldOrNext, StandsBehind, StandsFor, going_in, parts_of, sizes_of, WantsRoom}
 use Rattle.sb_transactions.proofs.RefusedLemmas.{of_fault}
 use Rattle.sb_session.proofs.Behind.{Ends-behind_for}
 use Rattle.sb_session.proofs.Carried.{CanRun-as, Carried, Ends-given, IsFor-as, end_of_given}
 use Rattle.sb_session.proofs.Commands.{inside_for}
-use Rattle.sb_session.proofs.PagesLemmas.{commit_pages}
+use Rattle.sb_session.proofs.PagesLemmas.{commit_room, commit_spends}
 use Rattle.sb_session.proofs.CommitSteps.{Steps-committed, Steps-refused_commit, committed-push, going_on, with_committed, without_transaction}
-use Rattle.sb_session.proofs.OpenLemmas.{Inside, IsAt-same}
+use Rattle.sb_session.proofs.OpenLemmas.{Inside, IsAt-same, paid_more, with_spent-inside}
 use Rattle.sb_session.proofs.PointLemmas.{AreSavepoints-kept}
 use Rattle.sb_session.proofs.RoomLemmas.{Lacks-there}
 use Rattle.sb_session.proofs.WantLemmas.{may_want_memory-commit, may_want_room-commit}
@@ -118,6 +118,13 @@ over_by S Lacks HasFailed ext s r (Wanting wanting) not step failed damaged = ab
 
 fault_wanting : {A : Type 0} (r : Refusal) → r ≡ refusal.Fault → is_wanting r ≡ true → A
 fault_wanting r fault wanting = absurd (false≢true (sym (ap is_wanting fault) ∙ wanting))
+
+-- it comes on the way
+free_wanting : (r : Refusal) → is_wanting r ≡ true → is_free r ≡ true
+free_wanting r wanting = ⊎_elim
+    (λ (a : (room : Room) × (r ≡ refusal.Room room)). ap is_free a.1)
+    (λ (a : r ≡ refusal.NoMemory). ap is_free a)
+    (wanting_of r wanting)
 
 -- want of room or memory doesn't end a session
 end_of_wanting : (r : Refusal) → is_wanting r ≡ true → is_end r ≡ false
@@ -195,6 +202,9 @@ module _ {B D : Type 0} (meanings : B → Meanings) (told : D → Option Story) 
         let t : PlainTransaction = (within want s for).of in
         IsAt-same m x.place want tx (going_in t) (going_on t) p w refl refl refl refl (within want s for).inside.at
 
+    paid_commit : (want : Wanted) (s : State) (for : IsFor meanings told len want s d x) → IsPaidAt (going_on (within want s for).of) p
+    paid_commit want s for = (within want s for).inside.spent
+
     ended : {A : Type 0} → x.down ≡ true → A
     ended down = absurd (false≢true (sym up ∙ down))
 
@@ -214,13 +224,13 @@ module _ {B D : Type 0} (meanings : B → Meanings) (told : D → Option Story) 
     left_wanted leaves want s for t = let at = at_commit want s for in inl (leaves.each want at.has.now at.has.stands.store)
 
     -- where the disk failed, the database of some step
-    left_failed : ((want : Wanted) (g : Going) → IsAt m x.place want tx g p w → LeavesOldOrFinished m x.place.root want g p q)
+    left_failed : ((want : Wanted) (g : Going) → IsAt m x.place want tx g p w → IsPaidAt g p → LeavesOldOrFinished m x.place.root want g p q)
         → (want : Wanted) (s : State) → IsFor meanings told len want s d x → Left want s (downed s)
     left_failed moments want s for =
         ⊎_elim
         (λ (old : LeavesOnly p.told q.told (Restores p.store.pool.geometry want)). inl old)
         (λ (run : Finishes m (going_on (within want s for).of) (LeavesEither m x.place.root want p) q). inr (next run))
-        (moments want (going_on (within want s for).of) (at_commit want s for))
+        (moments want (going_on (within want s for).of) (at_commit want s for) (paid_commit want s for))
       where
         next : Finishes m (going_on (within want s for).of) (LeavesEither m x.place.root want p) q → LeavesNext m x.place.root want ext s command.Commit (downed s) p q
         next run = record {
@@ -258,11 +268,11 @@ module _ {B D : Type 0} (meanings : B → Meanings) (told : D → Option Story) 
 
     -- ---- a commit that goes through
     pub Committed-ok : {T : Type 0} (value : T) (picks : List Key) → Remains told len faults d e x.space.store space.store (Ok value) → y.down ≡ x.down → y.open ≡ None
-        → ((want : Wanted) (g : Going) → IsAt m x.place want tx g p w → Finishes m g (IsDone m x.place.root want picks p) q)
+        → ((want : Wanted) (g : Going) → IsAt m x.place want tx g p w → IsPaidAt g p → Finishes m g (IsDone m x.place.root want picks p) q)
         → (space.store.book.down ≡ false → space.store.book.actives ≡ [])
         → Committed meanings told len faults d e x y (reply.Done None picks)
     Committed-ok value picks remains down none done out = record {
-      ends = λ want s for. step want s for (done want (going_on (within want s for).of) (at_commit want s for));
+      ends = λ want s for. step want s for (done want (going_on (within want s for).of) (at_commit want s for) (paid_commit want s for));
       keeps = KeepsSession-commit (Ok value) remains (reply.Done None picks) (down ∙ sym (or-false x.down)) (λ is. absurd (false≢true (ap (λ (r : Reply). ends_with r) is)));
       runs = runs-commit (Ok value) remains None none (λ on. still_up space.store.book.down refl) (λ on. out (still_up space.store.book.down refl));
     }
@@ -296,15 +306,15 @@ module _ {B D : Type 0} (meanings : B → Meanings) (told : D → Option Story) 
 
     -- ---- one that is refused
     module _ (T : Type 0) (r : Refusal) (remains : Remains {T = T} told len faults d e x.space.store space.store (Err r)) (down : y.down ≡ (x.down || is_end r))
-        (stopped : (want : Wanted) (g : Going) → IsAt m x.place want tx g p w → StopsAt told len faults m tx g r (record { disk = d; store = x.space.store }))
-        (kept : (r ≡ refusal.Fault → ⊥) → LeavesWanted p q) (moments : (want : Wanted) (g : Going) → IsAt m x.place want tx g p w → LeavesOldOrFinished m x.place.root want g p q) where
-      -- where it is want of a page, the step reaches a point at which they may be wanting
-      pub WantsPages-commit : (want : Wanted) (s : State) → IsFor meanings told len want s d x → WantsPages m (sizes_of x).pages s command.Commit (reply.Refused r)
-      WantsPages-commit want s for =
+        (stopped : (want : Wanted) (g : Going) → IsAt m x.place want tx g p w → IsPaidAt g p → StopsAt told len faults m tx g r (record { disk = d; store = x.space.store }) (record { disk = e; store = space.store }))
+        (kept : (r ≡ refusal.Fault → ⊥) → LeavesWanted p q) (moments : (want : Wanted) (g : Going) → IsAt m x.place want tx g p w → IsPaidAt g p → LeavesOldOrFinished m x.place.root want g p q) where
+      -- where it is want of room, the step comes so far that it may be wanting
+      pub WantsRoom-commit : (want : Wanted) (s : State) → IsFor meanings told len want s d x → WantsRoom m (sizes_of x).pages s command.Commit (reply.Refused r)
+      WantsRoom-commit want s for =
           let of = (within want s for).of in
-          let stops = stopped want (going_on of) (at_commit want s for) in
-          commit_pages faults m s of (within want s for).is (up_for want s for) stops.there (sizes_of x).pages r stops.stops
-          (λ not. ap (λ (g : Geometry). g.pages) (stops.led not).1.geometry)
+          let stops = stopped want (going_on of) (at_commit want s for) (paid_commit want s for) in
+          commit_room faults m s of (within want s for).is (up_for want s for) stops.there (sizes_of x).pages r stops.stops
+          (λ not. ap (λ (g : Geometry). g.pages) (stops.led not).1.geometry) stops.up
 
       stays_up : (b : Bool) → space.store.book.down ≡ b → y.down ≡ false → space.store.book.down ≡ false
       stays_up false is on = is
@@ -327,9 +337,9 @@ module _ {B D : Type 0} (meanings : B → Meanings) (told : D → Option Story) 
           (out : space.store.book.down ≡ false → space.store.book.actives ≡ []) where
         given_step : is_free r ≡ false → (want : Wanted) (s : State) (for : IsFor meanings told len want s d x) → IsStep (Behind want s) ext s command.Commit (reply.Refused r)
         given_step given want s for =
-            let stops : StopsFrom (IsStoppedOn faults m) (finish ext) (going_on (within want s for).of) r (stopped want (going_on (within want s for).of) (at_commit want s for)).there =
-            (stopped want (going_on (within want s for).of) (at_commit want s for)).stops in
-            let run = refused_run (IsStoppedOn faults m) (finish ext) (going_on (within want s for).of) r (stopped want (going_on (within want s for).of) (at_commit want s for)).there given stops in
+            let stops : StopsFrom (IsStoppedOn faults m) (finish_and_free ext) (going_on (within want s for).of) r (stopped want (going_on (within want s for).of) (at_commit want s for) (paid_commit want s for)).there =
+            (stopped want (going_on (within want s for).of) (at_commit want s for) (paid_commit want s for)).stops in
+            let run = refused_run (IsStoppedOn faults m) (finish_and_free ext) (going_on (within want s for).of) r (stopped want (going_on (within want s for).of) (at_commit want s for) (paid_commit want s for)).there given stops in
             record {
               after = without_transaction s;
               steps = Steps-refused_commit ext s (within want s for).of (within want s for).is (up_for want s for) run.picks run.after r run.leads;
@@ -357,9 +367,9 @@ module _ {B D : Type 0} (meanings : B → Meanings) (told : D → Option Story) 
 
         over_ends : (want : Wanted) (s : State) (for : IsFor meanings told len want s d x) → Ends (Behind want s) (Lacks (sizes_of x)) (HasFailed faults d e) ext s command.Commit (reply.Refused r)
         over_ends want s for =
-            let stops = stopped want (going_on (within want s for).of) (at_commit want s for) in
+            let stops = stopped want (going_on (within want s for).of) (at_commit want s for) (paid_commit want s for) in
             over_by (Behind want s) (Lacks (sizes_of x)) (HasFailed faults d e) ext s r (kind_of r) over (λ given. given_step given want s for) (λ is. fault_free is want s for)
-            (λ page is. damage_stops faults m (finish ext) (going_on (within want s for).of) page r is stops.there stops.stops)
+            (λ page is. damage_stops faults m (finish_and_free ext) (going_on (within want s for).of) page r is stops.there stops.stops)
 
         pub Committed-over : Committed meanings told len faults d e x y (reply.Refused r)
         Committed-over = record {
@@ -371,7 +381,7 @@ module _ {B D : Type 0} (meanings : B → Meanings) (told : D → Option Story) 
       -- ---- and goes on
       module _ (wanting : is_wanting r ≡ true) (t : Transaction) (is : y.open ≡ Some (record { transaction = t; points = o.points })) (numbered : t.tx ≡ o.transaction.tx)
           (stays : StaysOpen tx p q w t.work) (quiet : HasNothingLeft w → IsOnlyFault r space.store)
-          (bare : (want : Wanted) (g : Going) → IsAt m x.place want tx g p w → g.queue.actions ≡ [] → IsNoneGone g.gone → is_room r ≡ false) where
+          (bare : (want : Wanted) (g : Going) → IsAt m x.place want tx g p w → IsPaidAt g p → g.queue.actions ≡ [] → IsNoneGone g.gone → is_room r ≡ false) where
         abbrev new : Open
         new = record { transaction = t; points = o.points }
 
@@ -388,30 +398,66 @@ module _ {B D : Type 0} (meanings : B → Meanings) (told : D → Option Story) 
           goes.2,
         )
 
-        still_inside : (want : Wanted) (s : State) (for : IsFor meanings told len want s d x) → IsInside m x.place want (committed s) q new (within want s for).of
+        -- where it was stopped
+        broken : (want : Wanted) (s : State) (for : IsFor meanings told len want s d x)
+            → BrokenFrom (IsStoppedOn faults m) (finish_and_free ext) (going_on (within want s for).of) r (stopped want (going_on (within want s for).of) (at_commit want s for) (paid_commit want s for)).there
+        broken want s for =
+            let stops = stopped want (going_on (within want s for).of) (at_commit want s for) (paid_commit want s for) in
+            subst (λ (b : Bool). EndsBy (IsStoppedOn faults m) b (finish_and_free ext) (going_on (within want s for).of) r stops.there) (free_wanting r wanting) stops.stops
+
+        abbrev picks_of : (want : Wanted) (s : State) → IsFor meanings told len want s d x → List Key
+        picks_of want s for = (broken want s for).picks ++ []
+
+        -- what its step spends
+        abbrev spent_by : (want : Wanted) (s : State) → IsFor meanings told len want s d x → ℕ
+        spent_by want s for = (step ext s command.Commit (picks_of want s for)).spent
+
+        enough : (want : Wanted) (s : State) (for : IsFor meanings told len want s d x) → (broken want s for).trail.spent ≤ spent_by want s for
+        enough want s for =
+            omega (
+              arith,
+              ((broken want s for).comes []).spent,
+              commit_spends faults m s (within want s for).of (within want s for).is (up_for want s for)
+                  (stopped want (going_on (within want s for).of) (at_commit want s for) (paid_commit want s for)).there (picks_of want s for),
+            )
+
+        abbrev after_spent : (want : Wanted) (s : State) → IsFor meanings told len want s d x → PlainTransaction
+        after_spent want s for = record (within want s for).of { spent = spent_by want s for }
+
+        still_inside : (want : Wanted) (s : State) (for : IsFor meanings told len want s d x) → IsInside m x.place want (committed s) q new (after_spent want s for)
         still_inside want s for =
             let u : PlainTransaction = (within want s for).of in
             let inside = (within want s for).inside in
+            let stops = stopped want (going_on u) (at_commit want s for) (paid_commit want s for) in
+            let paid = (broken want s for).stopped.paid in
             record {
-              at = subst (λ (n : ℕ). IsAt m x.place want n (going_in u) q t.work) (sym number) (stays.stays m x.place want (going_in u) inside.at);
+              at = subst (λ (n : ℕ). IsAt m x.place want n (going_in (after_spent want s for)) q t.work) (sym number)
+                  (IsAt-same m x.place want tx (going_in u) (going_in (after_spent want s for)) q t.work refl refl refl refl (stays.stays m x.place want (going_in u) inside.at));
               begun = subst (λ (n : ℕ). WasBegun m x.place.root want (committed s) n q) (sym number) (stays.begun m x.place.root want (committed s) inside.begun);
               points = subst (λ (n : ℕ). AreSavepoints m x.place want n q t.work o.points.items u.points) (sym number)
                   (AreSavepoints-kept m x.place want tx p q w t.work (stays.was m x.place want) o.points.items u.points inside.points);
+              spent = paid_more HasSpent (broken want s for).trail.spent (spent_by want s for + 1) q.store (omega (arith, enough want s for))
+                  (record { changes = paid.changes; within = paid.within; spent = stops.spent wanting paid.changes paid.spent });
             }
 
-        still_for : (want : Wanted) (s : State) → IsFor meanings told len want s d x → Behind want s s
-        still_for want s for = kept_behind (λ fault. false≢true (sym (ap is_wanting fault) ∙ wanting)) want s s for (record {
+        abbrev left_by : (want : Wanted) (s : State) → IsFor meanings told len want s d x → State
+        left_by want s for = record s { transaction = Some (after_spent want s for) }
+
+        still_for : (want : Wanted) (s : State) (for : IsFor meanings told len want s d x) → Behind want s (left_by want s for)
+        still_for want s for = kept_behind (λ fault. false≢true (sym (ap is_wanting fault) ∙ wanting)) want s (left_by want s for) for (record {
           want = want;
-          is = IsFor-as meanings told len want s d e x y for want s (Some new) q boxes place is now (goes_on ∙ sym (up_for want s for)) refl refl
-              (λ on. subst (λ (a : Option PlainTransaction). IsOpenFor m x.place want (committed s) q (Some new) a) (sym (within want s for).is) (still_inside want s for));
+          is = IsFor-as meanings told len want s d e x y for want (left_by want s for) (Some new) q boxes place is now (goes_on ∙ sym (up_for want s for)) refl refl (λ on. still_inside want s for);
         })
+
+        may_spend : (want : Wanted) (s : State) (for : IsFor meanings told len want s d x) → MayHaveSpent ext s command.Commit (left_by want s for)
+        may_spend want s for = inr (picks_of want s for, sym (with_spent-inside (spent_by want s for) s (within want s for).of (within want s for).is))
 
         -- room may be wanting where the definition says so, since an action waits or something is gone
         may_lack : (want : Wanted) (s : State) → IsFor meanings told len want s d x → (room : Room) → r ≡ refusal.Room room → may_want_room s command.Commit ≡ true
         may_lack want s for room is =
             let inside = within want s for in
             may_want_room-commit s inside.of inside.is (λ none gone.
-            false≢true (sym (bare want (going_on inside.of) (at_commit want s for) none gone) ∙ ap is_room is))
+            false≢true (sym (bare want (going_on inside.of) (at_commit want s for) (paid_commit want s for) none gone) ∙ ap is_room is))
 
         -- so may memory, since something is left
         may_want : (want : Wanted) (s : State) → IsFor meanings told len want s d x → may_want_memory s command.Commit ≡ true
@@ -425,20 +471,22 @@ module _ {B D : Type 0} (meanings : B → Meanings) (told : D → Option Story) 
             → Ends (Behind want s) (Lacks (sizes_of x)) (HasFailed faults d e) ext s command.Commit (reply.Refused r)
         wanting_ends want s for = ⊎_elim
             (λ (a : (room : Room) × (r ≡ refusal.Room room)).
-            let stops = stopped want (going_on (within want s for).of) (at_commit want s for) in
+            let stops = stopped want (going_on (within want s for).of) (at_commit want s for) (paid_commit want s for) in
             subst (λ (r : Refusal). Ends (Behind want s) (Lacks (sizes_of x)) (HasFailed faults d e) ext s command.Commit (reply.Refused r)) (sym a.1)
             (record {
               up = up_for want s for;
               cause = (
                 Lacks-there faults (sizes_of x) stops.there (stops.led (λ fault. fault_wanting r fault wanting)).1.geometry a.0
-                    (room_stops faults m (finish ext) (going_on (within want s for).of) a.0 r a.1 stops.there stops.stops),
+                    (room_stops faults m (finish_and_free ext) (going_on (within want s for).of) a.0 r a.1 stops.there stops.stops),
                 may_lack want s for a.0 a.1,
               );
+              after = left_by want s for;
+              left = may_spend want s for;
               stands = still_for want s for;
             }))
             (λ (a : r ≡ refusal.NoMemory).
             subst (λ (r : Refusal). Ends (Behind want s) (Lacks (sizes_of x)) (HasFailed faults d e) ext s command.Commit (reply.Refused r)) (sym a)
-            (record { up = up_for want s for; cause = may_want want s for; stands = still_for want s for }))
+            (record { up = up_for want s for; cause = may_want want s for; after = left_by want s for; left = may_spend want s for; stands = still_for want s for }))
 
         pub Committed-wanting : Committed meanings told len faults d e x y (reply.Refused r)
         Committed-wanting = record {

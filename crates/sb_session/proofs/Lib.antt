@@ -8,6 +8,7 @@ pub use Rattle.sb_transactions.proofs.RunLemmas
 pub use Rattle.sb_transactions.proofs.WorkLemmas
 pub mod StepLemmas
 pub mod CommitSteps
+pub mod RoomLemmas
 pub mod PagesLemmas
 pub mod OpenLemmas
 pub mod PointLemmas
@@ -20,5 +21,4 @@ pub mod MoveBoxes
 pub mod SameBoxes
 pub mod Moves
 pub mod WantLemmas
-pub mod RoomLemmas
 pub mod CommitLemmas

@@ -1,15 +1,16 @@
 -- Open transactions and what they stand for.
-use Rattle.std.proofs.Common.{◌≡◌, ℕ, ◌≤◌, List, sum, Option, Some, None, refl, sym, ◌∙◌, subst}
+use Rattle.std.proofs.Common.{◌≡◌, ℕ, ◌+◌, ◌≤◌, List, Option, Some, None, refl, sym, ap, ◌∙◌, subst, arith}
 use Rattle.sb_relation.specs.Db.{Db}
 use Rattle.sb_fold.specs.Outcome.{Going, Gone, Queue}
-use Rattle.sb_plain.specs.State.{Transaction as PlainTransaction}
+use Rattle.sb_plain.specs.State.{State, Transaction as PlainTransaction, with_spent}
 use Rattle.sb_registry.specs.Boxes.{Meanings}
 use Rattle.sb_drive.specs.Spaces.{Wanted}
 use Rattle.sb_transactions.specs.Place.{Place}
+use Rattle.sb_transactions.specs.Spent.{HasSpent}
 use Rattle.sb_txn.specs.Parts.{Parts}
+use Rattle.sb_transactions.specs.Measures.{AreHeld}
 use Rattle.sb_transactions.specs.Work.{Work}
-use Rattle.sb_transactions.specs.Owned.{pages_of}
-use Rattle.sb_transactions.specs.Working.{IsNoneGone}
+use Rattle.sb_transactions.specs.Working.{IsNoneGone, IsPaid}
 use Rattle.sb_transactions.specs.declared.transactions.Transaction.{Transaction}
 use Rattle.sb_transactions.specs.Transactions.{IsAt, IsSettled, Rests, WasBegun}
 use Rattle.sb_session.specs.declared.session.Open.{Open}
@@ -31,21 +32,30 @@ IsAt-same m place want tx g h p w db queue used same at = record {
   waits = at.waits ∙ sym queue;
   picked = at.picked ∙ sym used;
   gone = λ none. at.gone (subst (λ (x : Gone). IsNoneGone x) same none);
-  aside = subst (λ (x : Gone). pages_of at.slots w.gone.items ≤ sum x.durable) (sym same) at.aside;
+  aside = subst (λ (x : Gone). AreHeld at.slots w.gone.items x.durable) (sym same) at.aside;
 }
 
+-- what was enough stays so where more is paid
+pub paid_more : {S : Type 0} (Spent : ℕ → S → Type 0) (few many : ℕ) (x : S) → few ≤ many → IsPaid Spent 0 few x → IsPaid Spent 0 many x
+paid_more Spent few many x less is = record { changes = is.changes; within = omega (arith, is.within, less); spent = is.spent }
+
+pub with_spent-inside : (n : ℕ) (s : State) (t : PlainTransaction) → s.transaction ≡ Some t → with_spent n s ≡ record s { transaction = Some (record t { spent = n }) }
+with_spent-inside n s t inside = ap (λ (o : Option PlainTransaction). elim o as (λ _. State) [ None ↦ s | Some t ↦ record s { transaction = Some (record t { spent = n }) } ]) inside
+
 module _ (m : Meanings) (place : Place) (want : Wanted) (db : Db) (p : Parts) where
-  -- whatever was spent
-  pub IsInside-spent : (n : ℕ) (o : Open) (t : PlainTransaction) → IsInside m place want db p o t → IsInside m place want db p o (record t { spent = n })
-  IsInside-spent n o t inside = record {
+  -- where more was spent
+  pub IsInside-spent : (n : ℕ) (o : Open) (t : PlainTransaction) → t.spent ≤ n → IsInside m place want db p o t → IsInside m place want db p o (record t { spent = n })
+  IsInside-spent n o t less inside = record {
     at = IsAt-same m place want o.transaction.tx.store.number (going_in t) (going_in (record t { spent = n })) p o.transaction.work refl refl refl refl inside.at;
     begun = inside.begun;
     points = inside.points;
+    spent = paid_more HasSpent (t.spent + 1) (n + 1) p.store (omega (arith, less)) inside.spent;
   }
 
-  pub IsOpenFor-spent : (n : ℕ) (o : Option Open) (t : PlainTransaction) → IsOpenFor m place want db p o (Some t) → IsOpenFor m place want db p o (Some (record t { spent = n }))
-  IsOpenFor-spent n None t none = none
-  IsOpenFor-spent n (Some o) t inside = IsInside-spent n o t inside
+  pub IsOpenFor-spent : (n : ℕ) (o : Option Open) (t : PlainTransaction) → t.spent ≤ n → IsOpenFor m place want db p o (Some t)
+      → IsOpenFor m place want db p o (Some (record t { spent = n }))
+  IsOpenFor-spent n None t less none = none
+  IsOpenFor-spent n (Some o) t less inside = IsInside-spent n o t less inside
 
   -- a session without a transaction stands for a state without one
   pub record Outside (transaction : Option PlainTransaction) : Type 0 where
@@ -79,4 +89,5 @@ module _ (m : Meanings) (place : Place) (want : Wanted) (db : Db) (p : Parts) wh
     begun = subst (λ (x : Transaction). WasBegun m place.root want db x.tx.store.number p) (sym same) inside.begun;
     points = subst (λ (x : Transaction). AreSavepoints m place want x.tx.store.number p x.work b.points.items t.points) (sym same)
         (subst (λ (ones : List Savepoint). AreSavepoints m place want a.transaction.tx.store.number p a.transaction.work ones t.points) (sym points) inside.points);
+    spent = inside.spent;
   }

@@ -1,5 +1,5 @@
 -- The states that steps lead to, each with its transaction.
-use Rattle.std.proofs.Common.{◌≡◌, ◌+◌, nat_le, true, false, length, Option, Some, None, refl, sym, subst}
+use Rattle.std.proofs.Common.{◌≡◌, ◌+◌, nat_le, true, false, length, Option, Some, None, refl, sym, subst, arith}
 use Rattle.std.specs.List.{list_any}
 use Rattle.sb_relation.specs.Db.{Name}
 use Rattle.sb_fold.specs.Extensions.{Extensions}
@@ -87,7 +87,7 @@ module _ (ext : Extensions) (m : Meanings) (place : Place) (want : Wanted) (p : 
             up = refl;
             live = refl;
             spare = refl;
-            stands = IsInside-spent m place want (committed within) p (t.spent + 1) o (with_savepoint name t) made;
+            stands = IsInside-spent m place want (committed within) p (t.spent + 1) o (with_savepoint name t) (omega arith) made;
           })
 
       -- where to go back to the name is to go back to this point
@@ -102,5 +102,5 @@ module _ (ext : Extensions) (m : Meanings) (place : Place) (want : Wanted) (p : 
             live = refl;
             spare = refl;
             stands = subst (λ (u : PlainTransaction). IsInside m place want (committed within) p o u) (sym (goes later))
-                (IsInside-spent m place want (committed within) p (t.spent + 1) o (at_point name point t) back);
+                (IsInside-spent m place want (committed within) p (t.spent + 1) o (at_point name point t) (omega arith) back);
           })

@@ -14,6 +14,7 @@ use Rattle.sb_fold.specs.Outcome.{Going, begun}
 use Rattle.sb_plain.specs.declared.command.Command.{Command}
 use Rattle.sb_plain.specs.declared.reply.Reply.{Reply}
 use Rattle.sb_plain.specs.declared.reply.Reply.TheVariants.{Refused}
+use Rattle.sb_plain.specs.Licences.{IsForced, IsSpent}
 use Rattle.sb_plain.specs.Step.{Steps, step}
 use Rattle.sb_plain.specs.State.{Point as PlainPoint, State, Transaction as PlainTransaction, committed}
 use Rattle.sb_relation.specs.Db.{Db, Key}
@@ -22,9 +23,10 @@ use Rattle.sb_drive.specs.Spaces.{Wanted}
 use Rattle.sb_transactions.specs.Place.{Place}
 use Rattle.sb_txn.specs.Clauses.{IsReady}
 use Rattle.sb_txn.specs.Parts.{Parts, parts}
+use Rattle.sb_transactions.specs.Spent.{HasSpent}
 use Rattle.sb_transactions.specs.Table.{table_len}
 use Rattle.sb_transactions.specs.Work.{Work}
-use Rattle.sb_transactions.specs.Working.{IsShortOf, extensions_of}
+use Rattle.sb_transactions.specs.Working.{IsPaid, IsShortOf, extensions_of}
 use Rattle.sb_transactions.specs.Transactions.{HasNothingLeft, IsAt, IsCommitted, IsNotBehind, IsPointOf, IsUsable, Rests, WasBegun, WasSo}
 use Rattle.sb_vectors.specs.Vectors.{live_codes, spare_codes}
 use Rattle.sb_session.specs.declared.session.Open.{Open}
@@ -58,11 +60,13 @@ AreInOrder [] = Unit {0}
 AreInOrder (one ∷ ones) = All (λ later. IsNotBehind one.point later.point) ones × AreInOrder ones
 
 -- ---- transactions
--- an open transaction stands for one that was begun over a committed database
+-- An open transaction stands for one that was begun over a committed database. It has made no more changes than it spent, so fewer than with the next
+-- command's own.
 pub record IsInside (m : Meanings) (place : Place) (want : Wanted) (committed : Db) (p : Parts) (o : Open) (t : PlainTransaction) : Type 0 where
   pub at : IsAt m place want o.transaction.tx.store.number (going_in t) p o.transaction.work
   pub begun : WasBegun m place.root want committed o.transaction.tx.store.number p
   pub points : AreSavepoints m place want o.transaction.tx.store.number p o.transaction.work o.points.items t.points
+  pub spent : IsPaid HasSpent 0 (t.spent + 1) p.store
 
 -- Between transactions the pages wanted keep the committed database; within one they do so too, and the pages now keep the open one.
 abbrev pub IsOpenFor : Meanings → Place → Wanted → Db → Parts → Option Open → Option PlainTransaction → Type 0
@@ -141,17 +145,26 @@ Lacks g (Temp used total) = ⊥
 Lacks g (Log used more total) = (more ≤ 13424) × (total ≡ g.log) × (total < used + more)
 Lacks g (Gates used total) = (65534 < used) × (total ≡ 65536)
 
--- ---- want of pages
+-- ---- want of room
 -- With some picks the step of the command reaches a point at which the database needs so much that there are no more pages than that and those of the
 -- owner table.
 abbrev pub IsShortFor : Meanings → ℕ → State → Command → ℕ → Type 0
 IsShortFor m pages s c total =
     (picks : List Key) × Any (IsShortOf total (table_len pages) (extensions_of m)) (step (extensions_of m) s c picks).points
 
--- so it is of a store of so many pages where want of a page is the reply
-abbrev pub WantsPages : Meanings → ℕ → State → Command → Reply → Type 0
-WantsPages m pages s c (Refused (Room (Data used total))) = IsShortFor m pages s c total
-WantsPages m pages s c reply = Unit {0}
+-- with some picks its step spends so much that the log's bytes may not be enough, or its gates
+abbrev pub SpendsLog : Meanings → State → Command → ℕ → Type 0
+SpendsLog m s c total = (picks : List Key) × IsSpent total (step (extensions_of m) s c picks).spent
+
+abbrev pub SpendsGates : Meanings → State → Command → Type 0
+SpendsGates m s c = (picks : List Key) × IsForced (step (extensions_of m) s c picks).spent
+
+-- so it is of a store of so many pages where want of room is the reply
+abbrev pub WantsRoom : Meanings → ℕ → State → Command → Reply → Type 0
+WantsRoom m pages s c (Refused (Room (Data used total))) = IsShortFor m pages s c total
+WantsRoom m pages s c (Refused (Room (Log used more total))) = SpendsLog m s c total
+WantsRoom m pages s c (Refused (Room (Gates used total))) = SpendsGates m s c
+WantsRoom m pages s c reply = Unit {0}
 
 -- ---- what a crash leaves
 -- some step of the command leads to the state

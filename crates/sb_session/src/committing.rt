@@ -7,7 +7,7 @@ ghost use Rattle.sb_plain.specs.State.{State};
 ghost use Rattle.sb_plain.specs.declared.command.Command.TheVariants as command;
 ghost use Rattle.sb_transactions.specs.Calls.{KeepsWanted};
 ghost use Rattle.sb_session.specs.Ends.{Ends, is_open_behind, picked_reply};
-ghost use Rattle.sb_session.specs.Sessions.{CanRun, HasFailed, HasWork, IsFor, KeepsSession, Lacks, StandsBehind, WantsPages, parts_of, sizes_of};
+ghost use Rattle.sb_session.specs.Sessions.{CanRun, HasFailed, HasWork, IsFor, KeepsSession, Lacks, StandsBehind, WantsRoom, parts_of, sizes_of};
 
 use crate::session::{Open, Session};
 use sb_disk::Disk;
@@ -25,8 +25,8 @@ impl<B: Vectors> Session<B> {
         ensures ends { (want : Wanted) (s : State) → IsFor B.meanings D.told D.len want s disk.old self.old
             → Ends (StandsBehind B.meanings D.told D.len want (extensions_of (B.meanings self.old.boxes)) s command.Commit disk.old disk.new self.old self.new)
             (Lacks (sizes_of self.old)) (HasFailed D.faults disk.old disk.new) (extensions_of (B.meanings self.old.boxes)) s command.Commit (picked_reply result) }
-        ensures pages { (want : Wanted) (s : State) → IsFor B.meanings D.told D.len want s disk.old self.old
-            → WantsPages (B.meanings self.old.boxes) (sizes_of self.old).pages s command.Commit (picked_reply result) }
+        ensures room { (want : Wanted) (s : State) → IsFor B.meanings D.told D.len want s disk.old self.old
+            → WantsRoom (B.meanings self.old.boxes) (sizes_of self.old).pages s command.Commit (picked_reply result) }
         ensures memory { IsErrOf result Refusal.NoMemory → HasWork self.old.open }
         ensures kept { IfErr result (λ r. (r ≡ Refusal.Fault → ⊥) → KeepsWanted (parts_of D.told D.len disk.old self.old) (parts_of D.told D.len disk.new self.new)) }
         ensures open { self.new.down ≡ false → is_some self.new.open ≡ is_open_behind command.Commit (is_some self.old.open) (picked_reply result) }

@@ -6,7 +6,7 @@ use Rattle.sb_rule.specs.declared.change.Change.TheVariants as change
 use Rattle.sb_rule.specs.declared.rule.Rule.{Rule}
 use Rattle.sb_relation.specs.Buckets.{first_buckets, next_buckets}
 use Rattle.sb_relation.specs.Build.{with_rule}
-use Rattle.sb_relation.specs.Db.{Name, Key, Rows, Relation, Db, relation_at, rows_at, with_rows}
+use Rattle.sb_relation.specs.Db.{Name, Key, Rows, Relation, Db, relation_at, rows_at, schema_at, with_rows}
 use Rattle.sb_relation.specs.Rules.{holds}
 use Rattle.sb_fold.specs.declared.refusal.Refusal.{Refusal}
 use Rattle.sb_fold.specs.declared.refusal.Refusal.TheVariants.{TooLong, Veto}
@@ -47,7 +47,7 @@ build_queue ext name rule buckets built (row ∷ rows) going =
 abbrev prepared : Extensions → Name → Rule → Going → Going
 prepared ext name rule going =
     let buckets : ℕ = first_buckets rule in
-    built_point ext name (built_bound ext going.db name rule buckets []) (prepare_cost rule + descriptors_of rule * descriptor_cost ext going.db) going
+    built_point ext name (built_bound ext going.db name rule buckets []) (prepare_cost ext (schema_at going.db name) rule + descriptors_of rule * descriptor_cost ext going.db) going
 
 reached_db : (ext : Extensions) (name : Name) (rule : Rule) (going : Going) → (reach_build ext name rule going).db ≡ going.db
 reached_db ext name rule going = build_db ext name rule (first_buckets rule) [] (rows_at going.db name) (prepared ext name rule going)

@@ -1,19 +1,24 @@
 -- The states of plays.
-use Rattle.std.proofs.Common.{◌≡◌, ◌≤◌, ◌<◌, ℕ, suc, Bool, true, false, List, [], ◌∷◌, Option, refl, sym, subst, arith}
+use Rattle.std.proofs.Common.{◌≡◌, ⊎_elim, ◌≤◌, ◌<◌, ℕ, suc, Bool, true, false, List, [], ◌∷◌, Option, Some, None, refl, sym, subst, arith}
 use Rattle.std.specs.Prelude.{All, nat_lt, nat_le}
 use Rattle.std.proofs.lemmas.Bool.{ltb-true, ltb-false, leb-true, leb-false}
 use Rattle.std.proofs.lemmas.List.Elements.{All-nil, All-cons, All-head, All-tail}
 use Rattle.sb_disk.specs.Disk.{Story}
 use Rattle.sb_disk.specs.Moments.{MayLeave, moment}
+use Rattle.sb_relation.specs.Db.{Key}
+use Rattle.sb_fold.specs.Extensions.{Extensions}
 use Rattle.sb_fold.specs.declared.refusal.Refusal.TheVariants as refusal
 use Rattle.sb_plain.specs.declared.command.Command.{Command}
 use Rattle.sb_plain.specs.declared.reply.Reply.{Reply}
 use Rattle.sb_plain.specs.declared.reply.Reply.TheVariants.{Refused}
-use Rattle.sb_plain.specs.State.{State, committed}
+use Rattle.sb_plain.specs.Lawful.{IsLawfulState, MayBeOpen}
+use Rattle.sb_plain.specs.State.{State, Transaction, committed, with_spent}
+use Rattle.sb_plain.specs.Step.{step}
+use Rattle.sb_sound_said.specs.Laws.{IsSoundWithin}
 use Rattle.sb_grammar.specs.Columns.{Item, Says, Bad}
 use Rattle.sb_registry.specs.Boxes.{Meanings}
 use Rattle.sb_lawful_plays.specs.Working.{extensions_of}
-use Rattle.sb_lawful_plays.specs.Ends.{Ends}
+use Rattle.sb_lawful_plays.specs.Ends.{Ends, MayHaveSpent}
 use Rattle.sb_lawful_plays.specs.Geometry.{Geometry}
 use Rattle.sb_lawful_plays.specs.Sessions.{Lacks}
 use Rattle.sb_lawful_plays.specs.World.{World}
@@ -21,17 +26,37 @@ use Rattle.sb_lawful_plays.specs.Plays.{AreBoxesOf, MovesBy, Plays, last_state}
 use Rattle.sb_lawful_plays.specs.Crashes.{LeavesAlong, next_start}
 use Rattle.sb_lawful_plays.specs.Opening.{opened}
 use Rattle.sb_sound_said.specs.Written.{IsWritten, IsWrittenItem}
-use Rattle.sb_lawful_plays.proofs.Playing.{answers-written}
+use Rattle.sb_lawful_plays.proofs.Playing.{answers-written, spent-lawful}
 use Rattle.sb_sound_said.proofs.Stepping.{down-sound}
 use Rattle.sb_sound_plays.specs.Laws.{IsSoundFor, HoldsSound, PlaysAreSound, PlayedAreSound, PlayedOutAreSound, RunsAreSound, MadeRunsAreSound}
 use Rattle.sb_sound_plays.proofs.Databases.{stepped, commits-sound, crashes-leave, nothing-over}
 
+-- ---- what was spent
+-- it says nothing of databases
+spent-sound : (ext : Extensions) (n : ℕ) (s : State) → IsSoundWithin ext s → IsSoundWithin ext (with_spent n s)
+spent-sound ext n s is = record { within = spent-lawful ext n s is.within; sound = by s.transaction is.sound.open_one }
+  where
+    by : (o : Option Transaction) → MayBeOpen ext o → IsLawfulState ext (elim o as (λ _. State) [ None ↦ s | Some t ↦ record s { transaction = Some (record t { spent = n }) } ])
+    by None open_one = is.sound
+    by (Some t) open_one = record {
+      commits = is.sound.commits;
+      sound = is.sound.sound;
+      open_one = record { lawful = open_one.lawful; sound = open_one.sound; points = open_one.points };
+    }
+
 module _ (m : Meanings) (g : Geometry) (HasFailed : Type 0) where
+  left : (ext : Extensions) (s : State) (c : Command) (t : State) → MayHaveSpent ext s c t → IsSoundFor m s → IsSoundFor m t
+  left ext s c t spent sound = ⊎_elim
+      (λ (same : t ≡ s). subst (IsSoundFor m) (sym same) sound)
+      (λ (by : (picks : List Key) × (t ≡ with_spent (step ext s c picks).spent s)).
+      subst (IsSoundFor m) (sym by.1) (spent-sound (extensions_of m) (step ext s c by.0).spent s sound))
+      spent
+
   -- ---- one command
   comes : (s : State) (c : Command) (boxes : Meanings) → AreBoxesOf m s boxes → IsWritten c → IsSoundFor m s → (reply : Reply) (t : State)
       → Ends (λ u. t ≡ u) (Lacks g) HasFailed (extensions_of boxes) s c reply → IsSoundFor m t
-  comes s c boxes are is sound (Refused (refusal.Room room)) t ends = subst (IsSoundFor m) (sym ends.stands) sound
-  comes s c boxes are is sound (Refused refusal.NoMemory) t ends = subst (IsSoundFor m) (sym ends.stands) sound
+  comes s c boxes are is sound (Refused (refusal.Room room)) t ends = subst (IsSoundFor m) (sym ends.stands) (left (extensions_of boxes) s c ends.after ends.left sound)
+  comes s c boxes are is sound (Refused refusal.NoMemory) t ends = subst (IsSoundFor m) (sym ends.stands) (left (extensions_of boxes) s c ends.after ends.left sound)
   comes s c boxes are is sound (Refused refusal.Fault) t ends = subst (IsSoundFor m) (sym ends.stands) (down-sound (extensions_of m) s sound)
   comes s c boxes are is sound (Refused (refusal.Damaged page)) t ends = absurd ends
   comes s c boxes are is sound (Refused r) t ends = subst (IsSoundFor m) (sym ends.stands) (stepped m s c boxes are (Refused r) ends.after ends.steps is sound)

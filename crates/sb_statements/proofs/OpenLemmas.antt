@@ -15,7 +15,7 @@ use Rattle.sb_building.specs.Tables.{db_of}
 use Rattle.sb_building.specs.OpenRelation.{OpenRelation}
 use Rattle.sb_building.specs.Wished.{MayBeWished}
 use Rattle.sb_building.specs.Work.{Work}
-use Rattle.sb_building.specs.Working.{AreOpened, Stands}
+use Rattle.sb_building.specs.Working.{AreOpened, IsPaid, Stands}
 
 -- a row that fits its relation may be wished
 as_wished : (schema : List Column) (wish : Wish) → WishFits schema wish → MayBeWished schema wish
@@ -27,11 +27,11 @@ as_wished schema (Raise key column by) fits = fits
 pub wished_there : (db : Db) (name : Name) (wish : Wish) (schema : List Column) → schema_at db name ≡ schema → IsFittingWish db name wish → MayBeWished schema wish
 wished_there db name wish schema same fits = as_wished schema wish (subst (λ (columns : List Column). WishFits columns wish) same fits.fits)
 
-module _ {S : Type 0} (Has : Wanted → Slots → S → Type 0) (m : Meanings) (root : ℕ) (g : Going) (old new : S) (w : Work) (stands : Stands Has m root g old w) where
+module _ {S : Type 0} (Has : Wanted → Slots → S → Type 0) (Spent : ℕ → S → Type 0) (m : Meanings) (root : ℕ) (g : Going) (old new : S) (w : Work) (stands : Stands Has Spent m root g old w) where
   -- more relations are open
-  pub stands_opened : (o : Vec OpenRelation Global) → ((want : Wanted) (s : Slots) → Has want s old → Has want s new) → AreOpened m stands.kept o.items
-      → Stands Has m root g new (record w { opened = o })
-  stands_opened o later opened = record {
+  pub stands_opened : (o : Vec OpenRelation Global) → ((want : Wanted) (s : Slots) → Has want s old → Has want s new) → IsPaid Spent 0 g.trail.spent new → AreOpened m stands.kept o.items
+      → Stands Has Spent m root g new (record w { opened = o })
+  stands_opened o later paid opened = record {
     want = stands.want;
     slots = stands.slots;
     kept = stands.kept;
@@ -47,6 +47,7 @@ module _ {S : Type 0} (Has : Wanted → Slots → S → Type 0) (m : Meanings) (
     picked = stands.picked;
     gone = stands.gone;
     aside = stands.aside;
+    paid = paid;
     apart = stands.apart;
     rules = stands.rules;
     fit = stands.fit;

@@ -41,15 +41,15 @@ MayWork m g (command.Act action) = IsFitting g.db action
 MayWork m g c = Unit {0}
 
 -- The command's work is done: with some picks it gives this answer, and the engine stands for what it leaves.
-abbrev pub IsDone : {B S : Type 0} → (Wanted → Slots → S → Type 0) → (B → Meanings) → Command → Running B S → Answer → Running B S → Type 0
-IsDone Has meanings c old answer new =
-    (g : Going) → StandsFor Has meanings g old → MayWork (meanings old.boxes.now) g c
-    → IfSome (work_of (extensions_in meanings old) c) (λ work. MadeFrom (StandsFor Has meanings) work g answer new)
+abbrev pub IsDone : {B S : Type 0} → (Wanted → Slots → S → Type 0) → (ℕ → S → Type 0) → (B → Meanings) → Command → Running B S → Answer → Running B S → Type 0
+IsDone Has Spent meanings c old answer new =
+    (g : Going) → StandsFor Has Spent meanings g old → MayWork (meanings old.boxes.now) g c
+    → IfSome (work_of (extensions_in meanings old) c) (λ work. MadeFrom (StandsFor Has Spent meanings) work g answer new)
 
 -- It is refused so: as the definition says, or by the space on its way, which has the cause; where that is want of a page, the work had come so far
 -- that pages may be wanting.
-abbrev pub IsStopped : {B S : Type 0} → (Wanted → Slots → S → Type 0) → (ℕ → S → S → Type 0) → (SpaceFault → S → S → Type 0) → (S → ℕ) → (B → Meanings)
+abbrev pub IsStopped : {B S : Type 0} → (Wanted → Slots → S → Type 0) → (ℕ → S → Type 0) → (ℕ → S → S → Type 0) → (SpaceFault → S → S → Type 0) → (S → ℕ) → (B → Meanings)
     → Command → Running B S → Refusal → Running B S → Type 0
-IsStopped Has Leads Fails table meanings c old r new =
-    (g : Going) → StandsFor Has meanings g old → MayWork (meanings old.boxes.now) g c
-    → IfSome (work_of (extensions_in meanings old) c) (λ work. StopsFrom (IsStoppedFor Has Leads Fails table meanings) work g r new)
+IsStopped Has Spent Leads Fails table meanings c old r new =
+    (g : Going) → StandsFor Has Spent meanings g old → MayWork (meanings old.boxes.now) g c
+    → IfSome (work_of (extensions_in meanings old) c) (λ work. StopsFrom (IsStoppedFor Has Spent Leads Fails table meanings) work g r new)

@@ -25,8 +25,8 @@ pub(crate) fn act_on<B: Boxes, S: PageSpace>(
 ) -> Result<Answer, Refusal>
     requires ready { IsServing S.is_ready B.meanings running.old }
 
-    ensures done { IfOk result (λ x. IsDone S.has B.meanings (command.Act action.now) running.old (answer_of x) running.new) }
-    ensures stopped { IfErr result (λ r. IsStopped S.has S.leads S.fails S.table B.meanings (command.Act action.now) running.old r running.new) }
+    ensures done { IfOk result (λ x. IsDone S.has S.spent B.meanings (command.Act action.now) running.old (answer_of x) running.new) }
+    ensures stopped { IfErr result (λ r. IsStopped S.has S.spent S.leads S.fails S.table B.meanings (command.Act action.now) running.old r running.new) }
     ensures fault { IfErr result (λ r. HasFaultCause S.fails r running.new.space.now) }
     ensures goes { Goes S.leads running.old running.new }
     ensures ready { IsServing S.is_ready B.meanings running.new }

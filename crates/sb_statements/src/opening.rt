@@ -37,9 +37,9 @@ pub(crate) fn open_wish<B: Boxes, S: PageSpace>(
     requires ready { IsServing S.is_ready B.meanings running.old }
 
     ensures may { OnOk result (MayWish running.new.work.now.opened.items name.now (wish_of wish.now)) }
-    ensures stands { OnOk result ((g : Going) → StandsFor S.has B.meanings g running.old → StandsFor S.has B.meanings g running.new) }
-    ensures refused { IfErr result (λ r. (g : Going) → StandsFor S.has B.meanings g running.old → IsFittingWish g.db name.now (wish_of wish.now)
-        → LooksFrom (IsStoppedFor S.has S.leads S.fails S.table B.meanings) g r running.new) }
+    ensures stands { OnOk result ((g : Going) → StandsFor S.has S.spent B.meanings g running.old → StandsFor S.has S.spent B.meanings g running.new) }
+    ensures refused { IfErr result (λ r. (g : Going) → StandsFor S.has S.spent B.meanings g running.old → IsFittingWish g.db name.now (wish_of wish.now)
+        → LooksFrom (IsStoppedFor S.has S.spent S.leads S.fails S.table B.meanings) g r running.new) }
     ensures fault { IfErr result (λ r. HasFaultCause S.fails r running.new.space.now) }
     ensures goes { GoesOpen S.leads running.old running.new }
     ensures ready { IsServing S.is_ready B.meanings running.new }
@@ -67,9 +67,9 @@ pub(crate) fn open_action<B: Boxes, S: PageSpace>(
     requires ready { IsServing S.is_ready B.meanings running.old }
 
     ensures may { OnOk result (MayDo running.new.work.now.opened.items action.now) }
-    ensures stands { OnOk result ((g : Going) → StandsFor S.has B.meanings g running.old → StandsFor S.has B.meanings g running.new) }
-    ensures refused { IfErr result (λ r. (g : Going) → StandsFor S.has B.meanings g running.old → IsFitting g.db action.now
-        → LooksFrom (IsStoppedFor S.has S.leads S.fails S.table B.meanings) g r running.new) }
+    ensures stands { OnOk result ((g : Going) → StandsFor S.has S.spent B.meanings g running.old → StandsFor S.has S.spent B.meanings g running.new) }
+    ensures refused { IfErr result (λ r. (g : Going) → StandsFor S.has S.spent B.meanings g running.old → IsFitting g.db action.now
+        → LooksFrom (IsStoppedFor S.has S.spent S.leads S.fails S.table B.meanings) g r running.new) }
     ensures fault { IfErr result (λ r. HasFaultCause S.fails r running.new.space.now) }
     ensures goes { GoesOpen S.leads running.old running.new }
     ensures ready { IsServing S.is_ready B.meanings running.new }

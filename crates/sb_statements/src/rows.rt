@@ -33,8 +33,8 @@ pub(crate) fn insert<B: Boxes, S: PageSpace>(
 ) -> Result<Answer, Refusal>
     requires ready { IsServing S.is_ready B.meanings running.old }
 
-    ensures done { IfOk result (λ x. IsDone S.has B.meanings (command.Insert relation.now values.now) running.old (answer_of x) running.new) }
-    ensures stopped { IfErr result (λ r. IsStopped S.has S.leads S.fails S.table B.meanings (command.Insert relation.now values.now) running.old r running.new) }
+    ensures done { IfOk result (λ x. IsDone S.has S.spent B.meanings (command.Insert relation.now values.now) running.old (answer_of x) running.new) }
+    ensures stopped { IfErr result (λ r. IsStopped S.has S.spent S.leads S.fails S.table B.meanings (command.Insert relation.now values.now) running.old r running.new) }
     ensures fault { IfErr result (λ r. HasFaultCause S.fails r running.new.space.now) }
     ensures goes { Goes S.leads running.old running.new }
     ensures ready { IsServing S.is_ready B.meanings running.new }
@@ -54,8 +54,8 @@ pub(crate) fn update<B: Boxes, S: PageSpace>(
 ) -> Result<Answer, Refusal>
     requires ready { IsServing S.is_ready B.meanings running.old }
 
-    ensures done { IfOk result (λ x. IsDone S.has B.meanings (command.Update relation.now at.now values.now) running.old (answer_of x) running.new) }
-    ensures stopped { IfErr result (λ r. IsStopped S.has S.leads S.fails S.table B.meanings (command.Update relation.now at.now values.now) running.old r running.new) }
+    ensures done { IfOk result (λ x. IsDone S.has S.spent B.meanings (command.Update relation.now at.now values.now) running.old (answer_of x) running.new) }
+    ensures stopped { IfErr result (λ r. IsStopped S.has S.spent S.leads S.fails S.table B.meanings (command.Update relation.now at.now values.now) running.old r running.new) }
     ensures fault { IfErr result (λ r. HasFaultCause S.fails r running.new.space.now) }
     ensures goes { Goes S.leads running.old running.new }
     ensures ready { IsServing S.is_ready B.meanings running.new }
@@ -77,8 +77,8 @@ pub(crate) fn delete<B: Boxes, S: PageSpace>(
 ) -> Result<Answer, Refusal>
     requires ready { IsServing S.is_ready B.meanings running.old }
 
-    ensures done { IfOk result (λ x. IsDone S.has B.meanings (command.Delete relation.now at.now) running.old (answer_of x) running.new) }
-    ensures stopped { IfErr result (λ r. IsStopped S.has S.leads S.fails S.table B.meanings (command.Delete relation.now at.now) running.old r running.new) }
+    ensures done { IfOk result (λ x. IsDone S.has S.spent B.meanings (command.Delete relation.now at.now) running.old (answer_of x) running.new) }
+    ensures stopped { IfErr result (λ r. IsStopped S.has S.spent S.leads S.fails S.table B.meanings (command.Delete relation.now at.now) running.old r running.new) }
     ensures fault { IfErr result (λ r. HasFaultCause S.fails r running.new.space.now) }
     ensures goes { Goes S.leads running.old running.new }
     ensures ready { IsServing S.is_ready B.meanings running.new }
@@ -98,11 +98,11 @@ fn change_keyed<B: Boxes, S: PageSpace>(
 ) -> Result<Answer, Refusal>
     requires ready { IsServing S.is_ready B.meanings running.old }
 
-    ensures made { IfOk result (λ x. (g : Going) → StandsFor S.has B.meanings g running.old → IsFittingWish g.db name.now (wish_of wish.now)
-        → MadeFrom (StandsFor S.has B.meanings) (with_key name.now (first_change (extensions_in B.meanings running.old) name.now (wish_of wish.now)))
+    ensures made { IfOk result (λ x. (g : Going) → StandsFor S.has S.spent B.meanings g running.old → IsFittingWish g.db name.now (wish_of wish.now)
+        → MadeFrom (StandsFor S.has S.spent B.meanings) (with_key name.now (first_change (extensions_in B.meanings running.old) name.now (wish_of wish.now)))
         g (answer_of x) running.new) }
-    ensures refused { IfErr result (λ r. (g : Going) → StandsFor S.has B.meanings g running.old → IsFittingWish g.db name.now (wish_of wish.now)
-        → StopsFrom (IsStoppedFor S.has S.leads S.fails S.table B.meanings) (with_key name.now (first_change (extensions_in B.meanings running.old) name.now (wish_of wish.now)))
+    ensures refused { IfErr result (λ r. (g : Going) → StandsFor S.has S.spent B.meanings g running.old → IsFittingWish g.db name.now (wish_of wish.now)
+        → StopsFrom (IsStoppedFor S.has S.spent S.leads S.fails S.table B.meanings) (with_key name.now (first_change (extensions_in B.meanings running.old) name.now (wish_of wish.now)))
         g r running.new) }
     ensures fault { IfErr result (λ r. HasFaultCause S.fails r running.new.space.now) }
     ensures goes { Goes S.leads running.old running.new }
@@ -123,11 +123,11 @@ fn change_plainly<B: Boxes, S: PageSpace>(
 ) -> Result<Answer, Refusal>
     requires ready { IsServing S.is_ready B.meanings running.old }
 
-    ensures made { IfOk result (λ x. (g : Going) → StandsFor S.has B.meanings g running.old → IsFittingWish g.db name.now (wish_of wish.now)
-        → MadeFrom (StandsFor S.has B.meanings) (plainly (first_change (extensions_in B.meanings running.old) name.now (wish_of wish.now)))
+    ensures made { IfOk result (λ x. (g : Going) → StandsFor S.has S.spent B.meanings g running.old → IsFittingWish g.db name.now (wish_of wish.now)
+        → MadeFrom (StandsFor S.has S.spent B.meanings) (plainly (first_change (extensions_in B.meanings running.old) name.now (wish_of wish.now)))
         g (answer_of x) running.new) }
-    ensures refused { IfErr result (λ r. (g : Going) → StandsFor S.has B.meanings g running.old → IsFittingWish g.db name.now (wish_of wish.now)
-        → StopsFrom (IsStoppedFor S.has S.leads S.fails S.table B.meanings) (plainly (first_change (extensions_in B.meanings running.old) name.now (wish_of wish.now)))
+    ensures refused { IfErr result (λ r. (g : Going) → StandsFor S.has S.spent B.meanings g running.old → IsFittingWish g.db name.now (wish_of wish.now)
+        → StopsFrom (IsStoppedFor S.has S.spent S.leads S.fails S.table B.meanings) (plainly (first_change (extensions_in B.meanings running.old) name.now (wish_of wish.now)))
         g r running.new) }
     ensures fault { IfErr result (λ r. HasFaultCause S.fails r running.new.space.now) }
     ensures goes { Goes S.leads running.old running.new }
@@ -148,10 +148,10 @@ fn change_fitting<B: Boxes, S: PageSpace>(
 ) -> Result<Option<RecKey>, Refusal>
     requires ready { IsServing S.is_ready B.meanings running.old }
 
-    ensures made { IfOk result (λ key. (g : Going) → StandsFor S.has B.meanings g running.old → IsFittingWish g.db name.now (wish_of wish.now)
-        → MadeFrom (StandsFor S.has B.meanings) (first_change (extensions_in B.meanings running.old) name.now (wish_of wish.now)) g key running.new) }
-    ensures refused { IfErr result (λ r. (g : Going) → StandsFor S.has B.meanings g running.old → IsFittingWish g.db name.now (wish_of wish.now)
-        → StopsFrom (IsStoppedFor S.has S.leads S.fails S.table B.meanings) (first_change (extensions_in B.meanings running.old) name.now (wish_of wish.now)) g r running.new) }
+    ensures made { IfOk result (λ key. (g : Going) → StandsFor S.has S.spent B.meanings g running.old → IsFittingWish g.db name.now (wish_of wish.now)
+        → MadeFrom (StandsFor S.has S.spent B.meanings) (first_change (extensions_in B.meanings running.old) name.now (wish_of wish.now)) g key running.new) }
+    ensures refused { IfErr result (λ r. (g : Going) → StandsFor S.has S.spent B.meanings g running.old → IsFittingWish g.db name.now (wish_of wish.now)
+        → StopsFrom (IsStoppedFor S.has S.spent S.leads S.fails S.table B.meanings) (first_change (extensions_in B.meanings running.old) name.now (wish_of wish.now)) g r running.new) }
     ensures fault { IfErr result (λ r. HasFaultCause S.fails r running.new.space.now) }
     ensures open { IfOk result (λ key. is_some (open_at running.new.work.now.opened.items name.now) ≡ true) }
     ensures goes { GoesOpen S.leads running.old running.new }

@@ -26,8 +26,8 @@ pub(crate) fn create_relation<B: Boxes, S: Owners>(
 ) -> Result<Answer, Refusal>
     requires ready { IsServing S.is_ready B.meanings running.old }
 
-    ensures done { IfOk result (λ x. IsDone S.has B.meanings (command.Create relation.now method schema.now key.now) running.old (answer_of x) running.new) }
-    ensures stopped { IfErr result (λ r. IsStopped S.has S.leads S.fails S.table B.meanings (command.Create relation.now method schema.now key.now) running.old r running.new) }
+    ensures done { IfOk result (λ x. IsDone S.has S.spent B.meanings (command.Create relation.now method schema.now key.now) running.old (answer_of x) running.new) }
+    ensures stopped { IfErr result (λ r. IsStopped S.has S.spent S.leads S.fails S.table B.meanings (command.Create relation.now method schema.now key.now) running.old r running.new) }
     ensures fault { IfErr result (λ r. HasFaultCause S.fails r running.new.space.now) }
     ensures goes { Goes S.leads running.old running.new }
     ensures ready { IsServing S.is_ready B.meanings running.new }
@@ -46,8 +46,8 @@ pub(crate) fn drop_named<B: Boxes, S: Owners>(
 ) -> Result<Answer, Refusal>
     requires ready { IsServing S.is_ready B.meanings running.old }
 
-    ensures done { IfOk result (λ x. IsDone S.has B.meanings (command.Drop relation.now) running.old (answer_of x) running.new) }
-    ensures stopped { IfErr result (λ r. IsStopped S.has S.leads S.fails S.table B.meanings (command.Drop relation.now) running.old r running.new) }
+    ensures done { IfOk result (λ x. IsDone S.has S.spent B.meanings (command.Drop relation.now) running.old (answer_of x) running.new) }
+    ensures stopped { IfErr result (λ r. IsStopped S.has S.spent S.leads S.fails S.table B.meanings (command.Drop relation.now) running.old r running.new) }
     ensures fault { IfErr result (λ r. HasFaultCause S.fails r running.new.space.now) }
     ensures goes { Goes S.leads running.old running.new }
     ensures ready { IsServing S.is_ready B.meanings running.new }
@@ -68,8 +68,8 @@ pub(crate) fn attach_rule<B: Boxes, S: Owners>(
 ) -> Result<Answer, Refusal>
     requires ready { IsServing S.is_ready B.meanings running.old }
 
-    ensures done { IfOk result (λ x. IsDone S.has B.meanings (command.Attach relation.now name.now rule.now) running.old (answer_of x) running.new) }
-    ensures stopped { IfErr result (λ r. IsStopped S.has S.leads S.fails S.table B.meanings (command.Attach relation.now name.now rule.now) running.old r running.new) }
+    ensures done { IfOk result (λ x. IsDone S.has S.spent B.meanings (command.Attach relation.now name.now rule.now) running.old (answer_of x) running.new) }
+    ensures stopped { IfErr result (λ r. IsStopped S.has S.spent S.leads S.fails S.table B.meanings (command.Attach relation.now name.now rule.now) running.old r running.new) }
     ensures fault { IfErr result (λ r. HasFaultCause S.fails r running.new.space.now) }
     ensures goes { Goes S.leads running.old running.new }
     ensures ready { IsServing S.is_ready B.meanings running.new }
@@ -89,8 +89,8 @@ pub(crate) fn detach_rule<B: Boxes, S: Owners>(
 ) -> Result<Answer, Refusal>
     requires ready { IsServing S.is_ready B.meanings running.old }
 
-    ensures done { IfOk result (λ x. IsDone S.has B.meanings (command.Detach relation.now name.now) running.old (answer_of x) running.new) }
-    ensures stopped { IfErr result (λ r. IsStopped S.has S.leads S.fails S.table B.meanings (command.Detach relation.now name.now) running.old r running.new) }
+    ensures done { IfOk result (λ x. IsDone S.has S.spent B.meanings (command.Detach relation.now name.now) running.old (answer_of x) running.new) }
+    ensures stopped { IfErr result (λ r. IsStopped S.has S.spent S.leads S.fails S.table B.meanings (command.Detach relation.now name.now) running.old r running.new) }
     ensures fault { IfErr result (λ r. HasFaultCause S.fails r running.new.space.now) }
     ensures goes { Goes S.leads running.old running.new }
     ensures ready { IsServing S.is_ready B.meanings running.new }

@@ -1,5 +1,5 @@
 -- What stands with a new relation.
-use Rattle.std.proofs.Common.{◌≡◌, ℕ, ◌<◌, ◌≤◌, ◌==◌, Bool, true, false, List, [], length, map, Option, Some, None, All, inr, refl, sym, ap, ◌∙◌, subst, arith, eqb-true, bytes_eq}
+use Rattle.std.proofs.Common.{◌≡◌, ℕ, ◌+◌, ◌<◌, ◌≤◌, ◌==◌, Bool, true, false, cond, nat_lt, List, [], length, map, Option, Some, None, All, inr, refl, sym, ap, ◌∙◌, subst, arith, eqb-true, bytes_eq}
 use Rattle.std.specs.List.{find}
 use Rattle.std.specs.FinMap.Entries.{put}
 use Rattle.std.proofs.lemmas.List.Elements.{All-nil, All-same, All-map, All-weaker}
@@ -19,10 +19,14 @@ use Rattle.sb_forms.specs.Maps.{map_in}
 use Rattle.sb_ctx.specs.Laws.{IsMethod}
 use Rattle.sb_ctx.specs.Method.{Method}
 use Rattle.sb_fold.specs.Building.{rule_at, HasMirror}
+use Rattle.sb_ctx.specs.declared.calls.MethodCall.TheVariants.{Prepare}
+use Rattle.sb_fold.specs.Costs.{create_cost, descriptor_cost, foreign_method_prepare, tree_cost}
+use Rattle.sb_fold.specs.Extensions.{method_room}
 use Rattle.sb_fold.specs.Fold.{attachments_at}
 use Rattle.sb_drive.specs.declared.space.SpaceFault.{SpaceFault}
 use Rattle.sb_drive.specs.Slots.{Slots, owned}
-use Rattle.sb_drive.specs.Spaces.{Leaves, Wanted}
+use Rattle.sb_drive.specs.Spaces.{LeadsWithin, Leaves, Wanted}
+use Rattle.sb_drive.proofs.SpacesLemmas.{LeadsWithin-more}
 use Rattle.sb_registry.specs.Boxes.{Meanings, method_of}
 use Rattle.sb_registry.specs.Live.{IsLive}
 use Rattle.sb_owners.specs.Instances.{HasCome}
@@ -43,9 +47,13 @@ use Rattle.sb_deferred.specs.Complete.{AreMirrored}
 use Rattle.sb_deferred.proofs.RelationLemmas.{all_found, attachments_of, relation_other, relation_same}
 use Rattle.sb_engine.specs.Opened.{IsDurable}
 use Rattle.sb_engine.specs.Refusals.{HasRefusalCause, refusal_of}
-use Rattle.sb_engine.specs.Working.{ArePaired, HasMainOf, IsLasting}
+use Rattle.sb_engine.specs.Working.{ArePaired, HasMainOf, IsLasting, extensions_of}
+use Rattle.sb_engine.proofs.Charged.{prepare-is-charged}
+use Rattle.sb_engine.proofs.Meant.{outlives}
 use Rattle.sb_tables.specs.Creation.{AreShort, MayCreate, new_descriptor, new_kept, new_relation}
 use Rattle.sb_tables.specs.Keeping.{KeepsDb}
+use Rattle.sb_engine.proofs.Measuring.{held-alike}
+use Rattle.sb_tables.proofs.SpendingLemmas.{entry_enough}
 use Rattle.sb_tables.proofs.TakenLemmas.{gone-beside}
 
 -- ---- pairs
@@ -152,7 +160,7 @@ short-new method owner top schema key short = record { columns = short.columns; 
     lit_le = omega arith
 
 -- ---- its pages and its entry
-module _ {S : Type 0} (Has : Wanted → Slots → S → Type 0) (m : Meanings) (root : ℕ) (gone : List ℕ) (aside : ℕ) (db : Db) (name : Name) (method owner top : ℕ) (schema : List Column) (key : List Name)
+module _ {S : Type 0} (Has : Wanted → Slots → S → Type 0) (m : Meanings) (root : ℕ) (gone aside : List ℕ) (db : Db) (name : Name) (method owner top : ℕ) (schema : List Column) (key : List Name)
     (old mid late new : S) (keeps : KeepsDb Has m root gone aside db old) (may : MayCreate m db name method schema key) (high : 2 < owner)
     (come : HasCome Has keeps.want keeps.slots owner top mid) where
   two : ◌≡◌ {A = ℕ} 2 owner → ⊥
@@ -192,18 +200,23 @@ module _ {S : Type 0} (Has : Wanted → Slots → S → Type 0) (m : Meanings) (
             has = HasRows-pages m rows.slots left.slots (table_instance true name (new_descriptor method owner top schema key)) [] (left.others owner two-back) rows.own;
             catalogue = left.own;
           });
-          few = omega (
-            arith,
-            keeps.few,
-            gone-beside keeps.slots left.slots (owners_in keeps.kept) gone owner come.none keeps.keeps.own
-                (λ o apart second. left.others o second ∙ rows.others o apart ∙ come.others o apart),
-          );
+          held = held-alike keeps.slots left.slots gone aside
+              (λ f. gone-beside f keeps.slots left.slots (owners_in keeps.kept) gone owner come.none keeps.keeps.own
+              (λ o apart second. left.others o second ∙ rows.others o apart ∙ come.others o apart)) keeps.held;
           lasting = All-map IsLasting (λ (x : Kept). x.descriptor) (put_kept k keeps.kept)
               (All-put (λ (x : Kept). IsLasting x.descriptor) k keeps.kept may.lasting (All-unmap IsLasting (λ (x : Kept). x.descriptor) keeps.kept keeps.lasting));
         }
 
+-- ---- what it costs
+pub create_charged : (m : Meanings) (db : Db) (name : Name) (method : ℕ) (schema : List Column) (key : List Name) → MayCreate m db name method schema key
+    → create_cost (extensions_of m) db method
+    ≡ 2 + cond (nat_lt method 1000) 1 (foreign_method_prepare (method_room (extensions_of m) method)) + descriptor_cost (extensions_of m) db
+create_charged m db name method schema key may =
+    ap (λ (b : Bool). cond b (2 + cond (nat_lt method 1000) 1 (foreign_method_prepare (method_room (extensions_of m) method)) + descriptor_cost (extensions_of m) db) 0)
+    (outlives m method may.box may.live may.durable may.lasting)
+
 -- ---- by the calls that make them
-module _ {S : Type 0} (Has : Wanted → Slots → S → Type 0) (Fails : SpaceFault → S → S → Type 0) (m : Meanings) (root : ℕ) (gone : List ℕ) (aside : ℕ) (db : Db) (name : Name) (method owner top : ℕ) (schema : List Column) (key : List Name)
+module _ {S : Type 0} (Has : Wanted → Slots → S → Type 0) (Fails : SpaceFault → S → S → Type 0) (m : Meanings) (root : ℕ) (gone aside : List ℕ) (db : Db) (name : Name) (method owner top : ℕ) (schema : List Column) (key : List Name)
     (old mid late new : S) (keeps : KeepsDb Has m root gone aside db old) (may : MayCreate m db name method schema key) (high : 2 < owner)
     (come : HasCome Has keeps.want keeps.slots owner top mid) (d : Descriptor) (is : d ≡ new_descriptor method owner top schema key) where
   in_new : IsNewIn come.slots (table_instance true name (new_descriptor method owner top schema key))
@@ -215,6 +228,17 @@ module _ {S : Type 0} (Has : Wanted → Slots → S → Type 0) (Fails : SpaceFa
   prepare_refused e refused law =
       subst (λ (x : Descriptor). (want : Wanted) (s : Slots) → Has want s mid → IsNewIn s (table_instance true name x) → IsLive m (table_instance true name x) → HasRefusalCause Fails (refusal_of e) late) is refused
       keeps.want come.slots come.has in_new (is_live-new m db name method owner top schema key may high law)
+
+  -- what its pages cost
+  pub rows_charged : (Leads : ℕ → S → S → Type 0)
+      → ((want : Wanted) (s : Slots) → Has want s mid → IsNewIn s (table_instance true name d) → (live : IsLive m (table_instance true name d)) → LeadsWithin Leads (live.box.cost Prepare []) mid late)
+      → ((box : Method) → method_of method m.methods ≡ Some box → IsMethod box)
+      → LeadsWithin Leads (cond (nat_lt method 1000) 1 (foreign_method_prepare (method_room (extensions_of m) method))) mid late
+  rows_charged Leads costs law =
+      let live = is_live-new m db name method owner top schema key may high law in
+      LeadsWithin-more Leads (live.box.cost Prepare []) _ mid late (prepare-is-charged m live.box method live.live live.law)
+      (subst (λ (x : Descriptor). (want : Wanted) (s : Slots) → Has want s mid → IsNewIn s (table_instance true name x) → (live : IsLive m (table_instance true name x))
+      → LeadsWithin Leads (live.box.cost Prepare []) mid late) is costs keeps.want come.slots come.has in_new live)
 
   module _ (prepared : (want : Wanted) (s : Slots) → Has want s mid → IsNewIn s (table_instance true name d) → LeavesRows Has m (table_instance true name d) want s late []) where
     in_rows : LeavesRows Has m (table_instance true name (new_descriptor method owner top schema key)) keeps.want come.slots late []
@@ -235,6 +259,17 @@ module _ {S : Type 0} (Has : Wanted → Slots → S → Type 0) (Fails : SpaceFa
         of_rows rows =
             refused keeps.want rows.slots (map entry_of keeps.kept) rows.has (in_entries rows)
             (subst (λ (x : Descriptor). IsSmall name (descriptor_spelling x)) (sym is) (small-new m db name method owner top schema key may))
+
+    -- what its entry costs
+    pub entry_charged : (Leads : ℕ → S → S → Type 0)
+        → ((want : Wanted) (s : Slots) (es : List Entry) → Has want s late → map_in root (owned s 2) ≡ Some es → LeadsWithin Leads (tree_cost (length es)) late new)
+        → LeadsWithin Leads (descriptor_cost (extensions_of m) db) late new
+    entry_charged Leads costs = of_rows in_rows
+      where
+        of_rows : LeavesRows Has m (table_instance true name (new_descriptor method owner top schema key)) keeps.want come.slots late [] → LeadsWithin Leads (descriptor_cost (extensions_of m) db) late new
+        of_rows rows =
+            LeadsWithin-more Leads (tree_cost (length (map entry_of keeps.kept))) (descriptor_cost (extensions_of m) db) late new (entry_enough Has m root gone aside db old keeps)
+            (costs keeps.want rows.slots (map entry_of keeps.kept) rows.has (in_entries rows))
 
     pub create_entered : ((want : Wanted) (s : Slots) (es : List Entry) → Has want s late → map_in root (owned s 2) ≡ Some es
         → Leaves Has 2 want s new (λ after. map_in root after ≡ Some (put key_cmp name (descriptor_spelling d) es)))

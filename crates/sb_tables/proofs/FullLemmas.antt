@@ -1,6 +1,5 @@
 -- Want of a page while attachments or a relation go.
 use Rattle.std.proofs.Common.{ℕ, ◌+◌, ◌*◌, true, List, length, map, inl, refl, sym, subst, arith}
-use Rattle.std.specs.Prelude.{sum}
 use Rattle.std.proofs.lemmas.List.{length-map}
 use Rattle.sb_relation.specs.Db.{Db}
 use Rattle.sb_fold.specs.Building.{at_point}
@@ -26,21 +25,22 @@ use Rattle.sb_engine.specs.Weights.{resting}
 use Rattle.sb_engine.specs.Working.{IsLicensed, IsShortOf, Stands, extensions_of}
 use Rattle.sb_engine.specs.declared.running.Work.{Work}
 use Rattle.sb_engine.proofs.Beside.{beside-is-full, rest-has-room}
+use Rattle.sb_engine.proofs.Measuring.{held_pages}
 use Rattle.sb_engine.proofs.LackingLemmas.{all_meant, any_last}
 use Rattle.sb_tables.specs.Keeping.{IsFullBy, KeepsWithin}
 use Rattle.sb_tables.proofs.LicenceLemmas.{none_counted}
 
 -- ---- what an engine keeps
 -- it is within its need, behind a call that looks too
-pub within-need : {S : Type 0} (Has : Wanted → Slots → S → Type 0) (m : Meanings) (root : ℕ) (g : Going) (space mid : S) (w : Work) (cost : ℕ)
-    → (stands : Stands Has m root g space w) → ((o : ℕ) → ArePages (owned stands.slots o)) → Has stands.want stands.slots mid
-    → KeepsWithin Has m root w.gone.items (sum g.gone.durable) (need (extensions_of m) true (resting g.db g.gone (g.trail.spent + cost))) g.db mid
-within-need Has m root g space mid w cost stands pages has = record {
-  keeps = record { want = stands.want; slots = stands.slots; kept = stands.kept; has = has; is = stands.db; keeps = stands.keeps; lasting = stands.lasting; few = stands.aside };
+pub within-need : {S : Type 0} (Has : Wanted → Slots → S → Type 0) (Spent : ℕ → S → Type 0) (m : Meanings) (root : ℕ) (g : Going) (space mid : S) (w : Work) (cost : ℕ)
+    → (stands : Stands Has Spent m root g space w) → ((o : ℕ) → ArePages (owned stands.slots o)) → Has stands.want stands.slots mid
+    → KeepsWithin Has m root w.gone.items g.gone.durable (need (extensions_of m) true (resting g.db g.gone (g.trail.spent + cost))) g.db mid
+within-need Has Spent m root g space mid w cost stands pages has = record {
+  keeps = record { want = stands.want; slots = stands.slots; kept = stands.kept; has = has; is = stands.db; keeps = stands.keeps; lasting = stands.lasting; held = stands.aside };
   within =
       subst (λ (db : Db). AreWithin stands.slots stands.kept w.gone.items (need (extensions_of m) true (resting db g.gone (g.trail.spent + cost)))) (sym stands.db)
       (rest-has-room m IsDurable root stands.slots w.gone.items stands.kept g.gone (g.trail.spent + cost)
-      (all_meant m root stands.slots stands.kept stands.lasting stands.keeps.tables) pages stands.keeps stands.aside);
+      (all_meant m root stands.slots stands.kept stands.lasting stands.keeps.tables) pages stands.keeps (held_pages stands.slots w.gone.items g.gone.durable stands.aside));
 }
 
 -- ---- where no page is left
@@ -70,7 +70,7 @@ module _ {S : Type 0} (Has : Wanted → Slots → S → Type 0) (Leads : ℕ →
   licence-full m g cost r now full = tt
 
   -- a call of the catalogue wants one
-  module _ (m : Meanings) (root : ℕ) (gone : List ℕ) (aside most : ℕ) (db : Db) (old mid new : S) (holds : KeepsWithin Has m root gone aside most db old)
+  module _ (m : Meanings) (root : ℕ) (gone aside : List ℕ) (most : ℕ) (db : Db) (old mid new : S) (holds : KeepsWithin Has m root gone aside most db old)
       (tabled : (want : Wanted) (s : Slots) (a : S) → Has want s a → IsTabled (table a) s) (has : Has holds.keeps.want holds.keeps.slots mid) (leads : LeadsOn Leads mid new) where
     abbrev s : Slots
     s = holds.keeps.slots

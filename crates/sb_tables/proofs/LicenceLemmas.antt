@@ -1,5 +1,5 @@
 -- Want of a page while a relation is made.
-use Rattle.std.proofs.Common.{◌≡◌, ℕ, sum, ◌+◌, ◌*◌, ◌<◌, ◌≤◌, Bool, true, false, cond, not, ◌&&◌, List, [], ◌∷◌, length, map, Option, Some, None, option_map, inl, inr, refl, sym, ap, ◌∙◌, subst, arith}
+use Rattle.std.proofs.Common.{◌≡◌, ℕ, ◌+◌, ◌*◌, ◌<◌, ◌≤◌, Bool, true, false, cond, not, ◌&&◌, List, [], ◌∷◌, length, map, Option, Some, None, option_map, inl, inr, refl, sym, ap, ◌∙◌, subst, arith}
 use Rattle.std.specs.Prelude.{filter}
 use Rattle.std.specs.List.{find as first, range_with_len}
 use Rattle.std.proofs.lemmas.List.{length-map}
@@ -46,6 +46,7 @@ use Rattle.sb_engine.proofs.Bounded.{are-bounded}
 use Rattle.sb_engine.proofs.Catalogue.{catalogue_small}
 use Rattle.sb_engine.proofs.Coming.{coming-is-full}
 use Rattle.sb_engine.proofs.Meant.{outlives}
+use Rattle.sb_engine.proofs.Measuring.{held_pages}
 use Rattle.sb_engine.proofs.Weighing.{row_pages}
 use Rattle.sb_engine.specs.Opened.{IsDurable, IsOwnFault}
 use Rattle.sb_engine.specs.Refusals.{refusal_of}
@@ -149,7 +150,7 @@ none_counted P none = none_within P none 65536
 module _ {S : Type 0} (Has : Wanted → Slots → S → Type 0) (Leads : ℕ → S → S → Type 0) (table : S → ℕ) (m : Meanings) (root : ℕ) (gone : List ℕ) (g : Going) (cost : ℕ) (name : Name) (method : ℕ) (schema : List Column) (key : List Name)
     (whole : (want : Wanted) (s : Slots) (a : S) → Has want s a → AreWhole s) (few : (want : Wanted) (s : Slots) (a : S) → Has want s a → (n : ℕ) → 65536 ≤ n → (s n).0 ≡ 0)
     (tabled : (want : Wanted) (s : Slots) (a : S) → Has want s a → IsTabled (table a) s)
-    (old : S) (keeps : KeepsDb Has m root gone (sum g.gone.durable) g.db old) (may : MayCreate m g.db name method schema key) where
+    (old : S) (keeps : KeepsDb Has m root gone g.gone.durable g.db old) (may : MayCreate m g.db name method schema key) where
   abbrev made : Relation
   made = new_relation method schema key
 
@@ -165,7 +166,7 @@ module _ {S : Type 0} (Has : Wanted → Slots → S → Type 0) (Leads : ℕ →
   may_come = record {
     keeps = keeps.keeps;
     meant = all_meant m root keeps.slots keeps.kept keeps.lasting keeps.keeps.tables;
-    few = keeps.few;
+    few = held_pages keeps.slots gone g.gone.durable keeps.held;
     new = kept_at-no_relation keeps.kept name (ap (λ (d : Db). relation_at d name) (sym keeps.is) ∙ may.new);
     outlives = outlives m method may.box may.live may.durable may.lasting;
   }
@@ -257,7 +258,7 @@ module _ {S : Type 0} (Has : Wanted → Slots → S → Type 0) (Leads : ℕ →
         let told = subst (λ (x : Descriptor). (want : Wanted) (s : Slots) → Has want s mid → IsNewIn s (table_instance true name x) → (live : IsLive m (table_instance true name x))
         → WhereShort e (LacksFor live.box (table_instance true name x) Prepare [] s)) is full in
         licence mid new come.slots owner e leads come.has
-        (short_rows e live (told keeps.want come.slots come.has (new-in Has m root gone (sum g.gone.durable) g.db name method owner top schema key old mid mid new keeps may high come) live))
+        (short_rows e live (told keeps.want come.slots come.has (new-in Has m root gone g.gone.durable g.db name method owner top schema key old mid mid new keeps may high come) live))
 
     pub licence_entry : (e : SpaceFault) (late new : S)
         → ((want : Wanted) (s : Slots) → Has want s mid → IsNewIn s (table_instance true name d) → LeavesRows Has m (table_instance true name d) want s late [])
@@ -265,10 +266,10 @@ module _ {S : Type 0} (Has : Wanted → Slots → S → Type 0) (Leads : ℕ →
         → LeadsOn Leads late new → IsLicensed Has Leads table m (refusal_of e) trail new
     licence_entry e late new prepared full leads =
         of_rows (subst (λ (x : Descriptor). (want : Wanted) (s : Slots) → Has want s mid → IsNewIn s (table_instance true name x) → LeavesRows Has m (table_instance true name x) want s late []) is prepared
-        keeps.want come.slots come.has (new-in Has m root gone (sum g.gone.durable) g.db name method owner top schema key old mid late new keeps may high come))
+        keeps.want come.slots come.has (new-in Has m root gone g.gone.durable g.db name method owner top schema key old mid late new keeps may high come))
       where
         of_rows : LeavesRows Has m inst keeps.want come.slots late [] → IsLicensed Has Leads table m (refusal_of e) trail new
         of_rows rows =
             licence late new rows.slots owner e leads rows.has
             (short_entry e late rows (full keeps.want rows.slots (map entry_of keeps.kept) rows.has
-            (entries-late Has m root gone (sum g.gone.durable) g.db name method owner top schema key old mid late new keeps may high come rows)))
+            (entries-late Has m root gone g.gone.durable g.db name method owner top schema key old mid late new keeps may high come rows)))

@@ -1,7 +1,6 @@
 -- What an engine at work stands for once relations have come or gone.
-use Rattle.std.proofs.Common.{◌≡◌, ℕ, sum, ◌+◌, ◌*◌, ◌≤◌, ◌==◌, Bool, true, false, cond, List, [], ◌∷◌, ◌++◌, length, map, Option, Some, None, option_map, All, refl, sym, ap, ◌∙◌, subst, arith}
+use Rattle.std.proofs.Common.{◌≡◌, ℕ, ◌+◌, ◌*◌, ◌==◌, Bool, true, false, cond, List, [], ◌∷◌, ◌++◌, length, map, Option, Some, None, option_map, All, refl, sym, ap, ◌∙◌, subst, arith}
 use Rattle.std.proofs.lemmas.List.Elements.{All-cons, All-nil, All-weaker}
-use Rattle.std.proofs.lemmas.List.Sums.{sum_by-append}
 use Rattle.sb_value.specs.declared.schema.Column.{Column}
 use Rattle.sb_rule.specs.declared.action.Action.{Action}
 use Rattle.sb_rule.specs.declared.rule.Rule.{Rule}
@@ -16,6 +15,7 @@ use Rattle.sb_fold.specs.Bounds.{attached_bound, method_bound}
 use Rattle.sb_fold.specs.Building.{at_point, bounds_at, create, drop_relation, leave, mirrored_in, reach, with_gone, without_relation}
 use Rattle.sb_fold.specs.Costs.{create_cost, descriptor_cost}
 use Rattle.sb_fold.specs.Extensions.{Extensions, box_of, is_durable_at, is_durable_method}
+use Rattle.sb_fold.specs.Finish.{freed}
 use Rattle.sb_fold.specs.Fold.{attachments_at}
 use Rattle.sb_fold.specs.Outcome.{Going, Gone, Trail, with_db}
 use Rattle.sb_fold.proofs.LeadsLemmas.{leads_change}
@@ -25,8 +25,9 @@ use Rattle.sb_deferred.proofs.RelationLemmas.{attachments_of, schema_of}
 use Rattle.sb_cascade.specs.Fitting.{AllFit, AllMayStand, IsFitting}
 use Rattle.sb_cascade.specs.Runs.{EndsBy, MadeFrom, StopsFrom, is_free}
 use Rattle.sb_cascade.proofs.Commanding.{creating-stays}
-use Rattle.sb_drive.specs.Slots.{Slots}
-use Rattle.sb_drive.specs.Spaces.{Wanted}
+use Rattle.sb_drive.specs.Slots.{Slots, owned}
+use Rattle.sb_forms.specs.Pages.{ArePages}
+use Rattle.sb_drive.specs.Spaces.{LeadsWithin, Wanted}
 use Rattle.sb_registry.specs.Boxes.{Meanings, attachment_of, boxes_of}
 use Rattle.sb_catalog.specs.declared.descriptor.Attached.{Attached}
 use Rattle.sb_catalog.specs.Descriptors.{described, standing}
@@ -34,18 +35,19 @@ use Rattle.sb_standing.specs.Standing.{EachRule, IsKept, Keeps, KeepsRules}
 use Rattle.sb_standing.specs.Tables.{Kept, KeepsTable, db_of, kept_at}
 use Rattle.sb_standing.proofs.KeptLemmas.{kept_at-all, relation_at-none, relation_at-there}
 use Rattle.sb_engine.specs.Opened.{IsDurable}
-use Rattle.sb_engine.specs.Owned.{pages_of}
+use Rattle.sb_engine.specs.Measures.{measured}
 use Rattle.sb_engine.specs.declared.running.Work.{Work}
-use Rattle.sb_engine.specs.Working.{AreLasting, AreNamedApart, AreOpened, ArePaired, IsNoneGone, IsOpened, Stands, extensions_of, left_of}
+use Rattle.sb_engine.specs.Working.{AreLasting, AreNamedApart, AreOpened, ArePaired, IsNoneGone, IsOpened, IsPaid, Stands, extensions_of, left_of}
 use Rattle.sb_engine.proofs.GoneLemmas.{with_gone-some}
+use Rattle.sb_engine.proofs.PaidLemmas.{Spends, paid_within}
 use Rattle.sb_engine.proofs.LackingLemmas.{all_meant, goes_none}
 use Rattle.sb_tables.specs.Creation.{MayCreate, new_relation}
-use Rattle.sb_tables.specs.Freeing.{LeavesGone}
+use Rattle.sb_tables.specs.Freeing.{LeavesGone, free_most}
+use Rattle.sb_tables.proofs.SpendingLemmas.{free_held}
 use Rattle.sb_tables.specs.Keeping.{KeepsDb}
 use Rattle.sb_tables.specs.Removal.{MayDrop}
 use Rattle.sb_tables.proofs.ApartLemmas.{apart-left, apart-with}
 use Rattle.sb_tables.proofs.CreationLemmas.{mirrored-with, paired-with}
-use Rattle.sb_tables.proofs.DetachedLemmas.{keeps-more}
 use Rattle.sb_tables.proofs.RemovalLemmas.{complete-left, mirrored-left, paired-left}
 
 -- ---- what the definitions make of what stands
@@ -122,20 +124,20 @@ module _ (m : Meanings) (root : ℕ) (s : Slots) (gone : List ℕ) (kept : List 
 
 -- ---- pages that are held aside
 -- those of an instance that outlives the run are among the durable ones
-pub held-aside : (durable : Bool) → durable ≡ true → (bounds : List ℕ) (gone : Gone) → sum gone.durable + sum bounds ≤ sum (with_gone durable bounds gone).durable
-held-aside true is bounds gone = omega (arith, sum_by-append (λ n. n) gone.durable bounds)
+pub held-aside : (durable : Bool) → durable ≡ true → (bounds : List ℕ) (gone : Gone) → gone.durable ++ bounds ≡ (with_gone durable bounds gone).durable
+held-aside true is bounds gone = refl
 held-aside false is bounds gone = absurd (cc)
 
 -- ---- an engine whose pages keep the database
-module _ {S : Type 0} (Has : Wanted → Slots → S → Type 0) (m : Meanings) (root : ℕ) where
-  pub keeps_of : (g : Going) (space : S) (w : Work) → Stands Has m root g space w → KeepsDb Has m root w.gone.items (sum g.gone.durable) g.db space
+module _ {S : Type 0} (Has : Wanted → Slots → S → Type 0) (Spent : ℕ → S → Type 0) (m : Meanings) (root : ℕ) where
+  pub keeps_of : (g : Going) (space : S) (w : Work) → Stands Has Spent m root g space w → KeepsDb Has m root w.gone.items g.gone.durable g.db space
   keeps_of g space w stands =
-      record { want = stands.want; slots = stands.slots; kept = stands.kept; has = stands.has; is = stands.db; keeps = stands.keeps; lasting = stands.lasting; few = stands.aside }
+      record { want = stands.want; slots = stands.slots; kept = stands.kept; has = stands.has; is = stands.db; keeps = stands.keeps; lasting = stands.lasting; held = stands.aside }
 
   -- with nothing open
-  pub stands_on : (g : Going) (space : S) (w : Work) → KeepsDb Has m root w.gone.items (sum g.gone.durable) g.db space → AreMirrored g.db → ArePaired g.db → AreNamedApart g.db → IsComplete g.db g.queue → w.opened.items ≡ []
-      → left_of w ≡ g.queue → w.picks.items ≡ g.used → (IsNoneGone g.gone → w.gone.items ≡ []) → AllFit g.db g.queue.actions → Stands Has m root g space w
-  stands_on g space w keeps mirrored paired apart complete closed waits picked gone fit = record {
+  pub stands_on : (g : Going) (space : S) (w : Work) → KeepsDb Has m root w.gone.items g.gone.durable g.db space → IsPaid Spent 0 g.trail.spent space → AreMirrored g.db → ArePaired g.db → AreNamedApart g.db → IsComplete g.db g.queue → w.opened.items ≡ []
+      → left_of w ≡ g.queue → w.picks.items ≡ g.used → (IsNoneGone g.gone → w.gone.items ≡ []) → AllFit g.db g.queue.actions → Stands Has Spent m root g space w
+  stands_on g space w keeps paid mirrored paired apart complete closed waits picked gone fit = record {
     want = keeps.want;
     slots = keeps.slots;
     kept = keeps.kept;
@@ -150,22 +152,38 @@ module _ {S : Type 0} (Has : Wanted → Slots → S → Type 0) (m : Meanings) (
     waits = waits;
     picked = picked;
     gone = gone;
-    aside = keeps.few;
+    aside = keeps.held;
+    paid = paid;
     apart = apart;
     rules = subst (AllMayStand (box_of (extensions_of m))) (sym keeps.is) (all_may m root keeps.slots w.gone.items keeps.kept keeps.keeps);
     fit = fit;
   }
 
-  module _ (g : Going) (old new : S) (w v : Work) (stands : Stands Has m root g old w) (closed : v.opened.items ≡ []) (left : left_of v ≡ left_of w) (picks : v.picks.items ≡ w.picks.items) where
+  -- what a call changes that costs no more than the definitions charge
+  pub paid_charged : (Leads : ℕ → S → S → Type 0) → Spends Spent Leads → (g : Going) (old new : S) (w : Work) (cost : ℕ) → Stands Has Spent m root g old w → LeadsWithin Leads cost old new
+      → IsPaid Spent 0 (g.trail.spent + cost) new
+  paid_charged Leads spends g old new w cost stands within =
+      paid_within Spent Leads spends old new cost 0 g.trail.spent 0 (g.trail.spent + cost) (omega arith) within stands.paid
+
+  pub paid_dropped : (g : Going) (old new : S) (w : Work) → Stands Has Spent m root g old w → (Leads : ℕ → S → S → Type 0) → Spends Spent Leads → (name : Name)
+      → LeadsWithin Leads ((1 + length (mirrored_in name (attachments_at g.db name))) * descriptor_cost (extensions_of m) g.db) old new
+      → IsPaid Spent 0 (g.trail.spent + drop_cost (extensions_of m) name g) new
+  paid_dropped g old new w stands Leads spends name within =
+      paid_charged Leads spends g old new w (drop_cost (extensions_of m) name g) stands
+      (subst (λ (b : Bool). LeadsWithin Leads (cond b ((1 + length (mirrored_in name (attachments_at g.db name))) * descriptor_cost (extensions_of m) g.db) 0) old new)
+      (sym (durable-kept m root stands.slots w.gone.items stands.kept stands.keeps stands.lasting g.db stands.db name)) within)
+
+  module _ (g : Going) (old new : S) (w v : Work) (stands : Stands Has Spent m root g old w) (closed : v.opened.items ≡ []) (left : left_of v ≡ left_of w) (picks : v.picks.items ≡ w.picks.items) where
     -- ---- a new relation
     pub create_made : {R : Type 0} (StandsIn : Going → R → Type 0) (x : R) (name : Name) (method : ℕ) (schema : List Column) (key : List Name) → MayCreate m g.db name method schema key
-        → v.gone.items ≡ w.gone.items → KeepsDb Has m root v.gone.items (sum g.gone.durable) (with_relation g.db name (new_relation method schema key)) new → ((h : Going) → Stands Has m root h new v → StandsIn h x)
+        → v.gone.items ≡ w.gone.items → KeepsDb Has m root v.gone.items g.gone.durable (with_relation g.db name (new_relation method schema key)) new
+        → IsPaid Spent 0 (g.trail.spent + create_cost (extensions_of m) g.db method) new → ((h : Going) → Stands Has Spent m root h new v → StandsIn h x)
         → MadeFrom StandsIn (create (extensions_of m) name method schema key) g tt x
-    create_made StandsIn x name method schema key may gone keeps says = record {
+    create_made StandsIn x name method schema key may gone keeps paid says = record {
       picks = [];
       after = create_step (extensions_of m) name method schema key g;
       leads = leads_change (create_step (extensions_of m) name method schema key) g (λ more. refl);
-      stands = says (create_step (extensions_of m) name method schema key g) (stands_on (create_step (extensions_of m) name method schema key g) new v keeps
+      stands = says (create_step (extensions_of m) name method schema key g) (stands_on (create_step (extensions_of m) name method schema key g) new v keeps paid
           (mirrored-with g.db name (new_relation method schema key) may.new refl stands.mirrored)
           (paired-with g.db name (new_relation method schema key) may.new refl stands.paired)
           (apart-with g.db name (new_relation method schema key) refl stands.apart)
@@ -177,13 +195,14 @@ module _ {S : Type 0} (Has : Wanted → Slots → S → Type 0) (m : Meanings) (
 
     -- ---- a relation that goes
     pub drop_made : {R : Type 0} (StandsIn : Going → R → Type 0) (x : R) (name : Name) → MayDrop g.db g.queue name
-        → KeepsDb Has m root v.gone.items (sum g.gone.durable + sum (bounds_at (extensions_of m) g.db name)) (without_relation g.db name) new → ((h : Going) → Stands Has m root h new v → StandsIn h x)
+        → KeepsDb Has m root v.gone.items (g.gone.durable ++ bounds_at (extensions_of m) g.db name) (without_relation g.db name) new
+        → IsPaid Spent 0 (g.trail.spent + drop_cost (extensions_of m) name g) new → ((h : Going) → Stands Has Spent m root h new v → StandsIn h x)
         → MadeFrom StandsIn (drop_relation (extensions_of m) name) g tt x
-    drop_made StandsIn x name may keeps says = record {
+    drop_made StandsIn x name may keeps paid says = record {
       picks = [];
       after = drop_step (extensions_of m) name g;
       leads = leads_change (drop_step (extensions_of m) name) g (λ more. refl);
-      stands = says (drop_step (extensions_of m) name g) (stands_on (drop_step (extensions_of m) name g) new v (keeps-more Has m root v.gone.items _ _ (without_relation g.db name) new held keeps)
+      stands = says (drop_step (extensions_of m) name g) (stands_on (drop_step (extensions_of m) name g) new v (subst (λ (l : List ℕ). KeepsDb Has m root v.gone.items l (without_relation g.db name) new) held keeps) paid
           (mirrored-left g.db g.queue name may stands.mirrored stands.paired)
           (paired-left g.db g.queue name may stands.mirrored stands.paired)
           (apart-left g.db name stands.apart)
@@ -196,7 +215,7 @@ module _ {S : Type 0} (Has : Wanted → Slots → S → Type 0) (m : Meanings) (
         durable : is_durable_at (extensions_of m) g.db name ≡ true
         durable = durable-kept m root stands.slots w.gone.items stands.kept stands.keeps stands.lasting g.db stands.db name
 
-        held : sum g.gone.durable + sum (bounds_at (extensions_of m) g.db name) ≤ sum (drop_step (extensions_of m) name g).gone.durable
+        held : g.gone.durable ++ bounds_at (extensions_of m) g.db name ≡ (drop_step (extensions_of m) name g).gone.durable
         held = held-aside (is_durable_at (extensions_of m) g.db name) durable (bounds_at (extensions_of m) g.db name) g.gone
 
         -- the pages of the relation
@@ -234,9 +253,18 @@ drop_stops Stopped x ext name r g free stopped =
     })
 
 -- ---- pages that go before a commit
-pub stands_freed : {S : Type 0} (Has : Wanted → Slots → S → Type 0) (m : Meanings) (root : ℕ) (g : Going) (old new : S) (w v : Work) → (stands : Stands Has m root g old w)
-    → LeavesGone Has m root stands.kept stands.want [] new → v.gone.items ≡ [] → v.opened.items ≡ w.opened.items → left_of v ≡ left_of w → v.picks.items ≡ w.picks.items → Stands Has m root g new v
-stands_freed Has m root g old new w v stands left none opened waits picks = record {
+-- that costs no more than the definitions charge
+pub paid_freed : {S : Type 0} (Has : Wanted → Slots → S → Type 0) (Spent : ℕ → S → Type 0) (m : Meanings) (root : ℕ) (g : Going) (old new : S) (w : Work)
+    → (stands : Stands Has Spent m root g old w) → (Leads : ℕ → S → S → Type 0) → Spends Spent Leads → ((o : ℕ) → ArePages (owned stands.slots o))
+    → LeadsWithin Leads (free_most w.gone.items) old new → IsPaid Spent 0 (freed g).trail.spent new
+paid_freed Has Spent m root g old new w stands Leads spends pages leads =
+    paid_within Spent Leads spends old new (free_most w.gone.items) 0 g.trail.spent 0 (freed g).trail.spent
+    (omega (arith, free_held stands.slots w.gone.items g.gone.durable pages stands.keeps.own.left stands.aside)) leads stands.paid
+
+pub stands_freed : {S : Type 0} (Has : Wanted → Slots → S → Type 0) (Spent : ℕ → S → Type 0) (m : Meanings) (root : ℕ) (g : Going) (old new : S) (w v : Work)
+    → (stands : Stands Has Spent m root g old w) → IsPaid Spent 0 (freed g).trail.spent new
+    → LeavesGone Has m root stands.kept stands.want [] new → v.gone.items ≡ [] → v.opened.items ≡ w.opened.items → left_of v ≡ left_of w → v.picks.items ≡ w.picks.items → Stands Has Spent m root (freed g) new v
+stands_freed Has Spent m root g old new w v stands paid left none opened waits picks = record {
   want = stands.want;
   slots = left.slots;
   kept = stands.kept;
@@ -251,7 +279,8 @@ stands_freed Has m root g old new w v stands left none opened waits picks = reco
   waits = waits ∙ stands.waits;
   picked = picks ∙ stands.picked;
   gone = λ _. none;
-  aside = omega (arith, ap (λ (l : List ℕ). pages_of left.slots l) none);
+  aside = λ f measure. omega (arith, ap (λ (l : List ℕ). measured f left.slots l) none);
+  paid = paid;
   apart = stands.apart;
   rules = stands.rules;
   fit = stands.fit;

@@ -74,7 +74,7 @@ counted : (kept : List Kept) → total (λ k. 1) kept ≡ length kept
 counted [] = omega arith
 counted (k ∷ kept) = omega (arith, counted kept)
 
-as_many : (kept : List Kept) (new k : Kept) → T (is_sorted bytes_cmp (db_of kept)) → kept_at kept new.name ≡ Some k → length (put_kept new kept) ≡ length kept
+pub as_many : (kept : List Kept) (new k : Kept) → T (is_sorted bytes_cmp (db_of kept)) → kept_at kept new.name ≡ Some k → length (put_kept new kept) ≡ length kept
 as_many kept new k rising there =
     let put = total-put (λ x. 1) new kept rising in
     let one : of_kept (λ x. 1) (kept_at kept new.name) ≡ 1 = ap (of_kept (λ x. 1)) there in
@@ -111,10 +111,10 @@ pub within-detached : (s t : Slots) (gone : List ℕ) (kept : List Kept) (k : Ke
     → AreWithin s kept gone most → AreWithin t (put_kept (detached_kept label k) kept) (gone ++ owners_named label k.descriptor) most
 within-detached s t gone kept k label most rising there each others within =
     within_put s t gone (owners_named label k.descriptor) kept (detached_kept label k) k most rising there (heavy_split s label k)
-    (gone-stay s t (owners_in (put_kept (detached_kept label k) kept) ++ (gone ++ owners_named label k.descriptor)) each others) within
+    (gone-stay (λ n. n) s t (owners_in (put_kept (detached_kept label k) kept) ++ (gone ++ owners_named label k.descriptor)) each others) within
 
 -- ---- what an engine keeps
-pub within-itself : {S : Type 0} (Has : Wanted → Slots → S → Type 0) (m : Meanings) (root : ℕ) (gone : List ℕ) (aside : ℕ) (db : Db) (space : S)
+pub within-itself : {S : Type 0} (Has : Wanted → Slots → S → Type 0) (m : Meanings) (root : ℕ) (gone aside : List ℕ) (db : Db) (space : S)
     → (keeps : KeepsDb Has m root gone aside db space)
     → KeepsWithin Has m root gone aside (pages_of keeps.slots (owners_in keeps.kept ++ gone) + 2 * length keeps.kept + 3) db space
 within-itself Has m root gone aside db space keeps = record { keeps = keeps; within = omega arith }

@@ -1,5 +1,5 @@
 -- Pages that go before a commit.
-use Rattle.std.specs.Prelude.{◌≡◌, ℕ, List}
+use Rattle.std.specs.Prelude.{◌≡◌, ℕ, List, cond, nat_lt, sum_by}
 use Rattle.sb_drive.specs.Slots.{Slots}
 use Rattle.sb_drive.specs.Spaces.{LeadsOn, Wanted}
 use Rattle.sb_registry.specs.Boxes.{Meanings}
@@ -26,3 +26,7 @@ pub record Frees {B S : Type 0} (Leads : ℕ → S → S → Type 0) (old new : 
   pub queue : new.work.now.queue ≡ old.work.now.queue
   pub done : new.work.now.done ≡ old.work.now.done
   pub picks : new.work.now.picks ≡ old.work.now.picks
+
+-- An owner's pages go by no more than 33 changes. The owners up to the catalogue's have none that go.
+abbrev pub free_most : List ℕ → ℕ
+free_most gone = sum_by (λ owner. cond (nat_lt 2 owner) 33 0) gone

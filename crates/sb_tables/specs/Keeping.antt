@@ -12,14 +12,13 @@ use Rattle.sb_standing.specs.Standing.{Keeps}
 use Rattle.sb_standing.specs.Tables.{Kept, db_of}
 use Rattle.sb_engine.specs.Beside.{AreWithin}
 use Rattle.sb_engine.specs.Opened.{IsDurable}
-use Rattle.sb_engine.specs.Owned.{pages_of}
+use Rattle.sb_engine.specs.Measures.{AreHeld}
 use Rattle.sb_engine.specs.declared.running.Running.{Running}
 use Rattle.sb_engine.specs.Working.{AreLasting}
 
--- A state of a space: its pages keep a database of relations that outlive the run, beside those of owners that are to go, which have no more pages
--- than are held aside.
-pub record KeepsDb {S : Type 0} (Has : Wanted → Slots → S → Type 0) (m : Meanings) (root : ℕ) (gone : List ℕ) (aside : ℕ) (db : Db)
-    (space : S) : Type 0 where
+-- A state of a space: its pages keep a database of relations that outlive the run, beside those of owners that are to go, which these bounds are held
+-- aside for.
+pub record KeepsDb {S : Type 0} (Has : Wanted → Slots → S → Type 0) (m : Meanings) (root : ℕ) (gone aside : List ℕ) (db : Db) (space : S) : Type 0 where
   pub want : Wanted
   pub slots : Slots
   pub kept : List Kept
@@ -27,19 +26,19 @@ pub record KeepsDb {S : Type 0} (Has : Wanted → Slots → S → Type 0) (m : M
   pub is : db ≡ db_of kept
   pub keeps : Keeps m IsDurable root slots gone kept
   pub lasting : AreLasting kept
-  pub few : pages_of slots gone ≤ aside
+  pub held : AreHeld slots gone aside
 
 -- the same of an engine at work, whatever waits
-abbrev pub KeepsIn : {B S : Type 0} → (Wanted → Slots → S → Type 0) → (B → Meanings) → ℕ → Db → Running B S → Type 0
+abbrev pub KeepsIn : {B S : Type 0} → (Wanted → Slots → S → Type 0) → (B → Meanings) → List ℕ → Db → Running B S → Type 0
 KeepsIn Has meanings aside db a = KeepsDb Has (meanings a.boxes.now) a.place.root a.work.now.gone.items aside db a.space.now
 
 -- So they do, and instances, what is to go and the catalogue have so many pages at most.
-pub record KeepsWithin {S : Type 0} (Has : Wanted → Slots → S → Type 0) (m : Meanings) (root : ℕ) (gone : List ℕ) (aside most : ℕ) (db : Db)
+pub record KeepsWithin {S : Type 0} (Has : Wanted → Slots → S → Type 0) (m : Meanings) (root : ℕ) (gone aside : List ℕ) (most : ℕ) (db : Db)
     (space : S) : Type 0 where
   pub keeps : KeepsDb Has m root gone aside db space
   pub within : AreWithin keeps.slots keeps.kept gone most
 
-abbrev pub KeepsWithinIn : {B S : Type 0} → (Wanted → Slots → S → Type 0) → (B → Meanings) → ℕ → ℕ → Db → Running B S → Type 0
+abbrev pub KeepsWithinIn : {B S : Type 0} → (Wanted → Slots → S → Type 0) → (B → Meanings) → List ℕ → ℕ → Db → Running B S → Type 0
 KeepsWithinIn Has meanings aside most db a = KeepsWithin Has (meanings a.boxes.now) a.place.root a.work.now.gone.items aside most db a.space.now
 
 -- At a moment on the way here a space had no more pages than those that it takes for itself and so many.

@@ -3,6 +3,7 @@ pub use Rattle.sb_engine.specs.Calls
 pub use Rattle.sb_engine.specs.Changes
 pub use Rattle.sb_engine.specs.Goings
 pub use Rattle.sb_engine.specs.Licensed
+pub use Rattle.sb_engine.specs.Measures
 pub use Rattle.sb_engine.specs.OpenRelation
 pub use Rattle.sb_engine.specs.Opened
 pub use Rattle.sb_engine.specs.Owned

@@ -1,5 +1,5 @@
 -- Relations and attachments that go.
-use Rattle.std.specs.Prelude.{◌≡◌, ℕ, ◌+◌, false, List, [], ◌∷◌, All, Option, Some, None, not, bytes_eq, filter, sum_by}
+use Rattle.std.specs.Prelude.{◌≡◌, ℕ, ◌+◌, false, List, [], ◌∷◌, ◌++◌, All, Option, Some, None, map, not, bytes_eq, filter}
 use Rattle.std.specs.FinMap.Entries.{where_key}
 use Rattle.sb_value.specs.Order.{bytes_cmp}
 use Rattle.sb_rule.specs.declared.rule.Rule.{Rule}
@@ -36,25 +36,34 @@ abbrev pub without_mirrors_of : Name → List Attached → Db → Db
 without_mirrors_of relation [] db = db
 without_mirrors_of relation (d ∷ ds) db = without_mirrors_of relation ds (without_mirror relation d.name (mirror_of relation d.rule) db)
 
--- ---- the most pages of what is taken off
+-- ---- the most pages of each instance that is taken off
 -- of the attachments of a name
-abbrev pub taken_bound : Extensions → Db → Name → Name → ℕ
-taken_bound ext db relation label = sum_by (attached_bound ext db relation) (filter (λ a. bytes_eq a.name label) (attachments_at db relation))
+abbrev pub taken_bounds : Extensions → Db → Name → Name → List ℕ
+taken_bounds ext db relation label = map (attached_bound ext db relation) (filter (λ a. bytes_eq a.name label) (attachments_at db relation))
 
 -- of the mirror of an attachment, where it has one
-abbrev pub mirror_bound : Extensions → Name → Name → Option (Name × Rule) → Db → ℕ
-mirror_bound ext relation name None db = 0
-mirror_bound ext relation name (Some (other, rule)) db = taken_bound ext db other (mirror_name relation name)
+abbrev pub mirror_bounds : Extensions → Name → Name → Option (Name × Rule) → Db → List ℕ
+mirror_bounds ext relation name None db = []
+mirror_bounds ext relation name (Some (other, rule)) db = taken_bounds ext db other (mirror_name relation name)
 
 -- of those of attachments, one behind the other
-abbrev pub mirrors_bound : Extensions → Name → List Db.Attached → Db → ℕ
-mirrors_bound ext relation [] db = 0
-mirrors_bound ext relation (a ∷ others) db =
-    mirror_bound ext relation a.name (mirror_of relation a.rule) db + mirrors_bound ext relation others (without_mirror_of relation a db)
+abbrev pub mirrors_bounds : Extensions → Name → List Db.Attached → Db → List ℕ
+mirrors_bounds ext relation [] db = []
+mirrors_bounds ext relation (a ∷ others) db =
+    mirror_bounds ext relation a.name (mirror_of relation a.rule) db ++ mirrors_bounds ext relation others (without_mirror_of relation a db)
 
 -- the same, as a descriptor of the relation has these
-abbrev pub mirrors_bound_of : Extensions → Name → List Attached → Db → ℕ
-mirrors_bound_of ext relation [] db = 0
-mirrors_bound_of ext relation (d ∷ ds) db =
-    mirror_bound ext relation d.name (mirror_of relation d.rule) db
-    + mirrors_bound_of ext relation ds (without_mirror relation d.name (mirror_of relation d.rule) db)
+abbrev pub mirrors_bounds_of : Extensions → Name → List Attached → Db → List ℕ
+mirrors_bounds_of ext relation [] db = []
+mirrors_bounds_of ext relation (d ∷ ds) db =
+    mirror_bounds ext relation d.name (mirror_of relation d.rule) db
+    ++ mirrors_bounds_of ext relation ds (without_mirror relation d.name (mirror_of relation d.rule) db)
+
+-- ---- what it costs to take mirrors off, where a descriptor costs so much
+abbrev pub mirror_cost : ℕ → Option (Name × Rule) → ℕ
+mirror_cost entry None = 0
+mirror_cost entry (Some mirror) = entry
+
+abbrev pub mirrors_cost : ℕ → Name → List Attached → ℕ
+mirrors_cost entry relation [] = 0
+mirrors_cost entry relation (d ∷ ds) = mirror_cost entry (mirror_of relation d.rule) + mirrors_cost entry relation ds

@@ -1,19 +1,20 @@
 //! New relations.
 
-ghost use Rattle.std.specs.Prelude.{◌≡◌, ◌<◌, [], ℕ, List, sum, IfOk, IfErr, OnOk, true};
+ghost use Rattle.std.specs.Prelude.{◌≡◌, ◌<◌, [], ℕ, List, IfOk, IfErr, OnOk, true};
 ghost use Rattle.sb_relation.specs.Db.{Db, with_relation};
 ghost use Rattle.sb_fold.specs.Building as fold;
+ghost use Rattle.sb_fold.specs.Costs.{create_cost};
 ghost use Rattle.sb_fold.specs.Outcome.{Going};
 ghost use Rattle.sb_cascade.specs.Runs.{MadeFrom, StopsFrom};
 ghost use Rattle.sb_ctx.specs.declared.calls.MethodCall.TheVariants.{Prepare};
 ghost use Rattle.sb_drive.specs.Slots.{Slots};
-ghost use Rattle.sb_drive.specs.Spaces.{LeadsOn, Wanted};
+ghost use Rattle.sb_drive.specs.Spaces.{LeadsOn, LeadsWithin, Wanted};
 ghost use Rattle.sb_registry.specs.Live.{IsLive};
 ghost use Rattle.sb_standing.specs.Lacking.{LacksFor, WhereShort};
 ghost use Rattle.sb_standing.specs.Live.{IsNewIn, LeavesRows};
 ghost use Rattle.sb_standing.specs.Instances.{table_instance};
 ghost use Rattle.sb_engine.specs.Refusals.{HasFaultCause, HasRefusalCause, refusal_of};
-ghost use Rattle.sb_engine.specs.Working.{Goes, IsLicensed, IsServing, IsStoppedFor, StandsFor, extensions_in};
+ghost use Rattle.sb_engine.specs.Working.{Goes, IsLicensed, IsServing, IsStoppedFor, StandsFor, extensions_in, extensions_of};
 ghost use Rattle.sb_tables.specs.Creation.{MayCreate, new_descriptor, new_relation};
 ghost use Rattle.sb_tables.specs.Keeping.{Closes, KeepsDb};
 
@@ -40,12 +41,12 @@ pub fn create<B: Boxes, S: Owners>(
 ) -> Result<(), Refusal>
     requires ready { IsServing S.is_ready B.meanings running.old }
 
-    ensures made { OnOk result ((g : Going) → StandsFor S.has B.meanings g running.old
+    ensures made { OnOk result ((g : Going) → StandsFor S.has S.spent B.meanings g running.old
         → MayCreate (B.meanings running.old.boxes.now) g.db name.now method schema.now key.now
-        → MadeFrom (StandsFor S.has B.meanings) (fold.create (extensions_in B.meanings running.old) name.now method schema.now key.now) g tt running.new) }
-    ensures refused { IfErr result (λ r. (g : Going) → StandsFor S.has B.meanings g running.old
+        → MadeFrom (StandsFor S.has S.spent B.meanings) (fold.create (extensions_in B.meanings running.old) name.now method schema.now key.now) g tt running.new) }
+    ensures refused { IfErr result (λ r. (g : Going) → StandsFor S.has S.spent B.meanings g running.old
         → MayCreate (B.meanings running.old.boxes.now) g.db name.now method schema.now key.now
-        → StopsFrom (IsStoppedFor S.has S.leads S.fails S.table B.meanings)
+        → StopsFrom (IsStoppedFor S.has S.spent S.leads S.fails S.table B.meanings)
         (fold.create (extensions_in B.meanings running.old) name.now method schema.now key.now) g r running.new) }
     ensures fault { IfErr result (λ r. HasFaultCause S.fails r running.new.space.now) }
     ensures closes { Closes running.old running.new }
@@ -83,16 +84,19 @@ fn create_kept<S: Owners, B: Boxes>(
     requires ready { S.is_ready space.old }
     requires owner { place.owner ≡ 2 }
 
-    ensures made { OnOk result ((gone : List ℕ) (aside : ℕ) (db : Db) → KeepsDb S.has (B.meanings boxes.now) place.root gone aside db space.old
+    ensures made { OnOk result ((gone aside : List ℕ) (db : Db) → KeepsDb S.has (B.meanings boxes.now) place.root gone aside db space.old
         → MayCreate (B.meanings boxes.now) db name.now method schema.now key.now
         → KeepsDb S.has (B.meanings boxes.now) place.root gone aside (with_relation db name.now (new_relation method schema.now key.now)) space.new) }
-    ensures refused { IfErr result (λ e. (gone : List ℕ) (aside : ℕ) (db : Db) → KeepsDb S.has (B.meanings boxes.now) place.root gone aside db space.old
+    ensures refused { IfErr result (λ e. (gone aside : List ℕ) (db : Db) → KeepsDb S.has (B.meanings boxes.now) place.root gone aside db space.old
         → MayCreate (B.meanings boxes.now) db name.now method schema.now key.now → HasRefusalCause S.fails (refusal_of e) space.new) }
     ensures licensed { IfErr result (λ e. (gone : List ℕ) (g : Going) (cost : ℕ)
-        → KeepsDb S.has (B.meanings boxes.now) place.root gone (sum g.gone.durable) g.db space.old
+        → KeepsDb S.has (B.meanings boxes.now) place.root gone g.gone.durable g.db space.old
         → MayCreate (B.meanings boxes.now) g.db name.now method schema.now key.now
         → IsLicensed S.has S.leads S.table (B.meanings boxes.now) (refusal_of e)
         (fold.at_point (with_relation g.db name.now (new_relation method schema.now key.now)) g.gone cost g.trail) space.new) }
+    ensures costs { (gone aside : List ℕ) (db : Db) → KeepsDb S.has (B.meanings boxes.now) place.root gone aside db space.old
+        → MayCreate (B.meanings boxes.now) db name.now method schema.now key.now
+        → LeadsWithin S.leads (create_cost (extensions_of (B.meanings boxes.now)) db method) space.old space.new }
     ensures fault { IfErr result (λ e. HasFaultCause S.fails (refusal_of e) space.new) }
     ensures leads { LeadsOn S.leads space.old space.new }
     ensures ready { S.is_ready space.new }
@@ -146,6 +150,9 @@ fn prepare_table<S: PageSpace, B: Boxes>(
     ensures full { IfErr result (λ e. (want : Wanted) (s : Slots) → S.has want s space.old → IsNewIn s (table_instance true name.now descriptor.now)
         → (live : IsLive (B.meanings boxes.now) (table_instance true name.now descriptor.now))
         → WhereShort e (LacksFor live.box (table_instance true name.now descriptor.now) Prepare [] s)) }
+    ensures costs { (want : Wanted) (s : Slots) → S.has want s space.old → IsNewIn s (table_instance true name.now descriptor.now)
+        → (live : IsLive (B.meanings boxes.now) (table_instance true name.now descriptor.now))
+        → LeadsWithin S.leads (live.box.cost Prepare []) space.old space.new }
     ensures fault { IfErr result (λ e. HasFaultCause S.fails (refusal_of e) space.new) }
     ensures leads { LeadsOn S.leads space.old space.new }
     ensures ready { S.is_ready space.new }

@@ -5,9 +5,10 @@ ghost use Rattle.std.specs.List.{filter};
 ghost use Rattle.std.specs.FinMap.Entries.{put};
 ghost use Rattle.sb_node.specs.Entries.{Entry, key_cmp};
 ghost use Rattle.sb_forms.specs.Maps.{map_in};
+ghost use Rattle.sb_fold.specs.Costs.{tree_cost};
 ghost use Rattle.sb_rule.specs.Spelling.{IsShortName};
 ghost use Rattle.sb_drive.specs.Slots.{Slots, owned};
-ghost use Rattle.sb_drive.specs.Spaces.{LeadsOn, Leaves, Wanted};
+ghost use Rattle.sb_drive.specs.Spaces.{LeadsOn, LeadsWithin, Leaves, Wanted};
 ghost use Rattle.sb_catalog.specs.Descriptors.{descriptor_spelling, IsConsistent, IsShortDescriptor, IsStorableDescriptor};
 ghost use Rattle.sb_engine.specs.Changes.{IsSmall};
 ghost use Rattle.sb_registry.specs.Runs.{IsSound};
@@ -80,6 +81,8 @@ pub fn enter<S: PageSpace>(
         → IsSmall name.now (descriptor_spelling descriptor.now) → HasRefusalCause S.fails (refusal_of e) space.new) }
     ensures full { IfErr result (λ e. (want : Wanted) (s : Slots) (es : List Entry) → S.has want s space.old → map_in place.root (owned s 2) ≡ Some es
         → WhereShort e (IsShort s 2 (2 * length es))) }
+    ensures costs { (want : Wanted) (s : Slots) (es : List Entry) → S.has want s space.old → map_in place.root (owned s 2) ≡ Some es
+        → LeadsWithin S.leads (tree_cost (length es)) space.old space.new }
     ensures fault { IfErr result (λ e. HasFaultCause S.fails (refusal_of e) space.new) }
     ensures leads { LeadsOn S.leads space.old space.new }
     ensures ready { S.is_ready space.new }

@@ -1,16 +1,17 @@
 //! Pages that go before a commit.
 
 ghost use Rattle.std.specs.Prelude.{◌≡◌, ◌∷◌, [], ℕ, List, IfErr, OnErr, OnOk};
+ghost use Rattle.sb_fold.specs.Finish.{freed};
 ghost use Rattle.sb_fold.specs.Outcome.{Going};
 ghost use Rattle.sb_drive.specs.Slots.{Slots};
-ghost use Rattle.sb_drive.specs.Spaces.{IsStoreFault, LeadsOn, Wanted};
+ghost use Rattle.sb_drive.specs.Spaces.{IsStoreFault, LeadsWithin, Wanted};
 ghost use Rattle.sb_registry.specs.Boxes.{Meanings};
 ghost use Rattle.sb_standing.specs.Standing.{Keeps};
 ghost use Rattle.sb_standing.specs.Tables.{Kept};
 ghost use Rattle.sb_engine.specs.Opened.{IsDurable};
 ghost use Rattle.sb_engine.specs.Refusals.{HasPagesLeft, HasRefusalCause, IsRefusedBy, refusal_of};
-ghost use Rattle.sb_engine.specs.Working.{IsServing, StandsFor};
-ghost use Rattle.sb_tables.specs.Freeing.{Frees, LeavesGone};
+ghost use Rattle.sb_engine.specs.Working.{IsPaid, IsServing, StandsFor};
+ghost use Rattle.sb_tables.specs.Freeing.{Frees, LeavesGone, free_most};
 
 use sb_drive::SpaceFault;
 use sb_engine::{Running, refusal_of};
@@ -29,11 +30,13 @@ pub fn free_gone<B: Boxes, S: Owners>(
 ) -> Result<(), Refusal>
     requires ready { IsServing S.is_ready B.meanings running.old }
 
-    ensures freed { OnOk result ((g : Going) → StandsFor S.has B.meanings g running.old → StandsFor S.has B.meanings g running.new) }
+    ensures freed { OnOk result ((g : Going) → StandsFor S.has S.spent B.meanings g running.old → StandsFor S.has S.spent B.meanings (freed g) running.new) }
     ensures none { OnOk result (running.new.work.now.gone.items ≡ []) }
     ensures refused { IfErr result (λ r. IsRefusedBy S.fails r running.new.space.now) }
     ensures cause { IfErr result (λ r. HasRefusalCause S.fails r running.new.space.now) }
     ensures pages { IfErr result HasPagesLeft }
+    ensures paid { IfErr result (λ r. (g : Going) → StandsFor S.has S.spent B.meanings g running.old
+        → IsPaid S.spent 0 (freed g).trail.spent running.new.space.now) }
     ensures frees { Frees S.leads running.old running.new }
     ensures kept { IfErr result (λ r. running.new.work.now.gone ≡ running.old.work.now.gone) }
     ensures idle { running.old.work.now.gone.items ≡ [] → OnErr result ⊥ }
@@ -56,7 +59,7 @@ fn free_all<S: Owners>(space: &mut S, alloc: Global, gone: &mut Vec<u16>) -> Res
     ensures stored { IfErr result IsStoreFault }
     ensures kept { IfErr result (λ e. gone.new ≡ gone.old) }
     ensures idle { gone.old.items ≡ [] → OnErr result ⊥ }
-    ensures leads { LeadsOn S.leads space.old space.new }
+    ensures leads { LeadsWithin S.leads (free_most gone.old.items) space.old space.new }
     ensures ready { S.is_ready space.new }
 {
     free_owners(space, alloc, gone)?;
@@ -73,7 +76,7 @@ fn free_owners<S: Owners>(space: &mut S, alloc: Global, owners: &[u16]) -> Resul
     ensures refused { IfErr result (λ e. IsRefusedBy S.fails (refusal_of e) space.new) }
     ensures stored { IfErr result IsStoreFault }
     ensures idle { owners.now ≡ [] → OnErr result ⊥ }
-    ensures leads { LeadsOn S.leads space.old space.new }
+    ensures leads { LeadsWithin S.leads (free_most owners.now) space.old space.new }
     ensures ready { S.is_ready space.new }
 {
     for owner in owners {
@@ -90,7 +93,7 @@ fn free_owner<S: Owners>(space: &mut S, alloc: Global, owner: u16) -> Result<(),
         → Keeps m IsDurable root s (owner ∷ gone) kept → LeavesGone S.has m root kept want gone space.new) }
     ensures refused { IfErr result (λ e. IsRefusedBy S.fails (refusal_of e) space.new) }
     ensures stored { IfErr result IsStoreFault }
-    ensures leads { LeadsOn S.leads space.old space.new }
+    ensures leads { LeadsWithin S.leads (free_most (owner ∷ [])) space.old space.new }
     ensures ready { S.is_ready space.new }
 {
     if owner > CATALOGUE {

@@ -1,18 +1,19 @@
 //! Attachments that go by their names, and mirrors of a relation's attachments. What is made of an open relation goes by calls of `drop`.
 
-ghost use Rattle.std.specs.Prelude.{◌≡◌, ℕ, ◌+◌, ◌++◌, ◌∷◌, IfOk, IfErr, OnOk, option_copied, option_map, true};
+ghost use Rattle.std.specs.Prelude.{◌≡◌, ℕ, ◌*◌, ◌++◌, ◌∷◌, List, IfOk, IfErr, OnOk, length, option_copied, option_map, true};
 ghost use Rattle.sb_relation.specs.Build.{mirror_name, mirror_of};
 ghost use Rattle.sb_relation.specs.Db.{Db, Name as Named};
-ghost use Rattle.sb_fold.specs.Building.{without_attached, without_mirror, without_mirrors};
+ghost use Rattle.sb_fold.specs.Building.{mirrored_in, without_attached, without_mirror, without_mirrors};
+ghost use Rattle.sb_fold.specs.Costs.{descriptor_cost};
 ghost use Rattle.sb_fold.specs.Fold.{attachments_at};
 ghost use Rattle.sb_cascade.specs.Runs.{is_free};
-ghost use Rattle.sb_drive.specs.Spaces.{LeadsOn};
+ghost use Rattle.sb_drive.specs.Spaces.{LeadsOn, LeadsWithin};
 ghost use Rattle.sb_catalog.specs.Descriptors.{IsStorableDescriptor};
 ghost use Rattle.sb_standing.specs.Standing.{owners_named, without_described};
 ghost use Rattle.sb_engine.specs.Refusals.{HasFaultCause, HasRefusalCause, refusal_of};
 ghost use Rattle.sb_engine.specs.Working.{Goes, IsServing, extensions_in, extensions_of};
 ghost use Rattle.sb_tables.specs.Keeping.{Closes, HasMore, IsFullBy, KeepsDb, KeepsIn, KeepsWithin, KeepsWithinIn};
-ghost use Rattle.sb_tables.specs.Removal.{mirror_bound, mirrors_bound, mirrors_bound_of, taken_bound, without_mirrors_of};
+ghost use Rattle.sb_tables.specs.Removal.{mirror_bounds, mirror_cost, mirrors_bounds, mirrors_bounds_of, mirrors_cost, taken_bounds, without_mirrors_of};
 
 use crate::descriptors::{enter, owners_named, without_named};
 use sb_catalog::{Attached, Descriptor};
@@ -34,13 +35,15 @@ pub fn detach_named<B: Boxes, S: PageSpace>(
 ) -> Result<(), Refusal>
     requires ready { IsServing S.is_ready B.meanings running.old }
 
-    ensures detached { OnOk result ((aside most : ℕ) (db : Db) → KeepsWithinIn S.has B.meanings aside most db running.old
-        → KeepsWithinIn S.has B.meanings (aside + taken_bound (extensions_in B.meanings running.old) db relation.now label.now) most
+    ensures detached { OnOk result ((aside : List ℕ) (most : ℕ) (db : Db) → KeepsWithinIn S.has B.meanings aside most db running.old
+        → KeepsWithinIn S.has B.meanings (aside ++ taken_bounds (extensions_in B.meanings running.old) db relation.now label.now) most
         (without_attached db relation.now label.now) running.new) }
-    ensures refused { IfErr result (λ r. (aside : ℕ) (db : Db) → KeepsIn S.has B.meanings aside db running.old
+    ensures refused { IfErr result (λ r. (aside : List ℕ) (db : Db) → KeepsIn S.has B.meanings aside db running.old
         → HasRefusalCause S.fails r running.new.space.now) }
-    ensures licensed { IfErr result (λ r. (aside most : ℕ) (db : Db) → KeepsWithinIn S.has B.meanings aside most db running.old
+    ensures licensed { IfErr result (λ r. (aside : List ℕ) (most : ℕ) (db : Db) → KeepsWithinIn S.has B.meanings aside most db running.old
         → IsFullBy S.has S.leads S.table most r running.new.space.now) }
+    ensures costs { (aside : List ℕ) (db : Db) → KeepsIn S.has B.meanings aside db running.old
+        → LeadsWithin S.leads (descriptor_cost (extensions_in B.meanings running.old) db) running.old.space.now running.new.space.now }
     ensures fault { IfErr result (λ r. HasFaultCause S.fails r running.new.space.now) }
     ensures free { IfErr result (λ r. is_free r ≡ true) }
     ensures closes { Closes running.old running.new }
@@ -75,15 +78,17 @@ fn detach_kept<S: PageSpace, B: Boxes>(
     requires ready { S.is_ready space.old }
     requires owner { place.owner ≡ 2 }
 
-    ensures detached { OnOk result ((aside most : ℕ) (db : Db) → KeepsWithin S.has (B.meanings boxes.now) place.root gone.old.items aside most db space.old
+    ensures detached { OnOk result ((aside : List ℕ) (most : ℕ) (db : Db) → KeepsWithin S.has (B.meanings boxes.now) place.root gone.old.items aside most db space.old
         → KeepsWithin S.has (B.meanings boxes.now) place.root gone.new.items
-        (aside + taken_bound (extensions_of (B.meanings boxes.now)) db relation.now label.now) most
+        (aside ++ taken_bounds (extensions_of (B.meanings boxes.now)) db relation.now label.now) most
         (without_attached db relation.now label.now) space.new) }
-    ensures refused { IfErr result (λ e. (aside : ℕ) (db : Db) → KeepsDb S.has (B.meanings boxes.now) place.root gone.old.items aside db space.old
+    ensures refused { IfErr result (λ e. (aside : List ℕ) (db : Db) → KeepsDb S.has (B.meanings boxes.now) place.root gone.old.items aside db space.old
         → HasRefusalCause S.fails (refusal_of e) space.new) }
-    ensures licensed { IfErr result (λ e. (aside most : ℕ) (db : Db)
+    ensures licensed { IfErr result (λ e. (aside : List ℕ) (most : ℕ) (db : Db)
         → KeepsWithin S.has (B.meanings boxes.now) place.root gone.old.items aside most db space.old
         → IsFullBy S.has S.leads S.table most (refusal_of e) space.new) }
+    ensures costs { (aside : List ℕ) (db : Db) → KeepsDb S.has (B.meanings boxes.now) place.root gone.old.items aside db space.old
+        → LeadsWithin S.leads (descriptor_cost (extensions_of (B.meanings boxes.now)) db) space.old space.new }
     ensures fault { IfErr result (λ e. HasFaultCause S.fails (refusal_of e) space.new) }
     ensures more { HasMore gone.old.items gone.new.items }
     ensures leads { LeadsOn S.leads space.old space.new }
@@ -149,15 +154,20 @@ pub(crate) fn detach_mirrors<S: PageSpace, B: Boxes>(
     requires ready { S.is_ready space.old }
     requires owner { place.owner ≡ 2 }
 
-    ensures detached { OnOk result ((aside most : ℕ) (db : Db) → KeepsWithin S.has (B.meanings boxes.now) place.root gone.old.items aside most db space.old
+    ensures detached { OnOk result ((aside : List ℕ) (most : ℕ) (db : Db) → KeepsWithin S.has (B.meanings boxes.now) place.root gone.old.items aside most db space.old
         → KeepsWithin S.has (B.meanings boxes.now) place.root gone.new.items
-        (aside + mirrors_bound (extensions_of (B.meanings boxes.now)) name.now (attachments_at db name.now) db) most
+        (aside ++ mirrors_bounds (extensions_of (B.meanings boxes.now)) name.now (attachments_at db name.now) db) most
         (without_mirrors name.now (attachments_at db name.now) db) space.new) }
-    ensures refused { IfErr result (λ e. (aside : ℕ) (db : Db) → KeepsDb S.has (B.meanings boxes.now) place.root gone.old.items aside db space.old
+    ensures refused { IfErr result (λ e. (aside : List ℕ) (db : Db) → KeepsDb S.has (B.meanings boxes.now) place.root gone.old.items aside db space.old
         → HasRefusalCause S.fails (refusal_of e) space.new) }
-    ensures licensed { IfErr result (λ e. (aside most : ℕ) (db : Db)
+    ensures licensed { IfErr result (λ e. (aside : List ℕ) (most : ℕ) (db : Db)
         → KeepsWithin S.has (B.meanings boxes.now) place.root gone.old.items aside most db space.old
         → IsFullBy S.has S.leads S.table most (refusal_of e) space.new) }
+    ensures costs { (aside : List ℕ) (db : Db) → KeepsDb S.has (B.meanings boxes.now) place.root gone.old.items aside db space.old
+        → LeadsWithin S.leads (length (mirrored_in name.now (attachments_at db name.now)) * descriptor_cost (extensions_of (B.meanings boxes.now)) db) space.old space.new }
+    ensures entries { OnOk result ((aside : List ℕ) (db : Db) → KeepsDb S.has (B.meanings boxes.now) place.root gone.old.items aside db space.old
+        → descriptor_cost (extensions_of (B.meanings boxes.now)) (without_mirrors name.now (attachments_at db name.now) db)
+        ≡ descriptor_cost (extensions_of (B.meanings boxes.now)) db) }
     ensures fault { IfErr result (λ e. HasFaultCause S.fails (refusal_of e) space.new) }
     ensures more { HasMore gone.old.items gone.new.items }
     ensures leads { LeadsOn S.leads space.old space.new }
@@ -190,15 +200,20 @@ fn detach_mirrors_of<S: PageSpace, B: Boxes>(
     requires ready { S.is_ready space.old }
     requires owner { place.owner ≡ 2 }
 
-    ensures detached { OnOk result ((aside most : ℕ) (db : Db) → KeepsWithin S.has (B.meanings boxes.now) place.root gone.old.items aside most db space.old
+    ensures detached { OnOk result ((aside : List ℕ) (most : ℕ) (db : Db) → KeepsWithin S.has (B.meanings boxes.now) place.root gone.old.items aside most db space.old
         → KeepsWithin S.has (B.meanings boxes.now) place.root gone.new.items
-        (aside + mirrors_bound_of (extensions_of (B.meanings boxes.now)) name.now attachments.now db) most
+        (aside ++ mirrors_bounds_of (extensions_of (B.meanings boxes.now)) name.now attachments.now db) most
         (without_mirrors_of name.now attachments.now db) space.new) }
-    ensures refused { IfErr result (λ e. (aside : ℕ) (db : Db) → KeepsDb S.has (B.meanings boxes.now) place.root gone.old.items aside db space.old
+    ensures refused { IfErr result (λ e. (aside : List ℕ) (db : Db) → KeepsDb S.has (B.meanings boxes.now) place.root gone.old.items aside db space.old
         → HasRefusalCause S.fails (refusal_of e) space.new) }
-    ensures licensed { IfErr result (λ e. (aside most : ℕ) (db : Db)
+    ensures licensed { IfErr result (λ e. (aside : List ℕ) (most : ℕ) (db : Db)
         → KeepsWithin S.has (B.meanings boxes.now) place.root gone.old.items aside most db space.old
         → IsFullBy S.has S.leads S.table most (refusal_of e) space.new) }
+    ensures costs { (aside : List ℕ) (db : Db) → KeepsDb S.has (B.meanings boxes.now) place.root gone.old.items aside db space.old
+        → LeadsWithin S.leads (mirrors_cost (descriptor_cost (extensions_of (B.meanings boxes.now)) db) name.now attachments.now) space.old space.new }
+    ensures entries { OnOk result ((aside : List ℕ) (db : Db) → KeepsDb S.has (B.meanings boxes.now) place.root gone.old.items aside db space.old
+        → descriptor_cost (extensions_of (B.meanings boxes.now)) (without_mirrors_of name.now attachments.now db)
+        ≡ descriptor_cost (extensions_of (B.meanings boxes.now)) db) }
     ensures fault { IfErr result (λ e. HasFaultCause S.fails (refusal_of e) space.new) }
     ensures more { HasMore gone.old.items gone.new.items }
     ensures leads { LeadsOn S.leads space.old space.new }
@@ -223,15 +238,17 @@ fn detach_mirror<S: PageSpace, B: Boxes>(
     requires ready { S.is_ready space.old }
     requires owner { place.owner ≡ 2 }
 
-    ensures detached { OnOk result ((aside most : ℕ) (db : Db) → KeepsWithin S.has (B.meanings boxes.now) place.root gone.old.items aside most db space.old
+    ensures detached { OnOk result ((aside : List ℕ) (most : ℕ) (db : Db) → KeepsWithin S.has (B.meanings boxes.now) place.root gone.old.items aside most db space.old
         → KeepsWithin S.has (B.meanings boxes.now) place.root gone.new.items
-        (aside + mirror_bound (extensions_of (B.meanings boxes.now)) name.now attached.now.name (mirror_of name.now attached.now.rule) db) most
+        (aside ++ mirror_bounds (extensions_of (B.meanings boxes.now)) name.now attached.now.name (mirror_of name.now attached.now.rule) db) most
         (without_mirror name.now attached.now.name (mirror_of name.now attached.now.rule) db) space.new) }
-    ensures refused { IfErr result (λ e. (aside : ℕ) (db : Db) → KeepsDb S.has (B.meanings boxes.now) place.root gone.old.items aside db space.old
+    ensures refused { IfErr result (λ e. (aside : List ℕ) (db : Db) → KeepsDb S.has (B.meanings boxes.now) place.root gone.old.items aside db space.old
         → HasRefusalCause S.fails (refusal_of e) space.new) }
-    ensures licensed { IfErr result (λ e. (aside most : ℕ) (db : Db)
+    ensures licensed { IfErr result (λ e. (aside : List ℕ) (most : ℕ) (db : Db)
         → KeepsWithin S.has (B.meanings boxes.now) place.root gone.old.items aside most db space.old
         → IsFullBy S.has S.leads S.table most (refusal_of e) space.new) }
+    ensures costs { (aside : List ℕ) (db : Db) → KeepsDb S.has (B.meanings boxes.now) place.root gone.old.items aside db space.old
+        → LeadsWithin S.leads (mirror_cost (descriptor_cost (extensions_of (B.meanings boxes.now)) db) (mirror_of name.now attached.now.rule)) space.old space.new }
     ensures fault { IfErr result (λ e. HasFaultCause S.fails (refusal_of e) space.new) }
     ensures more { HasMore gone.old.items gone.new.items }
     ensures leads { LeadsOn S.leads space.old space.new }

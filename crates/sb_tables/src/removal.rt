@@ -1,11 +1,13 @@
 //! Relations that go. An open relation itself goes by a call of `drop`.
 
-ghost use Rattle.std.specs.Prelude.{◌≡◌, ℕ, ◌+◌, sum, IfErr, OnOk};
+ghost use Rattle.std.specs.Prelude.{◌≡◌, ℕ, ◌+◌, ◌*◌, ◌++◌, List, length, IfErr, OnOk};
 ghost use Rattle.sb_relation.specs.Db.{Db};
 ghost use Rattle.sb_fold.specs.Building as fold;
+ghost use Rattle.sb_fold.specs.Costs.{descriptor_cost};
+ghost use Rattle.sb_fold.specs.Fold.{attachments_at};
 ghost use Rattle.sb_fold.specs.Outcome.{Going, Queue};
 ghost use Rattle.sb_cascade.specs.Runs.{MadeFrom, StopsFrom};
-ghost use Rattle.sb_drive.specs.Spaces.{LeadsOn};
+ghost use Rattle.sb_drive.specs.Spaces.{LeadsOn, LeadsWithin};
 ghost use Rattle.sb_deferred.specs.Complete.{AreMirrored};
 ghost use Rattle.sb_engine.specs.Refusals.{HasFaultCause, HasRefusalCause, refusal_of};
 ghost use Rattle.sb_engine.specs.Working.{AreNamedApart, ArePaired, Goes, IsServing, IsStoppedFor, StandsFor, extensions_in, extensions_of};
@@ -29,10 +31,10 @@ pub fn drop_relation<B: Boxes, S: PageSpace>(
 ) -> Result<(), Refusal>
     requires ready { IsServing S.is_ready B.meanings running.old }
 
-    ensures made { OnOk result ((g : Going) → StandsFor S.has B.meanings g running.old → MayDrop g.db g.queue name.now
-        → MadeFrom (StandsFor S.has B.meanings) (fold.drop_relation (extensions_in B.meanings running.old) name.now) g tt running.new) }
-    ensures refused { IfErr result (λ r. (g : Going) → StandsFor S.has B.meanings g running.old → MayDrop g.db g.queue name.now
-        → StopsFrom (IsStoppedFor S.has S.leads S.fails S.table B.meanings)
+    ensures made { OnOk result ((g : Going) → StandsFor S.has S.spent B.meanings g running.old → MayDrop g.db g.queue name.now
+        → MadeFrom (StandsFor S.has S.spent B.meanings) (fold.drop_relation (extensions_in B.meanings running.old) name.now) g tt running.new) }
+    ensures refused { IfErr result (λ r. (g : Going) → StandsFor S.has S.spent B.meanings g running.old → MayDrop g.db g.queue name.now
+        → StopsFrom (IsStoppedFor S.has S.spent S.leads S.fails S.table B.meanings)
         (fold.drop_relation (extensions_in B.meanings running.old) name.now) g r running.new) }
     ensures fault { IfErr result (λ r. HasFaultCause S.fails r running.new.space.now) }
     ensures closes { Closes running.old running.new }
@@ -65,15 +67,17 @@ fn drop_kept<S: PageSpace, B: Boxes>(
     requires ready { S.is_ready space.old }
     requires owner { place.owner ≡ 2 }
 
-    ensures dropped { OnOk result ((aside : ℕ) (db : Db) (q : Queue) → KeepsDb S.has (B.meanings boxes.now) place.root gone.old.items aside db space.old
+    ensures dropped { OnOk result ((aside : List ℕ) (db : Db) (q : Queue) → KeepsDb S.has (B.meanings boxes.now) place.root gone.old.items aside db space.old
         → MayDrop db q name.now → AreMirrored db → ArePaired db → AreNamedApart db
-        → KeepsDb S.has (B.meanings boxes.now) place.root gone.new.items (aside + sum (fold.bounds_at (extensions_of (B.meanings boxes.now)) db name.now))
+        → KeepsDb S.has (B.meanings boxes.now) place.root gone.new.items (aside ++ fold.bounds_at (extensions_of (B.meanings boxes.now)) db name.now)
         (fold.without_relation db name.now) space.new) }
-    ensures refused { IfErr result (λ e. (aside : ℕ) (db : Db) → KeepsDb S.has (B.meanings boxes.now) place.root gone.old.items aside db space.old
+    ensures refused { IfErr result (λ e. (aside : List ℕ) (db : Db) → KeepsDb S.has (B.meanings boxes.now) place.root gone.old.items aside db space.old
         → HasRefusalCause S.fails (refusal_of e) space.new) }
-    ensures licensed { IfErr result (λ e. (aside most : ℕ) (db : Db)
+    ensures licensed { IfErr result (λ e. (aside : List ℕ) (most : ℕ) (db : Db)
         → KeepsWithin S.has (B.meanings boxes.now) place.root gone.old.items aside most db space.old
         → IsFullBy S.has S.leads S.table most (refusal_of e) space.new) }
+    ensures costs { (aside : List ℕ) (db : Db) → KeepsDb S.has (B.meanings boxes.now) place.root gone.old.items aside db space.old
+        → LeadsWithin S.leads ((1 + length (fold.mirrored_in name.now (attachments_at db name.now))) * descriptor_cost (extensions_of (B.meanings boxes.now)) db) space.old space.new }
     ensures fault { IfErr result (λ e. HasFaultCause S.fails (refusal_of e) space.new) }
     ensures more { HasMore gone.old.items gone.new.items }
     ensures leads { LeadsOn S.leads space.old space.new }
@@ -95,15 +99,17 @@ fn drop_alone<S: PageSpace, B: Boxes>(
     requires ready { S.is_ready space.old }
     requires owner { place.owner ≡ 2 }
 
-    ensures dropped { OnOk result ((aside : ℕ) (db : Db) → KeepsDb S.has (B.meanings boxes.now) place.root gone.old.items aside db space.old
+    ensures dropped { OnOk result ((aside : List ℕ) (db : Db) → KeepsDb S.has (B.meanings boxes.now) place.root gone.old.items aside db space.old
         → IsUnnamedIn db name.now
-        → KeepsDb S.has (B.meanings boxes.now) place.root gone.new.items (aside + sum (fold.bounds_at (extensions_of (B.meanings boxes.now)) db name.now))
+        → KeepsDb S.has (B.meanings boxes.now) place.root gone.new.items (aside ++ fold.bounds_at (extensions_of (B.meanings boxes.now)) db name.now)
         (without_name db name.now) space.new) }
-    ensures refused { IfErr result (λ e. (aside : ℕ) (db : Db) → KeepsDb S.has (B.meanings boxes.now) place.root gone.old.items aside db space.old
+    ensures refused { IfErr result (λ e. (aside : List ℕ) (db : Db) → KeepsDb S.has (B.meanings boxes.now) place.root gone.old.items aside db space.old
         → HasRefusalCause S.fails (refusal_of e) space.new) }
-    ensures licensed { IfErr result (λ e. (aside most : ℕ) (db : Db)
+    ensures licensed { IfErr result (λ e. (aside : List ℕ) (most : ℕ) (db : Db)
         → KeepsWithin S.has (B.meanings boxes.now) place.root gone.old.items aside most db space.old
         → IsFullBy S.has S.leads S.table most (refusal_of e) space.new) }
+    ensures costs { (aside : List ℕ) (db : Db) → KeepsDb S.has (B.meanings boxes.now) place.root gone.old.items aside db space.old
+        → LeadsWithin S.leads (descriptor_cost (extensions_of (B.meanings boxes.now)) db) space.old space.new }
     ensures fault { IfErr result (λ e. HasFaultCause S.fails (refusal_of e) space.new) }
     ensures more { HasMore gone.old.items gone.new.items }
     ensures leads { LeadsOn S.leads space.old space.new }

@@ -1,14 +1,16 @@
 -- What the calls of a space keep, as those of a transaction.
-use Rattle.std.proofs.Common.{◌≡◌, ⊎_elim, ℕ, Bool, true, false, Option, Result, Ok, Err, IsErrOf, refl, sym, ap, ◌∙◌}
+use Rattle.std.proofs.Common.{◌≡◌, ⊎_elim, ℕ, Bool, true, false, Option, Result, Ok, Err, IsErrOf, refl, sym, ap, ◌∙◌, arith}
 use Rattle.std.proofs.lemmas.Bool.{false≢true}
 use Rattle.sb_disk.specs.Disk.{Story}
 use Rattle.sb_fold.specs.declared.refusal.Refusal.{Refusal}
 use Rattle.sb_fold.specs.declared.refusal.Refusal.TheVariants as refusal
 use Rattle.sb_drive.specs.declared.space.SpaceFault.{SpaceFault}
 use Rattle.sb_drive.specs.declared.space.SpaceFault.TheVariants.{Fault, DataFull, TempFull, LogFull, GatesFull, Damaged, Down, NoMemory}
-use Rattle.sb_txn.specs.Clauses.{LeavesWanted}
+use Rattle.sb_log.specs.declared.geometry.Geometry.{Geometry}
+use Rattle.sb_txn.specs.Clauses.{Grows, LeavesWanted}
 use Rattle.sb_txn.specs.Parts.{Parts}
 use Rattle.sb_txn.specs.State.{State}
+use Rattle.sb_space.specs.Spent.{HasSpent}
 use Rattle.sb_space.specs.Transactions.{KeepsSpace}
 use Rattle.sb_space.specs.Works.{Fails, MeansDown}
 use Rattle.sb_tables.specs.Refusals.{HasRefusalCause, refusal_of}
@@ -119,6 +121,15 @@ Remains-answered told len faults d e s t x q remains = record {
   up = λ on. ok_err x refusal.Fault (remains.up on);
   fell = remains.fell;
 }
+
+-- where no more of the log is taken, no more is spent
+pub HasSpent-still : (s t : State) → t.pool.geometry ≡ s.pool.geometry → s.book.down ≡ false → Grows s t 0 0 → (n : ℕ) → HasSpent n s → HasSpent n t
+HasSpent-still s t sizes up grows n spent = λ _.
+    let before = spent up in
+    record {
+      bytes = omega (arith, before.bytes, grows.bytes, ap (λ (g : Geometry). g.log) sizes);
+      gates = omega (arith, before.gates, grows.gates);
+    }
 
 -- ---- a fault that has a cause means that the store is down
 down_by : {D : Type 0} (faults : D → ℕ) (fault : SpaceFault) (old new : Mounted D) → refusal_of fault ≡ refusal.Fault → FailsOn faults fault old new → new.store.book.down ≡ true

@@ -1,7 +1,8 @@
 -- What a commit of the pages leaves.
 use Rattle.std.proofs.Common.{◌≡◌, ℕ, List, [], sym, ap, subst}
 use Rattle.std.proofs.lemmas.List.Elements.{All-nil}
-use Rattle.sb_relation.specs.Db.{Db}
+use Rattle.sb_relation.specs.Db.{Db, Key}
+use Rattle.sb_fold.specs.Finish.{freed}
 use Rattle.sb_fold.specs.Outcome.{Going}
 use Rattle.sb_deferred.specs.Complete.{IsComplete}
 use Rattle.sb_deferred.specs.Waiting.{nothing}
@@ -64,3 +65,11 @@ module _ (m : Meanings) (place : Place) (want : Wanted) (tx : ℕ) (g : Going) (
         picked = at.picked;
         leaves = leaves want at.slots at.has;
       }
+
+-- to give back the pages of what went changes nothing of that
+module _ (m : Meanings) (root : ℕ) (want : Wanted) (g : Going) (p q : Parts) where
+  pub IsDone-freed : (picks : List Key) → IsDone m root want picks p g q → IsDone m root want picks p (freed g) q
+  IsDone-freed picks done = record { now = done.now; rests = done.rests; picked = done.picked; leaves = done.leaves }
+
+  pub LeavesEither-freed : LeavesEither m root want p g q → LeavesEither m root want p (freed g) q
+  LeavesEither-freed either = record { pages = either.pages; committed = either.committed; leaves = either.leaves }

@@ -1,5 +1,5 @@
 -- What stands goes on standing while an engine drives calls in a transaction.
-use Rattle.std.proofs.Common.{ℕ, ◌≤◌, Option, List, sum, sym, subst, ◌∙◌, arith}
+use Rattle.std.proofs.Common.{ℕ, Option, List, sym, subst, ◌∙◌, arith}
 use Rattle.sb_disk.specs.Disk.{Story}
 use Rattle.sb_relation.specs.Db.{Db}
 use Rattle.sb_fold.specs.Extensions.{box_of}
@@ -17,19 +17,19 @@ use Rattle.sb_space.specs.Durable.{parts_in}
 use Rattle.sb_space.specs.View.{lent}
 use Rattle.sb_space.specs.Works as space
 use Rattle.sb_space.proofs.GoingBack.{KeepsChanges-driven, Stands-driven, WasAt-driven}
+use Rattle.sb_tables.specs.Measures.{AreHeld}
 use Rattle.sb_tables.specs.Work.{Work}
-use Rattle.sb_tables.specs.Owned.{pages_of}
 use Rattle.sb_tables.specs.Working.{AreNamedApart, ArePaired, extensions_of}
 use Rattle.sb_tables.specs.Working as engine
-use Rattle.sb_transactions.specs.Driven.{DrivenKeepsBegun, DrivenKeepsEachPoint, DrivenKeepsPoints, DrivenLeavesWanted, DrivenStands, GoesAreWorks, HasLent, IsServed, RunningStands}
-use Rattle.sb_transactions.specs.Transactions.{IsAt, IsSettled}
+use Rattle.sb_transactions.specs.Driven.{DrivenKeepsBegun, DrivenKeepsEachPoint, DrivenKeepsPoints, DrivenLeavesWanted, DrivenStands, GoesAreWorks, HasLent, IsServed, RunningStands, SpentLent}
+use Rattle.sb_transactions.specs.Transactions.{IsAt, IsPaidAt, IsSettled}
 use Rattle.sb_transactions.proofs.PageLemmas.{one-has}
 use Rattle.sb_transactions.proofs.PointLemmas.{WasBegun-through}
 use Rattle.sb_transactions.proofs.WorkLemmas.{front_long, front_waited, front_within, take_front}
 
 -- what the engine stands for, in the words of this crate
-IsSettled-stands : {S : Type 0} (Has : Wanted → Slots → S → Type 0) (m : Meanings) (root : ℕ) (g : Going) (s : S) (w : Work) (stands : engine.Stands Has m root g s w) → IsSettled m stands.kept g.queue
-IsSettled-stands Has m root g s w stands = record {
+IsSettled-stands : {S : Type 0} (Has : Wanted → Slots → S → Type 0) (Spent : ℕ → S → Type 0) (m : Meanings) (root : ℕ) (g : Going) (s : S) (w : Work) (stands : engine.Stands Has Spent m root g s w) → IsSettled m stands.kept g.queue
+IsSettled-stands Has Spent m root g s w stands = record {
   lasting = stands.lasting;
   mirrored = subst (λ (db : Db). AreMirrored db) stands.db stands.mirrored;
   paired = subst (λ (db : Db). ArePaired db) stands.db stands.paired;
@@ -41,8 +41,9 @@ IsSettled-stands Has m root g s w stands = record {
 
 module _ {D : Type 0} (told : D → Option Story) (len faults : D → ℕ) where
   -- and the other way round
-  pub Stands-at : (m : Meanings) (place : Place) (want : Wanted) (g : Going) (a : Durable D) (v : Work) → IsAt m place want (lent a).tx g (parts_in told len (lent a)) v → engine.Stands (HasLent told len) m place.root g a v
-  Stands-at m place want g a v at = record {
+  pub Stands-at : (m : Meanings) (place : Place) (want : Wanted) (g : Going) (a : Durable D) (v : Work) → IsAt m place want (lent a).tx g (parts_in told len (lent a)) v → IsPaidAt g (parts_in told len (lent a))
+      → engine.Stands (HasLent told len) SpentLent m place.root g a v
+  Stands-at m place want g a v at paid = record {
     want = want;
     slots = at.slots;
     kept = at.kept;
@@ -58,6 +59,7 @@ module _ {D : Type 0} (told : D → Option Story) (len faults : D → ℕ) where
     picked = at.picked;
     gone = at.gone;
     aside = at.aside;
+    paid = record { changes = paid.changes; within = paid.within; spent = paid.spent };
     apart = subst (λ (db : Db). AreNamedApart db) (sym at.db) at.settled.apart;
     rules = subst (λ (db : Db). AllMayStand (box_of (extensions_of m)) db) (sym at.db) at.settled.rules;
     fit = subst (λ (db : Db). AllFit db g.queue.actions) (sym at.db) at.settled.fit;
@@ -78,7 +80,7 @@ module _ {D : Type 0} (told : D → Option Story) (len faults : D → ℕ) where
         has = one-has want then.0 stands.want stands.slots (parts_in told len (lent b)) then.1 stands.has;
         db = stands.db;
         keeps = stands.keeps;
-        settled = IsSettled-stands (HasLent told len) m place.root h b w stands;
+        settled = IsSettled-stands (HasLent told len) SpentLent m place.root h b w stands;
         opened = stands.opened;
         waits = stands.waits;
         picked = stands.picked;
@@ -109,7 +111,7 @@ module _ {D : Type 0} (told : D → Option Story) (len faults : D → ℕ) where
     settled = was.settled;
     waited = front_waited point v.queue w.queue works.queue was.of.queue ∙ was.waited;
     gone = λ none. take_front point.gone v.gone.items works.gone.0 w.gone.items works.gone.1 was.of.gone ∙ was.gone none;
-    aside = subst (λ (xs : List ℕ). pages_of was.slots xs ≤ sum g.gone.durable)
+    aside = subst (λ (xs : List ℕ). AreHeld was.slots xs g.gone.durable)
         (sym (take_front point.gone v.gone.items works.gone.0 w.gone.items works.gone.1 was.of.gone)) was.aside;
   }
 
@@ -130,6 +132,6 @@ module _ {D : Type 0} (told : D → Option Story) (len faults : D → ℕ) where
         driven-stands (meanings a.boxes.now) a.place want g h a.space.now b.space.now a.work.now b.work.now at goes.leads
         (subst (λ (place : Place). engine.Serves (IsServed told len) (meanings a.boxes.now) place b.space.now b.work.now) goes.place
         (subst (λ (boxes : B). engine.Serves (IsServed told len) (meanings boxes) b.place b.space.now b.work.now) goes.boxes serving))
-        (subst (λ (place : Place). engine.Stands (HasLent told len) (meanings a.boxes.now) place.root h b.space.now b.work.now) goes.place
-        (subst (λ (boxes : B). engine.Stands (HasLent told len) (meanings boxes) b.place.root h b.space.now b.work.now) goes.boxes stands))
+        (subst (λ (place : Place). engine.Stands (HasLent told len) SpentLent (meanings a.boxes.now) place.root h b.space.now b.work.now) goes.place
+        (subst (λ (boxes : B). engine.Stands (HasLent told len) SpentLent (meanings boxes) b.place.root h b.space.now b.work.now) goes.boxes stands))
         up

@@ -1,5 +1,5 @@
 -- The end of a transaction, by a commit or an abort, behind the work that finishes it.
-use Rattle.std.proofs.Common.{◌≡◌, ⊎_elim, inl, inr, ℕ, Bool, true, false, Option, None, Result, Ok, Err, IfErr, IfOk, IsErrOf, OnOk, List, [], All, refl, sym, ap, subst, ◌∙◌, arith}
+use Rattle.std.proofs.Common.{◌≡◌, ⊎_elim, inl, inr, ℕ, ◌<◌, ◌≤◌, Bool, true, false, Option, None, Result, Ok, Err, IfErr, IfOk, IsErrOf, OnOk, List, [], All, refl, sym, ap, subst, ◌∙◌, arith}
 use Rattle.std.proofs.lemmas.Bool.{false≢true}
 use Rattle.std.proofs.lemmas.List.Elements.{All-nil}
 use Rattle.sb_disk.specs.Causes.{Rose}
@@ -11,7 +11,7 @@ use Rattle.sb_images.specs.Images.{Restores, IsOldOrNew}
 use Rattle.sb_log.specs.declared.geometry.Geometry.{Geometry}
 use Rattle.sb_relation.specs.Db.{Db, Key}
 use Rattle.sb_fold.specs.Extensions.{Extensions}
-use Rattle.sb_fold.specs.Finish.{finish, first_failing}
+use Rattle.sb_fold.specs.Finish.{first_failing, freed}
 use Rattle.sb_fold.specs.Outcome.{Entry, Going, Queue}
 use Rattle.sb_fold.specs.Fold.{attachments_at}
 use Rattle.sb_fold.specs.declared.refusal.Refusal.{Refusal}
@@ -35,14 +35,23 @@ use Rattle.sb_tables.specs.Tables.{db_of}
 use Rattle.sb_tables.proofs.RefusedLemmas.{of_fault, on_fault}
 use Rattle.sb_transactions.specs.Calls.{IsOnlyFault, KeepsWanted, Remains}
 use Rattle.sb_transactions.specs.declared.refusals.Uncommitted.{Uncommitted}
-use Rattle.sb_transactions.specs.Commits.{by_refusal, ComesTo, FailsOn, Finishes, IsFaulted, IsDone, IsLed, IsOrFaulted, IsStoppedOn, IsEnded, LeavesEither, LeavesOldOrFinished, Mounted, StopsAt, ended}
-use Rattle.sb_transactions.specs.Transactions.{HasNothingLeft, IsAt, IsCommitted, IsFinished}
+use Rattle.sb_transactions.specs.declared.transactions.Point.{Point}
+use Rattle.sb_transactions.specs.Commits.{by_refusal, ComesTo, FailsOn, Finishes, IsFaulted, IsDone, IsLed, IsOrFaulted, IsStoppedOn, IsEnded, LeavesEither, LeavesOldOrFinished, Mounted, StopsAt, ended, finish_and_free, is_wanting}
+use Rattle.sb_transactions.specs.Transactions.{HasNothingLeft, IsAt, IsBack, IsCommitted, IsFinished, IsPaidAt}
 use Rattle.sb_transactions.proofs.CallLemmas.{up-earlier}
+use Rattle.sb_transactions.proofs.CommitLemmas.{IsDone-freed, LeavesEither-freed}
 use Rattle.sb_transactions.proofs.LicenceLemmas.{fault_stops}
-use Rattle.sb_transactions.proofs.FinishLemmas.{StopsFrom-behind, StopsFrom-else, finish-at_once, finish-map}
+use Rattle.sb_transactions.proofs.FinishLemmas.{StopsFrom-behind, StopsFrom-else, finish-at_once, finish-map, made-further}
+
+-- what was paid for is never nothing
+paid_some : (g : Going) (p : Parts) → IsPaidAt g p → 0 < g.trail.spent
+paid_some g p paid = omega (arith, paid.within)
 
 fault_free : (r : Refusal) → r ≡ Fault → is_free r ≡ true
 fault_free r is = ap is_free is
+
+fault_wants : (r : Refusal) → r ≡ Fault → is_wanting r ≡ true → ⊥
+fault_wants r is wants = false≢true (sym (ap is_wanting is) ∙ wants)
 
 -- ---- the answer of a call behind which the transaction is over
 pub only-ended : {T : Type 0} (r : Result T Refusal) (t : State) (P : Uncommitted → Type 0) → ((q : Refusal) → IsOnlyFault q t → P (record { refusal = q; transaction = None })) → IfErr r (λ q. IsOnlyFault q t)
@@ -85,37 +94,44 @@ module _ (m : Meanings) (place : Place) (want : Wanted) (tx : ℕ) (g : Going) (
   }
 
   -- so it is finished at once
-  pub finished-left : {S : Type 0} (P : Going → S → Type 0) (x : S) → P g x → MadeFrom P (finish (extensions_of m)) g tt x
+  pub finished-left : {S : Type 0} (P : Going → S → Type 0) (x : S) → P (freed g) x → MadeFrom P (finish_and_free (extensions_of m)) g tt x
   finished-left P x is = finish-at_once P (extensions_of m) g x no_action IsFinished-left.holds is
 
 -- ---- by what the commit of the pages answers
 module _ (m : Meanings) (place : Place) (tx : ℕ) (p q : Parts) (w : Work) (left : HasNothingLeft w) where
   pub done-left : {T : Type 0} (r : Result T Refusal) (items : T → List Key)
       → IfOk r (λ picks. (m : Meanings) (place : Place) (want : Wanted) (g : Going) → IsAt m place want tx g p w → IsFinished m g w → IsDone m place.root want (items picks) p g q)
-      → IfOk (ended r) (λ picks. (want : Wanted) (g : Going) → IsAt m place want tx g p w → Finishes m g (IsDone m place.root want (items picks) p) q)
-  done-left (Ok picks) items done = λ want g at.
-      finished-left m place want tx g p w at left (IsDone m place.root want (items picks) p) q (done m place want g at (IsFinished-left m place want tx g p w at left))
+      → IfOk (ended r) (λ picks. (want : Wanted) (g : Going) → IsAt m place want tx g p w → IsPaidAt g p → Finishes m g (IsDone m place.root want (items picks) p) q)
+  done-left (Ok picks) items done = λ want g at paid.
+      finished-left m place want tx g p w at left (IsDone m place.root want (items picks) p) q
+      (IsDone-freed m place.root want g p q (items picks) (done m place want g at (IsFinished-left m place want tx g p w at left)))
   done-left (Err e) items done = tt
 
   pub leaves-left : ((m : Meanings) (place : Place) (want : Wanted) (g : Going) → IsAt m place want tx g p w → IsFinished m g w → LeavesEither m place.root want p g q)
-      → (want : Wanted) (g : Going) → IsAt m place want tx g p w → LeavesOldOrFinished m place.root want g p q
-  leaves-left either want g at = inr (finished-left m place want tx g p w at left (LeavesEither m place.root want p) q (either m place want g at (IsFinished-left m place want tx g p w at left)))
+      → (want : Wanted) (g : Going) → IsAt m place want tx g p w → IsPaidAt g p → LeavesOldOrFinished m place.root want g p q
+  leaves-left either want g at paid =
+      inr (finished-left m place want tx g p w at left (LeavesEither m place.root want p) q
+      (LeavesEither-freed m place.root want g p q (either m place want g at (IsFinished-left m place want tx g p w at left))))
 
--- a fault of its commit
-pub StopsAt-left : {D : Type 0} (told : D → Option Story) (len faults : D → ℕ) (m : Meanings) (place : Place) (want : Wanted) (tx : ℕ) (g : Going) (p : Parts) (w : Work) (old new : Mounted D) (r : Refusal)
-    → IsAt m place want tx g p w → HasNothingLeft w → IsOnlyFault r new.store → HasRefusalCause (FailsOn faults) r new → StopsAt told len faults m tx g r old
-StopsAt-left told len faults m place want tx g p w old new r at left only cause = record {
-  there = new;
-  led = λ not. absurd (not only.is);
-  stops = StopsFrom-behind (λ h x. Unit {0}) (IsStoppedOn faults m) (finish (extensions_of m)) g tt new r new (fault_free r only.is) (λ trail. fault_stops faults m r trail new only.is cause)
-      (finished-left m place want tx g p w at left (λ h x. Unit {0}) new tt);
-}
+-- a fault of the commit: behind it the store is down
+module _ {D : Type 0} (told : D → Option Story) (len faults : D → ℕ) (m : Meanings) (tx : ℕ) (g : Going) (some : 0 < g.trail.spent) where
+  pub StopsAt-failed : {S : Type 0} (P : Going → S → Type 0) (x : S) (old new : Mounted D) (r : Refusal) → IsOnlyFault r new.store → HasRefusalCause (FailsOn faults) r new
+      → MadeFrom P (finish_and_free (extensions_of m)) g tt x → StopsAt told len faults m tx g r old new
+  StopsAt-failed P x old new r only cause made = record {
+    there = new;
+    led = λ not. absurd (not only.is);
+    stops = StopsFrom-behind (λ h y. g.trail.spent ≤ h.trail.spent) (IsStoppedOn faults m) (finish_and_free (extensions_of m)) g tt x r new (fault_free r only.is)
+        (λ h further. fault_stops faults m r h.trail new only (omega (arith, some, further)) cause) (made-further P (extensions_of m) g x made);
+    up = λ wants. absurd (fault_wants r only.is wants);
+    spent = λ wants n spent. spent;
+  }
 
 pub stops-left : {D T : Type 0} (told : D → Option Story) (len faults : D → ℕ) (m : Meanings) (place : Place) (tx : ℕ) (p : Parts) (w : Work) (old new : Mounted D) (r : Result T Refusal) → HasNothingLeft w
     → IfErr r (λ e. IsOnlyFault e new.store) → IfErr r (λ e. HasRefusalCause (FailsOn faults) e new)
-    → IfErr (ended r) (λ e. (want : Wanted) (g : Going) → IsAt m place want tx g p w → StopsAt told len faults m tx g e.refusal old)
+    → IfErr (ended r) (λ e. (want : Wanted) (g : Going) → IsAt m place want tx g p w → IsPaidAt g p → StopsAt told len faults m tx g e.refusal old new)
 stops-left told len faults m place tx p w old new (Ok x) left only cause = tt
-stops-left told len faults m place tx p w old new (Err e) left only cause = λ want g at. StopsAt-left told len faults m place want tx g p w old new e at left only cause
+stops-left told len faults m place tx p w old new (Err e) left only cause = λ want g at paid.
+    StopsAt-failed told len faults m tx g (paid_some g p paid) (λ h x. Unit {0}) new old new e only cause (finished-left m place want tx g p w at left (λ h x. Unit {0}) new tt)
 
 -- ---- behind the work that finishes it
 module _ {D : Type 0} (told : D → Option Story) (len faults : D → ℕ) (m : Meanings) (place : Place) (tx : ℕ) (d e f : D) (s t u : State) (w : Work)
@@ -227,56 +243,51 @@ module _ {D : Type 0} (told : D → Option Story) (len faults : D → ℕ) (m : 
         by false off = inr (finish-map (ComesTo m place want tx w) (LeavesEither m place.root want old) ext g mid new
             (λ h holds comes. wider h (either m place want h (subst (λ (n : ℕ). IsAt m place want n h mid w) (sym same) (comes off)) (record { gone = none; holds = holds }))) finished)
 
-    -- the disk failed in it
-    pub StopsAt-commit : (r : Refusal) → IsOnlyFault r u → HasRefusalCause (FailsOn faults) r (record { disk = f; store = u }) → StopsAt told len faults m tx g r (record { disk = d; store = s })
-    StopsAt-commit r only cause = record {
-      there = record { disk = f; store = u };
-      led = λ not. absurd (not only.is);
-      stops = StopsFrom-behind (ComesTo m place want tx w) (IsStoppedOn faults m) (finish ext) g tt mid r (record { disk = f; store = u }) (fault_free r only.is)
-          (λ trail. fault_stops faults m r trail (record { disk = f; store = u }) only.is cause) finished;
-    }
-
   -- ---- by what the commit of the pages answers
-  module _ (v : Work) (finished : (want : Wanted) (g : Going) → IsAt m place want tx g old v → Finishes m g (ComesTo m place want tx w) mid) (none : w.gone.items ≡ []) where
+  module _ (v : Work) (finished : (want : Wanted) (g : Going) → IsAt m place want tx g old v → IsPaidAt g old → Finishes m g (ComesTo m place want tx w) mid) (none : w.gone.items ≡ []) where
     pub done-commit : {T : Type 0} (r : Result T Refusal) (items : T → List Key) (tx' : ℕ) → tx' ≡ tx → OnOk r (t.book.down ≡ false)
         → IfOk r (λ picks. (m : Meanings) (place : Place) (want : Wanted) (g : Going) → IsAt m place want tx' g mid w → IsFinished m g w → IsDone m place.root want (items picks) mid g new)
-        → IfOk (ended r) (λ picks. (want : Wanted) (g : Going) → IsAt m place want tx g old v → Finishes m g (IsDone m place.root want (items picks) old) new)
-    done-commit (Ok picks) items tx' same up done = λ want g at. IsDone-behind want g (v, at) (finished want g at) none (items picks) tx' same up done
+        → IfOk (ended r) (λ picks. (want : Wanted) (g : Going) → IsAt m place want tx g old v → IsPaidAt g old → Finishes m g (IsDone m place.root want (items picks) old) new)
+    done-commit (Ok picks) items tx' same up done = λ want g at paid. IsDone-behind want g (v, at) (finished want g at paid) none (items picks) tx' same up done
     done-commit (Err e) items tx' same up done = tt
 
     pub stops-commit : {T : Type 0} (r : Result T Refusal) → IfErr r (λ e. IsOnlyFault e u) → IfErr r (λ e. HasRefusalCause (FailsOn faults) e (record { disk = f; store = u }))
-        → IfErr (ended r) (λ e. (want : Wanted) (g : Going) → IsAt m place want tx g old v → StopsAt told len faults m tx g e.refusal (record { disk = d; store = s }))
+        → IfErr (ended r) (λ e. (want : Wanted) (g : Going) → IsAt m place want tx g old v → IsPaidAt g old
+        → StopsAt told len faults m tx g e.refusal (record { disk = d; store = s }) (record { disk = f; store = u }))
     stops-commit (Ok x) only cause = tt
-    stops-commit (Err e) only cause = λ want g at. StopsAt-commit want g (v, at) (finished want g at) none e only cause
+    stops-commit (Err e) only cause = λ want g at paid.
+        StopsAt-failed told len faults m tx g (paid_some g old paid) (ComesTo m place want tx w) mid (record { disk = d; store = s }) (record { disk = f; store = u }) e only cause (finished want g at paid)
 
   -- ---- an abort
   module _ (want : Wanted) (g : Going) (at : (v : Work) × IsAt m place want tx g old v) where
     pub LeavesOldOrFinished-abort : {T : Type 0} (r : Result T Refusal) → Remains told len faults e f t u r → LeavesWanted mid new → LeavesOldOrFinished m place.root want g old new
     LeavesOldOrFinished-abort r remains leaves = inl ((LeavesWanted-stopped r remains leaves).each want at.1.has.now at.1.has.stands.store)
 
-  module _ (g : Going) (r : Refusal) (stops : StopsFrom (IsStoppedOn faults m) (finish (extensions_of m)) g r (record { disk = e; store = t })) where
-    pub StopsAt-abort : StopsAt told len faults m tx g r (record { disk = d; store = s })
-    StopsAt-abort = record { there = record { disk = e; store = t }; led = λ not. led; stops = stops }
+  module _ (g : Going) (r : Refusal) (stops : StopsFrom (IsStoppedOn faults m) (finish_and_free (extensions_of m)) g r (record { disk = e; store = t })) where
+    -- by what is answered then: the refusal, and where the transaction goes on, it is back at the point; or the disk failed in it
+    module _ (q : Refusal) (next : ℕ) (point : Point) (back : is_wanting q ≡ true → (x : Work) × IsBack next point mid new w x) (remains : Remains {T = Unit {0}} told len faults e f t u (Err q)) where
+      StopsAt-abort : q ≡ r → StopsAt told len faults m tx g q (record { disk = d; store = s }) (record { disk = f; store = u })
+      StopsAt-abort same = record {
+        there = record { disk = e; store = t };
+        led = λ not. led;
+        stops = subst (λ (x : Refusal). StopsFrom (IsStoppedOn faults m) (finish_and_free (extensions_of m)) g x (record { disk = e; store = t })) (sym same) stops;
+        up = λ wants. up-earlier told len faults e f t u (Err q) remains (back wants).1.up;
+        spent = λ wants. (back wants).1.spent;
+      }
 
-    -- the disk failed in it
-    pub StopsAt-fault : (q : Refusal) → IsOnlyFault q u → HasRefusalCause (FailsOn faults) q (record { disk = f; store = u }) → StopsAt told len faults m tx g q (record { disk = d; store = s })
-    StopsAt-fault q only cause = record {
-      there = record { disk = f; store = u };
-      led = λ not. absurd (not only.is);
-      stops = StopsFrom-else (IsStoppedOn faults m) (IsStoppedOn faults m) (finish (extensions_of m)) g r q (record { disk = e; store = t })
-          (record { disk = f; store = u }) (fault_free q only.is) (λ trail. fault_stops faults m q trail (record { disk = f; store = u }) only.is cause) stops;
-    }
+      StopsAt-fault : IsFaulted faults q (record { disk = f; store = u }) → StopsAt told len faults m tx g q (record { disk = d; store = s }) (record { disk = f; store = u })
+      StopsAt-fault failed = record {
+        there = record { disk = f; store = u };
+        led = λ not. absurd (not failed.only.is);
+        stops = StopsFrom-else (IsStoppedOn faults m) (IsStoppedOn faults m) (finish_and_free (extensions_of m)) g r q (record { disk = e; store = t })
+            (record { disk = f; store = u }) (fault_free q failed.only.is)
+            (λ trail stopped. fault_stops faults m q trail (record { disk = f; store = u }) failed.only (omega (arith, stopped.paid.within)) failed.cause) stops;
+        up = λ wants. absurd (fault_wants q failed.only.is wants);
+        spent = λ wants n spent. spent;
+      }
 
-    -- by what is answered then
-    abbrev answered : Refusal → Type 0
-    answered q = IsOrFaulted faults r q (record { disk = f; store = u })
-
-    pub StopsAt-stopped : (q : Refusal) → answered q → StopsAt told len faults m tx g q (record { disk = d; store = s })
-    StopsAt-stopped q is =
-        ⊎_elim
-        (λ (same : q ≡ r). subst (λ (x : Refusal). StopsAt told len faults m tx g x (record { disk = d; store = s })) (sym same) StopsAt-abort)
-        (λ (failed : IsFaulted faults q (record { disk = f; store = u })). StopsAt-fault q failed.only failed.cause)
-        is
+      pub StopsAt-stopped : IsOrFaulted faults r q (record { disk = f; store = u }) → StopsAt told len faults m tx g q (record { disk = d; store = s }) (record { disk = f; store = u })
+      StopsAt-stopped is = ⊎_elim StopsAt-abort StopsAt-fault is
 
   -- a fault is answered only where the store is down
   pub down-stopped : (r q : Refusal) → IsOrFaulted faults r q (record { disk = f; store = u }) → OnFault r (t.book.down ≡ true) → Remains {T = Unit {0}} told len faults e f t u (Err q)

@@ -1,6 +1,6 @@
 -- Want of a page of a store: how what an engine says of its space comes to what is said of the store.
-use Rattle.std.proofs.Common.{◌≡◌, ℕ, zero, suc, ◌+◌, ◌≤◌, nat_lt, Bool, true, false, cond, not, List, [], ◌∷◌, length, filter, Option, refl, sym, ap, subst, ◌∙◌, arith}
-use Rattle.std.proofs.lemmas.Bool.{ne_eqb}
+use Rattle.std.proofs.Common.{◌≡◌, ℕ, zero, suc, ◌+◌, ◌<◌, ◌≤◌, nat_lt, Bool, true, false, cond, not, List, [], ◌∷◌, length, filter, Option, refl, sym, ap, subst, ◌∙◌, arith}
+use Rattle.std.proofs.lemmas.Bool.{false≢true, ne_eqb}
 use Rattle.sb_disk.specs.Disk.{Story}
 use Rattle.sb_relation.specs.Fits.{is_empty}
 use Rattle.sb_fold.specs.declared.refusal.Refusal.{Refusal}
@@ -17,6 +17,7 @@ use Rattle.sb_space.specs.Table.{owner_at, shown, slots_in, table_len}
 use Rattle.sb_space.specs.Works.{Fails}
 use Rattle.sb_tables.specs.Refusals.{HasRefusalCause, refusal_of}
 use Rattle.sb_tables.specs.Working.{IsLicensed, IsShortAt, IsShortOf, extensions_of}
+use Rattle.sb_transactions.specs.Calls.{IsOnlyFault}
 use Rattle.sb_transactions.specs.Commits.{FailsOn, IsLicensedOn, IsStoppedOn, Mounted}
 use Rattle.sb_transactions.specs.Driven.{HasLent, LeadsLent}
 use Rattle.std.specs.List.{Any, range_with_len}
@@ -82,8 +83,11 @@ module _ {D : Type 0} (told : D → Option Story) (len faults : D → ℕ) (m : 
       shorter total (licensed (omega (arith, whole, few)))
   licensed-lent r few cause licensed = tt
 
--- a fault wants no licence
-pub fault_stops : {D : Type 0} (faults : D → ℕ) (m : Meanings) (r : Refusal) (trail : Trail) (x : Mounted D) → r ≡ refusal.Fault → HasRefusalCause (FailsOn faults) r x
+-- a fault wants no licence, and behind it the store is down, so that nothing is told of what was spent
+pub fault_stops : {D : Type 0} (faults : D → ℕ) (m : Meanings) (r : Refusal) (trail : Trail) (x : Mounted D) → IsOnlyFault r x.store → 0 < trail.spent → HasRefusalCause (FailsOn faults) r x
     → IsStoppedOn faults m r trail x
-fault_stops faults m r trail x is cause =
-    record { cause = cause; licensed = subst (λ q. IsLicensedOn m x.store.pool.geometry.pages q trail) (sym is) tt }
+fault_stops faults m r trail x only some cause = record {
+  cause = cause;
+  licensed = subst (λ q. IsLicensedOn m x.store.pool.geometry.pages q trail) (sym only.is) tt;
+  paid = record { changes = 0; within = omega (arith, some); spent = λ up. absurd (false≢true (sym up ∙ only.down)) };
+}

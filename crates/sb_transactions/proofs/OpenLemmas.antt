@@ -1,5 +1,5 @@
 -- A transaction that goes on where it was before a commit.
-use Rattle.std.proofs.Common.{◌≡◌, ℕ, Bool, true, false, Option, Some, None, Err, IfSome, refl, sym, ap, subst, ◌∙◌}
+use Rattle.std.proofs.Common.{◌≡◌, ℕ, Bool, true, false, Option, Some, None, is_some, Err, IfSome, refl, sym, ap, subst, ◌∙◌}
 use Rattle.std.proofs.lemmas.Bool.{false≢true}
 use Rattle.sb_disk.specs.Disk.{Story}
 use Rattle.sb_disk.specs.Moments.{LeavesOnly}
@@ -28,6 +28,11 @@ use Rattle.sb_transactions.proofs.CallLemmas.{up-earlier}
 pub same-open : (o : Option Transaction) (a b : Transaction) → b.tx ≡ a.tx → IfSome o (λ t. t.tx ≡ b.tx) → IfSome o (λ t. t.tx ≡ a.tx)
 same-open None a b same is = tt
 same-open (Some t) a b same is = is ∙ same
+
+-- what is so of one that goes on, where one does
+pub goes-open : (o : Option Transaction) (P : Work → Type 0) → IfSome o (λ t. P t.work) → is_some o ≡ true → (x : Work) × P x
+goes-open None P is goes = absurd (false≢true goes)
+goes-open (Some t) P is goes = (t.work, is)
 
 module _ {D : Type 0} (told : D → Option Story) (len faults : D → ℕ) (tx : ℕ) (d e f : D) (s t u : State) (v w : Work) (point : Point)
     (led : IsLed told len faults tx (record { disk = d; store = s }) (record { disk = e; store = t })) where

@@ -1,5 +1,5 @@
 -- Work at its begin, at a point, and back there.
-use Rattle.std.proofs.Common.{◌≡◌, ℕ, ◌≤◌, false, List, [], length, take, drop, sum, sym, ap, subst, ◌∙◌, arith}
+use Rattle.std.proofs.Common.{◌≡◌, ℕ, ◌≤◌, false, List, [], length, take, drop, sym, ap, subst, ◌∙◌, arith}
 use Rattle.std.proofs.Math.Seq.{take-length}
 use Rattle.sb_relation.specs.Db.{Db}
 use Rattle.sb_fold.specs.Outcome.{Going, Queue}
@@ -18,8 +18,8 @@ use Rattle.sb_space.specs.Transactions.{WasAt}
 use Rattle.sb_space.specs.Works.{HasPages}
 use Rattle.sb_space.specs.Works as space
 use Rattle.sb_space.proofs.GoingBack.{WasAt-mark}
+use Rattle.sb_tables.specs.Measures.{AreHeld, measured}
 use Rattle.sb_tables.specs.Work.{Work}
-use Rattle.sb_tables.specs.Owned.{pages_of}
 use Rattle.sb_tables.specs.Working.{left_of}
 use Rattle.sb_transactions.specs.declared.transactions.Point.{Point}
 use Rattle.sb_transactions.specs.Transactions.{IsAt, IsCommitted, IsCutTo, IsFirst, IsNotBehind, IsPointOf, IsSettled, IsTrimmed, Rests, WasBegun, WasSo, unused}
@@ -39,7 +39,7 @@ IsAt-trimmed m place want tx g p old new trimmed at = record {
   waits = left_same old new trimmed.done trimmed.queue ∙ at.waits;
   picked = trimmed.picks;
   gone = λ none. trimmed.gone ∙ at.gone none;
-  aside = subst (λ (gone : List ℕ). pages_of at.slots gone ≤ sum g.gone.durable) (sym trimmed.gone) at.aside;
+  aside = subst (λ (gone : List ℕ). AreHeld at.slots gone g.gone.durable) (sym trimmed.gone) at.aside;
 }
 
 -- ---- at the begin
@@ -74,7 +74,7 @@ IsAt-first m place want tx g q w serves owner first rests queue done gone opened
   waits = left ∙ sym first.queue;
   picked = picks ∙ sym first.used;
   gone = λ _. gone;
-  aside = omega (arith, ap (pages_of (slots_in q.store.pool.geometry.pages want)) gone);
+  aside = λ f measure. omega (arith, ap (λ (l : List ℕ). measured f (slots_in q.store.pool.geometry.pages want) l) gone);
 }
   where
     left : left_of w ≡ nothing
@@ -102,7 +102,7 @@ module _ (tx : ℕ) (point : Point) (p : Parts) (w : Work) (changes : point.spac
     settled = at.settled;
     waited = mark_waited point w queue done ∙ at.waits;
     gone = λ none. all ∙ at.gone none;
-    aside = subst (λ (xs : List ℕ). pages_of at.slots xs ≤ sum g.gone.durable) (sym all) at.aside;
+    aside = subst (λ (xs : List ℕ). AreHeld at.slots xs g.gone.durable) (sym all) at.aside;
   }
     where
       all : take point.gone w.gone.items ≡ w.gone.items
@@ -133,7 +133,7 @@ module _ (tx : ℕ) (point : Point) (p q : Parts) (v w : Work) (of : IsPointOf t
     waits = cut_left point v w of.queue cut ∙ was.waited;
     picked = cut.picks;
     gone = λ none. cut.gone ∙ was.gone none;
-    aside = subst (λ (xs : List ℕ). pages_of was.slots xs ≤ sum g.gone.durable) (sym cut.gone) was.aside;
+    aside = subst (λ (xs : List ℕ). AreHeld was.slots xs g.gone.durable) (sym cut.gone) was.aside;
   }
 
   -- points that aren't behind it stay
@@ -158,7 +158,7 @@ module _ (tx : ℕ) (point : Point) (p q : Parts) (v w : Work) (of : IsPointOf t
       settled = was.settled;
       waited = cut_waited point v w of.queue cut one less ∙ was.waited;
       gone = λ none. cut_gone point v w of.queue cut one less ∙ was.gone none;
-      aside = subst (λ (xs : List ℕ). pages_of was.slots xs ≤ sum g.gone.durable) (sym (cut_gone point v w of.queue cut one less)) was.aside;
+      aside = subst (λ (xs : List ℕ). AreHeld was.slots xs g.gone.durable) (sym (cut_gone point v w of.queue cut one less)) was.aside;
     }
 
 -- the database at the begin stays too

@@ -1,6 +1,6 @@
 -- An engine at work that is lent a space and work, and finishes them.
 use Rattle.std.proofs.Common.{◌≡◌, ℕ, true, false, List, [], ◌++◌, Result, Ok, Err, IfErr, IsErrAnd, sym, subst}
-use Rattle.sb_fold.specs.Finish.{finish}
+use Rattle.sb_fold.specs.Finish.{finish, freed}
 use Rattle.sb_fold.specs.Outcome.{Going, Gone}
 use Rattle.sb_fold.specs.declared.refusal.Refusal.{Refusal}
 use Rattle.sb_cascade.specs.Runs.{is_free, is_room, MadeFrom, StopsFrom}
@@ -14,9 +14,10 @@ use Rattle.sb_tables.specs.Running.{Running}
 use Rattle.sb_tables.specs.Work.{Work}
 use Rattle.sb_tables.specs.Refusals.{HasPagesLeft, HasRefusalCause, IsRefusedBy}
 use Rattle.sb_tables.specs.Licensed.{paged_licence}
-use Rattle.sb_tables.specs.Working.{IsNoneGone, IsStoppedFor, IsStoppedIn, Stands, StandsFor, extensions_in, extensions_of}
+use Rattle.sb_tables.specs.Working.{IsNoneGone, IsPaid, IsStoppedFor, IsStoppedIn, Stands, StandsFor, extensions_in, extensions_of}
+use Rattle.sb_transactions.specs.Commits.{finish_and_free}
 use Rattle.sb_transactions.specs.Driven.{WorksOn}
-use Rattle.sb_transactions.proofs.FinishLemmas.{StopsFrom-behind, StopsFrom-map, finish-gone, refusal-free}
+use Rattle.sb_transactions.proofs.FinishLemmas.{StopsFrom-behind, StopsFrom-freed, StopsFrom-map, finish-gone, made-freed, refusal-free}
 
 -- a refusal that is passed on
 pub passed : {U : Type 0} (r : Result U Refusal) (e : Refusal) (P : Refusal → Type 0) → IsErrAnd r (λ x. x ≡ e) → P e → IfErr r P
@@ -57,45 +58,48 @@ module _ {B S : Type 0} (meanings : B → Meanings) (boxes : B) (place : Place) 
       (subst (λ (b : B). P (meanings b) a.place a.space.now a.work.now) lent.boxes_are is)))
 
 -- ---- finished, and then freed
-module _ {B S : Type 0} (Has : Wanted → Slots → S → Type 0) (Fails : SpaceFault → S → S → Type 0) (meanings : B → Meanings) (boxes : B) (place : Place) (x y : S) (w v : Work) (a b : Running B S)
+module _ {B S : Type 0} (Has : Wanted → Slots → S → Type 0) (Spent : ℕ → S → Type 0) (Fails : SpaceFault → S → S → Type 0) (meanings : B → Meanings) (boxes : B) (place : Place) (x y : S) (w v : Work) (a b : Running B S)
     (lent : IsLent boxes place x w a) where
   abbrev IsSo : Going → Meanings → Place → S → Work → Type 0
-  IsSo g m q z u = Stands Has m q.root g z u
+  IsSo g m q z u = Stands Has Spent m q.root g z u
 
   pub finish-stopped : (Leads : ℕ → S → S → Type 0) (table : S → ℕ) (r : Refusal)
-      → ((g : Going) → StandsFor Has meanings g a → StopsFrom (IsStoppedFor Has Leads Fails table meanings) (finish (extensions_in meanings a)) g r b) → b.boxes.now ≡ boxes → b.space.now ≡ y
-      → (g : Going) → Stands Has (meanings boxes) place.root g x w → StopsFrom (IsStoppedIn Has Leads Fails table (meanings boxes)) (finish (extensions_of (meanings boxes))) g r y
+      → ((g : Going) → StandsFor Has Spent meanings g a → StopsFrom (IsStoppedFor Has Spent Leads Fails table meanings) (finish (extensions_in meanings a)) g r b) → b.boxes.now ≡ boxes → b.space.now ≡ y
+      → (g : Going) → Stands Has Spent (meanings boxes) place.root g x w → StopsFrom (IsStoppedIn Has Spent Leads Fails table (meanings boxes)) (finish_and_free (extensions_of (meanings boxes))) g r y
   finish-stopped Leads table r stopped kept same g stands =
-      subst (λ (c : B). StopsFrom (IsStoppedIn Has Leads Fails table (meanings boxes)) (finish (extensions_of (meanings c))) g r y) lent.boxes_are
-      (StopsFrom-map (IsStoppedFor Has Leads Fails table meanings) (IsStoppedIn Has Leads Fails table (meanings boxes)) (finish (extensions_in meanings a)) g r b y
-      (λ trail is. subst (λ (c : B). IsStoppedIn Has Leads Fails table (meanings c) r trail y) kept
-      (subst (λ (z : S). IsStoppedIn Has Leads Fails table (meanings b.boxes.now) r trail z) same is)) (stopped g (parts-to meanings boxes place x w a lent (IsSo g) stands)))
+      subst (λ (c : B). StopsFrom (IsStoppedIn Has Spent Leads Fails table (meanings boxes)) (finish_and_free (extensions_of (meanings c))) g r y) lent.boxes_are
+      (StopsFrom-freed (IsStoppedIn Has Spent Leads Fails table (meanings boxes)) (extensions_in meanings a) g r y
+      (StopsFrom-map (IsStoppedFor Has Spent Leads Fails table meanings) (IsStoppedIn Has Spent Leads Fails table (meanings boxes)) (finish (extensions_in meanings a)) g r b y
+      (λ trail is. subst (λ (c : B). IsStoppedIn Has Spent Leads Fails table (meanings c) r trail y) kept
+      (subst (λ (z : S). IsStoppedIn Has Spent Leads Fails table (meanings b.boxes.now) r trail z) same is)) (stopped g (parts-to meanings boxes place x w a lent (IsSo g) stands))))
 
   -- where no action waits it wants no room
-  pub finish-roomless : (r : Refusal) → ((g : Going) → StandsFor Has meanings g a → g.queue.actions ≡ [] → is_room r ≡ false)
-      → (g : Going) → Stands Has (meanings boxes) place.root g x w → g.queue.actions ≡ [] → IsNoneGone g.gone → is_room r ≡ false
+  pub finish-roomless : (r : Refusal) → ((g : Going) → StandsFor Has Spent meanings g a → g.queue.actions ≡ [] → is_room r ≡ false)
+      → (g : Going) → Stands Has Spent (meanings boxes) place.root g x w → g.queue.actions ≡ [] → IsNoneGone g.gone → is_room r ≡ false
   finish-roomless r room g stands none idle = room g (parts-to meanings boxes place x w a lent (IsSo g) stands) none
 
-  module _ (made : (g : Going) → StandsFor Has meanings g a → MadeFrom (StandsFor Has meanings) (finish (extensions_in meanings a)) g tt b) where
-    pub finish-freed : (c : Running B S) → ((g : Going) → StandsFor Has meanings g b → StandsFor Has meanings g c) → IsLent boxes place y v c
-        → (g : Going) → Stands Has (meanings boxes) place.root g x w → MadeFrom (λ h z. Stands Has (meanings boxes) place.root h z v) (finish (extensions_of (meanings boxes))) g tt y
-    finish-freed c freed end g stands =
-        let from = made g (parts-to meanings boxes place x w a lent (IsSo g) stands) in
-        subst (λ (d : B). MadeFrom (λ h z. Stands Has (meanings boxes) place.root h z v) (finish (extensions_of (meanings d))) g tt y) lent.boxes_are
-        (record { picks = from.picks; after = from.after; leads = from.leads; stands = parts-from meanings boxes place y v c end (IsSo from.after) (freed from.after from.stands) })
+  module _ (made : (g : Going) → StandsFor Has Spent meanings g a → MadeFrom (StandsFor Has Spent meanings) (finish (extensions_in meanings a)) g tt b) where
+    pub finish-freed : (c : Running B S) → ((g : Going) → StandsFor Has Spent meanings g b → StandsFor Has Spent meanings (freed g) c) → IsLent boxes place y v c
+        → (g : Going) → Stands Has Spent (meanings boxes) place.root g x w → MadeFrom (λ h z. Stands Has Spent (meanings boxes) place.root h z v) (finish_and_free (extensions_of (meanings boxes))) g tt y
+    finish-freed c frees end g stands =
+        subst (λ (d : B). MadeFrom (λ h z. Stands Has Spent (meanings boxes) place.root h z v) (finish_and_free (extensions_of (meanings d))) g tt y) lent.boxes_are
+        (made-freed (StandsFor Has Spent meanings) (λ h z. Stands Has Spent (meanings boxes) place.root h z v) (extensions_in meanings a) g b y
+        (λ h so. parts-from meanings boxes place y v c end (IsSo (freed h)) (frees h so)) (made g (parts-to meanings boxes place x w a lent (IsSo g) stands)))
 
+    -- where it is refused behind it, no more was changed than the whole pays for
     pub finish-refused : (Leads : ℕ → S → S → Type 0) (table : S → ℕ) (r : Refusal) → IsRefusedBy Fails r y → HasRefusalCause Fails r y → HasPagesLeft r
-        → (g : Going) → Stands Has (meanings boxes) place.root g x w → StopsFrom (IsStoppedIn Has Leads Fails table (meanings boxes)) (finish (extensions_of (meanings boxes))) g r y
-    finish-refused Leads table r refused cause left g stands =
-        subst (λ (d : B). StopsFrom (IsStoppedIn Has Leads Fails table (meanings boxes)) (finish (extensions_of (meanings d))) g r y) lent.boxes_are
-        (StopsFrom-behind (StandsFor Has meanings) (IsStoppedIn Has Leads Fails table (meanings boxes)) (finish (extensions_in meanings a)) g tt b r y
+        → ((g : Going) → StandsFor Has Spent meanings g b → IsPaid Spent 0 (freed g).trail.spent y)
+        → (g : Going) → Stands Has Spent (meanings boxes) place.root g x w → StopsFrom (IsStoppedIn Has Spent Leads Fails table (meanings boxes)) (finish_and_free (extensions_of (meanings boxes))) g r y
+    finish-refused Leads table r refused cause left paid g stands =
+        subst (λ (d : B). StopsFrom (IsStoppedIn Has Spent Leads Fails table (meanings boxes)) (finish_and_free (extensions_of (meanings d))) g r y) lent.boxes_are
+        (StopsFrom-behind (λ h z. IsPaid Spent 0 h.trail.spent y) (IsStoppedIn Has Spent Leads Fails table (meanings boxes)) (finish_and_free (extensions_in meanings a)) g tt b r y
         (subst (λ (q : Refusal). is_free q ≡ true) refused.is (refusal-free refused.fault))
-        (λ trail. record { cause = cause; licensed = paged_licence Has Leads table (meanings boxes) r trail y left })
-        (made g (parts-to meanings boxes place x w a lent (IsSo g) stands)))
+        (λ h so. record { cause = cause; licensed = paged_licence Has Leads table (meanings boxes) r h.trail y left; paid = so })
+        (made-freed (StandsFor Has Spent meanings) (λ h z. IsPaid Spent 0 h.trail.spent y) (extensions_in meanings a) g b b paid (made g (parts-to meanings boxes place x w a lent (IsSo g) stands))))
 
     -- and behind it no owner is to go where nothing was gone
     pub freed-roomless : (r : Refusal) → (b.work.now.gone.items ≡ [] → ⊥)
-        → (g : Going) → Stands Has (meanings boxes) place.root g x w → g.queue.actions ≡ [] → IsNoneGone g.gone → is_room r ≡ false
+        → (g : Going) → Stands Has Spent (meanings boxes) place.root g x w → g.queue.actions ≡ [] → IsNoneGone g.gone → is_room r ≡ false
     freed-roomless r some g stands none idle =
         let from = made g (parts-to meanings boxes place x w a lent (IsSo g) stands) in
         absurd (some (from.stands.gone (subst (λ (gone : Gone). IsNoneGone gone) (finish-gone (extensions_in meanings a) g from.after from.picks none from.leads) idle)))

@@ -5,8 +5,10 @@ use Rattle.sb_disk.specs.Disk.{Story}
 use Rattle.sb_disk.specs.Moments.{LeavesOnly}
 use Rattle.sb_images.specs.Images.{Restores, IsOldOrNew}
 use Rattle.sb_relation.specs.Db.{Db, Key}
-use Rattle.sb_fold.specs.Finish.{finish}
-use Rattle.sb_fold.specs.Outcome.{Going, Trail}
+use Rattle.sb_fold.specs.Extensions.{Extensions}
+use Rattle.sb_fold.specs.Finish.{finish, freed}
+use Rattle.sb_fold.specs.Outcome as fold
+use Rattle.sb_fold.specs.Outcome.{Going, Trail, change_to, ◌>>=◌}
 use Rattle.sb_map.specs.declared.place.Place.{Place}
 use Rattle.sb_fold.specs.declared.refusal.Refusal.{Refusal}
 use Rattle.sb_fold.specs.declared.refusal.Refusal.TheVariants.{Room, Fault, NoMemory}
@@ -18,15 +20,21 @@ use Rattle.sb_drive.specs.declared.space.SpaceFault.{SpaceFault}
 use Rattle.sb_txn.specs.Clauses.{LeavesWanted}
 use Rattle.sb_txn.specs.Parts.{Parts}
 use Rattle.sb_txn.specs.State.{State}
+use Rattle.sb_space.specs.Spent.{HasSpent}
 use Rattle.sb_space.specs.Table.{table_len}
 use Rattle.sb_space.specs.Works.{Fails, StaysWanted, Works}
 use Rattle.sb_tables.specs.Refusals.{HasRefusalCause}
-use Rattle.sb_tables.specs.Working.{IsShortOf, extensions_of}
+use Rattle.sb_tables.specs.Working.{IsPaid, IsShortOf, extensions_of}
 use Rattle.sb_tables.specs.Work.{Work}
 use Rattle.sb_transactions.specs.declared.refusals.Uncommitted.{Uncommitted}
 use Rattle.sb_transactions.specs.declared.transactions.Point.{Point}
 use Rattle.sb_transactions.specs.Calls.{IsOnlyFault}
 use Rattle.sb_transactions.specs.Transactions.{IsAt, IsCommitted, IsPointOf, IsUsable, Rests, WasBegun, WasSo, unused}
+
+-- ---- what is done before the pages are committed
+-- what waits, and then the pages of what went are given back
+abbrev pub finish_and_free : Extensions → fold.Work (Unit {0})
+finish_and_free ext = finish ext >>= λ _. change_to freed
 
 -- ---- what is committed
 -- The work's database is committed, in the pages that are wanted from then on, and these are the picks that it used. At each moment a crash left the
@@ -45,7 +53,7 @@ pub record LeavesEither (m : Meanings) (root : ℕ) (want : Wanted) (old : Parts
 
 -- with some picks the work that finishes the transaction gives such work
 abbrev pub Finishes : Meanings → Going → (Going → Parts → Type 0) → Parts → Type 0
-Finishes m g IsSo p = MadeFrom IsSo (finish (extensions_of m)) g tt p
+Finishes m g IsSo p = MadeFrom IsSo (finish_and_free (extensions_of m)) g tt p
 
 -- unless the store went down, work in the transaction has come so far
 abbrev pub ComesTo : Meanings → Place → Wanted → ℕ → Work → Going → Parts → Type 0
@@ -57,6 +65,12 @@ LeavesOldOrFinished m root want g old new =
     LeavesOnly old.told new.told (Restores old.store.pool.geometry want) ⊎ Finishes m g (LeavesEither m root want old) new
 
 -- ---- what is refused
+-- room or memory is wanting
+abbrev pub is_wanting : Refusal → Bool
+is_wanting (Room room) = true
+is_wanting NoMemory = true
+is_wanting _ = false
+
 -- a disk with a store
 pub record Mounted (D : Type 0) : Type 0 where
   pub disk : D
@@ -70,21 +84,26 @@ abbrev pub IsLicensedOn : Meanings → ℕ → Refusal → Trail → Type 0
 IsLicensedOn m pages (Room (Data used total)) trail = Any (IsShortOf total (table_len pages) (extensions_of m)) trail.points
 IsLicensedOn m pages r trail = Unit {0}
 
--- the disk or the store has the cause of a refusal, and where it is want of a page, the work had come so far that pages may be wanting
+-- The disk or the store has the cause of a refusal, and where it is want of a page, the work had come so far that pages may be wanting. Fewer changes were
+-- made than the work had paid for.
 pub record IsStoppedOn {D : Type 0} (faults : D → ℕ) (m : Meanings) (r : Refusal) (trail : Trail) (now : Mounted D) : Type 0 where
   pub cause : HasRefusalCause (FailsOn faults) r now
   pub licensed : IsLicensedOn m now.store.pool.geometry.pages r trail
+  pub paid : IsPaid HasSpent 0 trail.spent now.store
 
 -- calls of the transaction lead from one to the other
 abbrev pub IsLed : {D : Type 0} → (D → Option Story) → (D → ℕ) → (D → ℕ) → ℕ → Mounted D → Mounted D → Type 0
 IsLed told len faults tx old new = (k : ℕ) × Works told len faults tx k old.disk new.disk old.store new.store
 
 -- Finishing the transaction is refused: as the definition says; or the disk has failed; or room or memory is wanting at a moment behind calls of it.
--- To a fault no such calls lead where it came in the commit of the pages, or on the way back from the work.
-pub record StopsAt {D : Type 0} (told : D → Option Story) (len faults : D → ℕ) (m : Meanings) (tx : ℕ) (g : Going) (r : Refusal) (old : Mounted D) : Type 0 where
+-- To a fault no such calls lead where it came in the commit of the pages, or on the way back from the work. Where room or memory is wanting, the store is
+-- up at that moment, and no more is spent behind it.
+pub record StopsAt {D : Type 0} (told : D → Option Story) (len faults : D → ℕ) (m : Meanings) (tx : ℕ) (g : Going) (r : Refusal) (old new : Mounted D) : Type 0 where
   pub there : Mounted D
   pub led : (r ≡ Fault → ⊥) → IsLed told len faults tx old there
-  pub stops : StopsFrom (IsStoppedOn faults m) (finish (extensions_of m)) g r there
+  pub stops : StopsFrom (IsStoppedOn faults m) (finish_and_free (extensions_of m)) g r there
+  pub up : is_wanting r ≡ true → there.store.book.down ≡ false
+  pub spent : is_wanting r ≡ true → (n : ℕ) → HasSpent n there.store → HasSpent n new.store
 
 -- the refusal that led here, or a fault, since the disk failed on the way back
 pub record IsFaulted {D : Type 0} (faults : D → ℕ) (r : Refusal) (new : Mounted D) : Type 0 where
@@ -95,12 +114,6 @@ abbrev pub IsOrFaulted : {D : Type 0} → (D → ℕ) → Refusal → Refusal �
 IsOrFaulted faults before r new = (r ≡ before) ⊎ IsFaulted faults r new
 
 -- ---- what goes on
--- room or memory is wanting
-abbrev pub is_wanting : Refusal → Bool
-is_wanting (Room room) = true
-is_wanting NoMemory = true
-is_wanting _ = false
-
 -- the answer of a call behind which the transaction is over
 abbrev pub ended : {T : Type 0} → Result T Refusal → Result T Uncommitted
 ended (Ok x) = Ok x

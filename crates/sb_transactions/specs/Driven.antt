@@ -12,6 +12,7 @@ use Rattle.sb_txn.specs.Clauses.{HoldsPages, LeavesWanted}
 use Rattle.sb_txn.specs.Parts.{Parts}
 use Rattle.sb_space.specs.declared.durable.Durable.{Durable}
 use Rattle.sb_space.specs.Durable.{Leads, parts_in}
+use Rattle.sb_space.specs.Spent.{HasSpent}
 use Rattle.sb_space.specs.View.{lent}
 use Rattle.sb_space.specs.Works.{HasPages}
 use Rattle.sb_space.specs.Works as space
@@ -40,6 +41,9 @@ IsServed told len d = space.Serves (lent d).tx (parts_in told len (lent d))
 abbrev pub HasLent : {D : Type 0} → (D → Option Story) → (D → ℕ) → Wanted → Slots → Durable D → Type 0
 HasLent told len want s d = HasPages want s (parts_in told len (lent d))
 
+abbrev pub SpentLent : {D : Type 0} → ℕ → Durable D → Type 0
+SpentLent n d = HasSpent n d.store.now
+
 abbrev pub LeadsLent : {D : Type 0} → (D → Option Story) → (D → ℕ) → (D → ℕ) → ℕ → Durable D → Durable D → Type 0
 LeadsLent told len faults k a b = Leads told len faults k (lent a) (lent b)
 
@@ -55,7 +59,7 @@ abbrev pub DrivenStands : {D : Type 0} → (D → Option Story) → (D → ℕ) 
 DrivenStands {D = D} told len faults =
     (m : Meanings) (place : Place) (want : Wanted) (g h : Going) (a b : Durable D) (v w : Work)
     → IsAt m place want (lent a).tx g (parts_in told len (lent a)) v → LeadsOn (LeadsLent told len faults) a b
-    → engine.Serves (IsServed told len) m place b w → engine.Stands (HasLent told len) m place.root h b w → b.store.now.book.down ≡ false
+    → engine.Serves (IsServed told len) m place b w → engine.Stands (HasLent told len) SpentLent m place.root h b w → b.store.now.book.down ≡ false
     → IsAt m place want (lent a).tx h (parts_in told len (lent b)) w
 
 -- to go back to a point gives what it gave
@@ -94,6 +98,6 @@ abbrev pub RunningStands : {B D : Type 0} → (D → Option Story) → (D → �
 RunningStands {B = B} {D = D} told len faults meanings =
     (want : Wanted) (g h : Going) (a b : Running B (Durable D))
     → IsAt (meanings a.boxes.now) a.place want (lent a.space.now).tx g (parts_in told len (lent a.space.now)) a.work.now
-    → Goes (LeadsLent told len faults) a b → IsServing (IsServed told len) meanings b → StandsFor (HasLent told len) meanings h b
+    → Goes (LeadsLent told len faults) a b → IsServing (IsServed told len) meanings b → StandsFor (HasLent told len) SpentLent meanings h b
     → b.space.now.store.now.book.down ≡ false
     → IsAt (meanings a.boxes.now) a.place want (lent a.space.now).tx h (parts_in told len (lent b.space.now)) b.work.now

@@ -1,7 +1,9 @@
 pub use Rattle.sb_map.specs.declared.place.Place
+pub use Rattle.sb_space.specs.Spent
 pub use Rattle.sb_space.specs.Table
 pub use Rattle.sb_space.specs.declared.transactions.Space
 pub use Rattle.sb_space.specs.declared.transactions.Tx
+pub use Rattle.sb_tables.specs.Measures
 pub use Rattle.sb_tables.specs.Opened
 pub use Rattle.sb_tables.specs.Owned
 pub use Rattle.sb_tables.specs.Refusals

@@ -1,5 +1,5 @@
 -- Where work in a transaction has come, and where going back to a point comes.
-use Rattle.std.specs.Prelude.{◌≡◌, ℕ, ◌≤◌, false, List, [], length, take, drop, sum, None}
+use Rattle.std.specs.Prelude.{◌≡◌, ℕ, ◌≤◌, false, List, [], length, take, drop, None}
 use Rattle.sb_relation.specs.Db.{Db}
 use Rattle.sb_fold.specs.Extensions.{box_of}
 use Rattle.sb_fold.specs.Finish.{first_failing}
@@ -16,13 +16,14 @@ use Rattle.sb_tables.specs.Standing.{Keeps}
 use Rattle.sb_tables.specs.Opened.{IsDurable}
 use Rattle.sb_txn.specs.Book.{standing_of}
 use Rattle.sb_txn.specs.Parts.{Parts}
+use Rattle.sb_space.specs.Spent.{HasSpent}
 use Rattle.sb_space.specs.Table.{slots_in}
 use Rattle.sb_space.specs.Transactions.{AreFormed, WasAt}
 use Rattle.sb_space.specs.Works.{HasPages, StaysWanted}
 use Rattle.sb_space.specs.Works as space
+use Rattle.sb_tables.specs.Measures.{AreHeld}
 use Rattle.sb_tables.specs.Work.{Work}
-use Rattle.sb_tables.specs.Owned.{pages_of}
-use Rattle.sb_tables.specs.Working.{AreLasting, AreNamedApart, AreOpened, ArePaired, IsNoneGone, extensions_of, left_of}
+use Rattle.sb_tables.specs.Working.{AreLasting, AreNamedApart, AreOpened, ArePaired, IsNoneGone, IsPaid, extensions_of, left_of}
 use Rattle.sb_tables.specs.Working as engine
 use Rattle.sb_transactions.specs.declared.transactions.Point.{Point}
 
@@ -62,7 +63,7 @@ abbrev pub IsUsable : Meanings → Place → ℕ → Parts → Work → Type 0
 IsUsable m place tx p w = engine.Serves (λ q. space.Serves tx q) m place p w
 
 -- Work in the transaction has come so far, over these pages wanted; no owner is to go where nothing was dropped or detached, and those that are to go
--- have no more pages than are held aside.
+-- are held aside.
 pub record IsAt (m : Meanings) (place : Place) (want : Wanted) (tx : ℕ) (g : Going) (p : Parts) (w : Work) : Type 0 where
   pub usable : IsUsable m place tx p w
   pub slots : Slots
@@ -75,7 +76,11 @@ pub record IsAt (m : Meanings) (place : Place) (want : Wanted) (tx : ℕ) (g : G
   pub waits : left_of w ≡ g.queue
   pub picked : w.picks.items ≡ g.used
   pub gone : IsNoneGone g.gone → w.gone.items ≡ []
-  pub aside : pages_of slots w.gone.items ≤ sum g.gone.durable
+  pub aside : AreHeld slots w.gone.items g.gone.durable
+
+-- fewer changes were made in the transaction than the work has paid for
+abbrev pub IsPaidAt : Going → Parts → Type 0
+IsPaidAt g p = IsPaid HasSpent 0 g.trail.spent p.store
 
 -- the same work, of which no picks are told
 abbrev pub unused : Going → Going
@@ -119,7 +124,7 @@ pub record WasSo (m : Meanings) (place : Place) (want : Wanted) (tx : ℕ) (g : 
   pub settled : IsSettled m kept g.queue
   pub waited : waited_at point w.queue ≡ g.queue
   pub gone : IsNoneGone g.gone → take point.gone w.gone.items ≡ []
-  pub aside : pages_of slots (take point.gone w.gone.items) ≤ sum g.gone.durable
+  pub aside : AreHeld slots (take point.gone w.gone.items) g.gone.durable
 
 -- no more stood at the one than at the other
 pub record IsNotBehind (one other : Point) : Type 0 where
@@ -128,7 +133,7 @@ pub record IsNotBehind (one other : Point) : Type 0 where
   pub entries : one.queue.entries ≤ other.queue.entries
   pub gone : one.gone ≤ other.gone
 
--- Back at the point: what had come so far there has come so far again, and what stood at points that aren't behind it stands still.
+-- Back at the point: what had come so far there has come so far again, what stood at points that aren't behind it stands still, and no more is spent.
 pub record IsBack (tx : ℕ) (point : Point) (p q : Parts) (v w : Work) : Type 0 where
   pub up : q.store.book.down ≡ false
   pub usable : (m : Meanings) (place : Place) → place.owner ≡ 2 → IsUsable m place tx q w
@@ -139,6 +144,7 @@ pub record IsBack (tx : ℕ) (point : Point) (p q : Parts) (v w : Work) : Type 0
   pub stand : (one : Point) → IsNotBehind one point → IsPointOf tx one p v → IsPointOf tx one q w
   pub begun : (m : Meanings) (root : ℕ) (want : Wanted) (db : Db) → WasBegun m root want db tx p → WasBegun m root want db tx q
   pub wanted : StaysWanted p q
+  pub spent : (n : ℕ) → HasSpent n p.store → HasSpent n q.store
 
 -- what is kept beside the pages once it was cut to the point: nothing is open, and no pick is noted
 pub record IsCutTo (point : Point) (old new : Work) : Type 0 where

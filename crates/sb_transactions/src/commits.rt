@@ -15,7 +15,7 @@ ghost use Rattle.sb_tables.specs.Refusals.{HasRefusalCause};
 ghost use Rattle.sb_tables.specs.Working.{IsNoneGone};
 ghost use Rattle.sb_transactions.specs.Calls.{IsOnlyFault, KeepsWanted, Remains};
 ghost use Rattle.sb_transactions.specs.Commits.{by_refusal, FailsOn, Finishes, IsDone, IsEnded, LeavesEither, LeavesOldOrFinished, StaysOpen, StopsAt, is_wanting};
-ghost use Rattle.sb_transactions.specs.Transactions.{HasNothingLeft, IsAt, IsFinished, IsUsable, Rests, WasBegun};
+ghost use Rattle.sb_transactions.specs.Transactions.{HasNothingLeft, IsAt, IsFinished, IsPaidAt, IsUsable, Rests, WasBegun};
 
 use crate::finishing::{finish_work, is_idle};
 use crate::points::mark;
@@ -45,12 +45,14 @@ pub fn commit<B: Boxes, D: Disk>(
 
     ensures done { IfOk result (λ picks. (want : Wanted) (g : Going)
         → IsAt (B.meanings boxes.now) place want transaction.tx.store.number g (parts D.told D.len disk.old space.old.store) transaction.work
+        → IsPaidAt g (parts D.told D.len disk.old space.old.store)
         → Finishes (B.meanings boxes.now) g (IsDone (B.meanings boxes.now) place.root want picks.items (parts D.told D.len disk.old space.old.store))
         (parts D.told D.len disk.new space.new.store)) }
     ensures refused { IfErr result (λ e. (want : Wanted) (g : Going)
         → IsAt (B.meanings boxes.now) place want transaction.tx.store.number g (parts D.told D.len disk.old space.old.store) transaction.work
+        → IsPaidAt g (parts D.told D.len disk.old space.old.store)
         → StopsAt D.told D.len D.faults (B.meanings boxes.now) transaction.tx.store.number g e.refusal
-        (record { disk = disk.old; store = space.old.store })) }
+        (record { disk = disk.old; store = space.old.store }) (record { disk = disk.new; store = space.new.store })) }
     ensures fault { IfErr result (λ e. OnFault e.refusal (space.new.store.book.down ≡ true)) }
 
     // The transaction goes on exactly where room or memory is wanting.
@@ -65,6 +67,7 @@ pub fn commit<B: Boxes, D: Disk>(
 
     ensures any_moment { (want : Wanted) (g : Going)
         → IsAt (B.meanings boxes.now) place want transaction.tx.store.number g (parts D.told D.len disk.old space.old.store) transaction.work
+        → IsPaidAt g (parts D.told D.len disk.old space.old.store)
         → LeavesOldOrFinished (B.meanings boxes.now) place.root want g (parts D.told D.len disk.old space.old.store) (parts D.told D.len disk.new space.new.store) }
     ensures kept { IfErr result (λ e. (e.refusal ≡ Refusal.Fault → ⊥)
         → KeepsWanted (parts D.told D.len disk.old space.old.store) (parts D.told D.len disk.new space.new.store)) }
@@ -72,6 +75,7 @@ pub fn commit<B: Boxes, D: Disk>(
     // Where no action waits and nothing is gone no room is wanting.
     ensures room { IfErr result (λ e. (want : Wanted) (g : Going)
         → IsAt (B.meanings boxes.now) place want transaction.tx.store.number g (parts D.told D.len disk.old space.old.store) transaction.work
+        → IsPaidAt g (parts D.told D.len disk.old space.old.store)
         → g.queue.actions ≡ [] → IsNoneGone g.gone → is_room e.refusal ≡ false) }
 
     // Where nothing waits and no owner is to go it takes no memory, and makes no call on the disk where no page was changed.

@@ -2,7 +2,6 @@
 
 ghost use Rattle.std.specs.Prelude.{◌≡◌, ◌↔◌, [], true, false, ℕ, IfErr, IsTrue, OnOk};
 ghost use Rattle.sb_relation.specs.Db.{Db};
-ghost use Rattle.sb_fold.specs.Finish.{finish};
 ghost use Rattle.sb_fold.specs.Outcome.{Going};
 ghost use Rattle.sb_cascade.specs.Runs.{MadeFrom, OnFault, StopsFrom, is_room};
 ghost use Rattle.sb_registry.specs.Boxes.{Meanings};
@@ -13,9 +12,9 @@ ghost use Rattle.sb_tables.specs.Working.{IsNoneGone, extensions_of};
 ghost use Rattle.sb_tables.specs.Working as engine;
 ghost use Rattle.sb_map.specs.declared.place.Place.{Place};
 ghost use Rattle.sb_transactions.specs.declared.transactions.Point.{Point};
-ghost use Rattle.sb_transactions.specs.Commits.{ComesTo, Finishes, IsLed, IsStoppedOn};
+ghost use Rattle.sb_transactions.specs.Commits.{ComesTo, Finishes, IsLed, IsStoppedOn, finish_and_free};
 ghost use Rattle.sb_transactions.specs.Driven.{WorksOn};
-ghost use Rattle.sb_transactions.specs.Transactions.{HasNothingLeft, IsAt, IsPointOf, IsUsable, WasBegun, WasSo};
+ghost use Rattle.sb_transactions.specs.Transactions.{HasNothingLeft, IsAt, IsPaidAt, IsPointOf, IsUsable, WasBegun, WasSo};
 
 use crate::transactions::Transaction;
 use sb_cascade::finish;
@@ -53,16 +52,19 @@ pub(crate) fn finish_work<B: Boxes, D: Disk>(
 
     ensures finished { OnOk result ((want : Wanted) (g : Going)
         → IsAt (B.meanings boxes.now) place want transaction.old.tx.store.number g (parts D.told D.len disk.old space.old.store) transaction.old.work
+        → IsPaidAt g (parts D.told D.len disk.old space.old.store)
         → Finishes (B.meanings boxes.now) g (ComesTo (B.meanings boxes.now) place want transaction.old.tx.store.number transaction.new.work)
         (parts D.told D.len disk.new space.new.store)) }
     ensures none { OnOk result (transaction.new.work.gone.items ≡ []) }
     ensures refused { IfErr result (λ r. (want : Wanted) (g : Going)
         → IsAt (B.meanings boxes.now) place want transaction.old.tx.store.number g (parts D.told D.len disk.old space.old.store) transaction.old.work
-        → StopsFrom (IsStoppedOn D.faults (B.meanings boxes.now)) (finish (extensions_of (B.meanings boxes.now))) g r
+        → IsPaidAt g (parts D.told D.len disk.old space.old.store)
+        → StopsFrom (IsStoppedOn D.faults (B.meanings boxes.now)) (finish_and_free (extensions_of (B.meanings boxes.now))) g r
         (record { disk = disk.new; store = space.new.store })) }
     ensures fault { IfErr result (λ r. OnFault r (space.new.store.book.down ≡ true)) }
     ensures room { IfErr result (λ r. (want : Wanted) (g : Going)
         → IsAt (B.meanings boxes.now) place want transaction.old.tx.store.number g (parts D.told D.len disk.old space.old.store) transaction.old.work
+        → IsPaidAt g (parts D.told D.len disk.old space.old.store)
         → g.queue.actions ≡ [] → IsNoneGone g.gone → is_room r ≡ false) }
     ensures begun { space.new.store.book.down ≡ false → (m : Meanings) (root : ℕ) (want : Wanted) (db : Db)
         → WasBegun m root want db transaction.old.tx.store.number (parts D.told D.len disk.old space.old.store)
@@ -92,13 +94,13 @@ fn finish_over<B: Boxes, S: Owners>(
 ) -> Result<(), Refusal>
     requires ready { engine.Serves S.is_ready (B.meanings boxes.now) place space.old work.old }
 
-    ensures made { OnOk result ((g : Going) → engine.Stands S.has (B.meanings boxes.now) place.root g space.old work.old
-        → MadeFrom (λ h x. engine.Stands S.has (B.meanings boxes.now) place.root h x work.new) (finish (extensions_of (B.meanings boxes.now))) g tt space.new) }
+    ensures made { OnOk result ((g : Going) → engine.Stands S.has S.spent (B.meanings boxes.now) place.root g space.old work.old
+        → MadeFrom (λ h x. engine.Stands S.has S.spent (B.meanings boxes.now) place.root h x work.new) (finish_and_free (extensions_of (B.meanings boxes.now))) g tt space.new) }
     ensures none { OnOk result (work.new.gone.items ≡ []) }
-    ensures refused { IfErr result (λ r. (g : Going) → engine.Stands S.has (B.meanings boxes.now) place.root g space.old work.old
-        → StopsFrom (engine.IsStoppedIn S.has S.leads S.fails S.table (B.meanings boxes.now)) (finish (extensions_of (B.meanings boxes.now))) g r space.new) }
+    ensures refused { IfErr result (λ r. (g : Going) → engine.Stands S.has S.spent (B.meanings boxes.now) place.root g space.old work.old
+        → StopsFrom (engine.IsStoppedIn S.has S.spent S.leads S.fails S.table (B.meanings boxes.now)) (finish_and_free (extensions_of (B.meanings boxes.now))) g r space.new) }
     ensures fault { IfErr result (λ r. HasFaultCause S.fails r space.new) }
-    ensures room { IfErr result (λ r. (g : Going) → engine.Stands S.has (B.meanings boxes.now) place.root g space.old work.old
+    ensures room { IfErr result (λ r. (g : Going) → engine.Stands S.has S.spent (B.meanings boxes.now) place.root g space.old work.old
         → g.queue.actions ≡ [] → IsNoneGone g.gone → is_room r ≡ false) }
     ensures works { IfErr result (λ r. WorksOn S.leads space.old space.new work.old work.new) }
     ensures leads { LeadsOn S.leads space.old space.new }

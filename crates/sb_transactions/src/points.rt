@@ -10,6 +10,7 @@ ghost use Rattle.sb_drive.specs.Spaces.{Wanted};
 ghost use Rattle.sb_map.specs.declared.place.Place.{Place};
 ghost use Rattle.sb_txn.specs.Clauses.{Grows};
 ghost use Rattle.sb_txn.specs.Parts.{parts};
+ghost use Rattle.sb_space.specs.Spent.{HasSpent};
 ghost use Rattle.sb_space.specs.Works.{Serves};
 ghost use Rattle.sb_tables.specs.Refusals.{HasRefusalCause};
 ghost use Rattle.sb_transactions.specs.declared.transactions.Point.{Point};
@@ -74,6 +75,7 @@ pub fn back_to<D: Disk>(
     ensures tx { transaction.new.tx ≡ transaction.old.tx }
     ensures serves { Serves transaction.old.tx.store.number (parts D.told D.len disk.new space.new.store) }
     ensures grows { OnOk result (Grows space.old.store space.new.store 0 0) }
+    ensures spent { OnOk result ((n : ℕ) → HasSpent n space.old.store → HasSpent n space.new.store) }
     ensures any_moment { KeepsWanted (parts D.told D.len disk.old space.old.store) (parts D.told D.len disk.new space.new.store) }
     ensures err { IfErr result (λ r. IsOnlyFault r space.new.store) }
     ensures cause { IfErr result (λ r. HasRefusalCause (FailsOn D.faults) r (record { disk = disk.new; store = space.new.store })) }

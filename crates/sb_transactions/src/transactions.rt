@@ -9,6 +9,7 @@ ghost use Rattle.sb_drive.specs.Spaces.{Wanted};
 ghost use Rattle.sb_map.specs.declared.place.Place.{Place};
 ghost use Rattle.sb_txn.specs.Clauses.{AsksNothing, Grows, IsReady, Leads};
 ghost use Rattle.sb_txn.specs.Parts.{parts, Parts};
+ghost use Rattle.sb_space.specs.Spent.{HasSpent};
 ghost use Rattle.sb_space.specs.Works.{Serves};
 ghost use Rattle.sb_tables.specs.Refusals.{HasRefusalCause};
 ghost use Rattle.sb_transactions.specs.Calls.{IsOnlyFault, KeepsWanted, Remains};
@@ -58,6 +59,7 @@ pub fn begin<D: Disk>(
     ensures at { IfOk result (λ t. (m : Meanings) (place : Place) (want : Wanted) (g : Going) → place.owner ≡ 2 → IsFirst g
         → Rests m place.root want g.db (parts D.told D.len disk.old space.old.store)
         → IsAt m place want t.tx.store.number g (parts D.told D.len disk.new space.new.store) t.work) }
+    ensures spent { OnOk result (HasSpent 0 space.new.store) }
     ensures pages { IfOk result (λ t. Leads (parts D.told D.len disk.old space.old.store) (parts D.told D.len disk.new space.new.store) (λ now. now)) }
     ensures quiet { AsksNothing disk.old disk.new space.old.store }
     ensures any_moment { KeepsWanted (parts D.told D.len disk.old space.old.store) (parts D.told D.len disk.new space.new.store) }

@@ -24,7 +24,7 @@ use Rattle.sb_standing.specs.Standing.{is_join}
 use Rattle.sb_weights.specs.Rooms.{extensions_of, room_of, rule_room_of}
 
 -- one that is found passes
-passes : {X : Type 0} (p : X → Bool) (xs : List X) (x : X) → find p xs ≡ Some x → p x ≡ true
+pub passes : {X : Type 0} (p : X → Bool) (xs : List X) (x : X) → find p xs ≡ Some x → p x ≡ true
 passes p [] x is = absurd (cc)
 passes p (y ∷ ys) x is = by (p y) refl is (passes p ys x)
   where
@@ -33,7 +33,7 @@ passes p (y ∷ ys) x is = by (p y) refl is (passes p ys x)
     by false other is rest = rest is
 
 -- what is made of the first live one is the first of what is made of all
-first_made : {X Y : Type 0} (p : X → Bool) (q : Y → Bool) (f : X → Y) → ((x : X) → q (f x) ≡ p x) → (live spare : List X) (x : X)
+pub first_made : {X Y : Type 0} (p : X → Bool) (q : Y → Bool) (f : X → Y) → ((x : X) → q (f x) ≡ p x) → (live spare : List X) (x : X)
     → find p live ≡ Some x → find q (map f (live ++ spare)) ≡ Some (f x)
 first_made p q f same [] spare x is = absurd (cc)
 first_made p q f same (y ∷ live) spare x is = by (p y) (same y) is (first_made p q f same live spare x)

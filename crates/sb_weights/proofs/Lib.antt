@@ -12,4 +12,6 @@ pub mod Lacking
 pub mod Meant
 pub mod Coming
 pub mod Beside
+pub mod Charged
 mod WorkedStore
+pub mod Measuring

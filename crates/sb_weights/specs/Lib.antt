@@ -3,3 +3,5 @@ pub mod Rooms
 pub mod Weights
 pub mod Coming
 pub mod Beside
+pub mod Charges
+pub mod Measures

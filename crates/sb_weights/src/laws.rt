@@ -1,6 +1,7 @@
 //! Laws of how many pages a store has for its database.
 
 ghost use Rattle.sb_weights.specs.Beside.{BesideIsFull, RestHasRoom};
+ghost use Rattle.sb_weights.specs.Charges.{AskingIsCharged, MethodIsCharged, PrepareIsCharged, RuleIsCharged};
 ghost use Rattle.sb_weights.specs.Coming.{ComingIsFull};
 ghost use Rattle.sb_weights.specs.Weights.{RestIsWithin, FullIsNeeded, ChangeIsFull, ChangeIsWithin, AskedIsWithin, AskingIsFull, AskingIsWithin, LastingAreMeant};
 
@@ -46,4 +47,13 @@ pub fn beside_is_full()
 /// Relations outlive the run where no storage method of theirs counts its keys.
 pub fn lasting_are_meant()
     ensures meant { LastingAreMeant }
+{}
+
+/// What a live storage method may edit for a change or for a new relation, and a live attachment that is asked of a change, is no more than the
+/// definitions charge for it.
+pub fn calls_are_charged()
+    ensures method { MethodIsCharged }
+    ensures rule { RuleIsCharged }
+    ensures asking { AskingIsCharged }
+    ensures prepare { PrepareIsCharged }
 {}

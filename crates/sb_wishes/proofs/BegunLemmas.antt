@@ -10,7 +10,7 @@ use Rattle.sb_ctx.specs.declared.calls.MethodCall.TheVariants as call
 use Rattle.sb_ctx.specs.MethodAnswers.{GetsKey}
 use Rattle.sb_drive.specs.Slots.{Slots}
 use Rattle.sb_drive.specs.Spaces.{LeadsWithin}
-use Rattle.sb_drive.proofs.SpacesLemmas.{GoesOn, LeadsWithin-on}
+use Rattle.sb_drive.proofs.SpacesLemmas.{GoesOn, LeadsWithin-none, LeadsWithin-on}
 use Rattle.sb_registry.specs.Boxes.{Meanings}
 use Rattle.sb_standing.specs.Live.{HasRows}
 use Rattle.sb_catalog.specs.declared.descriptor.Attached.{Attached}
@@ -19,6 +19,11 @@ use Rattle.sb_wishes.specs.Edits.{settled}
 use Rattle.sb_wishes.specs.Outcomes.{Begins, IsBegun}
 use Rattle.sb_wishes.specs.Wished.{IsTableOf, is_long_in}
 use Rattle.sb_wishes.proofs.LackingLemmas.{given_add, given_take, given_turn}
+
+-- so much was changed, whatever was begun
+pub begun_within : {S : Type 0} (Ways : ℕ → S → S → Type 0) {Gets : Type 0} (most : ℕ) (old new : S) → Ways 0 old new ⊎ (Gets × LeadsWithin Ways most old new)
+    → LeadsWithin Ways most old new
+begun_within Ways {Gets} most old new = ⊎_elim (λ (none : Ways 0 old new). LeadsWithin-none Ways most old new none) (λ (some : Gets × LeadsWithin Ways most old new). some.1)
 
 module _ {S : Type 0} (Ways : ℕ → S → S → Type 0) (m : Meanings) (s : Slots) (inst : Instance) (r : Relation) (has : HasRows m s inst r.rows) (old new : S) where
   pub begins_add : (rules : List Attached) (row copy : Row) → copy ≡ row → IsTableOf inst rules r → is_long_in inst rules row ≡ false

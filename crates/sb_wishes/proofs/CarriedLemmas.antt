@@ -32,13 +32,13 @@ ComesOfAll Has Ways m inst rules old new work out =
     (want : Wanted) (s : Slots) (r : Relation) → Has want s old → IsTableOf inst rules r → (has : HasRows m s inst r.rows) → Comes Has Ways m inst want s old new r has (work r) out
 
 -- for work on each relation of which something is so no page was left
-abbrev pub LacksOf : {S : Type 0} → (Wanted → Slots → S → Type 0) → Meanings → Instance → List Attached → S → (Relation → Type 0) → (Relation → Work Change) → SpaceFault → Type 0
-LacksOf Has m inst rules old IsSo work e =
-    (want : Wanted) (s : Slots) (r : Relation) → Has want s old → IsTableOf inst rules r → (has : HasRows m s inst r.rows) → IsSo r → WhereShort e (LacksPage m s inst r has (work r))
+abbrev pub LacksOf : {S : Type 0} → (Wanted → Slots → S → Type 0) → (ℕ → S → S → Type 0) → Meanings → Instance → List Attached → S → S → (Relation → Type 0) → (Relation → Work Change) → SpaceFault → Type 0
+LacksOf Has Ways m inst rules old new IsSo work e =
+    (want : Wanted) (s : Slots) (r : Relation) → Has want s old → IsTableOf inst rules r → (has : HasRows m s inst r.rows) → IsSo r → WhereShort e (LacksPage Ways m s inst r has (work r) old new)
 
-abbrev pub LacksOfAll : {S : Type 0} → (Wanted → Slots → S → Type 0) → Meanings → Instance → List Attached → S → (Relation → Work Change) → SpaceFault → Type 0
-LacksOfAll Has m inst rules old work e =
-    (want : Wanted) (s : Slots) (r : Relation) → Has want s old → IsTableOf inst rules r → (has : HasRows m s inst r.rows) → WhereShort e (LacksPage m s inst r has (work r))
+abbrev pub LacksOfAll : {S : Type 0} → (Wanted → Slots → S → Type 0) → (ℕ → S → S → Type 0) → Meanings → Instance → List Attached → S → S → (Relation → Work Change) → SpaceFault → Type 0
+LacksOfAll Has Ways m inst rules old new work e =
+    (want : Wanted) (s : Slots) (r : Relation) → Has want s old → IsTableOf inst rules r → (has : HasRows m s inst r.rows) → WhereShort e (LacksPage Ways m s inst r has (work r) old new)
 
 -- and so much was begun
 abbrev pub BeginsOf : {S : Type 0} → (Wanted → Slots → S → Type 0) → (ℕ → S → S → Type 0) → Meanings → Instance → List Attached → S → S → (Relation → Type 0) → (Relation → Work Change) → Type 0

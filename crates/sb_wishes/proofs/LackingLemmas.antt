@@ -19,9 +19,11 @@ use Rattle.sb_fold.specs.Wishes.{Wish, Edit, Adds, Takes, Turns, edit_of, wished
 use Rattle.sb_ctx.proofs.AuthorLaws.{length-moved_row, length-with_row, length-without_row}
 use Rattle.sb_ctx.specs.declared.instance.Instance.{Instance}
 use Rattle.sb_ctx.specs.declared.calls.MethodCall.TheVariants as call
-use Rattle.sb_ctx.specs.Method.{code_of}
+use Rattle.sb_ctx.specs.Method.{call_of, code_of}
 use Rattle.sb_ctx.specs.MethodAnswers.{GetsKey, IsGiven}
 use Rattle.sb_drive.specs.Slots.{Slots, owned}
+use Rattle.sb_drive.specs.Spaces.{LeadsWithin}
+use Rattle.sb_drive.proofs.SpacesLemmas.{GoesOn, LeadsWithin-on}
 use Rattle.sb_registry.specs.Boxes.{Meanings}
 use Rattle.sb_standing.specs.Lacking.{IsShort, LacksFor}
 use Rattle.sb_standing.specs.Live.{HasRows}
@@ -154,9 +156,10 @@ module _ (m : Meanings) (s : Slots) (inst : Instance) (r : Relation) (has : HasR
         ),
       )
 
-  pub lacks_add : (rules : List Attached) (row copy : Row) → copy ≡ row → IsTableOf inst rules r → is_long_in inst rules row ≡ false
-      → LacksFor has.live.box inst (call.Insert copy) r.rows s total → LacksPage m s inst r has (settled inst.relation r (Adds row)) total
-  lacks_add rules row copy copied t short lacks =
+  pub lacks_add : {S : Type 0} (Ways : ℕ → S → S → Type 0) (old new : S) (rules : List Attached) (row copy : Row) → copy ≡ row → IsTableOf inst rules r → is_long_in inst rules row ≡ false
+      → LacksFor has.live.box inst (call.Insert copy) r.rows s total → LeadsWithin Ways (has.live.box.cost (call.Insert copy) r.rows) old new
+      → LacksPage Ways m s inst r has (settled inst.relation r (Adds row)) old new total
+  lacks_add Ways old new rules row copy copied t short lacks cost =
       let given = given_add rules row copy copied t short lacks.gets in
       record {
         change = change.Insert given.0 row;
@@ -165,34 +168,46 @@ module _ (m : Meanings) (s : Slots) (inst : Instance) (r : Relation) (has : HasR
         short = λ counts.
             subst Most (sym (length-with_row r.rows given.0 row lawful.rising
             (new_free (free_placed (keying_of r.method) r.rows None (key_of r row) given.0 (λ k. Unit {0}) (Unit {0}) (counted counts) given.1)))) lacks.short;
+        cost = subst (λ (x : Row). LeadsWithin Ways (has.live.box.cost (call.Insert x) r.rows) old new) copied cost;
       }
     where
       new_free : {key : Key} → (◌≡◌ {A = Option Key} None (Some key)) ⊎ (row_at r.rows key ≡ None) → row_at r.rows key ≡ None
       new_free (inl e) = absurd (cc)
       new_free (inr none) = none
 
-  -- the same of what is wished, by the edit that it comes to
-  pub lacks_wished : (wish : Wish) (edit : Edit) → edit_of inst.relation r wish ≡ made edit
-      → LacksPage m s inst r has (settled inst.relation r edit) total → LacksPage m s inst r has (wished inst.relation r wish) total
-  lacks_wished wish edit is lacks =
-      subst (λ (w : Work Change). LacksPage m s inst r has w total) (sym (ap (λ (w : Work Edit). w >>= settled inst.relation r) is)) lacks
+  -- the same of what is wished, by the edit that it comes to, and from an earlier moment
+  pub lacks_wished : {S : Type 0} (Ways : ℕ → S → S → Type 0) (earlier old new : S) (wish : Wish) (edit : Edit) → edit_of inst.relation r wish ≡ made edit
+      → GoesOn Ways → Ways 0 earlier old
+      → LacksPage Ways m s inst r has (settled inst.relation r edit) old new total → LacksPage Ways m s inst r has (wished inst.relation r wish) earlier new total
+  lacks_wished Ways earlier old new wish edit is goes_on first lacks =
+      subst (λ (w : Work Change). LacksPage Ways m s inst r has w earlier new total) (sym (ap (λ (w : Work Edit). w >>= settled inst.relation r) is))
+      (record {
+        change = lacks.change;
+        picks = lacks.picks;
+        wished = lacks.wished;
+        short = lacks.short;
+        cost = LeadsWithin-on Ways (has.live.box.cost (call_of lacks.change) r.rows) earlier old new goes_on first lacks.cost;
+      })
 
-  pub lacks_take : (key at : Key) (old : Row) → at ≡ key → row_at r.rows key ≡ Some old
-      → LacksFor has.live.box inst (call.Delete at) r.rows s total → LacksPage m s inst r has (settled inst.relation r (Takes key old)) total
-  lacks_take key at old copied there lacks = record {
+  pub lacks_take : {S : Type 0} (Ways : ℕ → S → S → Type 0) (before new : S) (key at : Key) (old : Row) → at ≡ key → row_at r.rows key ≡ Some old
+      → LacksFor has.live.box inst (call.Delete at) r.rows s total → LeadsWithin Ways (has.live.box.cost (call.Delete at) r.rows) before new
+      → LacksPage Ways m s inst r has (settled inst.relation r (Takes key old)) before new total
+  lacks_take Ways before new key at old copied there lacks cost = record {
     change = change.Delete key old;
     picks = (given_take key old).0;
     wished = (given_take key old).1;
     short = λ counts. subst Most (less (length-without_row r.rows key old lawful.rising there)) lacks.short;
+    cost = subst (λ (k : Key). LeadsWithin Ways (has.live.box.cost (call.Delete k) r.rows) before new) copied cost;
   }
     where
       less : {n k : ℕ} → n + 1 ≡ k → k - 1 ≡ n
       less is = omega (arith, is)
 
-  pub lacks_turn : (rules : List Attached) (from at : Key) (old after copy : Row) → at ≡ from → copy ≡ after → IsTableOf inst rules r
+  pub lacks_turn : {S : Type 0} (Ways : ℕ → S → S → Type 0) (before new : S) (rules : List Attached) (from at : Key) (old after copy : Row) → at ≡ from → copy ≡ after → IsTableOf inst rules r
       → row_at r.rows from ≡ Some old → is_long_in inst rules after ≡ false
-      → LacksFor has.live.box inst (call.Update at copy) r.rows s total → LacksPage m s inst r has (settled inst.relation r (Turns from old after)) total
-  lacks_turn rules from at old after copy at_is copied t there short lacks =
+      → LacksFor has.live.box inst (call.Update at copy) r.rows s total → LeadsWithin Ways (has.live.box.cost (call.Update at copy) r.rows) before new
+      → LacksPage Ways m s inst r has (settled inst.relation r (Turns from old after)) before new total
+  lacks_turn Ways before new rules from at old after copy at_is copied t there short lacks cost =
       let given = given_turn rules from at old after copy at_is copied t short lacks.gets in
       record {
         change = change.Update from old given.0 after;
@@ -201,6 +216,8 @@ module _ (m : Meanings) (s : Slots) (inst : Instance) (r : Relation) (has : HasR
         short = λ counts.
             subst Most (sym (length-moved_row r.rows from given.0 old after lawful.rising there
             (new_free (free_placed (keying_of r.method) r.rows (Some from) (key_of r after) given.0 (λ k. Unit {0}) (Unit {0}) (counted counts) given.1)))) lacks.short;
+        cost = subst (λ (x : Row). LeadsWithin Ways (has.live.box.cost (call.Update from x) r.rows) before new) copied
+            (subst (λ (k : Key). LeadsWithin Ways (has.live.box.cost (call.Update k copy) r.rows) before new) at_is cost);
       }
     where
       new_free : {key : Key} → (◌≡◌ {A = Option Key} (Some from) (Some key)) ⊎ (row_at r.rows key ≡ None) → (key ≡ from → ⊥) → row_at r.rows key ≡ None

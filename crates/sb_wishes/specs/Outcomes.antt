@@ -60,13 +60,16 @@ abbrev pub Begins : {S : Type 0} (Ways : ℕ → S → S → Type 0) (m : Meanin
 Begins Ways m s inst r has work old new = Ways 0 old new ⊎ IsBegun Ways m s inst r has work old new
 
 -- ---- want of a page
--- With some picks, and whatever picks follow, the work gives a change of the relation's rows; and for the call that makes it no page was left.
-pub record LacksPage (m : Meanings) (s : Slots) (inst : Instance) (r : Relation) (has : HasRows m s inst r.rows) (work : Work Change) (total : ℕ) : Type 0 where
+-- With some picks, and whatever picks follow, the work gives a change of the relation's rows; for the call that makes it no page was left, and no more was
+-- changed than the call costs.
+pub record LacksPage {S : Type 0} (Ways : ℕ → S → S → Type 0) (m : Meanings) (s : Slots) (inst : Instance) (r : Relation) (has : HasRows m s inst r.rows)
+    (work : Work Change) (old new : S) (total : ℕ) : Type 0 where
   pub change : Change
   pub picks : List Key
   pub wished : (g : Going) → Leads work g picks (made change) (record g { used = g.used ++ picks })
   pub short : HasCounts r
       → IsShort s inst.owner (max (has.live.box.bound (length r.rows)) (has.live.box.bound (length (changed_rows r.rows change)))) total
+  pub cost : LeadsWithin Ways (has.live.box.cost (call_of change) r.rows) old new
 
 -- ---- whatever the pages hold
 -- the change has record keys, and rows that the relation may have

@@ -65,7 +65,7 @@ pub(crate) fn settle<S: PageSpace, B: Boxes>(
     ensures full { IfErr result (λ e. (want : Wanted) (s : Slots) (r : Relation) → S.has want s space.old
         → IsTableOf table.now rules.now r → (has : HasRows (B.meanings boxes.now) s table.now r.rows)
         → IsEditOf r.rows (edit_in edit)
-        → WhereShort e (LacksPage (B.meanings boxes.now) s table.now r has (settled table.now.relation r (edit_in edit)))) }
+        → WhereShort e (LacksPage S.leads (B.meanings boxes.now) s table.now r has (settled table.now.relation r (edit_in edit)) space.old space.new)) }
     ensures begins { IfErr result (λ e. (want : Wanted) (s : Slots) (r : Relation) → S.has want s space.old
         → IsTableOf table.now rules.now r → (has : HasRows (B.meanings boxes.now) s table.now r.rows)
         → IsEditOf r.rows (edit_in edit)
@@ -103,7 +103,7 @@ fn add<S: PageSpace, B: Boxes>(
         → HasRows (B.meanings boxes.now) s table.now rows → IsSound e) }
     ensures full { IfErr result (λ e. (want : Wanted) (s : Slots) (r : Relation) → S.has want s space.old
         → IsTableOf table.now rules.now r → (has : HasRows (B.meanings boxes.now) s table.now r.rows)
-        → WhereShort e (LacksPage (B.meanings boxes.now) s table.now r has (settled table.now.relation r (Adds new)))) }
+        → WhereShort e (LacksPage S.leads (B.meanings boxes.now) s table.now r has (settled table.now.relation r (Adds new)) space.old space.new)) }
     ensures begins { IfErr result (λ e. (want : Wanted) (s : Slots) (r : Relation) → S.has want s space.old
         → IsTableOf table.now rules.now r → (has : HasRows (B.meanings boxes.now) s table.now r.rows)
         → Begins S.leads (B.meanings boxes.now) s table.now r has (settled table.now.relation r (Adds new)) space.old space.new) }
@@ -154,7 +154,7 @@ fn take<S: PageSpace, B: Boxes>(
     ensures full { IfErr result (λ e. (want : Wanted) (s : Slots) (r : Relation) → S.has want s space.old
         → (has : HasRows (B.meanings boxes.now) s table.now r.rows)
         → IsEditOf r.rows (Takes key old)
-        → WhereShort e (LacksPage (B.meanings boxes.now) s table.now r has (settled table.now.relation r (Takes key old)))) }
+        → WhereShort e (LacksPage S.leads (B.meanings boxes.now) s table.now r has (settled table.now.relation r (Takes key old)) space.old space.new)) }
     ensures begins { IfErr result (λ e. (want : Wanted) (s : Slots) (r : Relation) → S.has want s space.old
         → (has : HasRows (B.meanings boxes.now) s table.now r.rows) → IsEditOf r.rows (Takes key old)
         → Begins S.leads (B.meanings boxes.now) s table.now r has (settled table.now.relation r (Takes key old)) space.old space.new) }
@@ -204,7 +204,7 @@ fn turn<S: PageSpace, B: Boxes>(
     ensures full { IfErr result (λ e. (want : Wanted) (s : Slots) (r : Relation) → S.has want s space.old
         → IsTableOf table.now rules.now r → (has : HasRows (B.meanings boxes.now) s table.now r.rows)
         → IsEditOf r.rows (Turns key old new)
-        → WhereShort e (LacksPage (B.meanings boxes.now) s table.now r has (settled table.now.relation r (Turns key old new)))) }
+        → WhereShort e (LacksPage S.leads (B.meanings boxes.now) s table.now r has (settled table.now.relation r (Turns key old new)) space.old space.new)) }
     ensures begins { IfErr result (λ e. (want : Wanted) (s : Slots) (r : Relation) → S.has want s space.old
         → IsTableOf table.now rules.now r → (has : HasRows (B.meanings boxes.now) s table.now r.rows) → IsEditOf r.rows (Turns key old new)
         → Begins S.leads (B.meanings boxes.now) s table.now r has (settled table.now.relation r (Turns key old new)) space.old space.new) }

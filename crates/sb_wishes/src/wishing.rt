@@ -62,7 +62,7 @@ pub fn carry_out<S: PageSpace, B: Boxes>(
         → HasRows (B.meanings boxes.now) s table.now rows → IsSound e) }
     ensures full { IfErr result (λ e. (want : Wanted) (s : Slots) (r : Relation) → S.has want s space.old
         → IsTableOf table.now rules.now r → (has : HasRows (B.meanings boxes.now) s table.now r.rows)
-        → WhereShort e (LacksPage (B.meanings boxes.now) s table.now r has (wished table.now.relation r (wish_of wish.now)))) }
+        → WhereShort e (LacksPage S.leads (B.meanings boxes.now) s table.now r has (wished table.now.relation r (wish_of wish.now)) space.old space.new)) }
     ensures begins { IfErr result (λ e. (want : Wanted) (s : Slots) (r : Relation) → S.has want s space.old
         → IsTableOf table.now rules.now r → (has : HasRows (B.meanings boxes.now) s table.now r.rows)
         → Begins S.leads (B.meanings boxes.now) s table.now r has (wished table.now.relation r (wish_of wish.now)) space.old space.new) }

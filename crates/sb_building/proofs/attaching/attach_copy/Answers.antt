@@ -3,10 +3,13 @@ use Rattle.std.proofs.lemmas.Result.{IfOk-weaker, IfErr-weaker}
 use Rattle.sb_rule.specs.declared.rule.Rule.{Rule}
 use Rattle.sb_rule.specs.Spelling.{rule_code}
 use Rattle.sb_drive.specs.declared.space.SpaceFault.TheVariants.{NoMemory}
-use Rattle.sb_drive.proofs.SpacesLemmas.{IfErr-passed}
+use Rattle.sb_drive.specs.Spaces.{LeadsWithin}
+use Rattle.sb_drive.proofs.SpacesLemmas.{IfErr-passed, LeadsWithin-none}
 use Rattle.sb_catalog.specs.Descriptors.{IsCountedRule}
 use Rattle.sb_standing.specs.Lacking.{WhereShort}
+use Rattle.sb_standing.specs.Tables.{db_of}
 use Rattle.sb_tables.specs.Working.{extensions_of}
+use Rattle.sb_building.specs.Costs.{build_cost}
 use Rattle.sb_building.specs.Lacking.{IsShortBuilding}
 use Rattle.sb_building.proofs.CallLemmas.{IfOk-failed}
 use Rattle.sb_building.proofs.OpenLemmas.{MayAdd-copy, ended_copy}
@@ -86,3 +89,19 @@ returns-in_err-copy-clause-fault g c = IfErr-passed c.from_residual.result NoMem
 
 pub returns-clause-fault : goal.returns-clause-fault
 returns-clause-fault g c = c.attach_rule.ensures.fault
+
+-- ---- what it costs
+pub returns-in_err-copy-clause-costs : goal.returns-in_err-copy-clause-costs
+returns-in_err-copy-clause-costs g c = λ x has stores may. LeadsWithin-none g.S.PageSpace.leads _ c.args.space.now c.args.space.now (g.met.S.PageSpace.stays c.args.space.now)
+
+pub returns-in_default-clause-costs : goal.returns-in_default-clause-costs
+returns-in_default-clause-costs g c = λ x has stores may. LeadsWithin-none g.S.PageSpace.leads _ c.args.space.now c.args.space.now (g.met.S.PageSpace.stays c.args.space.now)
+
+pub returns-clause-costs : goal.returns-clause-costs
+returns-clause-costs g c = λ x has stores may.
+    let m = g.B.Boxes.meanings c.args.boxes.now in
+    let relation = c.args.relation.now in
+    let rule = c.args.rule.now in
+    let is = subst (λ (o : Option Rule). IfSome o (λ r. r ≡ rule)) c.in-Some.is c.in_ok-copy.ensures.copy in
+    subst (λ (r : Rule). LeadsWithin g.S.PageSpace.leads (build_cost (extensions_of m) (db_of x.kept) relation r) c.args.space.now c.attach_rule.new.space) is
+    (c.attach_rule.ensures.costs x has stores (MayAdd-copy m x relation c.args.name.now c.in-Some.copy rule is may))

@@ -1,12 +1,16 @@
 use Rattle.std.proofs.Common.{◌≡◌, ◌∙◌, true≢false, Option, option_map, IfSome, sym, ap, subst}
 use Rattle.std.proofs.lemmas.Result.{IfOk-weaker, IfErr-weaker}
 use Rattle.sb_relation.specs.Db.{Name}
+use Rattle.sb_drive.specs.Spaces.{LeadsWithin}
+use Rattle.sb_drive.proofs.SpacesLemmas.{LeadsWithin-none, LeadsWithin-on}
 use Rattle.sb_standing.specs.Lacking.{WhereShort}
+use Rattle.sb_standing.specs.Tables.{db_of}
 use Rattle.sb_standing.proofs.LackingLemmas.{read_short}
 use Rattle.sb_tables.specs.OpenRelation.{OpenRelation}
 use Rattle.sb_tables.specs.Opened.{IsOpen}
 use Rattle.sb_tables.specs.Refusals.{HasRefusalCause, refusal_of}
 use Rattle.sb_tables.specs.Working.{extensions_of}
+use Rattle.sb_building.specs.Costs.{build_cost}
 use Rattle.sb_building.specs.Lacking.{IsShortBuilding}
 use Rattle.sb_tables.proofs.RefusedLemmas.{refused_cause, refused_fault}
 use Rattle.sb_building.proofs.CallLemmas.{leads_later}
@@ -132,3 +136,28 @@ returns-in-Err-clause-fault g c = refused_fault g.S.PageSpace.fails _ c.args.spa
 
 pub returns-in-Ok-Some-clause-fault : goal.returns-in-Ok-Some-clause-fault
 returns-in-Ok-Some-clause-fault g c = c.attach_to.ensures.fault
+
+-- ---- what it costs
+pub returns-then-not-is_short_name-clause-costs : goal.returns-then-not-is_short_name-clause-costs
+returns-then-not-is_short_name-clause-costs g c = λ x has stores may. LeadsWithin-none g.S.PageSpace.leads _ c.args.space.now c.args.space.now (g.met.S.PageSpace.stays c.args.space.now)
+
+pub returns-in-Err-clause-costs : goal.returns-in-Err-clause-costs
+returns-in-Err-clause-costs g c = λ x has stores may. LeadsWithin-none g.S.PageSpace.leads _ c.args.space.now c.open_relation.new.space c.in-Err.ensures.looks.leads
+
+pub returns-in-Ok-None-clause-costs : goal.returns-in-Ok-None-clause-costs
+returns-in-Ok-None-clause-costs g c = λ x has stores may. LeadsWithin-none g.S.PageSpace.leads _ c.args.space.now c.open_relation.new.space c.in-Ok-None.ensures.looks.leads
+
+pub returns-in-Ok-Some-clause-costs : goal.returns-in-Ok-Some-clause-costs
+returns-in-Ok-Some-clause-costs g c = λ x has stores may.
+    let m = g.B.Boxes.meanings c.args.boxes.now in
+    let leads = g.S.PageSpace.leads in
+    let relation = c.args.relation.now in
+    let one = c.in-Ok-Some.one in
+    let opened = subst (λ (o : Option OpenRelation). IfSome o (λ q. IsOpen m q × (q.name ≡ relation))) c.in-Ok-Some.field-0-is c.in-Ok-Some.ensures.opened in
+    let Within : Name → Type 0 = λ n. LeadsWithin leads (build_cost (extensions_of m) (db_of x.kept) n c.args.rule) c.open_relation.new.space c.attach_to.new.space in
+    let found = ap (λ (o : Option OpenRelation). option_map (λ (q : OpenRelation). q.descriptor) o) (sym c.in-Ok-Some.field-0-is) ∙ c.in-Ok-Some.ensures.found x.want x.slots x.kept has stores.keeps.tables in
+    let same = opened_descriptor x.kept relation x.one one.descriptor found stores.there in
+    LeadsWithin-on leads _ c.args.space.now c.open_relation.new.space c.attach_to.new.space g.met.S.PageSpace.goes_on c.in-Ok-Some.ensures.looks.leads
+    (subst Within opened.1
+    (caused_named m c.args.place.root x c.args.name.now c.args.rule (Within one.name) one.name relation opened.1
+    (λ own adds. c.attach_to.ensures.costs x (c.in-Ok-Some.ensures.looks.same x.want x.slots has) own same adds) stores may))

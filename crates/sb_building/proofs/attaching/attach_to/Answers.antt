@@ -1,12 +1,20 @@
-use Rattle.std.proofs.Common.{◌∙◌, subst}
+use Rattle.std.proofs.Common.{◌∙◌, subst, arith}
 use Rattle.std.proofs.lemmas.Result.{IfOk-weaker, IfErr-weaker}
 use Rattle.sb_rule.specs.declared.rule.Rule.{Rule}
+use Rattle.sb_relation.specs.Db.{schema_at}
+use Rattle.sb_fold.specs.Costs.{prepare_cost}
+use Rattle.sb_drive.specs.Spaces.{LeadsWithin}
+use Rattle.sb_drive.proofs.SpacesLemmas.{LeadsWithin-more, LeadsWithin-none, LeadsWithin-on}
 use Rattle.sb_standing.specs.Lacking.{WhereShort}
+use Rattle.sb_standing.specs.Tables.{db_of}
 use Rattle.sb_standing.proofs.LackingLemmas.{read_short}
 use Rattle.sb_tables.specs.Refusals.{HasRefusalCause, refusal_of}
 use Rattle.sb_tables.specs.Working.{extensions_of}
+use Rattle.sb_building.specs.Costs.{build_left}
 use Rattle.sb_building.specs.Lacking.{IsShortBuilding}
 use Rattle.sb_tables.proofs.RefusedLemmas.{refused_cause, refused_fault}
+use Rattle.sb_tables.proofs.SpendingLemmas.{within_then}
+use Rattle.sb_building.proofs.SpentLemmas.{begun_enough}
 use Rattle.sb_building.proofs.CallLemmas.{leads_later, leads_then}
 use Rattle.sb_building.proofs.EndedLemmas.{store_of}
 use Rattle.sb_building.proofs.OpenLemmas.{caused_entry, ended_entry, ended_long, long_found, long_sound}
@@ -161,3 +169,46 @@ returns-in-Err-begin-clause-fault g c = c.in-Err-begin.ensures.fault
 
 pub returns-in-Ok-clause-fault : goal.returns-in-Ok-clause-fault
 returns-in-Ok-clause-fault g c = c.build_on-built.ensures.fault
+
+-- ---- what it costs
+pub returns-in-Err-clause-costs : goal.returns-in-Err-clause-costs
+returns-in-Err-clause-costs g c = λ x has stores same may. LeadsWithin-none g.S.PageSpace.leads _ c.args.space.now c.has_long_row.new.space c.in-Err.ensures.looks.leads
+
+pub returns-in-Ok-true-clause-costs : goal.returns-in-Ok-true-clause-costs
+returns-in-Ok-true-clause-costs g c = λ x has stores same may. LeadsWithin-none g.S.PageSpace.leads _ c.args.space.now c.has_long_row.new.space c.in-Ok-true.ensures.looks.leads
+
+pub returns-in-Err-begin-clause-costs : goal.returns-in-Err-begin-clause-costs
+returns-in-Err-begin-clause-costs g c = λ x has stores same may.
+    let m = g.B.Boxes.meanings c.args.boxes.now in
+    let hold = g.S.PageSpace.has in
+    let leads = g.S.PageSpace.leads in
+    let goes = g.met.S.PageSpace.goes_on in
+    let root = c.args.place.root in
+    let one = c.args.one in
+    let store = store_of hold m root x one.name stores c.has_long_row.new.space (c.in-Ok-false.ensures.looks.same x.want x.slots has) in
+    LeadsWithin-on leads _ c.args.space.now c.has_long_row.new.space c.begin.new.space goes c.in-Ok-false.ensures.looks.leads
+    (LeadsWithin-more leads (prepare_cost (extensions_of m) (schema_at (db_of x.kept) one.name) c.args.rule) _ c.has_long_row.new.space c.begin.new.space
+    (omega (arith, begun_enough hold leads goes m root x one.name c.args.rule stores)) (c.in-Err-begin.ensures.costs x store same may))
+
+pub returns-in-Ok-clause-costs : goal.returns-in-Ok-clause-costs
+returns-in-Ok-clause-costs g c = λ x has stores same may.
+    let m = g.B.Boxes.meanings c.args.boxes.now in
+    let hold = g.S.PageSpace.has in
+    let leads = g.S.PageSpace.leads in
+    let goes = g.met.S.PageSpace.goes_on in
+    let root = c.args.place.root in
+    let one = c.args.one in
+    let rule = c.args.rule in
+    let d = c.in-Ok.attached in
+    let live = c.in-Ok.ensures.live in
+    let db = db_of x.kept in
+    let store = store_of hold m root x one.name stores c.has_long_row.new.space (c.in-Ok-false.ensures.looks.same x.want x.slots has) in
+    let short = long_found hold m root x one stores same c.requires.open c.args.space.now has rule c.in-Ok-false.field-0 c.in-Ok-false.ensures.long ∙ c.in-Ok-false.field-0-test in
+    let left = subst (λ (r : Rule). LeadsWithin leads (build_left (extensions_of m) db one.name r) c.begin.new.space c.build_on-built.new.space) c.in-Ok.ensures.entry.rule_is
+    (caused_entry hold m root x one.name c.args.label.now rule d c.in-Ok.ensures.entry c.in-Ok.inst live.box c.begin.new.space c.build_on-built.new.space
+    (LeadsWithin leads (build_left (extensions_of m) db one.name d.rule) c.begin.new.space c.build_on-built.new.space)
+    (λ adds begun long. c.build_on-built.ensures.costs live x stores same adds begun) may
+    (c.in-Ok.ensures.begun live x store same may) short) in
+    LeadsWithin-on leads _ c.args.space.now c.has_long_row.new.space c.build_on-built.new.space goes c.in-Ok-false.ensures.looks.leads
+    (within_then leads goes (prepare_cost (extensions_of m) (schema_at db one.name) rule) (build_left (extensions_of m) db one.name rule) _ c.has_long_row.new.space c.begin.new.space c.build_on-built.new.space
+    (begun_enough hold leads goes m root x one.name rule stores) (c.in-Ok.ensures.costs x store same may) left)

@@ -3,10 +3,14 @@ use Rattle.sb_rule.specs.Spelling.{SpellsRule}
 use Rattle.sb_ctx.specs.declared.instance.Instance.{Instance}
 use Rattle.sb_relation.specs.Db.{Name}
 use Rattle.sb_standing.specs.Lacking.{WhereShort}
+use Rattle.sb_standing.specs.Tables.{db_of}
 use Rattle.sb_tables.specs.Refusals.{HasRefusalCause, refusal_of}
 use Rattle.sb_tables.specs.Working.{extensions_of}
 use Rattle.sb_building.specs.Lacking.{IsShortBuilding}
 use Rattle.sb_building.proofs.CallLemmas.{leads_then}
+use Rattle.sb_building.specs.Building.{IsBuiltOver}
+use Rattle.sb_building.proofs.EndedLemmas.{table_opened}
+use Rattle.sb_building.proofs.SpentLemmas.{within-placed, within-rows}
 use Rattle.sb_building.proofs.OpenLemmas.{ended_placed, ended_vetoed, none_long, placed_refused, placed_short, table_here}
 use Rattle.sb_building.proofs.attaching.build_on.Goals as goal
 
@@ -158,3 +162,52 @@ returns-in-Err-clause-fault g c = c.in-Err.ensures.fault
 
 pub returns-in-Err-placed-clause-fault : goal.returns-in-Err-placed-clause-fault
 returns-in-Err-placed-clause-fault g c = c.in-Err-placed.ensures.fault
+
+-- ---- what it costs
+pub returns-in-Err-clause-costs : goal.returns-in-Err-clause-costs
+returns-in-Err-clause-costs g c = λ live x stores same may begun.
+    let m = g.B.Boxes.meanings c.args.boxes.now in
+    let has = g.S.PageSpace.has in
+    let root = c.args.place.root in
+    let one = c.args.one in
+    let table = table_opened has m root x one.name stores one refl same c.requires.open in
+    within-rows has g.S.PageSpace.leads g.met.S.PageSpace.goes_on m root x one.name c.args.attached.rule stores c.args.inst.now.relation (ap (λ (i : Instance). i.relation) c.requires.is) c.args.space.now c.build_rows.new.space
+    (c.in-Err.ensures.costs live (record x { slots = begun.slots }) begun.site table begun.content may.joinless)
+
+pub returns-in-Ok-false-clause-costs : goal.returns-in-Ok-false-clause-costs
+returns-in-Ok-false-clause-costs g c = λ live x stores same may begun.
+    let m = g.B.Boxes.meanings c.args.boxes.now in
+    let has = g.S.PageSpace.has in
+    let root = c.args.place.root in
+    let one = c.args.one in
+    let table = table_opened has m root x one.name stores one refl same c.requires.open in
+    within-rows has g.S.PageSpace.leads g.met.S.PageSpace.goes_on m root x one.name c.args.attached.rule stores c.args.inst.now.relation (ap (λ (i : Instance). i.relation) c.requires.is) c.args.space.now c.build_rows.new.space
+    (c.in-Ok-false.ensures.costs live (record x { slots = begun.slots }) begun.site table begun.content may.joinless)
+
+pub returns-in-Err-placed-clause-costs : goal.returns-in-Err-placed-clause-costs
+returns-in-Err-placed-clause-costs g c = λ live x stores same may begun.
+    let m = g.B.Boxes.meanings c.args.boxes.now in
+    let has = g.S.PageSpace.has in
+    let root = c.args.place.root in
+    let one = c.args.one in
+    let d = c.args.attached in
+    let inst = c.args.inst.now in
+    let here = record x { slots = begun.slots } in
+    let table = table_opened has m root x one.name stores one refl same c.requires.open in
+    within-placed has g.S.PageSpace.leads g.met.S.PageSpace.goes_on m root x one.name d.rule stores inst.relation (ap (λ (i : Instance). i.relation) c.requires.is) inst live.box
+    c.args.space.now c.build_rows.new.space c.place_rule-placed.new.space begun (IsBuiltOver live.box inst d.rule (db_of x.kept) x.one.relation.rows c.in-Ok-true.field-0)
+    (c.in-Ok-true.ensures.built live here begun.site table begun.content) (c.in-Ok-true.ensures.costs live here begun.site table begun.content may.joinless) c.in-Err-placed.ensures.costs
+
+pub returns-in-Ok-clause-costs : goal.returns-in-Ok-clause-costs
+returns-in-Ok-clause-costs g c = λ live x stores same may begun.
+    let m = g.B.Boxes.meanings c.args.boxes.now in
+    let has = g.S.PageSpace.has in
+    let root = c.args.place.root in
+    let one = c.args.one in
+    let d = c.args.attached in
+    let inst = c.args.inst.now in
+    let here = record x { slots = begun.slots } in
+    let table = table_opened has m root x one.name stores one refl same c.requires.open in
+    within-placed has g.S.PageSpace.leads g.met.S.PageSpace.goes_on m root x one.name d.rule stores inst.relation (ap (λ (i : Instance). i.relation) c.requires.is) inst live.box
+    c.args.space.now c.build_rows.new.space c.place_rule-placed.new.space begun (IsBuiltOver live.box inst d.rule (db_of x.kept) x.one.relation.rows c.in-Ok-true.field-0)
+    (c.in-Ok-true.ensures.built live here begun.site table begun.content) (c.in-Ok-true.ensures.costs live here begun.site table begun.content may.joinless) c.in-Ok.ensures.costs

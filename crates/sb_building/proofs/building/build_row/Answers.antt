@@ -1,17 +1,18 @@
-use Rattle.std.proofs.Common.{sym, subst}
+use Rattle.std.proofs.Common.{◌⊎◌, sym, subst}
 use Rattle.sb_relation.specs.Db.{Key}
 use Rattle.sb_ctx.specs.declared.calls.AttachCall.TheVariants.{Build}
 use Rattle.sb_drive.specs.AttachCalls.{Fits}
 use Rattle.sb_drive.specs.Slots.{owned}
 use Rattle.sb_drive.specs.Spaces.{Leaves}
-use Rattle.sb_drive.proofs.SpacesLemmas.{Leaves-so}
+use Rattle.sb_drive.proofs.SpacesLemmas.{LeadsWithin-none, Leaves-so}
 use Rattle.sb_standing.specs.Lacking.{WhereShort}
 use Rattle.sb_standing.specs.Tables.{db_of}
 use Rattle.sb_standing.proofs.LackingLemmas.{where_short}
-use Rattle.sb_tables.specs.Calls.{IsAsked, IsFinal, LacksOver}
+use Rattle.sb_tables.specs.Calls.{CostsOver, IsAsked, IsFinal, LacksOver}
 use Rattle.sb_tables.proofs.RefusedLemmas.{refused_cause}
 use Rattle.sb_building.specs.Building.{IsBuilt, content_built, is_done}
 use Rattle.sb_building.proofs.BoundLemmas.{short-row}
+use Rattle.sb_building.proofs.ChargeLemmas.{costs-row}
 use Rattle.sb_building.proofs.SiteLemmas.{IsBuilt-asked}
 use Rattle.sb_building.proofs.building.build_row.Goals as goal
 
@@ -55,3 +56,28 @@ returns-in-Ok-made-clause-built g c = λ live x rule built site next over.
 
 pub returns-in-Ok-made-clause-leads : goal.returns-in-Ok-made-clause-leads
 returns-in-Ok-made-clause-leads g c = c.in-Ok-made.ensures.works.leads
+
+-- ---- what it costs
+pub returns-in-Err-clause-costs : goal.returns-in-Err-clause-costs
+returns-in-Err-clause-costs g c = λ live x rule built site next over.
+    LeadsWithin-none g.S.PageSpace.leads _ c.args.space.now c.args.space.now (g.met.S.PageSpace.stays c.args.space.now)
+
+pub returns-in-Err-made-clause-costs : goal.returns-in-Err-made-clause-costs
+returns-in-Err-made-clause-costs g c = λ live x rule built site next over.
+    let leads = g.S.PageSpace.leads in
+    let inst = c.args.inst.now in
+    let row = c.args.row in
+    let old = c.args.space.now in
+    let new = c.ask-made.new.space in
+    costs-row g.S.PageSpace.has leads (g.B.Boxes.meanings c.args.boxes.now) c.args.place.root x inst rule live old old new site built (c.args.key.now, row) next over
+    (subst (λ (k : Key). leads 0 old new ⊎ CostsOver leads live.box inst (Build k row) (db_of x.kept) x.slots old new) c.in-Ok.ensures (c.in-Err-made.ensures.costs live x.want x.slots x.kept site.has site.tables))
+
+pub returns-in-Ok-made-clause-costs : goal.returns-in-Ok-made-clause-costs
+returns-in-Ok-made-clause-costs g c = λ live x rule built site next over.
+    let leads = g.S.PageSpace.leads in
+    let inst = c.args.inst.now in
+    let row = c.args.row in
+    let old = c.args.space.now in
+    let new = c.ask-made.new.space in
+    costs-row g.S.PageSpace.has leads (g.B.Boxes.meanings c.args.boxes.now) c.args.place.root x inst rule live old old new site built (c.args.key.now, row) next over
+    (subst (λ (k : Key). leads 0 old new ⊎ CostsOver leads live.box inst (Build k row) (db_of x.kept) x.slots old new) c.in-Ok.ensures (c.in-Ok-made.ensures.costs live x.want x.slots x.kept site.has site.tables))

@@ -9,7 +9,7 @@ use Rattle.sb_drive.proofs.SpacesLemmas.{IfErr-passed}
 use Rattle.sb_rows.specs.Live.{HasRows}
 use Rattle.sb_standing.proofs.LackingLemmas.{read_short}
 use Rattle.sb_tables.proofs.RefusedLemmas.{refused_cause}
-use Rattle.sb_building.proofs.BuildLemmas.{building-all, building-short, building-few, building-later, building-next, building-none, building-vetoed, next_of, not_long, rows_of_it}
+use Rattle.sb_building.proofs.BuildLemmas.{building-all, building-short, building-few, building-later, building-vetoed, next_of, not_long, paid-all, paid-later, paid-looking, paid-next, paid-none, paid-row, rows_of_it}
 use Rattle.sb_building.proofs.CallLemmas.{leads_then}
 use Rattle.sb_building.proofs.SiteLemmas.{MayHold-row}
 use Rattle.sb_building.proofs.building.build_rows.Goals as goal
@@ -18,7 +18,9 @@ pub rows-init : goal.rows-init
 rows-init g c = record {
   ready = c.requires.ready;
   leads = (0, g.met.S.PageSpace.stays c.args.space.now);
-  up = λ live x site table over. building-none g.S.PageSpace.has (g.B.Boxes.meanings c.args.boxes.now) c.args.place.root x c.args.inst.now c.args.rule.now live.box c.args.space.now site over;
+  up = λ live x site table over.
+      paid-none g.S.PageSpace.has g.S.PageSpace.leads g.met.S.PageSpace.goes_on (g.B.Boxes.meanings c.args.boxes.now) c.args.place.root x c.args.inst.now c.args.rule.now live.box c.args.space.now site over
+      (g.met.S.PageSpace.stays c.args.space.now);
 }
 
 -- ---- the next row
@@ -27,7 +29,7 @@ returns-in_err-key-clause-refused g c =
     IfErr-passed c.from_residual.result c.in_err-key.field-0.0 _ c.from_residual.ensures.1
     (λ live x site table over short.
     let m = g.B.Boxes.meanings c.args.boxes.now in
-    let up = c.rows.invariant.up live x site table over in
+    let up = (c.rows.invariant.up live x site table over).up in
     let rows = rows_of_it g.S.PageSpace.has m c.args.place.root x c.args.inst.now c.args.rule.now live.box c.rows.last c.rows.counter c.rows.space up in
     refused_cause g.S.PageSpace.fails _ c.rows.space c.next_row.new.space c.in_err-key.field-0.0 c.in_err-key.ensures.looks.refused
     (c.in_err-key.ensures.undamaged x.want up.slots x.one.relation.rows up.site.has (subst (λ (i : Instance). HasRows m up.slots i x.one.relation.rows) (sym table) rows)))
@@ -44,7 +46,7 @@ returns-in_default-clause-built g c = λ live x site table over.
     let rule = c.args.rule.now in
     let root = c.args.place.root in
     let has = g.S.PageSpace.has in
-    let up = c.rows.invariant.up live x site table over in
+    let up = (c.rows.invariant.up live x site table over).up in
     let rows = subst (λ (i : Instance). HasRows m up.slots i x.one.relation.rows) (sym table) (rows_of_it has m root x inst rule live.box c.rows.last c.rows.counter c.rows.space up) in
     let next = c.in_ok-key.ensures.row x.want up.slots x.one.relation.rows up.site.has rows in
     let later = building-later has m root x inst rule live.box c.rows.last c.rows.counter c.rows.space c.next_row.new.space c.in_ok-key.ensures.looks.same up in
@@ -63,7 +65,7 @@ returns-then-is_long_for-clause-refused g c = λ live x site table over short.
     let root = c.args.place.root in
     let has = g.S.PageSpace.has in
     let row : Key × Row = (c.in-Some.key, c.in-Some.row) in
-    let up = c.rows.invariant.up live x site table over in
+    let up = (c.rows.invariant.up live x site table over).up in
     let rows = subst (λ (i : Instance). HasRows m up.slots i x.one.relation.rows) (sym table) (rows_of_it has m root x inst rule live.box c.rows.last c.rows.counter c.rows.space up) in
     let next = c.in_ok-key.ensures.row x.want up.slots x.one.relation.rows up.site.has rows in
     absurd (not_long has m root x inst rule live.box c.rows.last c.rows.counter c.rows.space up row c.args.table.now.schema (ap (λ (i : Instance). i.schema) table) (sym next ∙ c.in-Some.is)
@@ -95,7 +97,7 @@ returns-in_err-admitted-clause-refused g c =
     let rule = c.args.rule.now in
     let root = c.args.place.root in
     let has = g.S.PageSpace.has in
-    let up = c.rows.invariant.up live x site table over in
+    let up = (c.rows.invariant.up live x site table over).up in
     let later = building-later has m root x inst rule live.box c.rows.last c.rows.counter c.rows.space c.next_row.new.space c.in_ok-key.ensures.looks.same up in
     c.in_err-admitted.ensures.refused live (record x { slots = later.slots }) rule later.built later.site later.content)
 
@@ -122,7 +124,7 @@ returns-in_err-admitted-clause-full g c =
     let has = g.S.PageSpace.has in
     let row : Key × Row = (c.in-Some.key, c.in-Some.row) in
     let here = record x { slots = begun.slots } in
-    let up = c.rows.invariant.up live here begun.site table begun.content in
+    let up = (c.rows.invariant.up live here begun.site table begun.content).up in
     let rows = subst (λ (i : Instance). HasRows m up.slots i x.one.relation.rows) (sym table) (rows_of_it has m root here inst rule live.box c.rows.last c.rows.counter c.rows.space up) in
     let is = sym (c.in_ok-key.ensures.row x.want up.slots x.one.relation.rows up.site.has rows) ∙ c.in-Some.is in
     let later = building-later has m root here inst rule live.box c.rows.last c.rows.counter c.rows.space c.next_row.new.space c.in_ok-key.ensures.looks.same up in
@@ -139,7 +141,7 @@ returns-then-not-admitted-clause-built g c = λ live x site table over.
     let root = c.args.place.root in
     let has = g.S.PageSpace.has in
     let row : Key × Row = (c.in-Some.key, c.in-Some.row) in
-    let up = c.rows.invariant.up live x site table over in
+    let up = (c.rows.invariant.up live x site table over).up in
     let rows = subst (λ (i : Instance). HasRows m up.slots i x.one.relation.rows) (sym table) (rows_of_it has m root x inst rule live.box c.rows.last c.rows.counter c.rows.space up) in
     let is = sym (c.in_ok-key.ensures.row x.want up.slots x.one.relation.rows up.site.has rows) ∙ c.in-Some.is in
     let later = building-later has m root x inst rule live.box c.rows.last c.rows.counter c.rows.space c.next_row.new.space c.in_ok-key.ensures.looks.same up in
@@ -170,19 +172,81 @@ rows-preserved g c =
           let root = c.args.place.root in
           let has = g.S.PageSpace.has in
           let row : Key × Row = (c.in-Some.key, c.in-Some.row) in
-          let up = c.rows.invariant.up live x site table over in
+          let paid = c.rows.invariant.up live x site table over in
+          let up = paid.up in
           let rows = subst (λ (i : Instance). HasRows m up.slots i x.one.relation.rows) (sym table) (rows_of_it has m root x inst rule live.box c.rows.last c.rows.counter c.rows.space up) in
           let is = sym (c.in_ok-key.ensures.row x.want up.slots x.one.relation.rows up.site.has rows) ∙ c.in-Some.is in
-          let later = building-later has m root x inst rule live.box c.rows.last c.rows.counter c.rows.space c.next_row.new.space c.in_ok-key.ensures.looks.same up in
+          let here = paid-later has leads goes m root x inst rule live.box c.rows.last c.rows.counter c.args.space.now c.rows.space paid c.next_row.new.space c.in_ok-key.ensures.looks.same c.in_ok-key.ensures.looks.leads in
+          let later = here.up in
           let next = next_of has m root x inst rule live.box c.rows.last c.rows.counter c.next_row.new.space later row is in
-          building-next has m root x inst rule live.box c.rows.last c.rows.counter c.next_row.new.space later row c.build_row.new.space is
+          paid-next has leads goes m root x inst rule live.box c.rows.last c.rows.counter c.args.space.now c.next_row.new.space here row c.build_row.new.space is
+          (c.in_ok-admitted.ensures.costs live (record x { slots = later.slots }) rule later.built later.site next later.content)
           (rw c.if-not-admitted.false at (c.in_ok-admitted.ensures.built live (record x { slots = later.slots }) rule later.built later.site next later.content));
     }
 
 -- ---- more rows than there are
 pub returns-clause-refused : goal.returns-clause-refused
 returns-clause-refused g c = λ live x site table over short.
-    absurd (building-few g.S.PageSpace.has (g.B.Boxes.meanings c.args.boxes.now) c.args.place.root x c.args.inst.now c.args.rule.now live.box c.rows.last c.rows.counter c.rows.space (c.rows.invariant.up live x site table over) (omega arith))
+    absurd (building-few g.S.PageSpace.has (g.B.Boxes.meanings c.args.boxes.now) c.args.place.root x c.args.inst.now c.args.rule.now live.box c.rows.last c.rows.counter c.rows.space (c.rows.invariant.up live x site table over).up (omega arith))
 
 pub returns-clause-leads : goal.returns-clause-leads
 returns-clause-leads g c = c.rows.invariant.leads
+
+-- ---- what it costs
+pub returns-in_err-key-clause-costs : goal.returns-in_err-key-clause-costs
+returns-in_err-key-clause-costs g c = λ live x site table over joinless.
+    paid-looking g.S.PageSpace.has g.S.PageSpace.leads g.met.S.PageSpace.goes_on (g.B.Boxes.meanings c.args.boxes.now) c.args.place.root x c.args.inst.now c.args.rule.now live.box c.rows.last c.rows.counter c.args.space.now c.rows.space
+    (c.rows.invariant.up live x site table over) c.next_row.new.space c.in_err-key.ensures.looks.leads
+
+pub returns-in_default-clause-costs : goal.returns-in_default-clause-costs
+returns-in_default-clause-costs g c = λ live x site table over joinless.
+    paid-looking g.S.PageSpace.has g.S.PageSpace.leads g.met.S.PageSpace.goes_on (g.B.Boxes.meanings c.args.boxes.now) c.args.place.root x c.args.inst.now c.args.rule.now live.box c.rows.last c.rows.counter c.args.space.now c.rows.space
+    (c.rows.invariant.up live x site table over) c.next_row.new.space c.in_ok-key.ensures.looks.leads
+
+pub returns-then-is_long_for-clause-costs : goal.returns-then-is_long_for-clause-costs
+returns-then-is_long_for-clause-costs g c = λ live x site table over joinless.
+    paid-looking g.S.PageSpace.has g.S.PageSpace.leads g.met.S.PageSpace.goes_on (g.B.Boxes.meanings c.args.boxes.now) c.args.place.root x c.args.inst.now c.args.rule.now live.box c.rows.last c.rows.counter c.args.space.now c.rows.space
+    (c.rows.invariant.up live x site table over) c.next_row.new.space c.in_ok-key.ensures.looks.leads
+
+pub returns-in_err-admitted-clause-costs : goal.returns-in_err-admitted-clause-costs
+returns-in_err-admitted-clause-costs g c = λ live x site table over joinless.
+    let m = g.B.Boxes.meanings c.args.boxes.now in
+    let inst = c.args.inst.now in
+    let rule = c.args.rule.now in
+    let root = c.args.place.root in
+    let has = g.S.PageSpace.has in
+    let leads = g.S.PageSpace.leads in
+    let goes = g.met.S.PageSpace.goes_on in
+    let looks = c.in_ok-key.ensures.looks in
+    let row : Key × Row = (c.in-Some.key, c.in-Some.row) in
+    let paid = c.rows.invariant.up live x site table over in
+    let rows = subst (λ (i : Instance). HasRows m paid.up.slots i x.one.relation.rows) (sym table) (rows_of_it has m root x inst rule live.box c.rows.last c.rows.counter c.rows.space paid.up) in
+    let is = sym (c.in_ok-key.ensures.row x.want paid.up.slots x.one.relation.rows paid.up.site.has rows) ∙ c.in-Some.is in
+    let here = paid-later has leads goes m root x inst rule live.box c.rows.last c.rows.counter c.args.space.now c.rows.space paid c.next_row.new.space looks.same looks.leads in
+    let next = next_of has m root x inst rule live.box c.rows.last c.rows.counter c.next_row.new.space here.up row is in
+    paid-row has leads goes m root x inst rule live.box c.rows.last c.rows.counter c.args.space.now c.next_row.new.space here row c.build_row.new.space is
+    (c.in_err-admitted.ensures.costs live (record x { slots = here.up.slots }) rule here.up.built here.up.site next here.up.content)
+
+pub returns-then-not-admitted-clause-costs : goal.returns-then-not-admitted-clause-costs
+returns-then-not-admitted-clause-costs g c = λ live x site table over joinless.
+    let m = g.B.Boxes.meanings c.args.boxes.now in
+    let inst = c.args.inst.now in
+    let rule = c.args.rule.now in
+    let root = c.args.place.root in
+    let has = g.S.PageSpace.has in
+    let leads = g.S.PageSpace.leads in
+    let goes = g.met.S.PageSpace.goes_on in
+    let looks = c.in_ok-key.ensures.looks in
+    let row : Key × Row = (c.in-Some.key, c.in-Some.row) in
+    let paid = c.rows.invariant.up live x site table over in
+    let rows = subst (λ (i : Instance). HasRows m paid.up.slots i x.one.relation.rows) (sym table) (rows_of_it has m root x inst rule live.box c.rows.last c.rows.counter c.rows.space paid.up) in
+    let is = sym (c.in_ok-key.ensures.row x.want paid.up.slots x.one.relation.rows paid.up.site.has rows) ∙ c.in-Some.is in
+    let here = paid-later has leads goes m root x inst rule live.box c.rows.last c.rows.counter c.args.space.now c.rows.space paid c.next_row.new.space looks.same looks.leads in
+    let next = next_of has m root x inst rule live.box c.rows.last c.rows.counter c.next_row.new.space here.up row is in
+    paid-row has leads goes m root x inst rule live.box c.rows.last c.rows.counter c.args.space.now c.next_row.new.space here row c.build_row.new.space is
+    (c.in_ok-admitted.ensures.costs live (record x { slots = here.up.slots }) rule here.up.built here.up.site next here.up.content)
+
+pub returns-clause-costs : goal.returns-clause-costs
+returns-clause-costs g c = λ live x site table over joinless.
+    paid-all g.S.PageSpace.has g.S.PageSpace.leads g.met.S.PageSpace.goes_on (g.B.Boxes.meanings c.args.boxes.now) c.args.place.root x c.args.inst.now c.args.rule.now live.box c.rows.last c.rows.counter c.args.space.now c.rows.space
+    (c.rows.invariant.up live x site table over)

@@ -7,6 +7,7 @@ use Rattle.sb_tables.specs.Calls.{IsAsked, LacksOver}
 use Rattle.sb_tables.proofs.RefusedLemmas.{refused_cause}
 use Rattle.sb_building.specs.Instances.{HoldsFirst}
 use Rattle.sb_building.proofs.BoundLemmas.{short-prepared}
+use Rattle.sb_building.proofs.ChargeLemmas.{costs-prepared}
 use Rattle.sb_building.proofs.SiteLemmas.{Prepared-asked}
 use Rattle.sb_building.proofs.building.prepare.Goals as goal
 
@@ -36,3 +37,13 @@ returns-in-Ok-clause-prepared g c = λ live x rule site new.
 
 pub returns-in-Ok-clause-leads : goal.returns-in-Ok-clause-leads
 returns-in-Ok-clause-leads g c = c.in-Ok.ensures.works.leads
+
+pub returns-in-Err-clause-costs : goal.returns-in-Err-clause-costs
+returns-in-Err-clause-costs g c = λ live x rule site new.
+    costs-prepared g.S.PageSpace.has g.S.PageSpace.leads (g.B.Boxes.meanings c.args.boxes.now) c.args.place.root x c.args.inst.now rule live c.args.space.now c.args.space.now c.ask-made.new.space site new
+    (c.in-Err.ensures.costs live x.want x.slots x.kept site.has site.tables)
+
+pub returns-in-Ok-clause-costs : goal.returns-in-Ok-clause-costs
+returns-in-Ok-clause-costs g c = λ live x rule site new.
+    costs-prepared g.S.PageSpace.has g.S.PageSpace.leads (g.B.Boxes.meanings c.args.boxes.now) c.args.place.root x c.args.inst.now rule live c.args.space.now c.args.space.now c.ask-made.new.space site new
+    (c.in-Ok.ensures.costs live x.want x.slots x.kept site.has site.tables)

@@ -1,7 +1,8 @@
-use Rattle.std.proofs.Common.{ℕ, Option, [], sum, ◌+◌, append-nil, refl, sym, subst}
+use Rattle.std.proofs.Common.{ℕ, Option, [], ◌++◌, ◌+◌, append-nil, refl, sym, subst}
 use Rattle.sb_relation.specs.Db.{Name}
 use Rattle.sb_fold.specs.Building.{at_point}
-use Rattle.sb_drive.proofs.SpacesLemmas.{ArePages-few}
+use Rattle.sb_drive.proofs.SpacesLemmas.{ArePages-few, LeadsWithin-none, LeadsWithin-on}
+use Rattle.sb_drive.specs.Spaces.{LeadsWithin}
 use Rattle.sb_tables.specs.Goings.{front_none}
 use Rattle.sb_tables.specs.Refusals.{refusal_of}
 use Rattle.sb_tables.specs.Working.{IsLicensed, IsStoppedFor, extensions_of}
@@ -11,8 +12,8 @@ use Rattle.sb_tables.proofs.DetachedLemmas.{keeps-later}
 use Rattle.sb_tables.proofs.FullLemmas.{licence-full, read-full, within-need}
 use Rattle.sb_tables.proofs.KeepingLemmas.{if_err_all, on_ok}
 use Rattle.sb_tables.proofs.StandsLemmas.{keeps_of}
-use Rattle.sb_building.specs.Detaching.{both_bound, without_both}
-use Rattle.sb_building.proofs.DetachLemmas.{detach_cost, detach_stops, detached_in}
+use Rattle.sb_building.specs.Detaching.{both_bounds, both_cost, without_both}
+use Rattle.sb_building.proofs.DetachLemmas.{detach_cost, detach_stops, detached_in, paid_detached}
 use Rattle.sb_building.proofs.detaching.detach.Goals as goal
 
 pub returns-in-Ok-clause-made : goal.returns-in-Ok-clause-made
@@ -28,12 +29,16 @@ returns-in-Ok-clause-made g c =
     let closes = c.detach_both.ensures.closes in
     on_ok c.detach_both.result
     (λ detached h stands may.
-    let keeps = keeps_of has m a.place.root h a.space.now a.work.now stands in
-    let later = keeps-later has m a.place.root gone (sum h.gone.durable) h.db a.space.now c.mirror_at.new.space c.mirror_at.new.space keeps c.in-Ok.ensures.looks.same in
-    detached_in has meanings h a new relation name stands may c.detach_both.ensures.goes.boxes c.detach_both.ensures.goes.place
+    let keeps = keeps_of has g.S.PageSpace.spent m a.place.root h a.space.now a.work.now stands in
+    let later = keeps-later has m a.place.root gone h.gone.durable h.db a.space.now c.mirror_at.new.space c.mirror_at.new.space keeps c.in-Ok.ensures.looks.same in
+    detached_in has g.S.PageSpace.spent meanings h a new relation name stands may c.detach_both.ensures.goes.boxes c.detach_both.ensures.goes.place
     (record { opened = closes.opened; queue = closes.queue; done = closes.done; picks = closes.picks })
-    (subst (λ (o : Option (Name × Name)). KeepsIn has meanings (sum h.gone.durable + both_bound (extensions_of m) h.db relation name o) (without_both h.db relation name o) new)
-    (c.in-Ok.ensures.mirror gone (sum h.gone.durable) h.db may.one keeps may.there) (detached (sum h.gone.durable) h.db later)))
+    (subst (λ (o : Option (Name × Name)). KeepsIn has meanings (h.gone.durable ++ both_bounds (extensions_of m) h.db relation name o) (without_both h.db relation name o) new)
+    (c.in-Ok.ensures.mirror gone h.gone.durable h.db may.one keeps may.there) (detached h.gone.durable h.db later))
+    (paid_detached has g.S.PageSpace.spent m a.place.root g.S.PageSpace.leads g.met.S.PageSpace.spends h a.space.now new.space.now a.work.now stands relation name may.one
+    (LeadsWithin-on g.S.PageSpace.leads _ a.space.now c.mirror_at.new.space new.space.now g.met.S.PageSpace.goes_on c.in-Ok.ensures.looks.leads
+    (subst (λ (o : Option (Name × Name)). LeadsWithin g.S.PageSpace.leads (both_cost (extensions_of m) h.db o) c.mirror_at.new.space new.space.now)
+    (c.in-Ok.ensures.mirror gone h.gone.durable h.db may.one keeps may.there) (c.detach_both.ensures.costs h.gone.durable h.db later)))))
     c.detach_both.ensures.detached
 
 pub returns-in-Ok-clause-refused : goal.returns-in-Ok-clause-refused
@@ -47,16 +52,20 @@ returns-in-Ok-clause-refused g c =
     let new = c.detach_both.new.running in
     if_err_all _ _ _ _ c.detach_both.result
     (λ r free cause full h stands may.
-    let keeps = keeps_of has m a.place.root h a.space.now a.work.now stands in
+    let keeps = keeps_of has g.S.PageSpace.spent m a.place.root h a.space.now a.work.now stands in
     let mid = c.in-Ok.ensures.looks.same in
-    let later = keeps-later has m a.place.root a.work.now.gone.items (sum h.gone.durable) h.db a.space.now c.mirror_at.new.space c.mirror_at.new.space keeps mid in
+    let later = keeps-later has m a.place.root a.work.now.gone.items h.gone.durable h.db a.space.now c.mirror_at.new.space c.mirror_at.new.space keeps mid in
     let cost = detach_cost (extensions_of m) relation may.one h.db in
     let pages = λ (o : ℕ). ArePages-few stands.slots o (g.met.S.PageSpace.whole stands.want stands.slots a.space.now stands.has) (g.met.S.PageSpace.few stands.want stands.slots a.space.now stands.has) in
-    let within = within-need has m a.place.root h a.space.now c.mirror_at.new.space a.work.now cost stands pages (mid stands.want stands.slots stands.has) in
-    detach_stops (IsStoppedFor has g.S.PageSpace.leads g.S.PageSpace.fails table g.B.Boxes.meanings) new (extensions_of m) relation name may.one r h may.there free (record {
-      cause = cause (sum h.gone.durable) h.db later;
+    let within = within-need has g.S.PageSpace.spent m a.place.root h a.space.now c.mirror_at.new.space a.work.now cost stands pages (mid stands.want stands.slots stands.has) in
+    detach_stops (IsStoppedFor has g.S.PageSpace.spent g.S.PageSpace.leads g.S.PageSpace.fails table g.B.Boxes.meanings) new (extensions_of m) relation name may.one r h may.there free (record {
+      cause = cause h.gone.durable h.db later;
       licensed = subst (λ b. IsLicensed has g.S.PageSpace.leads table (g.B.Boxes.meanings b) r (at_point h.db h.gone cost h.trail) new.space.now) (sym c.detach_both.ensures.goes.boxes)
-          (licence-full has g.S.PageSpace.leads table m h cost r new.space.now (full (sum h.gone.durable) _ h.db within));
+          (licence-full has g.S.PageSpace.leads table m h cost r new.space.now (full h.gone.durable _ h.db within));
+      paid = paid_detached has g.S.PageSpace.spent m a.place.root g.S.PageSpace.leads g.met.S.PageSpace.spends h a.space.now new.space.now a.work.now stands relation name may.one
+          (LeadsWithin-on g.S.PageSpace.leads _ a.space.now c.mirror_at.new.space new.space.now g.met.S.PageSpace.goes_on c.in-Ok.ensures.looks.leads
+          (subst (λ (o : Option (Name × Name)). LeadsWithin g.S.PageSpace.leads (both_cost (extensions_of m) h.db o) c.mirror_at.new.space new.space.now)
+          (c.in-Ok.ensures.mirror a.work.now.gone.items h.gone.durable h.db may.one keeps may.there) (c.detach_both.ensures.costs h.gone.durable h.db later)));
     }))
     c.detach_both.ensures.free c.detach_both.ensures.refused c.detach_both.ensures.licensed
 
@@ -90,9 +99,11 @@ returns-in-Err-clause-refused g c = λ h stands may.
     let cost = detach_cost (extensions_of m) relation may.one h.db in
     rw c.refusal_of.ensures
     (detach_stops _ _ (extensions_of m) relation name may.one _ h may.there (free_refusal c.in-Err.fault) (record {
-      cause = c.in-Err.ensures.refused a.work.now.gone.items (sum h.gone.durable) h.db (keeps_of g.S.PageSpace.has m a.place.root h a.space.now a.work.now stands);
+      cause = c.in-Err.ensures.refused a.work.now.gone.items h.gone.durable h.db (keeps_of g.S.PageSpace.has g.S.PageSpace.spent m a.place.root h a.space.now a.work.now stands);
       licensed = licence-full g.S.PageSpace.has g.S.PageSpace.leads g.S.PageSpace.table m h cost (refusal_of c.in-Err.fault) c.mirror_at.new.space
           (read-full g.S.PageSpace.has g.S.PageSpace.leads g.S.PageSpace.table _ c.in-Err.fault c.mirror_at.new.space c.in-Err.ensures.looks.fault);
+      paid = paid_detached g.S.PageSpace.has g.S.PageSpace.spent m a.place.root g.S.PageSpace.leads g.met.S.PageSpace.spends h a.space.now c.mirror_at.new.space a.work.now stands relation name may.one
+          (LeadsWithin-none g.S.PageSpace.leads _ a.space.now c.mirror_at.new.space c.in-Err.ensures.looks.leads);
     }))
 
 pub returns-in-Err-clause-goes : goal.returns-in-Err-clause-goes

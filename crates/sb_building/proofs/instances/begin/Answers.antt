@@ -1,9 +1,15 @@
-use Rattle.sb_drive.proofs.SpacesLemmas.{IfErr-passed}
+use Rattle.std.proofs.Common.{cond, arith}
+use Rattle.sb_rule.specs.Spelling.{rule_code}
+use Rattle.sb_ctx.specs.Attachment.{keeps_pages}
+use Rattle.sb_drive.proofs.SpacesLemmas.{IfErr-passed, LeadsWithin-more, LeadsWithin-none}
 use Rattle.sb_standing.proofs.LackingLemmas.{read_short}
 use Rattle.sb_tables.specs.Refusals.{refusal_of}
+use Rattle.sb_tables.specs.Working.{extensions_of}
 use Rattle.sb_tables.proofs.RefusedLemmas.{caused_fault, refused_cause, refused_fault}
+use Rattle.sb_tables.proofs.SpendingLemmas.{within_then}
 use Rattle.sb_building.proofs.CallLemmas.{IfOk-failed, leads_then}
-use Rattle.sb_building.proofs.InstanceLemmas.{law_of-code, prepared_begun, prepared_refused, prepared_short, test_sound}
+use Rattle.sb_building.proofs.ChargeLemmas.{owner-is-charged}
+use Rattle.sb_building.proofs.InstanceLemmas.{law_of-code, prepared_begun, prepared_charged, prepared_refused, prepared_short, test_sound}
 use Rattle.sb_building.proofs.LackingLemmas.{short_first}
 use Rattle.sb_building.proofs.instances.begin.Goals as goal
 
@@ -12,7 +18,7 @@ pub returns-in_err-attached-clause-refused : goal.returns-in_err-attached-clause
 returns-in_err-attached-clause-refused g c = IfErr-passed c.from_residual.result c.in_err-attached.field-0.0 _ c.from_residual.ensures.1 (λ x store same may. c.in_err-attached.ensures.refused)
 
 pub returns-in_err-attached-clause-leads : goal.returns-in_err-attached-clause-leads
-returns-in_err-attached-clause-leads g c = c.in_err-attached.ensures.leads
+returns-in_err-attached-clause-leads g c = (c.in_err-attached.ensures.leads.changes, c.in_err-attached.ensures.leads.leads)
 
 -- ---- its test
 pub test_entry-requires-clause-storable : goal.test_entry-requires-clause-storable
@@ -30,7 +36,7 @@ returns-in-Err-clause-refused g c =
 
 pub returns-in-Err-clause-leads : goal.returns-in-Err-clause-leads
 returns-in-Err-clause-leads g c =
-    leads_then g.S.PageSpace.leads g.met.S.PageSpace.goes_on c.args.space.now c.new_entry.new.space c.test_entry.new.space c.in_ok-attached.ensures.leads (0, c.in-Err.ensures.looks.leads)
+    leads_then g.S.PageSpace.leads g.met.S.PageSpace.goes_on c.args.space.now c.new_entry.new.space c.test_entry.new.space (c.in_ok-attached.ensures.leads.changes, c.in_ok-attached.ensures.leads.leads) (0, c.in-Err.ensures.looks.leads)
 
 -- ---- its content
 pub prepare-requires-clause-live : goal.prepare-requires-clause-live
@@ -51,7 +57,7 @@ returns-in-Err-prepare-clause-leads g c =
     let leads = g.S.PageSpace.leads in
     let goes = g.met.S.PageSpace.goes_on in
     leads_then leads goes c.args.space.now c.test_entry.new.space c.prepare.new.space
-    (leads_then leads goes c.args.space.now c.new_entry.new.space c.test_entry.new.space c.in_ok-attached.ensures.leads (0, c.in-Ok.ensures.looks.leads)) c.in-Err-prepare.ensures.leads
+    (leads_then leads goes c.args.space.now c.new_entry.new.space c.test_entry.new.space (c.in_ok-attached.ensures.leads.changes, c.in_ok-attached.ensures.leads.leads) (0, c.in-Ok.ensures.looks.leads)) c.in-Err-prepare.ensures.leads
 
 -- ---- it has begun
 pub returns-in-Ok-prepare-clause-begun : goal.returns-in-Ok-prepare-clause-begun
@@ -66,7 +72,7 @@ returns-in-Ok-prepare-clause-leads g c =
     let leads = g.S.PageSpace.leads in
     let goes = g.met.S.PageSpace.goes_on in
     leads_then leads goes c.args.space.now c.test_entry.new.space c.prepare.new.space
-    (leads_then leads goes c.args.space.now c.new_entry.new.space c.test_entry.new.space c.in_ok-attached.ensures.leads (0, c.in-Ok.ensures.looks.leads)) c.in-Ok-prepare.ensures.leads
+    (leads_then leads goes c.args.space.now c.new_entry.new.space c.test_entry.new.space (c.in_ok-attached.ensures.leads.changes, c.in_ok-attached.ensures.leads.leads) (0, c.in-Ok.ensures.looks.leads)) c.in-Ok-prepare.ensures.leads
 
 -- ---- no page is left for it
 pub returns-in_err-attached-clause-full : goal.returns-in_err-attached-clause-full
@@ -74,7 +80,7 @@ returns-in_err-attached-clause-full g c =
     IfErr-passed c.from_residual.result c.in_err-attached.field-0.0 _ c.from_residual.ensures.1
     (λ x store same may.
     short_first g.S.PageSpace.has g.S.PageSpace.leads (g.B.Boxes.meanings c.args.boxes.now) c.args.place.root x c.args.opened.now.name c.args.rule
-    (g.S.PageSpace.durable c.args.space.now) (g.S.PageSpace.total c.args.space.now) c.args.space.now c.new_entry.new.space store.has store.tables c.in_err-attached.ensures.leads
+    (g.S.PageSpace.durable c.args.space.now) (g.S.PageSpace.total c.args.space.now) c.args.space.now c.new_entry.new.space store.has store.tables (c.in_err-attached.ensures.leads.changes, c.in_err-attached.ensures.leads.leads)
     c.in_err-attached.field-0.0 (c.in_err-attached.ensures.full x.want x.slots store.has))
 
 pub returns-in-Err-clause-full : goal.returns-in-Err-clause-full
@@ -155,3 +161,34 @@ returns-in-Err-clause-fault g c = refused_fault g.S.PageSpace.fails _ c.new_entr
 
 pub returns-in-Err-prepare-clause-fault : goal.returns-in-Err-prepare-clause-fault
 returns-in-Err-prepare-clause-fault g c = c.in-Err-prepare.ensures.fault
+
+-- ---- what it costs
+pub returns-in_err-attached-clause-costs : goal.returns-in_err-attached-clause-costs
+returns-in_err-attached-clause-costs g c = λ x store same may.
+    LeadsWithin-more g.S.PageSpace.leads (cond (keeps_pages (rule_code c.args.rule)) 2 0) _ c.args.space.now c.new_entry.new.space
+    (owner-is-charged (extensions_of (g.B.Boxes.meanings c.args.boxes.now)) _ c.args.rule may.joinless) c.in_err-attached.ensures.leads
+
+pub returns-in-Err-clause-costs : goal.returns-in-Err-clause-costs
+returns-in-Err-clause-costs g c = λ x store same may.
+    let leads = g.S.PageSpace.leads in
+    let owner = cond (keeps_pages (rule_code c.args.rule)) 2 0 in
+    LeadsWithin-more leads owner _ c.args.space.now c.test_entry.new.space
+    (owner-is-charged (extensions_of (g.B.Boxes.meanings c.args.boxes.now)) _ c.args.rule may.joinless)
+    (within_then leads g.met.S.PageSpace.goes_on owner 0 owner c.args.space.now c.new_entry.new.space c.test_entry.new.space (omega arith) c.in_ok-attached.ensures.leads
+    (LeadsWithin-none leads 0 c.new_entry.new.space c.test_entry.new.space c.in-Err.ensures.looks.leads))
+
+pub returns-in-Err-prepare-clause-costs : goal.returns-in-Err-prepare-clause-costs
+returns-in-Err-prepare-clause-costs g c = λ x store same may.
+    let m = g.B.Boxes.meanings c.args.boxes.now in
+    prepared_charged g.S.PageSpace.has m c.args.place.root x c.args.opened.now.name c.args.label.now c.args.rule c.in_ok-attached.attached c.args.space.now c.new_entry.new.space store may
+    c.in_ok-attached.ensures.entered c.requires.storable (law_of-code m c.args.rule c.code_of-code.result c.code_of-code.ensures c.learn_rule.ensures)
+    c.args.opened.now.descriptor same c.test_entry.new.space c.prepare.new.space c.in-Ok.ensures.looks.same c.in-Ok.inst c.in-Ok.ensures.is c.in-Ok.ensures.live
+    g.S.PageSpace.leads g.met.S.PageSpace.goes_on c.in_ok-attached.ensures.leads c.in-Ok.ensures.looks.leads c.in-Err-prepare.ensures.costs
+
+pub returns-in-Ok-prepare-clause-costs : goal.returns-in-Ok-prepare-clause-costs
+returns-in-Ok-prepare-clause-costs g c = λ x store same may.
+    let m = g.B.Boxes.meanings c.args.boxes.now in
+    prepared_charged g.S.PageSpace.has m c.args.place.root x c.args.opened.now.name c.args.label.now c.args.rule c.in_ok-attached.attached c.args.space.now c.new_entry.new.space store may
+    c.in_ok-attached.ensures.entered c.requires.storable (law_of-code m c.args.rule c.code_of-code.result c.code_of-code.ensures c.learn_rule.ensures)
+    c.args.opened.now.descriptor same c.test_entry.new.space c.prepare.new.space c.in-Ok.ensures.looks.same c.in-Ok.inst c.in-Ok.ensures.is c.in-Ok.ensures.live
+    g.S.PageSpace.leads g.met.S.PageSpace.goes_on c.in_ok-attached.ensures.leads c.in-Ok.ensures.looks.leads c.in-Ok-prepare.ensures.costs

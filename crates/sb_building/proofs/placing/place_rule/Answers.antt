@@ -4,6 +4,7 @@ use Rattle.std.proofs.lemmas.Result.{IfErr-weaker}
 use Rattle.sb_node.specs.Entries.{key_cmp}
 use Rattle.sb_forms.specs.Maps.{map_in}
 use Rattle.sb_drive.specs.Spaces.{Leaves}
+use Rattle.sb_drive.proofs.SpacesLemmas.{LeadsWithin-none}
 use Rattle.sb_tables.specs.Changes.{IsSmall}
 use Rattle.sb_catalog.specs.declared.descriptor.Descriptor.{Descriptor}
 use Rattle.sb_catalog.specs.Descriptors.{descriptor_spelling, IsShortDescriptor}
@@ -44,3 +45,13 @@ returns-clause-full g c = IfErr-weaker c.enter-entered.result _ _ (λ e full x h
 
 pub returns-then-not-has_room-clause-refused : goal.returns-then-not-has_room-clause-refused
 returns-then-not-has_room-clause-refused g c = λ x has tree roomy. absurd (true≢false (sym (c.has_room.ensures.1 (roomy.few, roomy.short)) ∙ c.if-not-has_room.true))
+
+-- ---- what it costs
+pub returns-then-not-has_room-clause-costs : goal.returns-then-not-has_room-clause-costs
+returns-then-not-has_room-clause-costs g c = λ x has tree. LeadsWithin-none g.S.PageSpace.leads _ c.args.space.now c.args.space.now (g.met.S.PageSpace.stays c.args.space.now)
+
+pub returns-in_err-new-clause-costs : goal.returns-in_err-new-clause-costs
+returns-in_err-new-clause-costs g c = λ x has tree. LeadsWithin-none g.S.PageSpace.leads _ c.args.space.now c.args.space.now (g.met.S.PageSpace.stays c.args.space.now)
+
+pub returns-clause-costs : goal.returns-clause-costs
+returns-clause-costs g c = λ x has tree. c.enter-entered.ensures.costs x.want x.slots (map entry_of x.kept) has tree

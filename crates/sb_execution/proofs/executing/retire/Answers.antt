@@ -17,9 +17,9 @@ use Rattle.sb_session.proofs.SameBoxes.{same-boxes, same-stays}
 use Rattle.sb_statements.proofs.PassedLemmas.{passed}
 use Rattle.sb_execution.specs.Endings.{Executed}
 use Rattle.sb_execution.proofs.ExecLemmas.{Executed-kept, Executed-moved, leaves_still}
-use Rattle.sb_execution.proofs.PagesLemmas.{pages_roomless}
+use Rattle.sb_execution.proofs.PagesLemmas.{room_roomless}
 use Rattle.sb_execution.proofs.RetireLemmas.{Executed-tested}
-use Rattle.sb_execution.proofs.SessionLemmas.{ends_alone, keeps_session, leaves_session, pages_outside, runs_alone}
+use Rattle.sb_execution.proofs.SessionLemmas.{ends_alone, keeps_session, leaves_session, room_outside, runs_alone}
 use Rattle.sb_execution.proofs.executing.retire.Goals as goal
 
 -- in a transaction it has no place
@@ -35,7 +35,7 @@ returns-then-is_some-clause-ended g c =
     let did = Carried-misplaced meanings told len faults d x c.requires.runs c.requires.up k x (IsSame-itself meanings x)
     (λ s inside. ap (λ (k : Command). is_misplaced s k) c.requires.retires ∙ inside ∙ sym c.is_some.ensures ∙ c.if-is_some.true) in
     Executed-kept meanings told len faults k d d x x (Refused refusal.State) (same-boxes (meanings x.boxes)) did.keeps did.runs (λ want s for posed. did.ends want s for)
-    (λ want s for posed. pages_roomless (meanings x.boxes) (sizes_of x).pages s k refusal.State refl) (leaves_still told len d d x x refl refl)
+    (λ want s for posed. room_roomless (meanings x.boxes) (sizes_of x).pages s k refusal.State refl) (leaves_still told len d d x x refl refl)
 
 -- no test refuses it
 pub returns-in-Ok-clause-ended : goal.returns-in-Ok-clause-ended
@@ -85,5 +85,5 @@ returns-in-Err-clause-ended g c =
     (keeps_session meanings told len faults k d e x y c.requires.runs c.requires.up space did.space did.boxes did.place result c.told.result did.reply did.down ended.remains ended.fault)
     (runs_alone meanings told len faults k d e x y c.requires.runs c.requires.up space did.space did.boxes did.place result c.told.result did.reply did.down ended.remains none still ended)
     (ends_alone meanings told len faults k d e x y c.requires.runs c.requires.up space did.space did.boxes did.place result c.told.result did.reply did.down ended.remains none still ended)
-    (pages_outside meanings told len faults k d e x y c.requires.runs c.requires.up space did.space did.boxes did.place result c.told.result did.reply did.down ended.remains none still ended)
+    (room_outside meanings told len faults k d e x y c.requires.runs c.requires.up space did.space did.boxes did.place result c.told.result did.reply did.down ended.remains none still ended)
     (λ never. leaves_session meanings told len faults k d e x y c.requires.runs c.requires.up space did.space did.boxes did.place result c.told.result did.reply did.down c.test_outside-tested.ensures.leaves)

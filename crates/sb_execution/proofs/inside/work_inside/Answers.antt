@@ -85,7 +85,7 @@ returns-in-Ok-back_to g c =
     EndsInside-back told len faults m place c.args.command.now c.requires.works d e s t o x y c.requires.up c.requires.goes c.settle.ensures.tx c.settle.ensures.trimmed c.settle.ensures.settled c.settle.ensures.usable
     serves.tx serves.usable serves.led serves.any_moment serves.points serves.stand serves.begun
     c.mark-point.result f u z (λ up one of. c.mark-point.ensures.latest up one (told d) (len d) of) (λ k place want h at. c.mark-point.ensures.was k place want h (told d) (len d) at) back.any_moment
-    back.remains back.tx back.back back.earlier back.stand back.begun back.usable c.requires.owner now c.deref.result.now c.deref.ensures.value refl refl c.in-Err.refusal c.in-Err.ensures.fault c.in-Err.ensures.refused
+    back.remains back.tx back.back back.earlier back.stand back.begun back.usable back.spent c.requires.owner now c.deref.result.now c.deref.ensures.value refl refl c.in-Err.refusal c.in-Err.ensures.fault c.in-Err.ensures.refused
 
 pub returns-in-Err-back_to : goal.returns-in-Err-back_to
 returns-in-Err-back_to g c =

@@ -2,7 +2,7 @@ use Rattle.std.proofs.Common.{false, Option, sym, ap, ◌∙◌, subst}
 use Rattle.sb_txn.specs.Parts.{parts}
 use Rattle.sb_session.specs.declared.session.Open.{Open}
 use Rattle.sb_session.specs.Sessions.{CanGoOn}
-use Rattle.sb_execution.proofs.SessionLemmas.{ends_alone, keeps_session, leaves_session, pages_outside, runs_alone}
+use Rattle.sb_execution.proofs.SessionLemmas.{ends_alone, keeps_session, leaves_session, room_outside, runs_alone}
 use Rattle.sb_plain.specs.declared.reply.Reply.{Reply}
 use Rattle.sb_execution.specs.Serving.{may_have_committed}
 use Rattle.sb_execution.proofs.outside.exec_outside.Goals as goal
@@ -19,10 +19,10 @@ returns-clause-ends g c =
     c.work_outside-result.new.space c.told.ensures.space c.told.ensures.boxes c.told.ensures.place c.work_outside-result.result c.told.result c.told.ensures.reply c.told.ensures.down
     c.work_outside-result.ensures.remains c.requires.none (c.told.ensures.current ∙ c.requires.none) c.work_outside-result.ensures
 
-pub returns-clause-pages : goal.returns-clause-pages
-returns-clause-pages g c =
+pub returns-clause-room : goal.returns-clause-room
+returns-clause-room g c =
     let x = c.args.session.now in
-    pages_outside g.B.Boxes.meanings g.D.Disk.told g.D.Disk.len g.D.Disk.faults c.args.command.now c.args.disk.now c.work_outside-result.new.disk x c.told.new.session c.requires.runs c.requires.up
+    room_outside g.B.Boxes.meanings g.D.Disk.told g.D.Disk.len g.D.Disk.faults c.args.command.now c.args.disk.now c.work_outside-result.new.disk x c.told.new.session c.requires.runs c.requires.up
     c.work_outside-result.new.space c.told.ensures.space c.told.ensures.boxes c.told.ensures.place c.work_outside-result.result c.told.result c.told.ensures.reply c.told.ensures.down
     c.work_outside-result.ensures.remains c.requires.none (c.told.ensures.current ∙ c.requires.none) c.work_outside-result.ensures
 

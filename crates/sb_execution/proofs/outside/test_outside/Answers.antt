@@ -32,7 +32,7 @@ returns-in-Ok-None-clause-passes g c =
     let begun = c.in-Ok.ensures in
     let tests = c.test_in-tested.ensures in
     let ends = c.in-Ok-abort.ensures in
-    Passes-alone told len faults m place c.args.command.now d b e s bs t a a c.requires.up c.requires.owner begun.remains begun.any_moment begun.pages begun.begun begun.at
+    Passes-alone told len faults m place c.args.command.now d b e s bs t a a c.requires.up c.requires.owner begun.remains begun.any_moment begun.pages begun.begun begun.at begun.spent
     refl tests.usable tests.led tests.begun f u ends.any_moment ends.remains ends.none ends.rests
     [] refl (λ want x h at seen. sym c.in-Ok-None.field-0-is ∙ c.in-Ok-None.ensures.refused want x h at seen)
 
@@ -55,7 +55,7 @@ returns-in-Ok-Some-clause-refused g c =
     let begun = c.in-Ok.ensures in
     let tests = c.test_in-tested.ensures in
     let ends = c.in-Ok-abort.ensures in
-    EndsAlone-tested told len faults m place c.args.command.now d b e s bs t a a c.requires.up c.requires.owner begun.remains begun.any_moment begun.pages begun.begun begun.at
+    EndsAlone-tested told len faults m place c.args.command.now d b e s bs t a a c.requires.up c.requires.owner begun.remains begun.any_moment begun.pages begun.begun begun.at begun.spent
     refl tests.usable tests.led tests.begun f u ends.any_moment ends.remains ends.none ends.rests
     [] refl c.requires.may c.in-Ok-Some.refusal (subst (λ (o : Option Refusal). IfSome o (λ r. OnFault r ⊥)) c.in-Ok-Some.field-0-is c.in-Ok-Some.ensures.tested) (λ want x h at seen. sym c.in-Ok-Some.field-0-is ∙ c.in-Ok-Some.ensures.refused want x h at seen)
 
@@ -78,7 +78,7 @@ returns-in-Err-tested-clause-refused g c =
     let begun = c.in-Ok.ensures in
     let tests = c.test_in-tested.ensures in
     let ends = c.in-Ok-abort.ensures in
-    EndsAlone-looked told len faults m place c.args.command.now d b e s bs t a a c.requires.up c.requires.owner begun.remains begun.any_moment begun.pages begun.begun begun.at
+    EndsAlone-looked told len faults m place c.args.command.now d b e s bs t a a c.requires.up c.requires.owner begun.remains begun.any_moment begun.pages begun.begun begun.at begun.spent
     refl tests.usable tests.led tests.begun f u ends.any_moment ends.remains ends.none ends.rests
     [] refl c.requires.may c.in-Err-tested.refusal c.in-Err-tested.ensures.fault c.in-Err-tested.ensures.free c.in-Err-tested.ensures.room c.in-Err-tested.ensures.cause
 
@@ -101,7 +101,7 @@ returns-in-Err-abort-clause-refused g c =
     let begun = c.in-Ok.ensures in
     let tests = c.test_in-tested.ensures in
     let ends = c.in-Err-abort.ensures in
-    EndsAlone-failed told len faults m place c.args.command.now d b e s bs t a a c.requires.up c.requires.owner begun.remains begun.any_moment begun.pages begun.begun begun.at
+    EndsAlone-failed told len faults m place c.args.command.now d b e s bs t a a c.requires.up c.requires.owner begun.remains begun.any_moment begun.pages begun.begun begun.at begun.spent
     refl tests.usable tests.led tests.begun f u ends.any_moment c.in-Err-abort.fault ends.remains ends.err
 
 pub returns-in-Ok-None-clause-leaves : goal.returns-in-Ok-None-clause-leaves
@@ -112,7 +112,7 @@ returns-in-Ok-None-clause-leaves g c =
     let tests = c.test_in-tested.ensures in
     let ends = c.in-Ok-abort.ensures in
     leaves_aborted g.D.Disk.told g.D.Disk.len g.D.Disk.faults m c.args.place c.args.command.now c.args.disk.now c.begin.new.disk c.test_in-tested.new.disk c.args.space.now.store c.begin.new.space.store
-    c.test_in-tested.new.space.store a a c.requires.up c.requires.owner begun.remains begun.any_moment begun.pages begun.begun begun.at
+    c.test_in-tested.new.space.store a a c.requires.up c.requires.owner begun.remains begun.any_moment begun.pages begun.begun begun.at begun.spent
     refl tests.usable tests.led tests.begun c.abort.new.disk c.abort.new.space.store ends.any_moment {T = Unit {0}} (Ok tt) ends.remains
 
 pub returns-in-Ok-Some-clause-leaves : goal.returns-in-Ok-Some-clause-leaves
@@ -123,7 +123,7 @@ returns-in-Ok-Some-clause-leaves g c =
     let tests = c.test_in-tested.ensures in
     let ends = c.in-Ok-abort.ensures in
     leaves_aborted g.D.Disk.told g.D.Disk.len g.D.Disk.faults m c.args.place c.args.command.now c.args.disk.now c.begin.new.disk c.test_in-tested.new.disk c.args.space.now.store c.begin.new.space.store
-    c.test_in-tested.new.space.store a a c.requires.up c.requires.owner begun.remains begun.any_moment begun.pages begun.begun begun.at
+    c.test_in-tested.new.space.store a a c.requires.up c.requires.owner begun.remains begun.any_moment begun.pages begun.begun begun.at begun.spent
     refl tests.usable tests.led tests.begun c.abort.new.disk c.abort.new.space.store ends.any_moment {T = Unit {0}} (Ok tt) ends.remains
 
 pub returns-in-Err-tested-clause-leaves : goal.returns-in-Err-tested-clause-leaves
@@ -134,7 +134,7 @@ returns-in-Err-tested-clause-leaves g c =
     let tests = c.test_in-tested.ensures in
     let ends = c.in-Ok-abort.ensures in
     leaves_aborted g.D.Disk.told g.D.Disk.len g.D.Disk.faults m c.args.place c.args.command.now c.args.disk.now c.begin.new.disk c.test_in-tested.new.disk c.args.space.now.store c.begin.new.space.store
-    c.test_in-tested.new.space.store a a c.requires.up c.requires.owner begun.remains begun.any_moment begun.pages begun.begun begun.at
+    c.test_in-tested.new.space.store a a c.requires.up c.requires.owner begun.remains begun.any_moment begun.pages begun.begun begun.at begun.spent
     refl tests.usable tests.led tests.begun c.abort.new.disk c.abort.new.space.store ends.any_moment {T = Unit {0}} (Ok tt) ends.remains
 
 pub returns-in-Err-abort-clause-leaves : goal.returns-in-Err-abort-clause-leaves
@@ -145,5 +145,5 @@ returns-in-Err-abort-clause-leaves g c =
     let tests = c.test_in-tested.ensures in
     let ends = c.in-Err-abort.ensures in
     leaves_aborted g.D.Disk.told g.D.Disk.len g.D.Disk.faults m c.args.place c.args.command.now c.args.disk.now c.begin.new.disk c.test_in-tested.new.disk c.args.space.now.store c.begin.new.space.store
-    c.test_in-tested.new.space.store a a c.requires.up c.requires.owner begun.remains begun.any_moment begun.pages begun.begun begun.at
+    c.test_in-tested.new.space.store a a c.requires.up c.requires.owner begun.remains begun.any_moment begun.pages begun.begun begun.at begun.spent
     refl tests.usable tests.led tests.begun c.abort.new.disk c.abort.new.space.store ends.any_moment {T = Unit {0}} (Err c.in-Err-abort.fault) ends.remains

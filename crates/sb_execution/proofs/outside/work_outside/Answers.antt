@@ -30,7 +30,7 @@ returns-then-is_down g c =
     let y = c.serve_in-served.new.transaction in
     let begun = c.in-Ok.ensures in
     let serves = c.serve_in-served.ensures in
-    EndsAlone-down told len faults m place c.args.command.now d b e s bs t a y c.requires.up c.requires.owner begun.remains begun.any_moment begun.pages begun.begun begun.at
+    EndsAlone-down told len faults m place c.args.command.now d b e s bs t a y c.requires.up c.requires.owner begun.remains begun.any_moment begun.pages begun.begun begun.at begun.spent
     serves.tx serves.usable serves.led serves.begun (sym c.is_down.ensures ∙ c.if-is_down.true)
 
 pub returns-in-Ok-abort : goal.returns-in-Ok-abort
@@ -53,7 +53,7 @@ returns-in-Ok-abort g c =
     let f = c.abort.new.disk in
     let u = c.abort.new.space.store in
     let ends = c.in-Ok-abort.ensures in
-    EndsAlone-reads told len faults m place c.args.command.now d b e s bs t a y c.requires.up c.requires.owner begun.remains begun.any_moment begun.pages begun.begun begun.at
+    EndsAlone-reads told len faults m place c.args.command.now d b e s bs t a y c.requires.up c.requires.owner begun.remains begun.any_moment begun.pages begun.begun begun.at begun.spent
     serves.tx serves.usable serves.led serves.begun f u ends.any_moment ends.remains ends.none ends.rests
     [] refl c.in-Read.reply c.in-Ok-served.served c.in-Read.is c.in-Ok-served.ensures.answer c.in-Ok-served.ensures.served
 
@@ -77,7 +77,7 @@ returns-in-Err-abort g c =
     let f = c.abort.new.disk in
     let u = c.abort.new.space.store in
     let ends = c.in-Err-abort.ensures in
-    EndsAlone-failed told len faults m place c.args.command.now d b e s bs t a y c.requires.up c.requires.owner begun.remains begun.any_moment begun.pages begun.begun begun.at
+    EndsAlone-failed told len faults m place c.args.command.now d b e s bs t a y c.requires.up c.requires.owner begun.remains begun.any_moment begun.pages begun.begun begun.at begun.spent
     serves.tx serves.usable serves.led serves.begun f u ends.any_moment c.in-Err-abort.fault ends.remains ends.err
 
 pub returns-in-Worked : goal.returns-in-Worked
@@ -98,7 +98,7 @@ returns-in-Worked g c =
     let begun = c.in-Ok.ensures in
     let serves = c.serve_in-served.ensures in
     c.commit_answer.ensures c.args.command.now d s
-    (has_answered told len faults m place c.args.command.now d b e s bs t a y c.requires.up c.requires.owner begun.remains begun.any_moment begun.pages begun.begun begun.at
+    (has_answered told len faults m place c.args.command.now d b e s bs t a y c.requires.up c.requires.owner begun.remains begun.any_moment begun.pages begun.begun begun.at begun.spent
     serves.tx serves.usable serves.led serves.begun c.requires.works (sym c.in-Ok-served.ensures.reads ∙ ap (λ (x : Served). is_read x) c.in-Worked.is) [] refl c.in-Worked.answer c.in-Ok-served.served c.in-Worked.is (sym c.is_down.ensures ∙ c.if-is_down.false) c.in-Ok-served.ensures.served)
 
 pub returns-in-Ok-abort-2 : goal.returns-in-Ok-abort-2
@@ -121,7 +121,7 @@ returns-in-Ok-abort-2 g c =
     let f = c.abort-in-Err-served.new.disk in
     let u = c.abort-in-Err-served.new.space.store in
     let ends = c.in-Ok-abort-2.ensures in
-    EndsAlone-back told len faults m place c.args.command.now d b e s bs t a y c.requires.up c.requires.owner begun.remains begun.any_moment begun.pages begun.begun begun.at
+    EndsAlone-back told len faults m place c.args.command.now d b e s bs t a y c.requires.up c.requires.owner begun.remains begun.any_moment begun.pages begun.begun begun.at begun.spent
     serves.tx serves.usable serves.led serves.begun f u ends.any_moment ends.remains ends.none ends.rests
     [] refl c.requires.works c.in-Err-served.refusal c.in-Err-served.ensures.fault c.in-Err-served.ensures.refused
 
@@ -145,5 +145,5 @@ returns-in-Err-abort-2 g c =
     let f = c.abort-in-Err-served.new.disk in
     let u = c.abort-in-Err-served.new.space.store in
     let ends = c.in-Err-abort-2.ensures in
-    EndsAlone-failed told len faults m place c.args.command.now d b e s bs t a y c.requires.up c.requires.owner begun.remains begun.any_moment begun.pages begun.begun begun.at
+    EndsAlone-failed told len faults m place c.args.command.now d b e s bs t a y c.requires.up c.requires.owner begun.remains begun.any_moment begun.pages begun.begun begun.at begun.spent
     serves.tx serves.usable serves.led serves.begun f u ends.any_moment c.in-Err-abort-2.fault ends.remains ends.err

@@ -1,5 +1,6 @@
 use Rattle.std.proofs.Common.{◌∙◌, Option, IfSome, is_some, sym, ap, subst}
 use Rattle.sb_plain.specs.declared.reply.Reply.{Reply}
+use Rattle.sb_engine.proofs.PaidLemmas.{paid_looking}
 use Rattle.sb_engine.proofs.RefusedLemmas.{refused_fault}
 use Rattle.sb_reads.specs.Reads.{IsAnswer}
 use Rattle.sb_execution.specs.Serving.{Worked}
@@ -13,8 +14,9 @@ returns-in-Ok-Some-clause-served g c = λ s h stands may.
     let m = g.B.Boxes.meanings c.args.boxes.now in
     let root = c.args.place.root in (
       may.passed,
-      was_read g.S.PageSpace.has m root c.args.space.now c.args.work.now c.args.command.now s h stands may c.in-Ok-Some.field-0 c.in-Ok-Some.ensures.reply ∙ c.in-Ok-Some.field-0-is,
-      stands-same g.S.PageSpace.has m root h c.args.space.now c.read.new.space c.args.work.now stands (c.in-Ok-Some.ensures.looks.same stands.want stands.slots stands.has),
+      was_read g.S.PageSpace.has g.S.PageSpace.spent m root c.args.space.now c.args.work.now c.args.command.now s h stands may c.in-Ok-Some.field-0 c.in-Ok-Some.ensures.reply ∙ c.in-Ok-Some.field-0-is,
+      stands-same g.S.PageSpace.has g.S.PageSpace.spent m root h c.args.space.now c.read.new.space c.args.work.now stands (c.in-Ok-Some.ensures.looks.same stands.want stands.slots stands.has)
+          (paid_looking g.S.PageSpace.spent g.S.PageSpace.leads g.met.S.PageSpace.spends c.args.space.now c.read.new.space c.in-Ok-Some.ensures.looks.leads stands.paid),
     )
 
 pub returns-in-Ok-clause-served : goal.returns-in-Ok-clause-served
@@ -22,9 +24,10 @@ returns-in-Ok-clause-served g c = λ s h stands may.
     let m = g.B.Boxes.meanings c.args.boxes.now in
     let root = c.args.place.root in (
       may.passed,
-      was_read g.S.PageSpace.has m root c.args.space.now c.args.work.now c.args.command.now s h stands may c.in-Ok-None.field-0 c.in-Ok-None.ensures.reply ∙ c.in-Ok-None.field-0-is,
-      c.in-Ok.ensures.made h (stands-same g.S.PageSpace.has m root h c.args.space.now c.read.new.space c.args.work.now stands (c.in-Ok-None.ensures.looks.same stands.want stands.slots stands.has))
-          (works_may g.S.PageSpace.has m root c.args.space.now c.args.work.now c.args.command.now s h stands may),
+      was_read g.S.PageSpace.has g.S.PageSpace.spent m root c.args.space.now c.args.work.now c.args.command.now s h stands may c.in-Ok-None.field-0 c.in-Ok-None.ensures.reply ∙ c.in-Ok-None.field-0-is,
+      c.in-Ok.ensures.made h (stands-same g.S.PageSpace.has g.S.PageSpace.spent m root h c.args.space.now c.read.new.space c.args.work.now stands (c.in-Ok-None.ensures.looks.same stands.want stands.slots stands.has)
+          (paid_looking g.S.PageSpace.spent g.S.PageSpace.leads g.met.S.PageSpace.spends c.args.space.now c.read.new.space c.in-Ok-None.ensures.looks.leads stands.paid))
+          (works_may g.S.PageSpace.has g.S.PageSpace.spent m root c.args.space.now c.args.work.now c.args.command.now s h stands may),
     )
 
 pub returns-in-Err-work_over-clause-refused : goal.returns-in-Err-work_over-clause-refused
@@ -32,14 +35,16 @@ returns-in-Err-work_over-clause-refused g c = λ s h stands may.
     let m = g.B.Boxes.meanings c.args.boxes.now in
     let root = c.args.place.root in
     Worked may.passed
-    (was_read g.S.PageSpace.has m root c.args.space.now c.args.work.now c.args.command.now s h stands may c.in-Ok-None.field-0 c.in-Ok-None.ensures.reply ∙ c.in-Ok-None.field-0-is)
-    (c.in-Err-work_over.ensures.refused h (stands-same g.S.PageSpace.has m root h c.args.space.now c.read.new.space c.args.work.now stands (c.in-Ok-None.ensures.looks.same stands.want stands.slots stands.has))
-    (works_may g.S.PageSpace.has m root c.args.space.now c.args.work.now c.args.command.now s h stands may))
+    (was_read g.S.PageSpace.has g.S.PageSpace.spent m root c.args.space.now c.args.work.now c.args.command.now s h stands may c.in-Ok-None.field-0 c.in-Ok-None.ensures.reply ∙ c.in-Ok-None.field-0-is)
+    (c.in-Err-work_over.ensures.refused h (stands-same g.S.PageSpace.has g.S.PageSpace.spent m root h c.args.space.now c.read.new.space c.args.work.now stands (c.in-Ok-None.ensures.looks.same stands.want stands.slots stands.has)
+    (paid_looking g.S.PageSpace.spent g.S.PageSpace.leads g.met.S.PageSpace.spends c.args.space.now c.read.new.space c.in-Ok-None.ensures.looks.leads stands.paid))
+    (works_may g.S.PageSpace.has g.S.PageSpace.spent m root c.args.space.now c.args.work.now c.args.command.now s h stands may))
 
 pub returns-in-Err-clause-refused : goal.returns-in-Err-clause-refused
 returns-in-Err-clause-refused g c = λ s h stands may.
-    look_refused g.S.PageSpace.has (g.B.Boxes.meanings c.args.boxes.now) c.args.place.root c.args.space.now c.args.work.now c.args.command.now s h stands may
-    g.S.PageSpace.leads g.S.PageSpace.fails g.S.PageSpace.table (g.S.PageSpace.leads 0 c.args.space.now c.read.new.space) c.read.new.space c.in-Err.fault c.refusal_of.result c.refusal_of.ensures c.in-Err.ensures.looks.fault c.in-Err.ensures.looks.refused c.in-Err.ensures.undamaged
+    look_refused g.S.PageSpace.has g.S.PageSpace.spent (g.B.Boxes.meanings c.args.boxes.now) c.args.place.root c.args.space.now c.args.work.now c.args.command.now s h stands may
+    g.S.PageSpace.leads g.met.S.PageSpace.spends g.S.PageSpace.fails g.S.PageSpace.table c.read.new.space c.in-Err.fault c.refusal_of.result c.refusal_of.ensures c.in-Err.ensures.looks.fault
+    c.in-Err.ensures.looks.refused c.in-Err.ensures.looks.leads c.in-Err.ensures.undamaged
 
 -- ---- what it reads
 pub returns-in-Ok-Some-clause-reads : goal.returns-in-Ok-Some-clause-reads

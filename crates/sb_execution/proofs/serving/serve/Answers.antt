@@ -1,29 +1,41 @@
 use Rattle.std.proofs.Common.{◌∙◌, Option, IfSome, sym, subst}
 use Rattle.sb_fold.specs.declared.refusal.Refusal.{Refusal}
 use Rattle.sb_cascade.specs.Runs.{OnFault}
+use Rattle.sb_engine.specs.Working.{extensions_of}
+use Rattle.sb_engine.proofs.PaidLemmas.{paid_looking}
 use Rattle.sb_engine.proofs.RefusedLemmas.{of_fault, on_fault}
 use Rattle.sb_execution.specs.Serving.{Looked, Tested}
-use Rattle.sb_execution.proofs.ServeLemmas.{tested_served, tested_unserved}
+use Rattle.sb_execution.proofs.ReplyLemmas.{refused_given}
+use Rattle.sb_execution.proofs.ServeLemmas.{given_stop, roomless_stop, tested_served, tested_unserved}
 use Rattle.sb_execution.proofs.WorkLemmas.{looks_works, works_behind}
 use Rattle.sb_execution.proofs.serving.serve.Goals as goal
 
 pub returns-in-Ok-None-clause-served : goal.returns-in-Ok-None-clause-served
 returns-in-Ok-None-clause-served g c =
-    tested_served g.S.PageSpace.has g.S.PageSpace.leads g.S.PageSpace.fails g.S.PageSpace.table (g.B.Boxes.meanings c.args.boxes.now) c.args.place.root c.args.inside c.args.points.now c.args.command.now
+    tested_served g.S.PageSpace.has g.S.PageSpace.spent g.S.PageSpace.leads g.S.PageSpace.fails g.S.PageSpace.table (g.B.Boxes.meanings c.args.boxes.now) c.args.place.root c.args.inside c.args.points.now c.args.command.now
     c.args.space.now c.refusal_over.new.space c.carry_out.new.space c.args.work.now c.carry_out.new.work
     (λ s h stands seen. sym c.in-Ok-None.field-0-is ∙ c.in-Ok-None.ensures.refused s h stands seen) c.in-Ok-None.ensures.stands c.carry_out.result c.carry_out.ensures.served
 
 pub returns-in-Ok-None-clause-refused : goal.returns-in-Ok-None-clause-refused
 returns-in-Ok-None-clause-refused g c =
-    tested_unserved g.S.PageSpace.has g.S.PageSpace.leads g.S.PageSpace.fails g.S.PageSpace.table (g.B.Boxes.meanings c.args.boxes.now) c.args.place.root c.args.inside c.args.points.now c.args.command.now
+    tested_unserved g.S.PageSpace.has g.S.PageSpace.spent g.S.PageSpace.leads g.S.PageSpace.fails g.S.PageSpace.table (g.B.Boxes.meanings c.args.boxes.now) c.args.place.root c.args.inside c.args.points.now c.args.command.now
     c.args.space.now c.refusal_over.new.space c.carry_out.new.space c.args.work.now c.carry_out.new.work
     (λ s h stands seen. sym c.in-Ok-None.field-0-is ∙ c.in-Ok-None.ensures.refused s h stands seen) c.in-Ok-None.ensures.stands c.carry_out.result c.carry_out.ensures.refused
 
 pub returns-in-Ok-Some-clause-refused : goal.returns-in-Ok-Some-clause-refused
-returns-in-Ok-Some-clause-refused g c = λ s h stands seen posed. Tested (sym (c.in-Ok-Some.ensures.refused s h stands seen) ∙ c.in-Ok-Some.field-0-is)
+returns-in-Ok-Some-clause-refused g c = λ s h stands seen posed.
+    let m = g.B.Boxes.meanings c.args.boxes.now in
+    let is = sym (c.in-Ok-Some.ensures.refused s h stands seen) ∙ c.in-Ok-Some.field-0-is in
+    Tested is
+    (given_stop g.S.PageSpace.has g.S.PageSpace.spent g.S.PageSpace.leads g.S.PageSpace.fails g.S.PageSpace.table m h c.in-Ok-Some.refusal c.refusal_over.new.space
+    (refused_given (extensions_of m) s c.args.command.now c.in-Ok-Some.refusal is) (c.in-Ok-Some.ensures.stands s h stands seen).paid)
 
 pub returns-in-Err-clause-refused : goal.returns-in-Err-clause-refused
-returns-in-Err-clause-refused g c = λ s h stands seen posed. Looked c.in-Err.ensures.free c.in-Err.ensures.room (c.in-Err.ensures.cause s h stands seen)
+returns-in-Err-clause-refused g c = λ s h stands seen posed.
+    Looked c.in-Err.ensures.free c.in-Err.ensures.room
+    (roomless_stop g.S.PageSpace.has g.S.PageSpace.spent g.S.PageSpace.leads g.S.PageSpace.fails g.S.PageSpace.table (g.B.Boxes.meanings c.args.boxes.now) h c.in-Err.refusal c.refusal_over.new.space
+    c.in-Err.ensures.room (c.in-Err.ensures.cause s h stands seen)
+    (paid_looking g.S.PageSpace.spent g.S.PageSpace.leads g.met.S.PageSpace.spends c.args.space.now c.refusal_over.new.space c.in-Err.ensures.leads stands.paid))
 
 pub returns-in-Ok-None-clause-reads : goal.returns-in-Ok-None-clause-reads
 returns-in-Ok-None-clause-reads g c = c.carry_out.ensures.reads

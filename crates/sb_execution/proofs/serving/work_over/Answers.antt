@@ -18,9 +18,9 @@ returns g c =
     let space = sym (c.space-1.given.1 (sym (goes.same_space ∙ c.new-running.ensures.same_space))) in
     let work = sym (c.work-1.given.1 (sym (goes.same_work ∙ c.new-running.ensures.same_work))) in
     record {
-      made = works-made g.S.PageSpace.has g.S.PageSpace.leads g.S.PageSpace.fails g.S.PageSpace.table g.B.Boxes.meanings boxes place x _ v _ a b lent
+      made = works-made g.S.PageSpace.has g.S.PageSpace.spent g.S.PageSpace.leads g.S.PageSpace.fails g.S.PageSpace.table g.B.Boxes.meanings boxes place x _ v _ a b lent
           (record { boxes_are = goes.boxes ∙ lent.boxes_are; place_is = goes.place ∙ lent.place_is; space_is = space; work_is = work }) c.args.command.now c.work.result c.work.ensures.done;
-      refused = works-stopped g.S.PageSpace.has g.S.PageSpace.leads g.S.PageSpace.fails g.S.PageSpace.table g.B.Boxes.meanings boxes place x _ v _ a b lent
+      refused = works-stopped g.S.PageSpace.has g.S.PageSpace.spent g.S.PageSpace.leads g.S.PageSpace.fails g.S.PageSpace.table g.B.Boxes.meanings boxes place x _ v _ a b lent
           (record { boxes_are = goes.boxes ∙ lent.boxes_are; place_is = goes.place ∙ lent.place_is; space_is = space; work_is = work }) c.args.command.now c.work.result c.work.ensures.stopped;
       fault = fault-over g.S.PageSpace.fails b.space.now _ space c.work.result c.work.ensures.fault;
       works = works_between g.S.PageSpace.leads x _ a.space.now b.space.now v _ a.work.now b.work.now lent.space_is space lent.work_is work goes.leads goes.queue goes.gone;

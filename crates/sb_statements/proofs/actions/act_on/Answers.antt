@@ -17,8 +17,8 @@ returns-in-Ok-act-clause-done g c = λ h stands fits.
     let new = c.act.new.layer in
     let action = c.args.action.now in
     let ext = extensions_in meanings old in
-    answered_made (StandsFor g.S.PageSpace.has meanings) (IsStoppedFor g.S.PageSpace.has g.S.PageSpace.leads g.S.PageSpace.fails g.S.PageSpace.table g.B.Boxes.meanings) (act (change_within ext 16) action) h new (λ (n : ℕ). Counts n) c.in-Ok-act.count
-    (made_over (StandsFor g.S.PageSpace.has meanings) (λ (ext : Extensions). act (change_within ext 16) action) ext (extensions_in meanings mid) h c.in-Ok-act.count new
+    answered_made (StandsFor g.S.PageSpace.has g.S.PageSpace.spent meanings) (IsStoppedFor g.S.PageSpace.has g.S.PageSpace.spent g.S.PageSpace.leads g.S.PageSpace.fails g.S.PageSpace.table g.B.Boxes.meanings) (act (change_within ext 16) action) h new (λ (n : ℕ). Counts n) c.in-Ok-act.count
+    (made_over (StandsFor g.S.PageSpace.has g.S.PageSpace.spent meanings) (λ (ext : Extensions). act (change_within ext 16) action) ext (extensions_in meanings mid) h c.in-Ok-act.count new
     (same_extensions meanings g.S.PageSpace.leads old mid c.open_action.ensures.goes) (c.in-Ok-act.ensures.made h (c.in-Ok.ensures.stands h stands)))
 
 pub returns-in-Err-act-clause-stopped : goal.returns-in-Err-act-clause-stopped
@@ -29,8 +29,8 @@ returns-in-Err-act-clause-stopped g c = λ h stands fits.
     let new = c.act.new.layer in
     let action = c.args.action.now in
     let ext = extensions_in meanings old in
-    answered_stopped (StandsFor g.S.PageSpace.has meanings) (IsStoppedFor g.S.PageSpace.has g.S.PageSpace.leads g.S.PageSpace.fails g.S.PageSpace.table g.B.Boxes.meanings) (act (change_within ext 16) action) h new (λ (n : ℕ). Counts n) c.in-Err-act.refusal
-    (stopped_over (IsStoppedFor g.S.PageSpace.has g.S.PageSpace.leads g.S.PageSpace.fails g.S.PageSpace.table g.B.Boxes.meanings) (λ (ext : Extensions). act (change_within ext 16) action) ext (extensions_in meanings mid) h c.in-Err-act.refusal new
+    answered_stopped (StandsFor g.S.PageSpace.has g.S.PageSpace.spent meanings) (IsStoppedFor g.S.PageSpace.has g.S.PageSpace.spent g.S.PageSpace.leads g.S.PageSpace.fails g.S.PageSpace.table g.B.Boxes.meanings) (act (change_within ext 16) action) h new (λ (n : ℕ). Counts n) c.in-Err-act.refusal
+    (stopped_over (IsStoppedFor g.S.PageSpace.has g.S.PageSpace.spent g.S.PageSpace.leads g.S.PageSpace.fails g.S.PageSpace.table g.B.Boxes.meanings) (λ (ext : Extensions). act (change_within ext 16) action) ext (extensions_in meanings mid) h c.in-Err-act.refusal new
     (same_extensions meanings g.S.PageSpace.leads old mid c.open_action.ensures.goes) (c.in-Err-act.ensures.refused h (c.in-Ok.ensures.stands h stands)))
 
 pub returns-in-Err-clause-stopped : goal.returns-in-Err-clause-stopped
@@ -39,8 +39,8 @@ returns-in-Err-clause-stopped g c = λ h stands fits.
     let new = c.open_action.new.running in
     let action = c.args.action.now in
     let ext = extensions_in meanings c.args.running.now in
-    answered_stopped (StandsFor g.S.PageSpace.has meanings) (IsStoppedFor g.S.PageSpace.has g.S.PageSpace.leads g.S.PageSpace.fails g.S.PageSpace.table g.B.Boxes.meanings) (act (change_within ext 16) action) h new (λ (n : ℕ). Counts n) c.in-Err.refusal
-    (stops_looking (IsStoppedFor g.S.PageSpace.has g.S.PageSpace.leads g.S.PageSpace.fails g.S.PageSpace.table g.B.Boxes.meanings) (act (change_within ext 16) action) c.in-Err.refusal new h (forward_act (change_within ext 16) (forward_within ext 16) action)
+    answered_stopped (StandsFor g.S.PageSpace.has g.S.PageSpace.spent meanings) (IsStoppedFor g.S.PageSpace.has g.S.PageSpace.spent g.S.PageSpace.leads g.S.PageSpace.fails g.S.PageSpace.table g.B.Boxes.meanings) (act (change_within ext 16) action) h new (λ (n : ℕ). Counts n) c.in-Err.refusal
+    (stops_looking (IsStoppedFor g.S.PageSpace.has g.S.PageSpace.spent g.S.PageSpace.leads g.S.PageSpace.fails g.S.PageSpace.table g.B.Boxes.meanings) (act (change_within ext 16) action) c.in-Err.refusal new h (forward_act (change_within ext 16) (forward_within ext 16) action)
     (c.in-Err.ensures.refused h stands fits))
 
 pub returns-in-Ok-act-clause-goes : goal.returns-in-Ok-act-clause-goes

@@ -1,5 +1,6 @@
 use Rattle.std.proofs.Common.{[], append-nil, refl, sym}
 use Rattle.sb_building.specs.Goings.{front_none}
+use Rattle.sb_building.proofs.PaidLemmas.{paid_looking}
 use Rattle.sb_building.proofs.RefusedLemmas.{free_refusal, read_stop, refused_cause}
 use Rattle.sb_building.proofs.StandingLemmas.{keeping_of, rules_of}
 use Rattle.sb_statements.proofs.OpenLemmas.{action_kept, stands_opened}
@@ -11,8 +12,9 @@ returns-in-Ok-clause-stands g c = λ h stands.
     let m = g.B.Boxes.meanings a.boxes.now in
     let has = g.S.PageSpace.has in
     let new = c.prepare.new.space in
-    stands_opened has m a.place.root h a.space.now new a.work.now stands c.prepare.new.opened c.in-Ok.ensures.looks.same
-    (c.prepare.ensures.opened stands.want stands.slots stands.kept (keeping_of has m a.place.root h a.space.now new a.work.now stands))
+    stands_opened has g.S.PageSpace.spent m a.place.root h a.space.now new a.work.now stands c.prepare.new.opened c.in-Ok.ensures.looks.same
+    (paid_looking g.S.PageSpace.spent g.S.PageSpace.leads g.met.S.PageSpace.spends a.space.now new c.in-Ok.ensures.looks.leads stands.paid)
+    (c.prepare.ensures.opened stands.want stands.slots stands.kept (keeping_of has g.S.PageSpace.spent m a.place.root h a.space.now new a.work.now stands))
 
 pub returns-in-Err-clause-refused : goal.returns-in-Err-clause-refused
 returns-in-Err-clause-refused g c = λ h stands fits.
@@ -21,13 +23,14 @@ returns-in-Err-clause-refused g c = λ h stands fits.
     let has = g.S.PageSpace.has in
     let w = a.work.now in
     let new = c.prepare.new.space in
-    let keeping = keeping_of has m a.place.root h a.space.now new w stands in
-    let rules = rules_of has m a.place.root h a.space.now new w stands in
-    let may = action_kept has m a.place.root h a.space.now new w stands c.args.action.now fits in
+    let keeping = keeping_of has g.S.PageSpace.spent m a.place.root h a.space.now new w stands in
+    let rules = rules_of has g.S.PageSpace.spent m a.place.root h a.space.now new w stands in
+    let may = action_kept has g.S.PageSpace.spent m a.place.root h a.space.now new w stands c.args.action.now fits in
     rw c.refusal_of.ensures (record {
       free = free_refusal c.in-Err.fault;
-      stopped = read_stop has g.S.PageSpace.leads g.S.PageSpace.fails g.S.PageSpace.table _ c.in-Err.fault h.trail _ c.in-Err.ensures.looks.fault
-          (refused_cause g.S.PageSpace.fails _ a.space.now new c.in-Err.fault c.in-Err.ensures.looks.refused (c.in-Err.ensures.undamaged stands.want stands.slots stands.kept keeping rules may));
+      stopped = read_stop has g.S.PageSpace.spent g.S.PageSpace.leads g.S.PageSpace.fails g.S.PageSpace.table _ c.in-Err.fault h.trail _ c.in-Err.ensures.looks.fault
+          (refused_cause g.S.PageSpace.fails _ a.space.now new c.in-Err.fault c.in-Err.ensures.looks.refused (c.in-Err.ensures.undamaged stands.want stands.slots stands.kept keeping rules may))
+          (paid_looking g.S.PageSpace.spent g.S.PageSpace.leads g.met.S.PageSpace.spends a.space.now new c.in-Err.ensures.looks.leads stands.paid);
     })
 
 pub returns-in-Ok-clause-goes : goal.returns-in-Ok-clause-goes

@@ -22,7 +22,7 @@ returns-in-Ok-clause-made g c =
     let wish = wish_of c.args.wish.now in
     IfOk-weaker c.change.result _ _
     (λ key made h stands fits.
-    made_over (StandsFor has meanings) (λ (ext : Extensions). change_within ext 16 name wish) (extensions_in meanings old) (extensions_in meanings mid) h key new
+    made_over (StandsFor has g.S.PageSpace.spent meanings) (λ (ext : Extensions). change_within ext 16 name wish) (extensions_in meanings old) (extensions_in meanings mid) h key new
     (same_extensions meanings g.S.PageSpace.leads old mid c.open_wish.ensures.goes) (made h (c.in-Ok.ensures.stands h stands)))
     c.change.ensures.made
 
@@ -36,7 +36,7 @@ returns-in-Ok-clause-refused g c =
     let wish = wish_of c.args.wish.now in
     IfErr-weaker c.change.result _ _
     (λ r stops h stands fits.
-    stopped_over (IsStoppedFor g.S.PageSpace.has g.S.PageSpace.leads g.S.PageSpace.fails g.S.PageSpace.table g.B.Boxes.meanings) (λ (ext : Extensions). change_within ext 16 name wish) (extensions_in meanings old) (extensions_in meanings mid) h r new
+    stopped_over (IsStoppedFor g.S.PageSpace.has g.S.PageSpace.spent g.S.PageSpace.leads g.S.PageSpace.fails g.S.PageSpace.table g.B.Boxes.meanings) (λ (ext : Extensions). change_within ext 16 name wish) (extensions_in meanings old) (extensions_in meanings mid) h r new
     (same_extensions meanings g.S.PageSpace.leads old mid c.open_wish.ensures.goes) (stops h (c.in-Ok.ensures.stands h stands)))
     c.change.ensures.refused
 
@@ -58,4 +58,4 @@ returns-in-Err-clause-refused g c = λ h stands fits.
     let ext = extensions_in g.B.Boxes.meanings c.args.running.now in
     let name = c.args.name.now in
     let wish = wish_of c.args.wish.now in
-    stops_looking (IsStoppedFor g.S.PageSpace.has g.S.PageSpace.leads g.S.PageSpace.fails g.S.PageSpace.table g.B.Boxes.meanings) (change_within ext 16 name wish) c.in-Err.refusal c.open_wish.new.running h (forward_within ext 16 name wish) (c.in-Err.ensures.refused h stands fits)
+    stops_looking (IsStoppedFor g.S.PageSpace.has g.S.PageSpace.spent g.S.PageSpace.leads g.S.PageSpace.fails g.S.PageSpace.table g.B.Boxes.meanings) (change_within ext 16 name wish) c.in-Err.refusal c.open_wish.new.running h (forward_within ext 16 name wish) (c.in-Err.ensures.refused h stands fits)

@@ -21,7 +21,7 @@ returns-in-Ok-clause-made g c = λ h stands fits.
     let m = meanings new.boxes.now in
     let name = c.args.name.now in
     let work = first_change (extensions_in meanings old) name (wish_of c.args.wish.now) in
-    keyed_made (StandsFor has meanings) (IsStoppedFor g.S.PageSpace.has g.S.PageSpace.leads g.S.PageSpace.fails g.S.PageSpace.table g.B.Boxes.meanings) name work h new c.in-Ok.key (answer_of c.row_answer.result)
+    keyed_made (StandsFor has g.S.PageSpace.spent meanings) (IsStoppedFor g.S.PageSpace.has g.S.PageSpace.spent g.S.PageSpace.leads g.S.PageSpace.fails g.S.PageSpace.table g.B.Boxes.meanings) name work h new c.in-Ok.key (answer_of c.row_answer.result)
     (λ k standing.
     c.row_answer.ensures m new.place.root standing.slots standing.kept standing.keeps.tables
     (subst (λ (l : List OpenRelation). AreOpened m standing.kept l) (sym c.deref.ensures.value) standing.opened)
@@ -35,4 +35,4 @@ returns-in-Err-clause-refused g c = λ h stands fits.
     let new = c.change_fitting.new.running in
     let name = c.args.name.now in
     let work = first_change (extensions_in meanings old) name (wish_of c.args.wish.now) in
-    keyed_stopped (StandsFor g.S.PageSpace.has meanings) (IsStoppedFor g.S.PageSpace.has g.S.PageSpace.leads g.S.PageSpace.fails g.S.PageSpace.table g.B.Boxes.meanings) name work h new c.in-Err.refusal (c.in-Err.ensures.refused h stands fits)
+    keyed_stopped (StandsFor g.S.PageSpace.has g.S.PageSpace.spent meanings) (IsStoppedFor g.S.PageSpace.has g.S.PageSpace.spent g.S.PageSpace.leads g.S.PageSpace.fails g.S.PageSpace.table g.B.Boxes.meanings) name work h new c.in-Err.refusal (c.in-Err.ensures.refused h stands fits)

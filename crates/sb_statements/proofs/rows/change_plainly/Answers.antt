@@ -9,10 +9,10 @@ pub returns-in-Ok-clause-made : goal.returns-in-Ok-clause-made
 returns-in-Ok-clause-made g c = λ h stands fits.
     let meanings = g.B.Boxes.meanings in
     let work = first_change (extensions_in meanings c.args.running.now) c.args.name.now (wish_of c.args.wish.now) in
-    answered_made (StandsFor g.S.PageSpace.has meanings) (IsStoppedFor g.S.PageSpace.has g.S.PageSpace.leads g.S.PageSpace.fails g.S.PageSpace.table g.B.Boxes.meanings) work h c.change_fitting.new.running (λ _. Plain) _ (c.in-Ok.ensures.made h stands fits)
+    answered_made (StandsFor g.S.PageSpace.has g.S.PageSpace.spent meanings) (IsStoppedFor g.S.PageSpace.has g.S.PageSpace.spent g.S.PageSpace.leads g.S.PageSpace.fails g.S.PageSpace.table g.B.Boxes.meanings) work h c.change_fitting.new.running (λ _. Plain) _ (c.in-Ok.ensures.made h stands fits)
 
 pub returns-in-Err-clause-refused : goal.returns-in-Err-clause-refused
 returns-in-Err-clause-refused g c = λ h stands fits.
     let meanings = g.B.Boxes.meanings in
     let work = first_change (extensions_in meanings c.args.running.now) c.args.name.now (wish_of c.args.wish.now) in
-    answered_stopped (StandsFor g.S.PageSpace.has meanings) (IsStoppedFor g.S.PageSpace.has g.S.PageSpace.leads g.S.PageSpace.fails g.S.PageSpace.table g.B.Boxes.meanings) work h c.change_fitting.new.running (λ _. Plain) c.in-Err.refusal (c.in-Err.ensures.refused h stands fits)
+    answered_stopped (StandsFor g.S.PageSpace.has g.S.PageSpace.spent meanings) (IsStoppedFor g.S.PageSpace.has g.S.PageSpace.spent g.S.PageSpace.leads g.S.PageSpace.fails g.S.PageSpace.table g.B.Boxes.meanings) work h c.change_fitting.new.running (λ _. Plain) c.in-Err.refusal (c.in-Err.ensures.refused h stands fits)

@@ -12,17 +12,17 @@ pub returns-in_default-clause-stopped : goal.returns-in_default-clause-stopped
 returns-in_default-clause-stopped g c = λ h stands fits.
     let ext = extensions_in g.B.Boxes.meanings c.args.running.now in
     let relation = c.args.relation.now in
-    wanting_keyed (IsStoppedFor g.S.PageSpace.has g.S.PageSpace.leads g.S.PageSpace.fails g.S.PageSpace.table g.B.Boxes.meanings) ext relation (Put c.args.values.now) h c.args.running.now (record { cause = tt; licensed = tt })
+    wanting_keyed (IsStoppedFor g.S.PageSpace.has g.S.PageSpace.spent g.S.PageSpace.leads g.S.PageSpace.fails g.S.PageSpace.table g.B.Boxes.meanings) ext relation (Put c.args.values.now) h c.args.running.now (record { cause = tt; licensed = tt; paid = stands.paid })
 
 pub returns-in_default-clause-goes : goal.returns-in_default-clause-goes
 returns-in_default-clause-goes g c = goes_none g.S.PageSpace.leads g.met.S.PageSpace.stays c.args.running.now
 
 pub returns-clause-done : goal.returns-clause-done
 returns-clause-done g c =
-    subst (λ (x : Row). IfOk c.change_keyed.result (λ y. IsDone g.S.PageSpace.has g.B.Boxes.meanings (command.Insert c.args.relation.now x) c.args.running.now (answer_of y) c.change_keyed.new.running)) c.in-Ok.ensures
+    subst (λ (x : Row). IfOk c.change_keyed.result (λ y. IsDone g.S.PageSpace.has g.S.PageSpace.spent g.B.Boxes.meanings (command.Insert c.args.relation.now x) c.args.running.now (answer_of y) c.change_keyed.new.running)) c.in-Ok.ensures
     (c.change_keyed.ensures.made)
 
 pub returns-clause-stopped : goal.returns-clause-stopped
 returns-clause-stopped g c =
-    subst (λ (x : Row). IfErr c.change_keyed.result (λ r. IsStopped g.S.PageSpace.has g.S.PageSpace.leads g.S.PageSpace.fails g.S.PageSpace.table g.B.Boxes.meanings (command.Insert c.args.relation.now x) c.args.running.now r c.change_keyed.new.running)) c.in-Ok.ensures
+    subst (λ (x : Row). IfErr c.change_keyed.result (λ r. IsStopped g.S.PageSpace.has g.S.PageSpace.spent g.S.PageSpace.leads g.S.PageSpace.fails g.S.PageSpace.table g.B.Boxes.meanings (command.Insert c.args.relation.now x) c.args.running.now r c.change_keyed.new.running)) c.in-Ok.ensures
     (c.change_keyed.ensures.refused)

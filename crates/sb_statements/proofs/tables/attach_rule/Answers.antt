@@ -8,12 +8,12 @@ pub returns-in-Ok-clause-done : goal.returns-in-Ok-clause-done
 returns-in-Ok-clause-done g c = λ h stands may.
     let meanings = g.B.Boxes.meanings in
     let ext = extensions_in meanings c.args.running.now in
-    answered_made (StandsFor g.S.PageSpace.has meanings) (IsStoppedFor g.S.PageSpace.has g.S.PageSpace.leads g.S.PageSpace.fails g.S.PageSpace.table meanings) (build ext c.args.relation.now c.args.name.now c.args.rule.now) h c.attach.new.running (λ _. Plain) tt
+    answered_made (StandsFor g.S.PageSpace.has g.S.PageSpace.spent meanings) (IsStoppedFor g.S.PageSpace.has g.S.PageSpace.spent g.S.PageSpace.leads g.S.PageSpace.fails g.S.PageSpace.table meanings) (build ext c.args.relation.now c.args.name.now c.args.rule.now) h c.attach.new.running (λ _. Plain) tt
     (c.in-Ok.ensures.made h stands may)
 
 pub returns-in-Err-clause-stopped : goal.returns-in-Err-clause-stopped
 returns-in-Err-clause-stopped g c = λ h stands may.
     let meanings = g.B.Boxes.meanings in
     let ext = extensions_in meanings c.args.running.now in
-    answered_stopped (StandsFor g.S.PageSpace.has meanings) (IsStoppedFor g.S.PageSpace.has g.S.PageSpace.leads g.S.PageSpace.fails g.S.PageSpace.table meanings) (build ext c.args.relation.now c.args.name.now c.args.rule.now) h c.attach.new.running (λ _. Plain) c.in-Err.refusal
+    answered_stopped (StandsFor g.S.PageSpace.has g.S.PageSpace.spent meanings) (IsStoppedFor g.S.PageSpace.has g.S.PageSpace.spent g.S.PageSpace.leads g.S.PageSpace.fails g.S.PageSpace.table meanings) (build ext c.args.relation.now c.args.name.now c.args.rule.now) h c.attach.new.running (λ _. Plain) c.in-Err.refusal
     (c.in-Err.ensures.refused h stands may)

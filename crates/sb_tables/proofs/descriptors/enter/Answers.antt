@@ -4,7 +4,7 @@ use Rattle.sb_node.specs.Entries.{key_cmp}
 use Rattle.sb_forms.specs.Maps.{map_in}
 use Rattle.sb_drive.specs.Slots.{owned}
 use Rattle.sb_drive.specs.Spaces.{Leaves}
-use Rattle.sb_drive.proofs.SpacesLemmas.{IfErr-passed, Leaves-so}
+use Rattle.sb_drive.proofs.SpacesLemmas.{IfErr-passed, LeadsWithin-none, Leaves-so}
 use Rattle.sb_catalog.specs.Descriptors.{descriptor_spelling}
 use Rattle.sb_standing.specs.Lacking.{IsShort}
 use Rattle.sb_engine.proofs.RefusedLemmas.{refused_cause}
@@ -46,3 +46,10 @@ returns-clause-full g c =
     if_err _ _ c.put.result (λ e full want s es has read.
     catalogue-short g.S.PageSpace.leads g.S.PageSpace.durable g.S.PageSpace.total c.args.place c.args.space.now s es c.requires.owner read e (full want s has))
     c.put.ensures.works.full
+
+pub returns-in_err-bytes-clause-costs : goal.returns-in_err-bytes-clause-costs
+returns-in_err-bytes-clause-costs g c = λ want s es has read. LeadsWithin-none g.S.PageSpace.leads _ c.args.space.now c.args.space.now (g.met.S.PageSpace.stays c.args.space.now)
+
+pub returns-clause-costs : goal.returns-clause-costs
+returns-clause-costs g c = λ want s es has read.
+    c.put.ensures.works.costs want s has es (subst (λ (o : ℕ). map_in c.args.place.root (owned s o) ≡ Some es) (sym c.requires.owner) read)

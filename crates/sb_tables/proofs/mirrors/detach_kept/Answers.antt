@@ -1,10 +1,12 @@
-use Rattle.std.proofs.Common.{◌≡◌, ℕ, ◌+◌, List, ◌++◌, map, Option, Some, option_map, IfSome, sym, ap, subst, ◌∙◌, arith}
+use Rattle.std.proofs.Common.{◌≡◌, ℕ, ◌+◌, List, ◌++◌, length, map, Option, Some, option_map, IfSome, sym, ap, subst, ◌∙◌, arith}
 use Rattle.std.specs.FinMap.Entries.{put}
 use Rattle.sb_node.specs.Entries.{key_cmp}
 use Rattle.sb_forms.specs.Maps.{map_in}
 use Rattle.sb_relation.specs.Db.{Db}
+use Rattle.std.proofs.lemmas.List.Sums.{sum_by-append}
 use Rattle.sb_fold.specs.Building.{without_attached}
-use Rattle.sb_drive.proofs.SpacesLemmas.{ArePages-few, IfErr-passed, Leaves-so}
+use Rattle.sb_fold.specs.Costs.{descriptor_cost, tree_cost}
+use Rattle.sb_drive.proofs.SpacesLemmas.{ArePages-few, IfErr-passed, LeadsWithin-more, LeadsWithin-none, LeadsWithin-on, Leaves-so}
 use Rattle.sb_catalog.specs.declared.descriptor.Descriptor.{Descriptor}
 use Rattle.sb_catalog.specs.Descriptors.{IsShortDescriptor, descriptor_spelling}
 use Rattle.sb_catalog.proofs.Storable.{IsShortDescriptor_from_storable}
@@ -15,10 +17,11 @@ use Rattle.sb_engine.specs.OpenRelation.{OpenRelation}
 use Rattle.sb_engine.specs.Opened.{IsOpen}
 use Rattle.sb_engine.specs.Working.{extensions_of}
 use Rattle.sb_tables.specs.Keeping.{KeepsWithin}
-use Rattle.sb_tables.specs.Removal.{taken_bound}
+use Rattle.sb_tables.specs.Removal.{taken_bounds}
 use Rattle.sb_tables.proofs.DetachedLemmas.{detached, has_kept, none_detached, not_kept, open_refused, within-later, within-more}
 use Rattle.sb_tables.proofs.FullLemmas.{catalogue-full, read-full}
 use Rattle.sb_tables.proofs.KeepingLemmas.{if_err, on_ok, small-kept, small-without, storable-without}
+use Rattle.sb_tables.proofs.SpendingLemmas.{entry_enough}
 use Rattle.sb_tables.proofs.mirrors.detach_kept.Goals as goal
 
 pub returns-in_err-one-clause-refused : goal.returns-in_err-one-clause-refused
@@ -34,7 +37,7 @@ returns-in_default-clause-detached g c = λ aside most db holds.
     let m = g.B.Boxes.meanings c.args.boxes.now in
     let found = c.in_ok-one.ensures.found keeps.want keeps.slots keeps.kept keeps.has keeps.keeps.tables in
     let none = not_kept keeps.kept c.args.relation.now (ap (λ (o : Option OpenRelation). option_map (λ (x : OpenRelation). x.descriptor) o) (sym c.in_default.is) ∙ found) in
-    within-more g.S.PageSpace.has m c.args.place.root c.args.gone.now.items aside _ most (without_attached db c.args.relation.now c.args.label.now) c.open_relation.new.space (omega arith)
+    within-more g.S.PageSpace.has m c.args.place.root c.args.gone.now.items aside _ most (without_attached db c.args.relation.now c.args.label.now) c.open_relation.new.space (λ f measure. omega (arith, sum_by-append f aside (taken_bounds (extensions_of m) db c.args.relation.now c.args.label.now)))
     (subst (λ (x : Db). KeepsWithin g.S.PageSpace.has m c.args.place.root c.args.gone.now.items aside most x c.open_relation.new.space)
     (sym (none_detached g.S.PageSpace.has m c.args.place.root c.args.gone.now.items aside db c.args.space.now c.open_relation.new.space c.open_relation.new.space keeps c.args.relation.now c.args.label.now none))
     (within-later g.S.PageSpace.has m c.args.place.root c.args.gone.now.items aside most db c.args.space.now c.open_relation.new.space holds
@@ -64,7 +67,7 @@ returns-in-Ok-clause-detached g c =
     ∙ c.in_ok-one.ensures.found keeps.want keeps.slots keeps.kept keeps.has keeps.keeps.tables in
     let it = has_kept keeps.kept relation d found in
     let left = entered keeps.want keeps.slots (map entry_of keeps.kept) (c.in_ok-one.ensures.looks.same keeps.want keeps.slots keeps.has) keeps.keeps.tables.catalogue in
-    subst (λ (l : List ℕ). KeepsWithin g.S.PageSpace.has m top l (aside + taken_bound (extensions_of m) db relation label) most (without_attached db relation label) new) (sym more)
+    subst (λ (l : List ℕ). KeepsWithin g.S.PageSpace.has m top l (aside ++ taken_bounds (extensions_of m) db relation label) most (without_attached db relation label) new) (sym more)
     (detached g.S.PageSpace.has m top gone aside db c.args.space.now mid new keeps relation label d most holds.within it
     (Leaves-so g.S.PageSpace.has 2 keeps.want keeps.slots new
     (λ after. map_in top after ≡ Some (put key_cmp relation (descriptor_spelling c.left_of-descriptor.result) (map entry_of keeps.kept))) _
@@ -102,6 +105,27 @@ returns-in-Ok-clause-licensed g c =
     catalogue-full g.S.PageSpace.has g.S.PageSpace.leads g.S.PageSpace.table m c.args.place.root c.args.gone.now.items aside most db c.args.space.now mid c.enter-entered.new.space holds
     g.met.S.PageSpace.tabled has c.enter-entered.ensures.leads e (full keeps.want keeps.slots (map entry_of keeps.kept) has keeps.keeps.tables.catalogue))
     c.enter-entered.ensures.full
+
+pub returns-in_err-one-clause-costs : goal.returns-in_err-one-clause-costs
+returns-in_err-one-clause-costs g c = λ aside db keeps. LeadsWithin-none g.S.PageSpace.leads _ c.args.space.now c.open_relation.new.space c.in_err-one.ensures.looks.leads
+
+pub returns-in_default-clause-costs : goal.returns-in_default-clause-costs
+returns-in_default-clause-costs g c = λ aside db keeps. LeadsWithin-none g.S.PageSpace.leads _ c.args.space.now c.open_relation.new.space c.in_ok-one.ensures.looks.leads
+
+pub returns-in-Err-clause-costs : goal.returns-in-Err-clause-costs
+returns-in-Err-clause-costs g c = λ aside db keeps. LeadsWithin-none g.S.PageSpace.leads _ c.args.space.now c.open_relation.new.space c.in_ok-one.ensures.looks.leads
+
+pub returns-in-Ok-clause-costs : goal.returns-in-Ok-clause-costs
+returns-in-Ok-clause-costs g c = λ aside db keeps.
+    let m = g.B.Boxes.meanings c.args.boxes.now in
+    let leads = g.S.PageSpace.leads in
+    let mid = c.open_relation.new.space in
+    let new = c.enter-entered.new.space in
+    let entries = map entry_of keeps.kept in
+    LeadsWithin-on leads (descriptor_cost (extensions_of m) db) c.args.space.now mid new g.met.S.PageSpace.goes_on c.in_ok-one.ensures.looks.leads
+    (LeadsWithin-more leads (tree_cost (length entries)) (descriptor_cost (extensions_of m) db) mid new
+    (entry_enough g.S.PageSpace.has m c.args.place.root c.args.gone.now.items aside db c.args.space.now keeps)
+    (c.enter-entered.ensures.costs keeps.want keeps.slots entries (c.in_ok-one.ensures.looks.same keeps.want keeps.slots keeps.has) keeps.keeps.tables.catalogue))
 
 pub returns-in-Ok-clause-leads : goal.returns-in-Ok-clause-leads
 returns-in-Ok-clause-leads g c =

@@ -6,10 +6,10 @@ use Rattle.sb_space.specs.declared.transactions.Tx.{Tx}
 use Rattle.sb_tables.proofs.RefusedLemmas.{on_fault}
 use Rattle.sb_transactions.specs.Calls.{Remains}
 use Rattle.sb_transactions.specs.Commits.{is_wanting}
-use Rattle.sb_transactions.specs.Transactions.{IsPointOf, WasBegun}
+use Rattle.sb_transactions.specs.Transactions.{IsBack, IsPointOf, WasBegun}
 use Rattle.sb_transactions.proofs.CallLemmas.{up-earlier}
 use Rattle.sb_transactions.proofs.EndLemmas.{KeepsWanted-stopped, LeavesOldOrFinished-abort, LeavesOldOrFinished-commit, Remains-behind, Remains-stopped, StopsAt-stopped, done-commit, done-left, down-stopped, leaves-left, none-ended, only-ended, remains-ended, roomless-stopped, stops-commit, stops-left}
-use Rattle.sb_transactions.proofs.OpenLemmas.{same-open, stays-open}
+use Rattle.sb_transactions.proofs.OpenLemmas.{goes-open, same-open, stays-open}
 use Rattle.sb_transactions.proofs.commits.commit.Goals as goal
 
 pub returns-then-is_idle-clause-done : goal.returns-then-is_idle-clause-done
@@ -99,7 +99,7 @@ returns-then-is_idle-clause-kept g c =
 
 pub returns-then-is_idle-clause-room : goal.returns-then-is_idle-clause-room
 returns-then-is_idle-clause-room g c =
-    rw c.ended.ensures (only-ended c.commit_pages.result c.commit_pages.new.space.store _ (λ q only want h at none idle. ap is_room only.is) c.commit_pages.ensures.err)
+    rw c.ended.ensures (only-ended c.commit_pages.result c.commit_pages.new.space.store _ (λ q only want h at paid none idle. ap is_room only.is) c.commit_pages.ensures.err)
 
 pub returns-then-is_idle-clause-quiet : goal.returns-then-is_idle-clause-quiet
 returns-then-is_idle-clause-quiet g c =
@@ -214,7 +214,7 @@ returns-in-Ok-clause-any_moment g c =
     let f = c.commit_pages-in-Ok.new.disk in
     let u = c.commit_pages-in-Ok.new.space.store in
     let r = c.commit_pages-in-Ok.result in
-    λ want h at. LeavesOldOrFinished-commit told len faults m c.args.place tx d e f s t u w led want h (v, at) (c.in-Ok.ensures.finished want h at) c.in-Ok.ensures.none r next same c.commit_pages-in-Ok.ensures.remains c.commit_pages-in-Ok.ensures.any_moment
+    λ want h at paid. LeavesOldOrFinished-commit told len faults m c.args.place tx d e f s t u w led want h (v, at) (c.in-Ok.ensures.finished want h at paid) c.in-Ok.ensures.none r next same c.commit_pages-in-Ok.ensures.remains c.commit_pages-in-Ok.ensures.any_moment
 
 pub returns-in-Ok-clause-kept : goal.returns-in-Ok-clause-kept
 returns-in-Ok-clause-kept g c =
@@ -222,7 +222,7 @@ returns-in-Ok-clause-kept g c =
 
 pub returns-in-Ok-clause-room : goal.returns-in-Ok-clause-room
 returns-in-Ok-clause-room g c =
-    rw c.ended-in-Ok.ensures (only-ended c.commit_pages-in-Ok.result c.commit_pages-in-Ok.new.space.store _ (λ q only want h at none idle. ap is_room only.is) c.commit_pages-in-Ok.ensures.err)
+    rw c.ended-in-Ok.ensures (only-ended c.commit_pages-in-Ok.result c.commit_pages-in-Ok.new.space.store _ (λ q only want h at paid none idle. ap is_room only.is) c.commit_pages-in-Ok.ensures.err)
 
 pub returns-in-Ok-clause-remains : goal.returns-in-Ok-clause-remains
 returns-in-Ok-clause-remains g c =
@@ -258,7 +258,10 @@ returns-in-Err-clause-refused g c =
     let f = c.stop.new.disk in
     let u = c.stop.new.space.store in
     let q = c.stop.result.refusal in
-    λ want h at. StopsAt-stopped told len faults m c.args.place tx d e f s t u w led h c.in-Err.refusal (c.in-Err.ensures.refused want h at) q c.stop.ensures.refused
+    let next = c.finish_work.new.transaction.tx.store.number in
+    λ want h at paid. StopsAt-stopped told len faults m c.args.place tx d e f s t u w led h c.in-Err.refusal (c.in-Err.ensures.refused want h at paid) q next c.mark-point.result
+    (λ wants. goes-open c.stop.result.transaction (λ x. IsBack next c.mark-point.result (parts told len e t) (parts told len f u) w x) c.stop.ensures.back (c.stop.ensures.wanting ∙ wants))
+    c.stop.ensures.remains c.stop.ensures.refused
 
 pub returns-in-Err-clause-fault : goal.returns-in-Err-clause-fault
 returns-in-Err-clause-fault g c =
@@ -336,7 +339,7 @@ returns-in-Err-clause-any_moment g c =
     let led = c.finish_work.ensures.led in
     let f = c.stop.new.disk in
     let u = c.stop.new.space.store in
-    λ want h at. LeavesOldOrFinished-abort told len faults m c.args.place tx d e f s t u w led want h (v, at) _ c.stop.ensures.remains c.stop.ensures.any_moment.leaves
+    λ want h at paid. LeavesOldOrFinished-abort told len faults m c.args.place tx d e f s t u w led want h (v, at) _ c.stop.ensures.remains c.stop.ensures.any_moment.leaves
 
 pub returns-in-Err-clause-kept : goal.returns-in-Err-clause-kept
 returns-in-Err-clause-kept g c =
@@ -356,9 +359,9 @@ returns-in-Err-clause-kept g c =
     λ not. KeepsWanted-stopped told len faults m c.args.place tx d e f s t u w led _ c.stop.ensures.remains c.stop.ensures.any_moment
 
 pub returns-in-Err-clause-room : goal.returns-in-Err-clause-room
-returns-in-Err-clause-room g c = λ want h at none idle.
+returns-in-Err-clause-room g c = λ want h at paid none idle.
     roomless-stopped g.D.Disk.faults c.in-Err.refusal c.stop.result.refusal (record { disk = c.stop.new.disk; store = c.stop.new.space.store }) c.stop.ensures.refused
-    (c.in-Err.ensures.room want h at none idle)
+    (c.in-Err.ensures.room want h at paid none idle)
 
 pub returns-in-Err-clause-remains : goal.returns-in-Err-clause-remains
 returns-in-Err-clause-remains g c =

@@ -25,6 +25,7 @@ returns-in-Ok-clause-back g c =
       stand = c.in-Ok.ensures.stand;
       begun = c.in-Ok.ensures.begun;
       wanted = c.in-Ok.ensures.any_moment.stays (up-later told len faults d f s u tt c.in-Ok.ensures.remains);
+      spent = c.in-Ok.ensures.spent;
     }
 
 pub returns-in-Ok-clause-aborted : goal.returns-in-Ok-clause-aborted

@@ -8,7 +8,7 @@ use Rattle.sb_wishes.specs.Outcomes.{Meets, Refuses}
 use Rattle.sb_drive.specs.declared.space.SpaceFault.TheVariants.{NoMemory}
 use Rattle.sb_drive.proofs.SpacesLemmas.{IfErr-passed}
 use Rattle.sb_standing.proofs.LackingLemmas.{where_short}
-use Rattle.sb_wishes.proofs.BegunLemmas.{begins_add}
+use Rattle.sb_wishes.proofs.BegunLemmas.{begins_add, begun_within}
 use Rattle.sb_wishes.proofs.LackingLemmas.{lacks_add}
 use Rattle.sb_wishes.proofs.WorksLemmas.{Works-no_memory}
 use Rattle.sb_wishes.proofs.SettledLemmas.{Comes-add, Comes-long, Meets-added}
@@ -41,8 +41,9 @@ returns-in_err-placed-clause-full g c =
     IfErr-passed c.from_residual-in_err-placed.result c.in_err-placed.field-0.0 _ c.from_residual-in_err-placed.ensures.1
     (λ want s r has t h.
     where_short c.in_err-placed.field-0.0 _ _
-    (λ total lacks. lacks_add (g.B.Boxes.meanings c.args.boxes.now) s c.args.table.now r h total c.args.rules.now c.args.new c.in_ok-row.row c.in_ok-row.ensures t
-    (sym c.is_too_long.ensures.is ∙ c.if-is_too_long.false) lacks)
+    (λ total lacks. lacks_add (g.B.Boxes.meanings c.args.boxes.now) s c.args.table.now r h total g.S.PageSpace.leads c.args.space.now c.insert_row.new.space c.args.rules.now c.args.new c.in_ok-row.row c.in_ok-row.ensures t
+    (sym c.is_too_long.ensures.is ∙ c.if-is_too_long.false) lacks
+    (begun_within g.S.PageSpace.leads _ c.args.space.now c.insert_row.new.space (c.in_err-placed.ensures.costs want s r.rows has h)))
     (c.in_err-placed.ensures.full want s r.rows has h))
 
 pub returns-clause-comes : goal.returns-clause-comes

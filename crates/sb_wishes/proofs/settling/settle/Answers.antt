@@ -43,10 +43,10 @@ returns-in-Adds-clause-full g c =
     let m = g.B.Boxes.meanings c.args.boxes.now in
     let name = c.args.table.now.relation in
     IfErr-weaker {T = Outcome} {E = SpaceFault} c.add.result
-    (λ e. LacksOfAll g.S.PageSpace.has m c.args.table.now c.args.rules.now c.args.space.now (λ r. settled name r (Adds c.in-Adds.new)) e)
-    (λ e. LacksOf g.S.PageSpace.has m c.args.table.now c.args.rules.now c.args.space.now (λ r. IsEditOf r.rows (edit_in c.args.edit)) (λ r. settled name r (edit_in c.args.edit)) e)
+    (λ e. LacksOfAll g.S.PageSpace.has g.S.PageSpace.leads m c.args.table.now c.args.rules.now c.args.space.now c.add.new.space (λ r. settled name r (Adds c.in-Adds.new)) e)
+    (λ e. LacksOf g.S.PageSpace.has g.S.PageSpace.leads m c.args.table.now c.args.rules.now c.args.space.now c.add.new.space (λ r. IsEditOf r.rows (edit_in c.args.edit)) (λ r. settled name r (edit_in c.args.edit)) e)
     (λ e full.
-    subst (λ (x : code.Edit). LacksOf g.S.PageSpace.has m c.args.table.now c.args.rules.now c.args.space.now (λ r. IsEditOf r.rows (edit_in x)) (λ r. settled name r (edit_in x)) e)
+    subst (λ (x : code.Edit). LacksOf g.S.PageSpace.has g.S.PageSpace.leads m c.args.table.now c.args.rules.now c.args.space.now c.add.new.space (λ r. IsEditOf r.rows (edit_in x)) (λ r. settled name r (edit_in x)) e)
     (sym c.in-Adds.is) (λ want s r has t h there. full want s r has t h))
     c.add.ensures.full
 
@@ -55,10 +55,10 @@ returns-in-Takes-clause-full g c =
     let m = g.B.Boxes.meanings c.args.boxes.now in
     let name = c.args.table.now.relation in
     IfErr-weaker {T = Outcome} {E = SpaceFault} c.take.result
-    (λ e. (want : Wanted) (s : Slots) (r : Relation) → g.S.PageSpace.has want s c.args.space.now → (has : HasRows m s c.args.table.now r.rows) → IsEditOf r.rows (Takes c.in-Takes.key c.in-Takes.old) → WhereShort e (LacksPage m s c.args.table.now r has (settled name r (Takes c.in-Takes.key c.in-Takes.old))))
-    (λ e. LacksOf g.S.PageSpace.has m c.args.table.now c.args.rules.now c.args.space.now (λ r. IsEditOf r.rows (edit_in c.args.edit)) (λ r. settled name r (edit_in c.args.edit)) e)
+    (λ e. (want : Wanted) (s : Slots) (r : Relation) → g.S.PageSpace.has want s c.args.space.now → (has : HasRows m s c.args.table.now r.rows) → IsEditOf r.rows (Takes c.in-Takes.key c.in-Takes.old) → WhereShort e (LacksPage g.S.PageSpace.leads m s c.args.table.now r has (settled name r (Takes c.in-Takes.key c.in-Takes.old)) c.args.space.now c.take.new.space))
+    (λ e. LacksOf g.S.PageSpace.has g.S.PageSpace.leads m c.args.table.now c.args.rules.now c.args.space.now c.take.new.space (λ r. IsEditOf r.rows (edit_in c.args.edit)) (λ r. settled name r (edit_in c.args.edit)) e)
     (λ e full.
-    subst (λ (x : code.Edit). LacksOf g.S.PageSpace.has m c.args.table.now c.args.rules.now c.args.space.now (λ r. IsEditOf r.rows (edit_in x)) (λ r. settled name r (edit_in x)) e)
+    subst (λ (x : code.Edit). LacksOf g.S.PageSpace.has g.S.PageSpace.leads m c.args.table.now c.args.rules.now c.args.space.now c.take.new.space (λ r. IsEditOf r.rows (edit_in x)) (λ r. settled name r (edit_in x)) e)
     (sym c.in-Takes.is) (λ want s r has t h there. full want s r has h there))
     c.take.ensures.full
 
@@ -67,10 +67,10 @@ returns-in-Turns-clause-full g c =
     let m = g.B.Boxes.meanings c.args.boxes.now in
     let name = c.args.table.now.relation in
     IfErr-weaker {T = Outcome} {E = SpaceFault} c.turn.result
-    (λ e. LacksOf g.S.PageSpace.has m c.args.table.now c.args.rules.now c.args.space.now (λ r. IsEditOf r.rows (Turns c.in-Turns.key c.in-Turns.old c.in-Turns.new)) (λ r. settled name r (Turns c.in-Turns.key c.in-Turns.old c.in-Turns.new)) e)
-    (λ e. LacksOf g.S.PageSpace.has m c.args.table.now c.args.rules.now c.args.space.now (λ r. IsEditOf r.rows (edit_in c.args.edit)) (λ r. settled name r (edit_in c.args.edit)) e)
+    (λ e. LacksOf g.S.PageSpace.has g.S.PageSpace.leads m c.args.table.now c.args.rules.now c.args.space.now c.turn.new.space (λ r. IsEditOf r.rows (Turns c.in-Turns.key c.in-Turns.old c.in-Turns.new)) (λ r. settled name r (Turns c.in-Turns.key c.in-Turns.old c.in-Turns.new)) e)
+    (λ e. LacksOf g.S.PageSpace.has g.S.PageSpace.leads m c.args.table.now c.args.rules.now c.args.space.now c.turn.new.space (λ r. IsEditOf r.rows (edit_in c.args.edit)) (λ r. settled name r (edit_in c.args.edit)) e)
     (λ e full.
-    subst (λ (x : code.Edit). LacksOf g.S.PageSpace.has m c.args.table.now c.args.rules.now c.args.space.now (λ r. IsEditOf r.rows (edit_in x)) (λ r. settled name r (edit_in x)) e)
+    subst (λ (x : code.Edit). LacksOf g.S.PageSpace.has g.S.PageSpace.leads m c.args.table.now c.args.rules.now c.args.space.now c.turn.new.space (λ r. IsEditOf r.rows (edit_in x)) (λ r. settled name r (edit_in x)) e)
     (sym c.in-Turns.is) full)
     c.turn.ensures.full
 

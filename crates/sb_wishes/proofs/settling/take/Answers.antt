@@ -2,7 +2,7 @@ use Rattle.std.proofs.Common.{inl}
 use Rattle.sb_drive.specs.declared.space.SpaceFault.TheVariants.{NoMemory}
 use Rattle.sb_drive.proofs.SpacesLemmas.{IfErr-passed}
 use Rattle.sb_standing.proofs.LackingLemmas.{where_short}
-use Rattle.sb_wishes.proofs.BegunLemmas.{begins_take}
+use Rattle.sb_wishes.proofs.BegunLemmas.{begins_take, begun_within}
 use Rattle.sb_wishes.proofs.LackingLemmas.{lacks_take}
 use Rattle.sb_wishes.proofs.WorksLemmas.{Works-no_memory}
 use Rattle.sb_wishes.proofs.SettledLemmas.{Comes-take}
@@ -29,7 +29,8 @@ returns-in_err-gone-clause-full g c =
     IfErr-passed c.from_residual-in_err-gone.result c.in_err-gone.field-0.0 _ c.from_residual-in_err-gone.ensures.1
     (λ want s r has h there.
     where_short c.in_err-gone.field-0.0 _ _
-    (λ total lacks. lacks_take (g.B.Boxes.meanings c.args.boxes.now) s c.args.table.now r h total c.args.key c.in_ok-at.at c.args.old c.in_ok-at.ensures there lacks)
+    (λ total lacks. lacks_take (g.B.Boxes.meanings c.args.boxes.now) s c.args.table.now r h total g.S.PageSpace.leads c.args.space.now c.delete_row.new.space c.args.key c.in_ok-at.at c.args.old c.in_ok-at.ensures there lacks
+    (begun_within g.S.PageSpace.leads _ c.args.space.now c.delete_row.new.space (c.in_err-gone.ensures.costs want s r.rows has h)))
     (c.in_err-gone.ensures.full want s r.rows has h))
 
 pub returns-clause-comes : goal.returns-clause-comes

@@ -8,7 +8,7 @@ use Rattle.sb_wishes.specs.Outcomes.{Meets, Refuses}
 use Rattle.sb_drive.specs.declared.space.SpaceFault.TheVariants.{NoMemory}
 use Rattle.sb_drive.proofs.SpacesLemmas.{IfErr-passed}
 use Rattle.sb_standing.proofs.LackingLemmas.{where_short}
-use Rattle.sb_wishes.proofs.BegunLemmas.{begins_turn}
+use Rattle.sb_wishes.proofs.BegunLemmas.{begins_turn, begun_within}
 use Rattle.sb_wishes.proofs.LackingLemmas.{lacks_turn}
 use Rattle.sb_wishes.proofs.WorksLemmas.{Works-no_memory}
 use Rattle.sb_wishes.proofs.SettledLemmas.{Comes-turn, Comes-long, Meets-turned}
@@ -49,8 +49,9 @@ returns-in_err-placed-clause-full g c =
     IfErr-passed c.from_residual-in_err-placed.result c.in_err-placed.field-0.0 _ c.from_residual-in_err-placed.ensures.1
     (λ want s r has t h there.
     where_short c.in_err-placed.field-0.0 _ _
-    (λ total lacks. lacks_turn (g.B.Boxes.meanings c.args.boxes.now) s c.args.table.now r h total c.args.rules.now c.args.key c.in_ok-at.at c.args.old c.args.new c.in_ok-row.row
-    c.in_ok-at.ensures c.in_ok-row.ensures t there (sym c.is_too_long.ensures.is ∙ c.if-is_too_long.false) lacks)
+    (λ total lacks. lacks_turn (g.B.Boxes.meanings c.args.boxes.now) s c.args.table.now r h total g.S.PageSpace.leads c.args.space.now c.update_row.new.space c.args.rules.now c.args.key c.in_ok-at.at c.args.old c.args.new c.in_ok-row.row
+    c.in_ok-at.ensures c.in_ok-row.ensures t there (sym c.is_too_long.ensures.is ∙ c.if-is_too_long.false) lacks
+    (begun_within g.S.PageSpace.leads _ c.args.space.now c.update_row.new.space (c.in_err-placed.ensures.costs want s r.rows has h)))
     (c.in_err-placed.ensures.full want s r.rows has h))
 
 pub returns-clause-comes : goal.returns-clause-comes

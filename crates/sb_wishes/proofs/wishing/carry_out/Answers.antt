@@ -72,13 +72,13 @@ returns-in-Ok-clause-full g c =
     let wish = wish_of c.args.wish.now in
     let edit = edit_in c.in-Ok.edit in
     IfErr-weaker {T = Outcome} {E = SpaceFault} c.settle.result
-    (λ e. LacksOf g.S.PageSpace.has m table c.args.rules.now c.find_old.new.space (λ r. IsEditOf r.rows edit) (λ r. settled table.relation r edit) e)
-    (λ e. LacksOfAll g.S.PageSpace.has m table c.args.rules.now c.args.space.now (λ r. wished table.relation r wish) e)
+    (λ e. LacksOf g.S.PageSpace.has g.S.PageSpace.leads m table c.args.rules.now c.find_old.new.space c.settle.new.space (λ r. IsEditOf r.rows edit) (λ r. settled table.relation r edit) e)
+    (λ e. LacksOfAll g.S.PageSpace.has g.S.PageSpace.leads m table c.args.rules.now c.args.space.now c.settle.new.space (λ r. wished table.relation r wish) e)
     (λ e full want s r has t h.
     let old = c.in_ok-old.ensures.old want s r.rows has h in
     where_short e _ _
-    (λ total lacks. lacks_wished m s table r h total wish edit
-    (subst (λ (x : Result code.Edit Refusal). GivesEdit (edit_of table.relation r wish) x) c.in-Ok.is (c.in_ok-edit.ensures.gives r t.schema old)) lacks)
+    (λ total lacks. lacks_wished m s table r h total g.S.PageSpace.leads c.args.space.now c.find_old.new.space c.settle.new.space wish edit
+    (subst (λ (x : Result code.Edit Refusal). GivesEdit (edit_of table.relation r wish) x) c.in-Ok.is (c.in_ok-edit.ensures.gives r t.schema old)) g.met.S.PageSpace.goes_on c.in_ok-old.ensures.looks.leads lacks)
     (full want s r (c.in_ok-old.ensures.looks.same want s has) t h
     (subst (λ (x : Result code.Edit Refusal). IfOk x (λ edit. (rows : Rows) → c.in_ok-old.old ≡ row_wished rows wish → IsEditOf rows (edit_in edit))) c.in-Ok.is c.in_ok-edit.ensures.of r.rows old)))
     c.settle.ensures.full

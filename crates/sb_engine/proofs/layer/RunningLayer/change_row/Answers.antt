@@ -5,10 +5,7 @@ use Rattle.sb_value.specs.declared.schema.Column.{Column}
 use Rattle.sb_ctx.specs.declared.instance.Instance.{Instance}
 use Rattle.sb_drive.proofs.SpacesLemmas.{ArePages-few}
 use Rattle.sb_catalog.specs.declared.descriptor.Attached.{Attached}
-use Rattle.sb_fold.specs.declared.refusal.Refusal.TheVariants.{NoMemory}
-use Rattle.sb_cascade.specs.Runs.{row_change}
 use Rattle.sb_cascade.specs.Wishes.{wish_of}
-use Rattle.sb_cascade.proofs.Stopping.{stops_free}
 use Rattle.sb_standing.specs.Tables.{IsWide}
 use Rattle.sb_asking.specs.OpenRelation.{OpenRelation}
 use Rattle.sb_asking.specs.Opened.{IsOpen}
@@ -20,7 +17,7 @@ use Rattle.sb_engine.specs.Goings.{front_none, grows_none}
 use Rattle.sb_engine.specs.Working.{extensions_of, open_at}
 use Rattle.sb_engine.proofs.OpenedLemmas.{has_open, open_at-all}
 use Rattle.sb_engine.proofs.RefusedLemmas.{definite_stop, refused_cause}
-use Rattle.sb_engine.proofs.RowLemmas.{forward_row, is_table, row_full, row_made, row_refused}
+use Rattle.sb_engine.proofs.RowLemmas.{is_table, row_full, row_lost, row_made, row_refused}
 use Rattle.sb_engine.proofs.layer.RunningLayer.change_row.Goals as goal
 
 pub carry_out-requires-clause-live : goal.carry_out-requires-clause-live
@@ -74,7 +71,7 @@ returns-in-Ok-clause-made g c = λ h stands.
     let one = c.in-Some.one.now in
     let at : open_at w.opened.items name ≡ Some one =
     ap (λ (l : List OpenRelation). open_at l name) (sym c.deref.ensures.value) ∙ sym c.open_at.ensures ∙ ap (λ (o : Option (Bor OpenRelation)). option_copied o) c.in-Some.is in
-    let made = row_made g.S.PageSpace.has g.S.PageSpace.leads m a.place.root name (wish_of c.args.wish.now) one a.space.now c.carry_out.new.space h w c.note_pick.new.picks c.in-Ok-Made.change stands at
+    let made = row_made g.S.PageSpace.has g.S.PageSpace.spent g.S.PageSpace.leads g.met.S.PageSpace.spends m a.place.root name (wish_of c.args.wish.now) one a.space.now c.carry_out.new.space h w c.note_pick.new.picks c.in-Ok-Made.change stands at
     (λ want s r has table rows. subst (λ (x : Outcome). Comes g.S.PageSpace.has g.S.PageSpace.leads m one.table want s a.space.now c.carry_out.new.space r rows (wished one.table.relation r (wish_of c.args.wish.now)) x) c.in-Ok-Made.field-0-is (c.in-Ok-Made.ensures.comes want s r has (subst (λ (l : List Attached). IsTableOf one.table l r) (sym c.as_slice-rules.ensures) table) rows)) c.in-Ok.ensures in
     record { picks = made.picks; after = made.after; leads = made.leads; stands = made.stands }
 
@@ -100,8 +97,15 @@ returns-in-Ok-clause-may g c =
 pub returns-in-Err-note_pick-clause-refused : goal.returns-in-Err-note_pick-clause-refused
 returns-in-Err-note_pick-clause-refused g c = λ h stands.
     let a = c.args.self.now in
-    let ext = extensions_of (g.B.Boxes.meanings a.boxes.now) in
-    stops_free _ (row_change ext c.args.name.now (wish_of c.args.wish.now)) NoMemory _ h refl (forward_row ext c.args.name.now (wish_of c.args.wish.now)) (record { cause = tt; licensed = tt })
+    let m = g.B.Boxes.meanings a.boxes.now in
+    let w = a.work.now in
+    let name = c.args.name.now in
+    let one = c.in-Some.one.now in
+    let at : open_at w.opened.items name ≡ Some one =
+    ap (λ (l : List OpenRelation). open_at l name) (sym c.deref.ensures.value) ∙ sym c.open_at.ensures ∙ ap (λ (o : Option (Bor OpenRelation)). option_copied o) c.in-Some.is in
+    row_lost g.S.PageSpace.has g.S.PageSpace.spent g.S.PageSpace.leads g.met.S.PageSpace.spends m a.place.root name (wish_of c.args.wish.now) one a.space.now c.carry_out.new.space _ _ h w c.in-Ok-Made.change stands at
+    (λ want s r has table rows. subst (λ (x : Outcome). Comes g.S.PageSpace.has g.S.PageSpace.leads m one.table want s a.space.now c.carry_out.new.space r rows (wished one.table.relation r (wish_of c.args.wish.now)) x) c.in-Ok-Made.field-0-is (c.in-Ok-Made.ensures.comes want s r has (subst (λ (l : List Attached). IsTableOf one.table l r) (sym c.as_slice-rules.ensures) table) rows))
+    (λ trail paid. record { cause = tt; licensed = tt; paid = paid })
 
 pub returns-in-Ok-Refused-clause-refused : goal.returns-in-Ok-Refused-clause-refused
 returns-in-Ok-Refused-clause-refused g c = λ h stands.
@@ -112,9 +116,9 @@ returns-in-Ok-Refused-clause-refused g c = λ h stands.
     let one = c.in-Some.one.now in
     let at : open_at w.opened.items name ≡ Some one =
     ap (λ (l : List OpenRelation). open_at l name) (sym c.deref.ensures.value) ∙ sym c.open_at.ensures ∙ ap (λ (o : Option (Bor OpenRelation)). option_copied o) c.in-Some.is in
-    row_refused g.S.PageSpace.has g.S.PageSpace.leads m a.place.root name (wish_of c.args.wish.now) one a.space.now c.carry_out.new.space _ _ h w c.in-Ok-Refused.refusal stands at
+    row_refused g.S.PageSpace.has g.S.PageSpace.spent g.S.PageSpace.leads g.met.S.PageSpace.spends m a.place.root name (wish_of c.args.wish.now) one a.space.now c.carry_out.new.space _ _ h w c.in-Ok-Refused.refusal stands at
     (λ want s r has table rows. subst (λ (x : Outcome). Comes g.S.PageSpace.has g.S.PageSpace.leads m one.table want s a.space.now c.carry_out.new.space r rows (wished one.table.relation r (wish_of c.args.wish.now)) x) c.in-Ok-Refused.field-0-is (c.in-Ok-Refused.ensures.comes want s r has (subst (λ (l : List Attached). IsTableOf one.table l r) (sym c.as_slice-rules.ensures) table) rows))
-    (definite_stop g.S.PageSpace.has g.S.PageSpace.leads g.S.PageSpace.fails g.S.PageSpace.table _ c.in-Ok-Refused.refusal h.trail _)
+    (definite_stop g.S.PageSpace.has g.S.PageSpace.spent g.S.PageSpace.leads g.S.PageSpace.fails g.S.PageSpace.table _ c.in-Ok-Refused.refusal h.trail _)
 
 pub returns-in-Err-clause-refused : goal.returns-in-Err-clause-refused
 returns-in-Err-clause-refused g c = λ h stands.
@@ -130,11 +134,12 @@ returns-in-Err-clause-refused g c = λ h stands.
     let table = is_table m stands.slots stands.kept name one o in
     let cause = refused_cause g.S.PageSpace.fails _ a.space.now c.carry_out.new.space c.in-Err.fault c.in-Err.ensures.works.refused (c.in-Err.ensures.undamaged stands.want stands.slots o.k.relation.rows stands.has o.rows) in
     rw c.refusal_of.ensures
-    (row_full g.S.PageSpace.has g.S.PageSpace.leads m a.place.root name (wish_of c.args.wish.now) one a.space.now c.carry_out.new.space g.S.PageSpace.table _ _ h w c.in-Err.fault stands at
+    (row_full g.S.PageSpace.has g.S.PageSpace.spent g.S.PageSpace.leads g.met.S.PageSpace.spends m a.place.root name (wish_of c.args.wish.now) one a.space.now c.carry_out.new.space g.S.PageSpace.table _ _ h w c.in-Err.fault stands at
     (λ n. ArePages-few stands.slots n (g.met.S.PageSpace.whole stands.want stands.slots a.space.now stands.has) (g.met.S.PageSpace.few stands.want stands.slots a.space.now stands.has))
     (g.met.S.PageSpace.tabled stands.want stands.slots a.space.now stands.has) c.in-Err.ensures.works.leads
     (c.in-Err.ensures.full stands.want stands.slots o.k.relation stands.has (subst (λ (l : List Attached). IsTableOf one.table l o.k.relation) (sym c.as_slice-rules.ensures) table) o.rows)
-    (λ trail licensed. record { cause = cause; licensed = licensed }))
+    (c.in-Err.ensures.begins stands.want stands.slots o.k.relation stands.has (subst (λ (l : List Attached). IsTableOf one.table l o.k.relation) (sym c.as_slice-rules.ensures) table) o.rows)
+    (λ trail licensed paid. record { cause = cause; licensed = licensed; paid = paid }))
 
 pub returns-in-Ok-clause-leads : goal.returns-in-Ok-clause-leads
 returns-in-Ok-clause-leads g c = record {

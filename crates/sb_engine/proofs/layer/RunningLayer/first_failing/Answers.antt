@@ -6,6 +6,7 @@ use Rattle.sb_deferred.specs.Complete.{AreMirrored, IsComplete}
 use Rattle.sb_standing.specs.Tables.{db_of}
 use Rattle.sb_engine.specs.Goings.{front_none, grows_none}
 use Rattle.sb_engine.specs.Working.{extensions_of, left_of}
+use Rattle.sb_engine.proofs.PaidLemmas.{paid_looking}
 use Rattle.sb_engine.proofs.RefusedLemmas.{free_refusal, read_stop, refused_cause, roomless_refusal}
 use Rattle.sb_engine.proofs.StandingLemmas.{stands_later}
 use Rattle.sb_engine.proofs.layer.RunningLayer.first_failing.Goals as goal
@@ -18,7 +19,8 @@ returns-in-Ok-clause-found g c = λ h stands empty.
     let mirrored = subst AreMirrored stands.db stands.mirrored in
     let complete : IsComplete (db_of stands.kept) w.queue = subst (λ (db : Db). IsComplete db (left_of w)) stands.db (subst (λ (q : Queue). IsComplete h.db q) (sym stands.waits) stands.complete) in (
       c.in-Ok.ensures.found stands.want stands.slots w.gone.items stands.kept stands.has stands.keeps mirrored complete ∙ ap (λ (db : Db). first_failing (extensions_of m) db db) (sym stands.db),
-      stands_later g.S.PageSpace.has m a.place.root h a.space.now c.first_failing.new.space w stands c.in-Ok.ensures.looks.same,
+      stands_later g.S.PageSpace.has g.S.PageSpace.spent m a.place.root h a.space.now c.first_failing.new.space w stands c.in-Ok.ensures.looks.same
+          (paid_looking g.S.PageSpace.spent g.S.PageSpace.leads g.met.S.PageSpace.spends a.space.now c.first_failing.new.space c.in-Ok.ensures.looks.leads stands.paid),
     )
 
 pub returns-in-Err-clause-refused : goal.returns-in-Err-clause-refused
@@ -29,9 +31,10 @@ returns-in-Err-clause-refused g c = λ h stands.
     let complete : IsComplete (db_of stands.kept) w.queue = subst (λ (db : Db). IsComplete db (left_of w)) stands.db (subst (λ (q : Queue). IsComplete h.db q) (sym stands.waits) stands.complete) in
     rw c.refusal_of.ensures (record {
       free = free_refusal c.in-Err.fault;
-      stopped = read_stop g.S.PageSpace.has g.S.PageSpace.leads g.S.PageSpace.fails g.S.PageSpace.table _ c.in-Err.fault h.trail _ c.in-Err.ensures.looks.fault
+      stopped = read_stop g.S.PageSpace.has g.S.PageSpace.spent g.S.PageSpace.leads g.S.PageSpace.fails g.S.PageSpace.table _ c.in-Err.fault h.trail _ c.in-Err.ensures.looks.fault
           (refused_cause g.S.PageSpace.fails _ a.space.now c.first_failing.new.space c.in-Err.fault c.in-Err.ensures.looks.refused
-          (c.in-Err.ensures.undamaged stands.want stands.slots w.gone.items stands.kept stands.has stands.keeps complete));
+          (c.in-Err.ensures.undamaged stands.want stands.slots w.gone.items stands.kept stands.has stands.keeps complete))
+          (paid_looking g.S.PageSpace.spent g.S.PageSpace.leads g.met.S.PageSpace.spends a.space.now c.first_failing.new.space c.in-Err.ensures.looks.leads stands.paid);
     })
 
 pub returns-in-Err-clause-room : goal.returns-in-Err-clause-room

@@ -9,6 +9,7 @@ use Rattle.sb_cascade.specs.Wishes.{wish_of}
 use Rattle.sb_engine.specs.Goings.{front_none, grows_none}
 use Rattle.sb_engine.specs.Opening.{IsKeeping}
 use Rattle.sb_engine.specs.Working.{MayDo, MayWish}
+use Rattle.sb_engine.proofs.PaidLemmas.{paid_looking}
 use Rattle.sb_engine.proofs.RefusedLemmas.{free_refusal, read_stop, refused_cause}
 use Rattle.sb_engine.proofs.StandingLemmas.{keeping_of, stands_later}
 use Rattle.sb_engine.proofs.layer.RunningLayer.wish_at.Goals as goal
@@ -25,9 +26,10 @@ returns-in-Ok-clause-wish g c = λ h stands.
     let a = c.args.self.now in
     let m = g.B.Boxes.meanings a.boxes.now in
     let keeping = subst (λ (l : List OpenRelation). IsKeeping g.S.PageSpace.has m a.place.root stands.want stands.slots stands.kept a.space.now l) (sym c.deref.ensures.value)
-    (keeping_of g.S.PageSpace.has m a.place.root h a.space.now a.space.now a.work.now stands) in (
+    (keeping_of g.S.PageSpace.has g.S.PageSpace.spent m a.place.root h a.space.now a.space.now a.work.now stands) in (
       c.in-Ok.ensures.wish stands.want stands.slots stands.kept keeping ∙ ap (λ (db : Db). wish_there db c.args.action.now c.args.key.now) (sym stands.db),
-      stands_later g.S.PageSpace.has m a.place.root h a.space.now c.wish_at.new.space a.work.now stands c.in-Ok.ensures.looks.same,
+      stands_later g.S.PageSpace.has g.S.PageSpace.spent m a.place.root h a.space.now c.wish_at.new.space a.work.now stands c.in-Ok.ensures.looks.same
+          (paid_looking g.S.PageSpace.spent g.S.PageSpace.leads g.met.S.PageSpace.spends a.space.now c.wish_at.new.space c.in-Ok.ensures.looks.leads stands.paid),
     )
 
 pub returns-in-Err-clause-refused : goal.returns-in-Err-clause-refused
@@ -35,11 +37,12 @@ returns-in-Err-clause-refused g c = λ h stands.
     let a = c.args.self.now in
     let m = g.B.Boxes.meanings a.boxes.now in
     let keeping = subst (λ (l : List OpenRelation). IsKeeping g.S.PageSpace.has m a.place.root stands.want stands.slots stands.kept a.space.now l) (sym c.deref.ensures.value)
-    (keeping_of g.S.PageSpace.has m a.place.root h a.space.now a.space.now a.work.now stands) in
+    (keeping_of g.S.PageSpace.has g.S.PageSpace.spent m a.place.root h a.space.now a.space.now a.work.now stands) in
     rw c.refusal_of.ensures (record {
       free = free_refusal c.in-Err.fault;
-      stopped = read_stop g.S.PageSpace.has g.S.PageSpace.leads g.S.PageSpace.fails g.S.PageSpace.table _ c.in-Err.fault h.trail _ c.in-Err.ensures.looks.fault
-          (refused_cause g.S.PageSpace.fails _ a.space.now c.wish_at.new.space c.in-Err.fault c.in-Err.ensures.looks.refused (c.in-Err.ensures.undamaged stands.want stands.slots stands.kept keeping));
+      stopped = read_stop g.S.PageSpace.has g.S.PageSpace.spent g.S.PageSpace.leads g.S.PageSpace.fails g.S.PageSpace.table _ c.in-Err.fault h.trail _ c.in-Err.ensures.looks.fault
+          (refused_cause g.S.PageSpace.fails _ a.space.now c.wish_at.new.space c.in-Err.fault c.in-Err.ensures.looks.refused (c.in-Err.ensures.undamaged stands.want stands.slots stands.kept keeping))
+          (paid_looking g.S.PageSpace.spent g.S.PageSpace.leads g.met.S.PageSpace.spends a.space.now c.wish_at.new.space c.in-Err.ensures.looks.leads stands.paid);
     })
 
 pub returns-in-Ok-clause-leads : goal.returns-in-Ok-clause-leads

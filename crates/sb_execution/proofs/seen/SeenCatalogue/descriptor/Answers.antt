@@ -4,6 +4,7 @@ use Rattle.sb_fold.specs.declared.refusal.Refusal.{Refusal}
 use Rattle.sb_refusals.specs.Catalogue.{is_damage, is_free}
 use Rattle.sb_engine.specs.OpenRelation.{OpenRelation}
 use Rattle.sb_engine.specs.Working.{open_at}
+use Rattle.sb_engine.proofs.PaidLemmas.{paid_looking}
 use Rattle.sb_execution.specs.Seen.{HasFailed}
 use Rattle.sb_execution.specs.SeenLaws.{stays, wants}
 use Rattle.sb_plain.specs.State.{view}
@@ -18,7 +19,8 @@ returns-in-Ok-clause-found g c = λ s sees.
           (c.in-Ok.ensures.found m sees.stands.want sees.stands.slots sees.stands.kept sees.stands.has sees.stands.keeps.tables),
       record {
         going = sees.going;
-        stands = stands-same g.S.PageSpace.has m a.place.root sees.going a.space.now _ a.work.now sees.stands (c.in-Ok.ensures.looks.same sees.stands.want sees.stands.slots sees.stands.has);
+        stands = stands-same g.S.PageSpace.has g.S.PageSpace.spent m a.place.root sees.going a.space.now _ a.work.now sees.stands (c.in-Ok.ensures.looks.same sees.stands.want sees.stands.slots sees.stands.has)
+            (paid_looking g.S.PageSpace.spent g.S.PageSpace.leads g.met.S.PageSpace.spends a.space.now _ c.in-Ok.ensures.looks.leads sees.stands.paid);
         seen = sees.seen;
       },
     )

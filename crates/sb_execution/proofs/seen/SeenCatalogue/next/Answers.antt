@@ -1,5 +1,6 @@
 use Rattle.std.proofs.Common.{◌∙◌, refl, sym}
 use Rattle.std.specs.Option.{option_copied}
+use Rattle.sb_engine.proofs.PaidLemmas.{paid_looking}
 use Rattle.sb_plain.specs.State.{view}
 use Rattle.sb_execution.proofs.SeenLemmas.{is_first, free_refusal, stands-same, undamaged_refusal}
 use Rattle.sb_execution.proofs.seen.SeenCatalogue.next.Goals as goal
@@ -12,7 +13,8 @@ returns-in-Ok-clause-found g c = λ s sees.
           (c.in-Ok.ensures.found m sees.stands.want sees.stands.slots sees.stands.kept sees.stands.has sees.stands.keeps.tables),
       record {
         going = sees.going;
-        stands = stands-same g.S.PageSpace.has m a.place.root sees.going a.space.now _ a.work.now sees.stands (c.in-Ok.ensures.looks.same sees.stands.want sees.stands.slots sees.stands.has);
+        stands = stands-same g.S.PageSpace.has g.S.PageSpace.spent m a.place.root sees.going a.space.now _ a.work.now sees.stands (c.in-Ok.ensures.looks.same sees.stands.want sees.stands.slots sees.stands.has)
+            (paid_looking g.S.PageSpace.spent g.S.PageSpace.leads g.met.S.PageSpace.spends a.space.now _ c.in-Ok.ensures.looks.leads sees.stands.paid);
         seen = sees.seen;
       },
     )

@@ -37,7 +37,7 @@ returns-in-Ok-clause-ends g c =
     let y : Session g.row.B.Denot = record { boxes = x.boxes; space = c.begin.new.space; place = x.place; «open» = Some (record { transaction = c.in-Ok.transaction; points = c.new.result }); down = x.down } in
     (Carried-begin meanings told len faults d x c.requires.runs c.if-self.false c.begin.new.disk y c.begin.new.space refl refl refl refl c.in-Ok.transaction
     (record { transaction = c.in-Ok.transaction; points = c.new.result }) c.in-Ok.ensures.remains (is_some-none x.open (sym c.is_some.ensures ∙ c.if-is_some.false)) refl refl c.new.ensures.items
-    c.in-Ok.ensures.usable c.in-Ok.ensures.begun c.in-Ok.ensures.at).ends
+    c.in-Ok.ensures.usable c.in-Ok.ensures.begun c.in-Ok.ensures.at c.in-Ok.ensures.spent).ends
 
 pub returns-in-Ok-clause-runs : goal.returns-in-Ok-clause-runs
 returns-in-Ok-clause-runs g c =
@@ -50,4 +50,4 @@ returns-in-Ok-clause-runs g c =
     let y : Session g.row.B.Denot = record { boxes = x.boxes; space = c.begin.new.space; place = x.place; «open» = Some (record { transaction = c.in-Ok.transaction; points = c.new.result }); down = x.down } in
     (Carried-begin meanings told len faults d x c.requires.runs c.if-self.false c.begin.new.disk y c.begin.new.space refl refl refl refl c.in-Ok.transaction
     (record { transaction = c.in-Ok.transaction; points = c.new.result }) c.in-Ok.ensures.remains (is_some-none x.open (sym c.is_some.ensures ∙ c.if-is_some.false)) refl refl c.new.ensures.items
-    c.in-Ok.ensures.usable c.in-Ok.ensures.begun c.in-Ok.ensures.at).runs
+    c.in-Ok.ensures.usable c.in-Ok.ensures.begun c.in-Ok.ensures.at c.in-Ok.ensures.spent).runs

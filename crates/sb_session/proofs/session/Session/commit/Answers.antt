@@ -13,10 +13,10 @@ use Rattle.sb_transactions.specs.Working.{extensions_of}
 use Rattle.sb_transactions.specs.declared.transactions.Transaction.{Transaction}
 use Rattle.sb_transactions.specs.Commits.{StaysOpen}
 use Rattle.sb_session.specs.Ends.{Ends, IsStep}
-use Rattle.sb_session.specs.Sessions.{HasFailed, IsFor, Lacks, StandsBehind, WantsPages, sizes_of}
+use Rattle.sb_session.specs.Sessions.{HasFailed, IsFor, Lacks, StandsBehind, WantsRoom, sizes_of}
 use Rattle.sb_session.proofs.Carried.{IsSame, SameOpen-none, keeps-for}
 use Rattle.sb_session.proofs.Commands.{Carried-down, Carried-misplaced}
-use Rattle.sb_session.proofs.CommitLemmas.{Committed-carried, Committed-ok, Committed-over, Committed-wanting, WantsPages-commit}
+use Rattle.sb_session.proofs.CommitLemmas.{Committed-carried, Committed-ok, Committed-over, Committed-wanting, WantsRoom-commit}
 use Rattle.sb_session.proofs.WantLemmas.{KeepsWanted-none}
 use Rattle.sb_session.proofs.session.Session.commit.Goals as goal
 
@@ -120,8 +120,8 @@ returns-in-None-clause-kept g c = λ not.
     keeps-for g.B.Boxes.meanings g.D.Disk.told g.D.Disk.len c.args.disk.now c.commit.new.disk c.args.self.now c.refused-in-None.new.self c.commit.new.space c.refused-in-None.ensures.space
     (c.in-Err.ensures.kept (λ fault. not (c.refused-in-None.ensures.same ∙ fault)))
 
-pub returns-in-Some-transaction-clause-pages : goal.returns-in-Some-transaction-clause-pages
-returns-in-Some-transaction-clause-pages g c =
+pub returns-in-Some-transaction-clause-room : goal.returns-in-Some-transaction-clause-room
+returns-in-Some-transaction-clause-room g c =
     let meanings = g.B.Boxes.meanings in
     let told = g.D.Disk.told in
     let len = g.D.Disk.len in
@@ -129,11 +129,11 @@ returns-in-Some-transaction-clause-pages g c =
     let x = c.args.self.now in
     let d = c.args.disk.now in
     let y = c.refused.new.self in
-    subst (λ (r : Refusal). (want : Wanted) (s : State) → IsFor meanings told len want s d x → WantsPages (meanings x.boxes) (sizes_of x).pages s command.Commit (Refused r)) (sym c.refused.ensures.same)
-    (WantsPages-commit meanings told len faults d c.commit.new.disk x y c.requires.runs c.if-self.false c.in-Some.current (sym c.take.ensures.value ∙ c.in-Some.is) c.commit.new.space c.refused.ensures.space (ap meanings c.refused.ensures.boxes) c.refused.ensures.place _ c.in-Err.uncommitted.refusal c.in-Err.ensures.remains c.refused.ensures.down c.in-Err.ensures.refused (λ not. (c.in-Err.ensures.kept not).leaves) c.in-Err.ensures.any_moment)
+    subst (λ (r : Refusal). (want : Wanted) (s : State) → IsFor meanings told len want s d x → WantsRoom (meanings x.boxes) (sizes_of x).pages s command.Commit (Refused r)) (sym c.refused.ensures.same)
+    (WantsRoom-commit meanings told len faults d c.commit.new.disk x y c.requires.runs c.if-self.false c.in-Some.current (sym c.take.ensures.value ∙ c.in-Some.is) c.commit.new.space c.refused.ensures.space (ap meanings c.refused.ensures.boxes) c.refused.ensures.place _ c.in-Err.uncommitted.refusal c.in-Err.ensures.remains c.refused.ensures.down c.in-Err.ensures.refused (λ not. (c.in-Err.ensures.kept not).leaves) c.in-Err.ensures.any_moment)
 
-pub returns-in-None-clause-pages : goal.returns-in-None-clause-pages
-returns-in-None-clause-pages g c =
+pub returns-in-None-clause-room : goal.returns-in-None-clause-room
+returns-in-None-clause-room g c =
     let meanings = g.B.Boxes.meanings in
     let told = g.D.Disk.told in
     let len = g.D.Disk.len in
@@ -141,5 +141,5 @@ returns-in-None-clause-pages g c =
     let x = c.args.self.now in
     let d = c.args.disk.now in
     let y = c.refused-in-None.new.self in
-    subst (λ (r : Refusal). (want : Wanted) (s : State) → IsFor meanings told len want s d x → WantsPages (meanings x.boxes) (sizes_of x).pages s command.Commit (Refused r)) (sym c.refused-in-None.ensures.same)
-    (WantsPages-commit meanings told len faults d c.commit.new.disk x y c.requires.runs c.if-self.false c.in-Some.current (sym c.take.ensures.value ∙ c.in-Some.is) c.commit.new.space c.refused-in-None.ensures.space (ap meanings c.refused-in-None.ensures.boxes) c.refused-in-None.ensures.place _ c.in-Err.uncommitted.refusal c.in-Err.ensures.remains c.refused-in-None.ensures.down c.in-Err.ensures.refused (λ not. (c.in-Err.ensures.kept not).leaves) c.in-Err.ensures.any_moment)
+    subst (λ (r : Refusal). (want : Wanted) (s : State) → IsFor meanings told len want s d x → WantsRoom (meanings x.boxes) (sizes_of x).pages s command.Commit (Refused r)) (sym c.refused-in-None.ensures.same)
+    (WantsRoom-commit meanings told len faults d c.commit.new.disk x y c.requires.runs c.if-self.false c.in-Some.current (sym c.take.ensures.value ∙ c.in-Some.is) c.commit.new.space c.refused-in-None.ensures.space (ap meanings c.refused-in-None.ensures.boxes) c.refused-in-None.ensures.place _ c.in-Err.uncommitted.refusal c.in-Err.ensures.remains c.refused-in-None.ensures.down c.in-Err.ensures.refused (λ not. (c.in-Err.ensures.kept not).leaves) c.in-Err.ensures.any_moment)

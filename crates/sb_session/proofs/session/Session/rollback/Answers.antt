@@ -69,7 +69,7 @@ returns-in-Ok-clause-ends g c =
     (Carried-rollback meanings told len faults d x c.requires.runs c.if-self.false c.back_to.new.disk y c.back_to.new.space refl refl refl refl c.args.name.now c.in-Some.current new c.in-Some-point_of.i
     c.index.result.now c.index.result.now.point c.in-Some.is refl
     (first_place (is_named c.args.name.now) c.deref.result.now c.in-Some.current.points.items c.point_of.result c.in-Some-point_of.i c.point_of.ensures c.deref.ensures.value c.in-Some-point_of.is) (sym (ap (λ (s : Savepoint). s.point) c.index.ensures))
-    c.truncate.ensures.items c.in-Ok.ensures.tx c.in-Ok.ensures.back c.in-Ok.ensures.earlier c.in-Ok.ensures.stand c.in-Ok.ensures.begun c.in-Ok.ensures.usable c.in-Ok.ensures.remains).ends
+    c.truncate.ensures.items c.in-Ok.ensures.tx c.in-Ok.ensures.back c.in-Ok.ensures.earlier c.in-Ok.ensures.stand c.in-Ok.ensures.begun c.in-Ok.ensures.usable c.in-Ok.ensures.spent c.in-Ok.ensures.remains).ends
 
 pub returns-in-Ok-clause-runs : goal.returns-in-Ok-clause-runs
 returns-in-Ok-clause-runs g c =
@@ -84,4 +84,4 @@ returns-in-Ok-clause-runs g c =
     (Carried-rollback meanings told len faults d x c.requires.runs c.if-self.false c.back_to.new.disk y c.back_to.new.space refl refl refl refl c.args.name.now c.in-Some.current new c.in-Some-point_of.i
     c.index.result.now c.index.result.now.point c.in-Some.is refl
     (first_place (is_named c.args.name.now) c.deref.result.now c.in-Some.current.points.items c.point_of.result c.in-Some-point_of.i c.point_of.ensures c.deref.ensures.value c.in-Some-point_of.is) (sym (ap (λ (s : Savepoint). s.point) c.index.ensures))
-    c.truncate.ensures.items c.in-Ok.ensures.tx c.in-Ok.ensures.back c.in-Ok.ensures.earlier c.in-Ok.ensures.stand c.in-Ok.ensures.begun c.in-Ok.ensures.usable c.in-Ok.ensures.remains).runs
+    c.truncate.ensures.items c.in-Ok.ensures.tx c.in-Ok.ensures.back c.in-Ok.ensures.earlier c.in-Ok.ensures.stand c.in-Ok.ensures.begun c.in-Ok.ensures.usable c.in-Ok.ensures.spent c.in-Ok.ensures.remains).runs
