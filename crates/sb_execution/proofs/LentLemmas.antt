@@ -1,5 +1,5 @@
 -- A command that is tested or served over a store, which is lent.
-use Rattle.std.proofs.Common.{◌≡◌, ℕ, Bool, false, List, Option, Result, Ok, Err, IfErr, IfOk, sym, subst}
+use Rattle.std.proofs.Common.{◌≡◌, ℕ, Bool, true, false, true≢false, List, Option, Result, Ok, Err, IfErr, IfOk, sym, ◌∙◌, subst}
 use Rattle.sb_disk.specs.Disk.{Story}
 use Rattle.sb_relation.specs.Db.{Db}
 use Rattle.sb_fold.specs.Outcome.{Going, Trail}
@@ -17,8 +17,10 @@ use Rattle.sb_space.specs.declared.durable.Durable.{Durable}
 use Rattle.sb_space.specs.Durable.{parts_in}
 use Rattle.sb_space.specs.Spent.{HasSpent}
 use Rattle.sb_space.specs.View.{lent}
-use Rattle.sb_space.specs.Works.{Works}
+use Rattle.sb_space.specs.Works.{HasPages, Works}
 use Rattle.sb_space.specs.Works as space
+use Rattle.sb_space.proofs.GoingBack.{KeepsChanges-driven}
+use Rattle.sb_space.proofs.Looking.{HasPages-still}
 use Rattle.sb_engine.specs.declared.running.Work.{Work}
 use Rattle.sb_engine.specs.Refusals.{HasRefusalCause}
 use Rattle.sb_engine.specs.Working.{IsPaid, IsStoppedIn, extensions_of}
@@ -33,7 +35,7 @@ use Rattle.sb_session.proofs.FinishLemmas.{HasCause-map}
 use Rattle.sb_session.proofs.LentLemmas.{FailsLent, IsStoreLent}
 use Rattle.sb_session.proofs.LicenceLemmas.{licensed-lent, table_of}
 use Rattle.sb_session.specs.declared.session.Savepoint.{Savepoint}
-use Rattle.sb_execution.specs.Serving.{HasPaid, IsPosedIn, IsSeenIn, IsServed, IsUnservedIn, IsUnservedOn}
+use Rattle.sb_execution.specs.Serving.{HasPaid, IsPosedIn, IsSeenIn, IsServed, IsUnservedIn, IsUnservedOn, KeepsLooked, KeepsOpened, is_read}
 use Rattle.sb_execution.specs.declared.serving.Served.{Served}
 use Rattle.sb_execution.proofs.WorkLemmas.{IsServed-map, IsUnserved-map}
 
@@ -87,6 +89,21 @@ module _ {D : Type 0} (told : D → Option Story) (len faults : D → ℕ) (m : 
 
     came_paid : b.store.now.book.down ≡ false → (h : Going) → StandsLent h b w → HasPaid m place want tx w h end
     came_paid up h stands = (came up h stands, paid_lent h.trail.spent stands.paid)
+
+  -- a look at a store that goes on being up leaves its pages
+  looked : b.store.now.book.down ≡ false → KeepsLooked (HasLent told len) (LeadsLent told len faults) a b
+  looked up d looks leads want s has =
+      let on = (KeepsChanges-driven told len faults leads.0 (lent d) (lent b) leads.1 up).0 in
+      HasPages-still told len faults (lent a) (lent d) want s looks (λ down. absurd (true≢false (sym down ∙ on))) has
+
+  -- what is open is so of the store, where it is up
+  pub opened-lent : (r : Result Served Refusal)
+      → IfOk r (λ x. is_read x ≡ true → KeepsLooked (HasLent told len) (LeadsLent told len faults) a b → KeepsOpened (HasLent told len) m place.root a b v w)
+      → IfOk r (λ x. b.store.now.book.down ≡ false → is_read x ≡ true → KeepsOpened HasPages m place.root start end v w)
+  opened-lent (Ok x) opened = λ up read want s kept keeping.
+      let had = opened read (looked up) want s kept (record { has = to_lent (λ n p. HasPages want s p) keeping.has; tables = keeping.tables; opened = keeping.opened }) in
+      record { has = to_end (λ n p. HasPages want s p) had.has; tables = had.tables; opened = had.opened }
+  opened-lent (Err r) opened = tt
 
   module _ (inside : Bool) (points : List Savepoint) (c : Command) where
     pub served-lent : (r : Result Served Refusal)

@@ -1,5 +1,5 @@
--- A command that no test refuses may be read.
-use Rattle.std.proofs.Common.{◌≡◌, ◌&&◌, Bool, true, false, List, [], ◌∷◌, Option, None, is_some, is_none, refl, ap}
+-- A command that no test refuses may be read, by a relation that is open.
+use Rattle.std.proofs.Common.{◌≡◌, ℕ, ◌&&◌, Bool, true, false, List, [], ◌∷◌, Option, Some, None, is_some, is_none, refl, ap}
 use Rattle.sb_relation.specs.Db.{Name, Relation, Attached, Db, relation_at, schema_at}
 use Rattle.sb_relation.specs.Fits.{first_missing}
 use Rattle.sb_fold.specs.Building.{rule_at}
@@ -8,9 +8,24 @@ use Rattle.sb_plain.specs.declared.command.Command.TheVariants as command
 use Rattle.sb_plain.specs.Refusing.{is_range, refused}
 use Rattle.sb_plain.specs.State.{State, view}
 use Rattle.sb_registry.specs.Boxes.{Meanings}
-use Rattle.sb_engine.specs.Working.{extensions_of}
+use Rattle.sb_drive.specs.Slots.{Slots}
+use Rattle.sb_standing.specs.Standing.{Keeps}
+use Rattle.sb_standing.specs.Tables.{Kept}
+use Rattle.sb_engine.specs.OpenRelation.{OpenRelation}
+use Rattle.sb_engine.specs.Opened.{IsDurable}
+use Rattle.sb_engine.specs.Working.{AreOpened, IsOpened, extensions_of, open_at}
+use Rattle.sb_engine.proofs.OpenedLemmas.{open_at-all, open_at-name}
 use Rattle.sb_reads.specs.Reads.{IsThere, MayRead}
+use Rattle.sb_reads.specs.Stores.{KeepsOpen}
+use Rattle.sb_reads.proofs.StoresLemmas.{KeepsOpen-opened}
 use Rattle.sb_statements.proofs.PassedLemmas.{found_first, not_some, passed, some_of}
+use Rattle.sb_execution.proofs.SeenLemmas.{described}
+
+-- the open relation of a name is that of the database
+pub keeps-open : (m : Meanings) (root : ℕ) (s : Slots) (gone : List ℕ) (kept : List Kept) (opened : List OpenRelation) (name : Name) (one : OpenRelation) → Keeps m IsDurable root s gone kept
+    → AreOpened m kept opened → open_at opened name ≡ Some one → (r : Relation) × KeepsOpen m root s kept r one
+keeps-open m root s gone kept opened name one keeps are at =
+    KeepsOpen-opened m root s gone kept name one keeps (open_at-all (IsOpened m kept) opened name one are at).is (open_at-name opened name one at) (described m kept opened name one are at)
 
 is_there : (db : Db) (relation : Name) (names : List Name) → first_missing db (relation ∷ names) ≡ None → IsThere db relation
 is_there db relation names none = ap (λ (o : Option Relation). is_some o) (found_first (relation_at db) relation names none).0.1

@@ -1,5 +1,5 @@
 -- What becomes of a session whose command went through its tests in a transaction of its own.
-use Rattle.std.proofs.Common.{◌≡◌, ℕ, false, Option, None, Ok, inl, refl, sym, ap, ◌∙◌, subst}
+use Rattle.std.proofs.Common.{◌≡◌, ℕ, false, List, All, Option, None, Ok, inl, refl, sym, ap, ◌∙◌, subst}
 use Rattle.std.proofs.lemmas.Bool.{false≢true}
 use Rattle.std.proofs.Math.Bool.{or-false}
 use Rattle.sb_disk.specs.Disk.{Story}
@@ -7,6 +7,8 @@ use Rattle.sb_disk.specs.Moments.{LeavesOnly}
 use Rattle.sb_disk.proofs.CauseLemmas.{Rose-later}
 use Rattle.sb_images.specs.Images.{Restores}
 use Rattle.sb_log.specs.declared.geometry.Geometry.{Geometry}
+use Rattle.sb_engine.specs.OpenRelation.{OpenRelation}
+use Rattle.sb_engine.specs.Opened.{IsOpen}
 use Rattle.sb_engine.specs.Working.{extensions_of}
 use Rattle.sb_fold.specs.declared.refusal.Refusal.TheVariants as refusal
 use Rattle.sb_plain.specs.declared.command.Command.{Command}
@@ -28,6 +30,7 @@ use Rattle.sb_session.specs.Sessions.{CanRun, HasFailed, IsFor, IsOpenFor, Keeps
 use Rattle.sb_session.proofs.Carried.{CanRun-as, IsFor-as}
 use Rattle.sb_session.proofs.Commands.{outside_for}
 use Rattle.sb_execution.specs.Endings.{Executed, IsOf, Passes}
+use Rattle.sb_session.proofs.StayLemmas.{MayStayOpen-as}
 use Rattle.sb_execution.proofs.CallLemmas.{ok_err, still_up}
 use Rattle.sb_execution.proofs.EndLemmas.{Ends-as, Ends-since}
 use Rattle.sb_execution.proofs.ExecLemmas.{KeepsSession-then}
@@ -35,7 +38,7 @@ use Rattle.sb_execution.proofs.PagesLemmas.{room_unwanted}
 
 module _ {B D : Type 0} (meanings : B → Meanings) (told : D → Option Story) (len faults : D → ℕ) (c : Command) (d e : D) (x y : Session B)
     (runs : CanRun meanings told len d x) (up : x.down ≡ false) (none : x.open ≡ None)
-    (boxes : y.boxes ≡ x.boxes) (place : y.place ≡ x.place) (down : y.down ≡ x.down) (opened : y.open ≡ x.open)
+    (boxes : y.boxes ≡ x.boxes) (place : y.place ≡ x.place) (down : y.down ≡ x.down) (opened : y.open ≡ x.open) (listed : y.opened.items ≡ x.opened.items)
     (passes : Passes told len faults (meanings x.boxes) x.place c d e x.space.store y.space.store) (leaves : KeepsWanted (parts_of told len d x) (parts_of told len e y))
     (unwanted : (s : State) → may_want_room s c ≡ false) where
   abbrev m : Meanings
@@ -63,11 +66,13 @@ module _ {B D : Type 0} (meanings : B → Meanings) (told : D → Option Story) 
       IsFor-as meanings told len want s d e x y for want s None q (ap meanings boxes) place (opened ∙ none) refl (down ∙ for.down) refl refl
       (λ on. subst (λ (a : Option PlainTransaction). IsOpenFor m x.place want (committed s) q None a) (sym (outside_for meanings told len faults d x runs up none want s for).none)
       (passes.rests want s (of_state want s for)))
+      (λ on. MayStayOpen-as m x.place.root want (sizes_of x) (sizes_of y) x.opened.items y.opened.items passes.remains.geometry listed (for.opened on))
 
   pub runs_tested : CanRun meanings told len e y
   runs_tested =
       CanRun-as meanings told len d e x y None q runs (ap meanings boxes) place (opened ∙ none) refl passes.remains.geometry passes.remains.ready
       (λ on. still_up told len faults {T = Unit {0}} d e x.space.store y.space.store (Ok tt) passes.remains (λ is. ok_err tt refusal.Fault is)) (λ on. passes.none)
+      (λ on. subst (λ (l : List OpenRelation). All (IsOpen m) l) (sym listed) (runs.opened up))
 
   keeps_tested : KeepsSession len faults d e x y ok
   keeps_tested = record {

@@ -1,5 +1,5 @@
 -- A command that is tested, and then carried out.
-use Rattle.std.proofs.Common.{◌≡◌, ℕ, Bool, false, List, Option, None, Result, Ok, Err, IfErr, IfOk, refl, sym, ap, ◌∙◌, subst}
+use Rattle.std.proofs.Common.{◌≡◌, ℕ, Bool, true, false, List, Option, None, Result, Ok, Err, IfErr, IfOk, refl, sym, ap, ◌∙◌, subst}
 use Rattle.sb_relation.specs.Db.{Db}
 use Rattle.sb_fold.specs.declared.refusal.Refusal.{Refusal}
 use Rattle.sb_fold.specs.Extensions.{Extensions}
@@ -13,7 +13,7 @@ use Rattle.sb_registry.specs.Boxes.{Meanings, boxes_of}
 use Rattle.sb_registry.specs.Runs.{IsSound}
 use Rattle.sb_drive.specs.declared.space.SpaceFault.{SpaceFault}
 use Rattle.sb_drive.specs.Slots.{Slots}
-use Rattle.sb_drive.specs.Spaces.{IsReadFault, IsRefused, Wanted}
+use Rattle.sb_drive.specs.Spaces.{IsReadFault, IsRefused, LeadsOn, Wanted}
 use Rattle.sb_standing.specs.Standing.{Keeps}
 use Rattle.sb_standing.specs.Tables.{Kept, db_of}
 use Rattle.sb_engine.specs.Opened.{IsDurable}
@@ -21,12 +21,12 @@ use Rattle.sb_engine.specs.declared.running.Work.{Work}
 use Rattle.sb_cascade.specs.Runs.{is_free, is_room}
 use Rattle.sb_engine.specs.Licensed.{definite_roomless, roomless_licence}
 use Rattle.sb_engine.specs.Refusals.{HasRefusalCause, refusal_of}
-use Rattle.sb_engine.specs.Working.{IsPaid, IsStoppedIn, Stands, extensions_of}
+use Rattle.sb_engine.specs.Working.{AreOpened, IsPaid, IsStoppedIn, Stands, extensions_of}
 use Rattle.sb_engine.proofs.PaidLemmas.{Spends, paid_looking}
 use Rattle.sb_engine.proofs.RefusedLemmas.{definite_cause, free_refusal, read_stop, refused_cause}
 use Rattle.sb_session.specs.declared.session.Savepoint.{Savepoint}
 use Rattle.sb_reads.specs.Reads.{MayRead}
-use Rattle.sb_execution.specs.Serving.{IsPosedIn, IsSeenIn, IsServed, IsUnservedIn, Looked, MayServe}
+use Rattle.sb_execution.specs.Serving.{IsPosedIn, IsSeenIn, IsServed, IsUnservedIn, KeepsLooked, KeepsOpened, Looked, MayServe, is_read}
 use Rattle.sb_statements.specs.Statements.{MayWork}
 use Rattle.sb_statements.proofs.PosedLemmas.{tested-may-work}
 use Rattle.sb_execution.specs.declared.serving.Served.{Served}
@@ -61,6 +61,13 @@ module _ {S : Type 0} (Has : Wanted → Slots → S → Type 0) (Spent : ℕ →
   tested_unserved (Ok done) unserved = tt
   tested_unserved (Err r) unserved = λ s g stands seen posed. unserved s g (stood s g stands seen) (may s g stands seen posed)
 
+-- what is open behind the tests is so of the space before them
+pub tested_opened : {S : Type 0} (Has : Wanted → Slots → S → Type 0) (Leads : ℕ → S → S → Type 0) (m : Meanings) (root : ℕ) (x y z : S) (v w : Work) → Leads 0 x y → LeadsOn Leads y z → (r : Result Served Refusal)
+    → IfOk r (λ o. is_read o ≡ true → KeepsOpened Has m root y z v w) → IfOk r (λ o. is_read o ≡ true → KeepsLooked Has Leads x z → KeepsOpened Has m root x z v w)
+tested_opened Has Leads m root x y z v w looks leads (Ok o) opened = λ read keeps want s kept keeping.
+    opened read want s kept (record { has = keeps y looks leads want s keeping.has; tables = keeping.tables; opened = keeping.opened })
+tested_opened Has Leads m root x y z v w looks leads (Err r) opened = tt
+
 -- ---- where the tests stop it
 module _ {S : Type 0} (Has : Wanted → Slots → S → Type 0) (Spent : ℕ → S → Type 0) (Leads : ℕ → S → S → Type 0) (Fails : SpaceFault → S → S → Type 0) (table : S → ℕ) (m : Meanings)
     (g : Going) (r : Refusal) (x : S) where
@@ -84,20 +91,20 @@ module _ {S : Type 0} (Has : Wanted → Slots → S → Type 0) (Spent : ℕ →
   works_may = tested-may-work m s g c may.is may.posed may.passed
 
   pub was_read : (o : Option Reply)
-      → ((want : Wanted) (s : Slots) (gone : List ℕ) (kept : List Kept) (ext : Extensions) → Has want s x → Keeps m IsDurable root s gone kept → ext.boxes ≡ boxes_of m
-      → MayRead (db_of kept) c → o ≡ read ext (db_of kept) c)
+      → ((want : Wanted) (s : Slots) (gone : List ℕ) (kept : List Kept) (ext : Extensions) → Has want s x → Keeps m IsDurable root s gone kept → AreOpened m kept w.opened.items
+      → ext.boxes ≡ boxes_of m → MayRead (db_of kept) c → o ≡ read ext (db_of kept) c)
       → read (extensions_of m) (view s) c ≡ o
   was_read o is =
-      ap (λ (db : Db). read (extensions_of m) db c) same_db ∙ sym (is stands.want stands.slots w.gone.items stands.kept (extensions_of m) stands.has stands.keeps refl reads)
+      ap (λ (db : Db). read (extensions_of m) db c) same_db ∙ sym (is stands.want stands.slots w.gone.items stands.kept (extensions_of m) stands.has stands.keeps stands.opened refl reads)
 
   -- a refused look
   pub look_refused : (Leads : ℕ → S → S → Type 0) → Spends Spent Leads → (Fails : SpaceFault → S → S → Type 0) (table : S → ℕ) (y : S) (e : SpaceFault) (r : Refusal) → r ≡ refusal_of e → IsReadFault e
       → IsRefused (Leads 0 x y) (Fails e x y) e → Leads 0 x y
-      → ((want : Wanted) (s : Slots) (gone : List ℕ) (kept : List Kept) → Has want s x → Keeps m IsDurable root s gone kept → MayRead (db_of kept) c → IsSound e)
+      → ((want : Wanted) (s : Slots) (gone : List ℕ) (kept : List Kept) → Has want s x → Keeps m IsDurable root s gone kept → AreOpened m kept w.opened.items → MayRead (db_of kept) c → IsSound e)
       → IsUnservedIn Has Spent Leads Fails table m s c g r y
   look_refused Leads spends Fails table y e r is looked refused leads sound =
       subst (λ (q : Refusal). IsUnservedIn Has Spent Leads Fails table m s c g q y) (sym is)
       (Looked (free_refusal e) (look_refusal e looked)
       (read_stop Has Spent Leads Fails table m e g.trail y looked
-      (refused_cause Fails (Leads 0 x y) x y e refused (sound stands.want stands.slots w.gone.items stands.kept stands.has stands.keeps reads))
+      (refused_cause Fails (Leads 0 x y) x y e refused (sound stands.want stands.slots w.gone.items stands.kept stands.has stands.keeps stands.opened reads))
       (paid_looking Spent Leads spends x y leads stands.paid)))

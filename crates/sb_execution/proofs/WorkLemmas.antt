@@ -1,6 +1,8 @@
 -- A command's work on an engine that is lent a space and what is kept beside it.
 use Rattle.std.proofs.Common.{◌≡◌, ℕ, ◌+◌, [], append-nil, Option, Some, None, Result, Ok, Err, IfErr, IfOk, sym, subst}
 use Rattle.std.specs.Prelude.{IfSome}
+use Rattle.std.specs.declared.vec.Vec.{Vec}
+use Rattle.std.specs.declared.alloc.Global.{Global}
 use Rattle.sb_fold.specs.declared.refusal.Refusal.{Refusal}
 use Rattle.sb_fold.specs.Outcome.{Going, Trail}
 use Rattle.sb_plain.specs.declared.command.Command.{Command}
@@ -12,6 +14,7 @@ use Rattle.sb_drive.specs.declared.space.SpaceFault.{SpaceFault}
 use Rattle.sb_drive.specs.Slots.{Slots}
 use Rattle.sb_drive.specs.Spaces.{Wanted}
 use Rattle.sb_map.specs.declared.place.Place.{Place}
+use Rattle.sb_engine.specs.OpenRelation.{OpenRelation}
 use Rattle.sb_engine.specs.declared.running.Running.{Running}
 use Rattle.sb_engine.specs.declared.running.Work.{Work}
 use Rattle.sb_engine.specs.Goings.{front_none}
@@ -105,6 +108,13 @@ works_behind Leads on a b c v w first works = record {
   queue = works.queue;
   gone = works.gone;
 }
+
+-- once more relations are open
+pub opens_works : {S : Type 0} (Leads : ℕ → S → S → Type 0) (a b : S) (w : Work) (o : Vec OpenRelation Global) → Leads 0 a b → WorksOn Leads a b w (record w { opened = o })
+opens_works Leads a b w o leads = record { leads = (0, leads); queue = front_none w.queue; gone = ([], sym (append-nil w.gone.items)) }
+
+pub works_opened : {S : Type 0} (Leads : ℕ → S → S → Type 0) (b c : S) (v w : Work) (o : Vec OpenRelation Global) → WorksOn Leads b c (record v { opened = o }) w → WorksOn Leads b c v w
+works_opened Leads b c v w o works = record { leads = works.leads; queue = works.queue; gone = works.gone }
 
 -- ---- the same of what is served
 pub IsServed-map : {S T : Type 0} (P : Going → S → Type 0) (Q : Going → T → Type 0) (m : Meanings) (s : State) (c : Command) (g : Going) (x : Served) (a : S) (b : T)

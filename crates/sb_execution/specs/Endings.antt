@@ -1,5 +1,5 @@
 -- How commands on relations end, in an open transaction and in one of their own.
-use Rattle.std.specs.Prelude.{◌≡◌, ℕ, false, is_some, [], Option, Some, None, Result, Ok, Err, true}
+use Rattle.std.specs.Prelude.{◌≡◌, ℕ, false, is_some, List, [], Option, Some, None, Result, Ok, Err, true}
 use Rattle.sb_disk.specs.Disk.{Story}
 use Rattle.sb_fold.specs.declared.refusal.Refusal.{Refusal}
 use Rattle.sb_fold.specs.declared.refusal.Refusal.TheVariants.{Fault}
@@ -17,11 +17,12 @@ use Rattle.sb_map.specs.declared.place.Place.{Place}
 use Rattle.sb_txn.specs.Clauses.{Leads}
 use Rattle.sb_txn.specs.Parts.{Parts, parts}
 use Rattle.sb_txn.specs.State.{State as StoreState}
+use Rattle.sb_engine.specs.OpenRelation.{OpenRelation}
 use Rattle.sb_engine.specs.declared.running.Work.{Work as EngineWork}
 use Rattle.sb_engine.specs.Working.{extensions_of}
 use Rattle.sb_session.specs.Calls.{KeepsWanted, Remains}
 use Rattle.sb_session.specs.Commits.{IsLed, Mounted}
-use Rattle.sb_session.specs.Transactions.{Rests, WasBegun}
+use Rattle.sb_session.specs.Transactions.{MayStayOpen, Rests, WasBegun}
 use Rattle.sb_vectors.specs.Vectors.{AreSameBoxes, live_codes, spare_codes}
 use Rattle.sb_reads.specs.Reads.{is_reading}
 use Rattle.sb_execution.specs.Serving.{HasPaid, IsPosedIn, is_managing, may_have_committed}
@@ -60,6 +61,11 @@ pub record IsOf (m : Meanings) (place : Place) (want : Wanted) (s : State) (p : 
   pub spare : s.spare ≡ spare_codes m
   pub stands : IsOpenFor m place want (committed s) p o s.transaction
 
+-- one that is in no transaction, and of whose committed database these relations are open
+pub record IsAlone (m : Meanings) (place : Place) (want : Wanted) (s : State) (p : Parts) (ones : List OpenRelation) : Type 0 where
+  pub of : IsOf m place want s p None
+  pub opened : MayStayOpen m place.root p.store.pool.geometry.pages want ones
+
 -- what a command with this reply leaves of it
 pub record IsLeft (m : Meanings) (place : Place) (want : Wanted) (s : State) (p : Parts) (o : Option Open) (reply : Reply) (t : State) : Type 0 where
   pub down : t.down ≡ ends_with reply
@@ -67,11 +73,13 @@ pub record IsLeft (m : Meanings) (place : Place) (want : Wanted) (s : State) (p 
   pub spare : t.spare ≡ s.spare
   pub stands : t.down ≡ false → IsOpenFor m place want (committed t) p o t.transaction
 
--- So it is with some pages wanted now; and on the way a crash left the pages that were wanted, or those that keep what is committed next.
-pub record IsLeftSo (m : Meanings) (place : Place) (want : Wanted) (s : State) (c : Command) (p q : Parts) (o : Option Open) (reply : Reply)
+-- So it is in no transaction, with some pages wanted now, and with these relations open; and on the way a crash left the pages that were wanted, or
+-- those that keep what is committed next.
+pub record IsLeftAlone (m : Meanings) (place : Place) (want : Wanted) (s : State) (c : Command) (p q : Parts) (ones : List OpenRelation) (reply : Reply)
     (t : State) : Type 0 where
   pub now : Wanted
-  pub is : IsLeft m place now s q o reply t
+  pub is : IsLeft m place now s q None reply t
+  pub opened : t.down ≡ false → MayStayOpen m place.root q.store.pool.geometry.pages now ones
   pub leaves : LeavesOldOrNext m place.root want (extensions_of m) s c t p q
 
 -- ---- in an open transaction
@@ -91,13 +99,14 @@ pub record EndsInside {D : Type 0} (told : D → Option Story) (len faults : D �
 
 -- ---- in a transaction of its own
 -- A command in it ends well, and the transaction is over then. What a crash left on the way is told with the state to which the command leads; where
--- no database can have been committed, it is what was wanted, whatever the pages stand for; and a fault is answered only where the store is down.
+-- no database can have been committed, it is what was wanted, whatever the pages stand for; and a fault is answered only where the store is down. The
+-- first ones were open before it, and the others are behind it.
 pub record EndsAlone {D : Type 0} (told : D → Option Story) (len faults : D → ℕ) (m : Meanings) (place : Place) (c : Command)
-    (d e : D) (s t : StoreState) (result : Result Reply Refusal) : Type 0 where
-  pub ends : (want : Wanted) (x : State) → IsOf m place want x (parts told len d s) None → IsPosedIn m x c
-      → Ends (IsLeftSo m place want x c (parts told len d s) (parts told len e t) None (reply_by result)) (Lacks s.pool.geometry) (HasFailed faults d e)
+    (d e : D) (s t : StoreState) (ones others : List OpenRelation) (result : Result Reply Refusal) : Type 0 where
+  pub ends : (want : Wanted) (x : State) → IsAlone m place want x (parts told len d s) ones → IsPosedIn m x c
+      → Ends (IsLeftAlone m place want x c (parts told len d s) (parts told len e t) others (reply_by result)) (Lacks s.pool.geometry) (HasFailed faults d e)
       (extensions_of m) x c (reply_by result)
-  pub room : (want : Wanted) (x : State) → IsOf m place want x (parts told len d s) None → IsPosedIn m x c
+  pub room : (want : Wanted) (x : State) → IsAlone m place want x (parts told len d s) ones → IsPosedIn m x c
       → WantsRoom m s.pool.geometry.pages x c (reply_by result)
   pub leaves : may_have_committed c false (reply_by result) ≡ false → KeepsWanted (parts told len d s) (parts told len e t)
   pub none : t.book.down ≡ false → t.book.actives ≡ []
@@ -127,14 +136,14 @@ pub record AnswersCommand (m : Meanings) (place : Place) (want : Wanted) (c : Co
   pub is : work_of (extensions_of m) c ≡ Some work
   pub run : MadeFrom (HasPaid m place want tx w) work (going_alone x) answer p
 
--- With work that gives the answer the transaction of the command has come here.
+-- With work that gives the answer the transaction of the command has come here. Before it these relations were open.
 pub record HasAnswered {D : Type 0} (told : D → Option Story) (len faults : D → ℕ) (m : Meanings) (place : Place) (c : Command)
-    (d e : D) (s t : StoreState) (tx : ℕ) (w : EngineWork) (answer : Answer) : Type 0 where
+    (d e : D) (s t : StoreState) (tx : ℕ) (w : EngineWork) (ones : List OpenRelation) (answer : Answer) : Type 0 where
   pub works : is_managing c ≡ false
   pub changes : is_reading c ≡ false
   pub up : t.book.down ≡ false
   pub comes : ComesAlone told len faults m place d e s t tx
-  pub answers : (want : Wanted) (x : State) → IsOf m place want x (parts told len d s) None → IsPosedIn m x c
+  pub answers : (want : Wanted) (x : State) → IsAlone m place want x (parts told len d s) ones → IsPosedIn m x c
       → AnswersCommand m place want c x (parts told len e t) tx w answer
 
 -- ---- tests in a transaction of their own

@@ -14,11 +14,13 @@ use Rattle.sb_plain.specs.Step.{Answer, work_of}
 use Rattle.sb_cascade.specs.Runs.{MadeFrom, StopsFrom, is_free, is_room}
 use Rattle.sb_registry.specs.Boxes.{Meanings}
 use Rattle.sb_drive.specs.Slots.{Slots}
-use Rattle.sb_drive.specs.Spaces.{Wanted}
+use Rattle.sb_drive.specs.Spaces.{LeadsOn, Wanted}
 use Rattle.sb_drive.specs.declared.space.SpaceFault.{SpaceFault}
 use Rattle.sb_map.specs.declared.place.Place.{Place}
+use Rattle.sb_standing.specs.Tables.{Kept}
 use Rattle.sb_txn.specs.Parts.{Parts}
 use Rattle.sb_engine.specs.declared.running.Work.{Work as EngineWork}
+use Rattle.sb_engine.specs.Opening.{IsKeeping}
 use Rattle.sb_engine.specs.Working.{IsStoppedIn, extensions_of}
 use Rattle.sb_vectors.specs.Vectors.{live_codes, spare_codes}
 use Rattle.sb_session.specs.Commits.{IsStoppedOn, Mounted}
@@ -104,6 +106,15 @@ is_read (served.Worked answer) = false
 abbrev pub IsAnswered : Served → Type 0
 IsAnswered (served.Read reply) = IsAnswer reply
 IsAnswered (served.Worked answer) = Unit {0}
+
+-- A space that was only looked at, on the way to this one, had kept its pages.
+abbrev pub KeepsLooked : {S : Type 0} → (Wanted → Slots → S → Type 0) → (ℕ → S → S → Type 0) → S → S → Type 0
+KeepsLooked {S} Has Leads x z = (y : S) → Leads 0 x y → LeadsOn Leads y z → (want : Wanted) (s : Slots) → Has want s x → Has want s y
+
+-- The pages keep what they kept, and what is open are relations of theirs still.
+abbrev pub KeepsOpened : {S : Type 0} → (Wanted → Slots → S → Type 0) → Meanings → ℕ → S → S → EngineWork → EngineWork → Type 0
+KeepsOpened Has m root x y v w = (want : Wanted) (s : Slots) (kept : List Kept)
+    → IsKeeping Has m root want s kept x v.opened.items → IsKeeping Has m root want s kept y w.opened.items
 
 -- A command that no test refuses reads its reply, and the work stands as it was; or its work gives the answer.
 abbrev pub IsServed : {S : Type 0} → (Going → S → Type 0) → Meanings → State → Command → Going → Served → S → Type 0

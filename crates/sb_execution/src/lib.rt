@@ -4,6 +4,7 @@
 mod executing;
 mod inside;
 mod outside;
+mod reading;
 mod replies;
 mod seeing;
 mod seen;

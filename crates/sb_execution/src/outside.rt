@@ -1,7 +1,9 @@
 //! Commands outside of a transaction, each of which is one of its own.
 
-ghost use Rattle.std.specs.Prelude.{◌≡◌, ◌≤◌, [], false, true, Err, None, IfErr, OnOk};
+ghost use Rattle.std.specs.Prelude.{◌≡◌, ◌≤◌, List, [], All, false, true, Err, None, IfErr, OnOk};
 ghost use Rattle.sb_drive.specs.Spaces.{Wanted};
+ghost use Rattle.sb_engine.specs.OpenRelation.{OpenRelation};
+ghost use Rattle.sb_engine.specs.Opened.{IsOpen};
 ghost use Rattle.sb_engine.specs.Working.{extensions_of};
 ghost use Rattle.sb_plain.specs.Licences.{may_want_memory};
 ghost use Rattle.sb_plain.specs.State.{State};
@@ -20,6 +22,7 @@ ghost use Rattle.sb_txn.specs.State.{State as StoreState};
 use crate::replies::{replied, told};
 use crate::serving::{Served, serve_in, test_in};
 use sb_disk::Disk;
+use sb_engine::OpenRelation;
 use sb_fold::Refusal;
 use sb_map::Place;
 use sb_plain::{Command, Reply};
@@ -57,18 +60,20 @@ pub(crate) fn exec_outside<B: Vectors, D: Disk>(
         &mut session.space,
         disk,
         session.place,
+        &mut session.opened,
         alloc,
         command,
     );
     told(session, result)
 }
 
-/// Begins a transaction, and ends it with the command.
+/// Begins a transaction, and ends it with the command. What was open stays so, with what the command opened; behind a refusal nothing does.
 fn work_outside<B: Vectors, D: Disk>(
     boxes: &B,
     space: &mut Space,
     disk: &mut D,
     place: Place,
+    opened: &mut Vec<OpenRelation>,
     alloc: Global,
     command: &Command,
 ) -> Result<Reply, Refusal>
@@ -78,9 +83,13 @@ fn work_outside<B: Vectors, D: Disk>(
     requires owner { place.owner ≡ 2 }
     requires up { space.old.store.book.down ≡ false }
     requires works { is_managing command.now ≡ false }
-    ensures { EndsAlone D.told D.len D.faults (B.meanings boxes.now) place command.now disk.old disk.new space.old.store space.new.store result }
+    requires are_open { All (IsOpen (B.meanings boxes.now)) opened.old.items }
+    ensures ended { EndsAlone D.told D.len D.faults (B.meanings boxes.now) place command.now disk.old disk.new space.old.store space.new.store
+        opened.old.items opened.new.items result }
+    ensures are_open { All (IsOpen (B.meanings boxes.now)) opened.new.items }
 {
-    let mut transaction = match begin(space, disk, alloc) {
+    let before = std::mem::replace(opened, Vec::new(alloc));
+    let mut transaction = match begin(space, disk, before, alloc) {
         Ok(transaction) => transaction,
         Err(fault) => return Err(fault),
     };
@@ -103,15 +112,27 @@ fn work_outside<B: Vectors, D: Disk>(
                 return Err(Refusal::Fault);
             }
             match served {
-                Served::Read(reply) => match abort(space, disk, transaction) {
-                    Ok(()) => Ok(reply),
-                    Err(fault) => {
-                        drop(reply);
-                        Err(fault)
+                Served::Read(reply) => {
+                    std::mem::swap(opened, &mut transaction.work.opened);
+                    match abort(space, disk, transaction) {
+                        Ok(()) => Ok(reply),
+                        Err(fault) => {
+                            drop(reply);
+                            Err(fault)
+                        }
                     }
-                },
+                }
                 Served::Worked(answer) => {
-                    commit_answer(boxes, space, disk, place, transaction, answer, alloc)
+                    commit_answer(
+                        boxes,
+                        space,
+                        disk,
+                        place,
+                        transaction,
+                        opened,
+                        answer,
+                        alloc,
+                    )
                 }
             }
         }
@@ -143,10 +164,10 @@ pub(crate) fn test_outside<B: Vectors, D: Disk>(
 
     ensures leaves { KeepsWanted (parts D.told D.len disk.old space.old.store) (parts D.told D.len disk.new space.new.store) }
     ensures passes { OnOk result (Passes D.told D.len D.faults (B.meanings boxes.now) place command.now disk.old disk.new space.old.store space.new.store) }
-    ensures refused { IfErr result (λ r. EndsAlone D.told D.len D.faults (B.meanings boxes.now) place command.now disk.old disk.new space.old.store space.new.store
-        (Err r)) }
+    ensures refused { IfErr result (λ r. (ones : List OpenRelation)
+        → EndsAlone D.told D.len D.faults (B.meanings boxes.now) place command.now disk.old disk.new space.old.store space.new.store ones ones (Err r)) }
 {
-    let transaction = match begin(space, disk, alloc) {
+    let transaction = match begin(space, disk, Vec::new(alloc), alloc) {
         Ok(transaction) => transaction,
         Err(fault) => return Err(fault),
     };
@@ -174,23 +195,29 @@ pub(crate) fn test_outside<B: Vectors, D: Disk>(
     }
 }
 
-/// Commits the transaction of a command that was answered so. It ends whatever comes.
+/// Commits the transaction of a command that was answered so, and leaves open what it has opened. It ends whatever comes.
 fn commit_answer<B: Vectors, D: Disk>(
     boxes: &B,
     space: &mut Space,
     disk: &mut D,
     place: Place,
     transaction: Transaction,
+    opened: &mut Vec<OpenRelation>,
     answer: Answer,
     alloc: Global,
 ) -> Result<Reply, Refusal>
     requires usable { IsUsable (B.meanings boxes.now) place transaction.tx.store.number (parts D.told D.len disk.old space.old.store) transaction.work }
-    ensures { (c : PlainCommand) (d : D) (s : StoreState)
-        → HasAnswered D.told D.len D.faults (B.meanings boxes.now) place c d disk.old s space.old.store transaction.tx.store.number transaction.work (answer_of answer)
-        → EndsAlone D.told D.len D.faults (B.meanings boxes.now) place c d disk.new s space.new.store result }
+    requires none_open { opened.old.items ≡ [] }
+    ensures ended { (c : PlainCommand) (d : D) (s : StoreState) (ones : List OpenRelation)
+        → HasAnswered D.told D.len D.faults (B.meanings boxes.now) place c d disk.old s space.old.store transaction.tx.store.number transaction.work ones (answer_of answer)
+        → EndsAlone D.told D.len D.faults (B.meanings boxes.now) place c d disk.new s space.new.store ones opened.new.items result }
+    ensures are_open { All (IsOpen (B.meanings boxes.now)) opened.new.items }
 {
     match commit(boxes, space, disk, place, transaction, alloc) {
-        Ok(picks) => Ok(replied(answer, picks)),
+        Ok(committed) => {
+            *opened = committed.opened;
+            Ok(replied(answer, committed.picks))
+        }
         Err(uncommitted) => {
             drop(answer);
             let Uncommitted {

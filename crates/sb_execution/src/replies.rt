@@ -81,6 +81,7 @@ pub(crate) fn told<B>(session: &mut Session<B>, outcome: Result<Reply, Refusal>)
     ensures boxes { session.new.boxes ≡ session.old.boxes }
     ensures space { session.new.space ≡ session.old.space }
     ensures place { session.new.place ≡ session.old.place }
+    ensures opened { session.new.opened ≡ session.old.opened }
     ensures current { session.new.open ≡ session.old.open }
 {
     let reply = match outcome {

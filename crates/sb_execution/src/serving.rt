@@ -13,14 +13,16 @@ ghost use Rattle.sb_engine.specs.Working as engine;
 ghost use Rattle.sb_plain.specs.Refusing.{refused};
 ghost use Rattle.sb_plain.specs.State.{State};
 ghost use Rattle.sb_reads.specs.Reads.{is_reading};
-ghost use Rattle.sb_execution.specs.Serving.{HasPaid, IsAnswered, IsPosedIn, IsRefusedIn, IsSeenIn, IsServed, IsUnservedIn, IsUnservedOn, Makes, MayServe, is_read};
+ghost use Rattle.sb_execution.specs.Serving.{HasPaid, IsAnswered, IsPosedIn, IsRefusedIn, IsSeenIn, IsServed, IsUnservedIn, IsUnservedOn, KeepsLooked, KeepsOpened, Makes, MayServe, is_read};
 ghost use Rattle.sb_statements.specs.Statements.{MayWork, answer_of};
 ghost use Rattle.sb_session.specs.Driven.{WorksOn};
 ghost use Rattle.sb_session.specs.Calls.{KeepsWanted};
 ghost use Rattle.sb_txn.specs.Parts.{parts};
+ghost use Rattle.sb_space.specs.Works.{HasPages};
 ghost use Rattle.sb_session.specs.Commits.{FailsOn, IsLed};
 ghost use Rattle.sb_session.specs.Transactions.{IsAt, IsPointOf, IsUsable, WasBegun, WasSo};
 
+use crate::reading::read;
 use crate::seeing::refusal_over;
 use sb_disk::Disk;
 use sb_engine::{Running, Work, refusal_of};
@@ -28,7 +30,6 @@ use sb_fold::Refusal;
 use sb_map::Place;
 use sb_owners::Owners;
 use sb_plain::{Command, Reply};
-use sb_reads::read;
 use sb_registry::Boxes;
 use sb_session::{Savepoint, Transaction};
 use sb_space::{Durable, Space};
@@ -86,13 +87,14 @@ fn carry_out<B: Boxes, S: Owners>(
         → IsServed (λ h y. engine.Stands S.has S.spent (B.meanings boxes.now) place.root h y work.new) (B.meanings boxes.now) s command.now g x space.new) }
     ensures reads { IfOk result (λ x. is_read x ≡ is_reading command.now) }
     ensures answer { IfOk result IsAnswered }
+    ensures opened { IfOk result (λ x. is_read x ≡ true → KeepsOpened S.has (B.meanings boxes.now) place.root space.old space.new work.old work.new) }
     ensures refused { IfErr result (λ r. (s : State) (g : Going) → engine.Stands S.has S.spent (B.meanings boxes.now) place.root g space.old work.old
         → MayServe (B.meanings boxes.now) s command.now g → IsUnservedIn S.has S.spent S.leads S.fails S.table (B.meanings boxes.now) s command.now g r space.new) }
     ensures fault { IfErr result (λ r. HasFaultCause S.fails r space.new) }
     ensures works { WorksOn S.leads space.old space.new work.old work.new }
     ensures ready { engine.Serves S.is_ready (B.meanings boxes.now) place space.new work.new }
 {
-    match read(space, alloc, boxes, place, command) {
+    match read(space, alloc, boxes, place, &mut work.opened, command) {
         Ok(Some(reply)) => Ok(Served::Read(reply)),
         Ok(None) => match work_over(boxes, space, work, place, alloc, command) {
             Ok(answer) => Ok(Served::Worked(answer)),
@@ -121,6 +123,8 @@ fn serve<B: Vectors, S: Owners>(
         → IsServed (λ h y. engine.Stands S.has S.spent (B.meanings boxes.now) place.root h y work.new) (B.meanings boxes.now) s command.now g x space.new) }
     ensures reads { IfOk result (λ x. is_read x ≡ is_reading command.now) }
     ensures answer { IfOk result IsAnswered }
+    ensures opened { IfOk result (λ x. is_read x ≡ true → KeepsLooked S.has S.leads space.old space.new
+        → KeepsOpened S.has (B.meanings boxes.now) place.root space.old space.new work.old work.new) }
     ensures refused { IfErr result (λ r. (s : State) (g : Going) → engine.Stands S.has S.spent (B.meanings boxes.now) place.root g space.old work.old
         → IsSeenIn (B.meanings boxes.now) inside points.now s g → IsPosedIn (B.meanings boxes.now) s command.now
         → IsUnservedIn S.has S.spent S.leads S.fails S.table (B.meanings boxes.now) s command.now g r space.new) }
@@ -157,6 +161,8 @@ pub(crate) fn serve_in<B: Vectors, D: Disk>(
         command.now g x (parts D.told D.len disk.new space.new.store)) }
     ensures reads { IfOk result (λ x. is_read x ≡ is_reading command.now) }
     ensures answer { IfOk result IsAnswered }
+    ensures opened { IfOk result (λ x. space.new.store.book.down ≡ false → is_read x ≡ true → KeepsOpened HasPages (B.meanings boxes.now) place.root
+        (parts D.told D.len disk.old space.old.store) (parts D.told D.len disk.new space.new.store) transaction.old.work transaction.new.work) }
     ensures refused { IfErr result (λ r. (want : Wanted) (s : State) (g : Going)
         → HasPaid (B.meanings boxes.now) place want transaction.old.tx.store.number transaction.old.work g (parts D.told D.len disk.old space.old.store)
         → IsSeenIn (B.meanings boxes.now) inside points.now s g → IsPosedIn (B.meanings boxes.now) s command.now

@@ -1,7 +1,8 @@
 -- A session that is opened, or isn't.
-use Rattle.std.proofs.Common.{◌≡◌, ◌⊎◌, ⊎_elim, inl, inr, ℕ, ◌<◌, ◌≤◌, true, false, Option, Some, None, is_some, Result, IsErrOf, List, [], refl, sym, ap, subst, ◌∙◌}
+use Rattle.std.proofs.Common.{◌≡◌, ◌⊎◌, ⊎_elim, inl, inr, ℕ, ◌<◌, ◌≤◌, true, false, Option, Some, None, is_some, Result, IsErrOf, List, [], All, Vec, Global, refl, sym, ap, subst, ◌∙◌}
 use Rattle.std.specs.Result.{IsErrAnd}
 use Rattle.std.proofs.lemmas.Bool.{false≢true}
+use Rattle.std.proofs.lemmas.List.Elements.{All-nil}
 use Rattle.sb_disk.specs.Causes.{Rose}
 use Rattle.sb_disk.specs.Disk.{Story, WhereTold}
 use Rattle.sb_disk.specs.Moments.{LeavesOnly}
@@ -20,7 +21,8 @@ use Rattle.sb_drive.specs.Spaces.{Wanted}
 use Rattle.sb_map.specs.declared.place.Place.{Place}
 use Rattle.sb_standing.specs.Standing.{owners_in}
 use Rattle.sb_standing.specs.Tables.{Kept, Tables}
-use Rattle.sb_session.specs.Opened.{IsDurable}
+use Rattle.sb_session.specs.OpenRelation.{OpenRelation}
+use Rattle.sb_session.specs.Opened.{IsDurable, IsOpen}
 use Rattle.sb_txn.specs.Book.{Book}
 use Rattle.sb_txn.specs.Clauses.{HoldsPages}
 use Rattle.sb_txn.specs.Parts.{Parts, parts, stored}
@@ -35,6 +37,7 @@ use Rattle.sb_space.proofs.TablePages.{tables_by_pages}
 use Rattle.sb_session.specs.Transactions.{IsCommitted, Rests}
 use Rattle.sb_session.specs.declared.session.Session.{Session}
 use Rattle.sb_session.specs.Sessions.{CanRun, IsFor}
+use Rattle.sb_session.proofs.StayLemmas.{MayStayOpen-none}
 use Rattle.sb_opening.specs.declared.codes.Named.{Named}
 use Rattle.sb_opening.specs.Looking.{IsLook, IsLookErr, OverCatalogue, RestsStill}
 use Rattle.sb_opening.specs.Naming.{HasLive, IsAbsent, all_live, first_absent, named_in}
@@ -260,9 +263,11 @@ module _ {D : Type 0} (told : D → Option Story) (len faults : D → ℕ) (d e 
   NamesTable-opened AlreadyStore = tt
 
   -- ---- the session
-  module _ {B : Type 0} (meanings : B → Meanings) (boxes : B) (f : D) (t : State) (place : Place) (same : t.pool.geometry ≡ s.pool.geometry) (still : RestsStill mid (parts told len f t)) where
+  -- no relation is open between transactions
+  module _ {B : Type 0} (meanings : B → Meanings) (boxes : B) (f : D) (t : State) (place : Place) (ones : Vec OpenRelation Global) (none : ones.items ≡ []) (same : t.pool.geometry ≡ s.pool.geometry)
+      (still : RestsStill mid (parts told len f t)) where
     abbrev session : Session B
-    session = record { boxes = boxes; space = record { store = t }; place = place; «open» = None; down = false }
+    session = record { boxes = boxes; space = record { store = t }; place = place; opened = ones; «open» = None; down = false }
 
     pub IsFor-opened : (m : Meanings) (g : Geometry) (want : Wanted) (db : Db) (stored : IsStored m (told d) g want db) → place.root ≡ table_len s.pool.geometry.pages
         → HasLive m (named_in stored.committed.kept) (meanings boxes) → IsFor meanings told len want (opened (meanings boxes) db) f session
@@ -271,6 +276,7 @@ module _ {D : Type 0} (told : D → Option Story) (len faults : D → ℕ) (d e 
       live = refl;
       spare = refl;
       stands = λ up. rests-stored m g want db stored (meanings boxes) place.root f t same root still live;
+      opened = λ up. MayStayOpen-none (meanings boxes) place.root t.pool.geometry.pages want ones.items none;
     }
 
     pub CanRun-opened : place.owner ≡ 2 → (old : Meanings) (named : List Named) → HasLive old named (meanings boxes) → CanRun meanings told len f session
@@ -279,6 +285,7 @@ module _ {D : Type 0} (told : D → Option Story) (len faults : D → ℕ) (d e 
       few = subst (λ (x : Geometry). x.pages ≤ 65536) (sym same) space.few;
       owner = owner;
       unique = live.unique;
+      opened = λ up. subst (λ (os : List OpenRelation). All (IsOpen (meanings boxes)) os) (sym none) (All-nil (IsOpen (meanings boxes)));
       up = λ up. still.up;
       goes = λ up. still.none;
     }

@@ -90,6 +90,7 @@ pub fn open<B: Vectors + Drop, D: Disk>(
         boxes,
         space,
         place,
+        opened: Vec::new(alloc),
         open: None,
         down: false,
     })

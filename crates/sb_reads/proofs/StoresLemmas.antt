@@ -92,13 +92,13 @@ KeepsOpen-opened m root s gone kept name o keeps opened named found = (
     same : o.table ≡ table_of IsDurable k
     same = opened.table ∙ (λ i. table_instance true (names i) (at.2 i))
 
--- none was
-pub not-there : (kept : List Kept) (name : Name) → None ≡ option_map (λ (k : Kept). k.descriptor) (kept_at kept name) → IsThere (db_of kept) name → ⊥
-not-there kept name found there = by (kept_at kept name) found (ap is_some (sym (relation_at-kept kept name)) ∙ there)
+-- there is none
+pub not-there : (kept : List Kept) (name : Name) → is_some (kept_at kept name) ≡ false → IsThere (db_of kept) name → ⊥
+not-there kept name none there = by (kept_at kept name) none (ap is_some (sym (relation_at-kept kept name)) ∙ there)
   where
-    by : (o : Option Kept) → None ≡ option_map (λ (k : Kept). k.descriptor) o → is_some (option_map (λ (k : Kept). k.relation) o) ≡ true → ⊥
-    by None found there = cc
-    by (Some k) found there = cc
+    by : (o : Option Kept) → is_some o ≡ false → is_some (option_map (λ (k : Kept). k.relation) o) ≡ true → ⊥
+    by None none there = cc
+    by (Some k) none there = cc
 
 -- ---- attachments by name
 heads : {A : Type 0} (x y : A) (xs ys : List A) → x ∷ xs ≡ y ∷ ys → x ≡ y

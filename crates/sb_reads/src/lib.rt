@@ -8,4 +8,4 @@ mod names;
 mod reading;
 mod rows;
 
-pub use reading::read;
+pub use reading::{read_catalogue, read_relation, relation_read};

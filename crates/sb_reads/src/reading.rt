@@ -1,4 +1,4 @@
-//! What commands answer that only read. An open relation goes by a call of `drop`.
+//! What commands answer that only read.
 
 ghost use Rattle.std.specs.Prelude.{◌≡◌, ℕ, List, None, Some, is_some, option_copied, IfOk, IfErr, IfSome};
 ghost use Rattle.sb_fold.specs.Extensions.{Extensions};
@@ -17,51 +17,15 @@ use crate::indexes::{entries, lookup, range};
 use crate::lines::making_lines;
 use crate::names::all_names;
 use crate::rows::{get, scan};
-use sb_asking::{OpenRelation, Place, open_relation};
+use sb_asking::{OpenRelation, Place};
 use sb_drive::{PageSpace, SpaceFault};
 use sb_plain::{Command, Reply};
 use sb_registry::Boxes;
 use sb_value::Str;
 use std::alloc::Global;
 
-/// What a command answers that only reads, over the relations that stand; None for every other command. Where the
-/// relation of the command isn't there, which its caller has tested, the catalogue's root is called damaged.
-pub fn read<S: PageSpace, B: Boxes>(
-    space: &mut S,
-    alloc: Global,
-    boxes: &B,
-    place: Place,
-    command: &Command,
-) -> Result<Option<Reply>, SpaceFault>
-    requires ready { S.is_ready space.old }
-    requires owner { place.owner ≡ 2 }
-
-    ensures reply { IfOk result (λ x. (want : Wanted) (s : Slots) (gone : List ℕ) (kept : List Kept) (ext : Extensions)
-        → S.has want s space.old → Keeps (B.meanings boxes.now) IsDurable place.root s gone kept
-        → ext.boxes ≡ boxes_of (B.meanings boxes.now) → MayRead (db_of kept) command.now
-        → x ≡ read ext (db_of kept) command.now) }
-    ensures reads { IfOk result (λ x. is_some x ≡ is_reading command.now) }
-    ensures answer { IfOk result (λ x. IfSome x IsAnswer) }
-    ensures undamaged { IfErr result (λ e. (want : Wanted) (s : Slots) (gone : List ℕ) (kept : List Kept)
-        → S.has want s space.old → Keeps (B.meanings boxes.now) IsDurable place.root s gone kept
-        → MayRead (db_of kept) command.now → IsSound e) }
-    ensures looks { Looks S.has S.leads S.fails space.old space.new result }
-    ensures ready { S.is_ready space.new }
-{
-    let Some(relation) = relation_read(command) else {
-        return read_catalogue(space, alloc, boxes, place, command);
-    };
-    let Some(opened) = open_relation(space, alloc, boxes, place, relation)? else {
-        return Err(SpaceFault::Damaged { page: place.root });
-    };
-    let answer = read_relation(space, alloc, boxes, place, &opened, command);
-    drop(opened);
-    let reply = answer?;
-    Ok(Some(reply))
-}
-
 /// The relation whose rows or attachments a command reads.
-fn relation_read(command: &Command) -> Option<&Str>
+pub fn relation_read(command: &Command) -> Option<&Str>
     ensures { option_copied result ≡ relation_read command.now }
 {
     match command {
@@ -74,8 +38,9 @@ fn relation_read(command: &Command) -> Option<&Str>
     }
 }
 
-/// What a command answers that reads the catalogue alone.
-fn read_catalogue<S: PageSpace, B: Boxes>(
+/// What a command answers that reads the catalogue alone; None where it reads nothing. Where its relation isn't there, which its caller has
+/// tested, the catalogue's root is called damaged.
+pub fn read_catalogue<S: PageSpace, B: Boxes>(
     space: &mut S,
     alloc: Global,
     boxes: &B,
@@ -110,8 +75,8 @@ fn read_catalogue<S: PageSpace, B: Boxes>(
     }
 }
 
-/// What a command answers that reads a relation's rows or attachments.
-fn read_relation<S: PageSpace, B: Boxes>(
+/// What a command answers that reads the rows or the attachments of this relation.
+pub fn read_relation<S: PageSpace, B: Boxes>(
     space: &mut S,
     alloc: Global,
     boxes: &B,

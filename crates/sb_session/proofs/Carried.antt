@@ -1,6 +1,7 @@
 -- What each way in which a command ends leaves of a session.
-use Rattle.std.proofs.Common.{◌≡◌, ⊎_elim, inl, ℕ, ◌+◌, ◌≤◌, ◌||◌, Bool, true, false, List, All, Option, Some, None, Ok, Err, Result, refl, sym, ap, ◌∙◌, subst, arith}
+use Rattle.std.proofs.Common.{◌≡◌, ◌⊎◌, ⊎_elim, inl, ℕ, ◌+◌, ◌≤◌, ◌||◌, Bool, true, false, List, [], All, Option, Some, None, Ok, Err, Result, refl, sym, ap, ◌∙◌, subst, arith}
 use Rattle.std.proofs.lemmas.Bool.{false≢true}
+use Rattle.std.proofs.lemmas.List.Elements.{All-nil}
 use Rattle.std.proofs.Math.Bool.{or-false}
 use Rattle.sb_disk.specs.Causes.{Rose}
 use Rattle.sb_disk.specs.Disk.{Story}
@@ -21,6 +22,8 @@ use Rattle.sb_plain.specs.State.{State, Transaction as PlainTransaction, committ
 use Rattle.sb_plain.specs.Step.{if_up, ok}
 use Rattle.sb_registry.specs.Boxes.{Meanings, repeated_in}
 use Rattle.sb_drive.specs.Spaces.{Wanted}
+use Rattle.sb_transactions.specs.OpenRelation.{OpenRelation}
+use Rattle.sb_transactions.specs.Opened.{IsOpen}
 use Rattle.sb_transactions.specs.Place.{Place}
 use Rattle.sb_txn.specs.Clauses.{IsReady, LeavesWanted}
 use Rattle.sb_txn.specs.Parts.{Parts, parts}
@@ -28,7 +31,7 @@ use Rattle.sb_txn.proofs.KeepsLemmas.{LeavesWanted-none}
 use Rattle.sb_transactions.specs.Space.{Space}
 use Rattle.sb_transactions.specs.declared.transactions.Transaction.{Transaction}
 use Rattle.sb_transactions.specs.Calls.{IsOnlyFault, Remains}
-use Rattle.sb_transactions.specs.Transactions.{IsPointOf, IsUsable}
+use Rattle.sb_transactions.specs.Transactions.{IsPointOf, IsUsable, MayStayOpen}
 use Rattle.sb_transactions.specs.Working.{extensions_of}
 use Rattle.sb_vectors.specs.Vectors.{live_codes, spare_codes}
 use Rattle.sb_transactions.specs.Calls.{KeepsWanted}
@@ -37,6 +40,7 @@ use Rattle.sb_session.specs.declared.session.Savepoint.{Savepoint}
 use Rattle.sb_session.specs.declared.session.Session.{Session}
 use Rattle.sb_session.specs.Ends.{Ends, IsStep, ends_with, is_end}
 use Rattle.sb_session.specs.Sessions.{AreInOrder, CanGoOn, CanRun, HasFailed, IsFor, IsOpenFor, KeepsSession, Lacks, parts_of, sizes_of}
+use Rattle.sb_transactions.proofs.StayLemmas.{MayStayOpen-none}
 use Rattle.sb_session.proofs.OpenLemmas.{IsInside-same, IsOpenFor-spent}
 use Rattle.sb_session.proofs.Stepped.{Stepped}
 use Rattle.sb_session.proofs.StepLemmas.{at_fields}
@@ -104,13 +108,14 @@ pub record IsSame {B : Type 0} (meanings : B → Meanings) (x y : Session B) : T
   pub place : y.place ≡ x.place
   pub down : y.down ≡ x.down
   pub opened : SameOpen x.open y.open
+  pub opened_same : y.opened.items ≡ x.opened.items
 
 same_open : (o : Option Open) → SameOpen o o
 same_open None = tt
 same_open (Some o) = (refl, refl)
 
 pub IsSame-itself : {B : Type 0} (meanings : B → Meanings) (x : Session B) → IsSame meanings x x
-IsSame-itself meanings x = record { boxes = refl; space = refl; place = refl; down = refl; opened = same_open x.open }
+IsSame-itself meanings x = record { boxes = refl; space = refl; place = refl; down = refl; opened = same_open x.open; opened_same = refl }
 
 -- the transaction was taken out and put back
 pub SameOpen-put : (a b : Open) (from to : Option Open) → from ≡ Some a → to ≡ Some b → b.transaction ≡ a.transaction → b.points.items ≡ a.points.items → SameOpen from to
@@ -137,13 +142,32 @@ module _ (m : Meanings) (place : Place) where
   CanGoOn-same p None (Some b) same can = absurd same
   CanGoOn-same p (Some a) None same can = absurd same
 
+-- ---- what is open between transactions
+-- it stays open, or nothing is open
+abbrev pub StayOpen : List OpenRelation → List OpenRelation → Type 0
+StayOpen ones others = (others ≡ ones) ⊎ (others ≡ [])
+
+module _ (m : Meanings) (ones others : List OpenRelation) (stay : StayOpen ones others) where
+  MayStayOpen-stay : (root pages : ℕ) (want : Wanted) → MayStayOpen m root pages want ones → MayStayOpen m root pages want others
+  MayStayOpen-stay root pages want may =
+      ⊎_elim
+      (λ (same : others ≡ ones). subst (λ (os : List OpenRelation). MayStayOpen m root pages want os) (sym same) may)
+      (λ (none : others ≡ []). MayStayOpen-none m root pages want others none) stay
+
+  AllOpen-stay : All (IsOpen m) ones → All (IsOpen m) others
+  AllOpen-stay all =
+      ⊎_elim
+      (λ (same : others ≡ ones). subst (λ (os : List OpenRelation). All (IsOpen m) os) (sym same) all)
+      (λ (none : others ≡ []). subst (λ (os : List OpenRelation). All (IsOpen m) os) (sym none) (All-nil (IsOpen m))) stay
+
 -- ---- what a session stands for
 module _ {B D : Type 0} (meanings : B → Meanings) (told : D → Option Story) (len : D → ℕ) where
   module _ (want : Wanted) (s : State) (d e : D) (x y : Session B) (is : IsFor meanings told len want s d x) where
     pub IsFor-as : (other : Wanted) (after : State) (opened : Option Open) (p : Parts) → meanings y.boxes ≡ meanings x.boxes → y.place ≡ x.place → y.open ≡ opened → parts_of told len e y ≡ p → y.down ≡ after.down
         → after.live ≡ s.live → after.spare ≡ s.spare → (after.down ≡ false → IsOpenFor (meanings x.boxes) x.place other (committed after) p opened after.transaction)
+        → (after.down ≡ false → MayStayOpen (meanings x.boxes) x.place.root p.store.pool.geometry.pages other y.opened.items)
         → IsFor meanings told len other after e y
-    IsFor-as other after opened p boxes place same parts down live spare opens = record {
+    IsFor-as other after opened p boxes place same parts down live spare opens stay = record {
       down = down;
       live = live ∙ is.live ∙ ap live_codes (sym boxes);
       spare = spare ∙ is.spare ∙ ap spare_codes (sym boxes);
@@ -152,6 +176,10 @@ module _ {B D : Type 0} (meanings : B → Meanings) (told : D → Option Story) 
           (subst (λ (a : Place). IsOpenFor (meanings x.boxes) a other (committed after) (parts_of told len e y) y.open after.transaction) (sym place)
           (subst (λ (o : Option Open). IsOpenFor (meanings x.boxes) x.place other (committed after) (parts_of told len e y) o after.transaction) (sym same)
           (subst (λ (q : Parts). IsOpenFor (meanings x.boxes) x.place other (committed after) q opened after.transaction) (sym parts) (opens up))));
+      opened = λ up.
+          subst (λ (m : Meanings). MayStayOpen m y.place.root (sizes_of y).pages other y.opened.items) (sym boxes)
+          (subst (λ (a : Place). MayStayOpen (meanings x.boxes) a.root (sizes_of y).pages other y.opened.items) (sym place)
+          (subst (λ (q : Parts). MayStayOpen (meanings x.boxes) x.place.root q.store.pool.geometry.pages other y.opened.items) (sym parts) (stay up)));
     }
 
   -- the command was paid for
@@ -167,6 +195,7 @@ module _ {B D : Type 0} (meanings : B → Meanings) (told : D → Option Story) 
     live = is.live;
     spare = is.spare;
     stands = λ up. IsOpenFor-spent (meanings x.boxes) x.place want (committed s) (parts_of told len d x) (t.spent + 1) x.open t (omega arith) (is.stands up);
+    opened = is.opened;
   }
 
   pub IsFor-paid : (want : Wanted) (d : D) (x : Session B) (s : State) → IsFor meanings told len want s d x → IsFor meanings told len want (if_up s) d x
@@ -180,16 +209,18 @@ module _ {B D : Type 0} (meanings : B → Meanings) (told : D → Option Story) 
     IsFor-same want s is =
         IsFor-as want s d d x y is want s y.open (parts_of told len d x) same.boxes same.place refl same_parts (same.down ∙ is.down) refl refl
         (λ up. IsOpenFor-same (meanings x.boxes) x.place want (committed s) (parts_of told len d x) x.open y.open s.transaction same.opened (is.stands up))
+        (λ up. subst (λ (ones : List OpenRelation). MayStayOpen (meanings x.boxes) x.place.root (sizes_of x).pages want ones) (sym same.opened_same) (is.opened up))
 
   -- ---- that further commands can be carried out
   pub CanRun-as : (d e : D) (x y : Session B) (opened : Option Open) (p : Parts) → CanRun meanings told len d x → meanings y.boxes ≡ meanings x.boxes → y.place ≡ x.place → y.open ≡ opened → parts_of told len e y ≡ p
       → p.store.pool.geometry ≡ x.space.store.pool.geometry → IsReady p → (y.down ≡ false → p.store.book.down ≡ false) → (y.down ≡ false → CanGoOn (meanings x.boxes) x.place p opened)
-      → CanRun meanings told len e y
-  CanRun-as d e x y opened p runs boxes place same parts sizes ready up goes = record {
+      → (y.down ≡ false → All (IsOpen (meanings x.boxes)) y.opened.items) → CanRun meanings told len e y
+  CanRun-as d e x y opened p runs boxes place same parts sizes ready up goes stay = record {
     ready = subst IsReady (sym parts) ready;
     few = subst (λ (q : Parts). q.store.pool.geometry.pages ≤ 65536) (sym parts) (subst (λ (g : Geometry). g.pages ≤ 65536) (sym sizes) runs.few);
     owner = ap (λ (a : Place). a.owner) place ∙ runs.owner;
     unique = ap repeated_in boxes ∙ runs.unique;
+    opened = λ on. subst (λ (m : Meanings). All (IsOpen m) y.opened.items) (sym boxes) (stay on);
     up = λ on. subst (λ (q : Parts). q.store.book.down ≡ false) (sym parts) (up on);
     goes = λ on.
         subst (λ (m : Meanings). CanGoOn m y.place (parts_of told len e y) y.open) (sym boxes)
@@ -202,6 +233,7 @@ module _ {B D : Type 0} (meanings : B → Meanings) (told : D → Option Story) 
   CanRun-same d x y same runs =
       CanRun-as d d x y y.open (parts_of told len d x) runs same.boxes same.place refl (same_parts d x y same) refl runs.ready (λ up. runs.up (sym same.down ∙ up))
       (λ up. CanGoOn-same (meanings x.boxes) x.place (parts_of told len d x) x.open y.open same.opened (runs.goes (sym same.down ∙ up)))
+      (λ up. subst (λ (ones : List OpenRelation). All (IsOpen (meanings x.boxes)) ones) (sym same.opened_same) (runs.opened (sym same.down ∙ up)))
 
   -- ---- what a crash leaves
   pub leaves-same : (d : D) (x y : Session B) → IsSame meanings x y → LeavesWanted (parts_of told len d x) (parts_of told len d y)
@@ -272,7 +304,8 @@ module _ {B D : Type 0} (meanings : B → Meanings) (told : D → Option Story) 
       ends = λ want s for. record {
         up = sym for.down ∙ up;
         cause = failed;
-        stands = IsFor-as meanings told len want s d e x y for want (downed s) y.open (parts_of told len e y) boxes place refl refl off refl refl (λ on. absurd (false≢true (sym on)));
+        stands = IsFor-as meanings told len want s d e x y for want (downed s) y.open (parts_of told len e y) boxes place refl refl off refl refl (λ on. absurd (false≢true (sym on)))
+            (λ on. absurd (false≢true (sym on)));
       };
       keeps = record {
         size = remains.size;
@@ -284,7 +317,7 @@ module _ {B D : Type 0} (meanings : B → Meanings) (told : D → Option Story) 
         ended = λ was. absurd (false≢true (sym up ∙ was));
       };
       runs = CanRun-as meanings told len d e x y y.open (parts told len e space.store) runs boxes place refl now remains.geometry remains.ready
-          (λ on. absurd (false≢true (sym on ∙ off))) (λ on. absurd (false≢true (sym on ∙ off)));
+          (λ on. absurd (false≢true (sym on ∙ off))) (λ on. absurd (false≢true (sym on ∙ off))) (λ on. absurd (false≢true (sym on ∙ off)));
     })
       where
         off : y.down ≡ true
@@ -295,15 +328,17 @@ module _ {B D : Type 0} (meanings : B → Meanings) (told : D → Option Story) 
 
     -- ---- it went through
     -- it was paid for, and there is the transaction of the state behind it
-    pub Carried-ok : {T : Type 0} (done : T) (opened : Option Open) → Remains told len faults d e x.space.store space.store (Ok done) → y.down ≡ x.down → y.open ≡ opened
+    pub Carried-ok : {T : Type 0} (done : T) (opened : Option Open) → Remains told len faults d e x.space.store space.store (Ok done) → y.down ≡ x.down → y.open ≡ opened → StayOpen x.opened.items y.opened.items
         → CanGoOn (meanings x.boxes) x.place (parts told len e space.store) opened
         → ((want : Wanted) (s : State) → IsFor meanings told len want s d x → Stepped (extensions_of (meanings x.boxes)) (meanings x.boxes) x.place want (parts told len e space.store) opened s c ok)
         → Carried meanings told len faults c d e x y ok
-    Carried-ok done opened remains down is goes steps = record {
+    Carried-ok done opened remains down is stay goes steps = record {
       ends = λ want s for. let to = steps want s for in record {
         after = to.after;
         steps = to.steps;
-        stands = IsFor-as meanings told len want s d e x y for want to.after opened (parts told len e space.store) boxes place is now (down ∙ up ∙ sym to.up) to.live to.spare (λ on. to.stands);
+        stands = IsFor-as meanings told len want s d e x y for want to.after opened (parts told len e space.store) boxes place is now (down ∙ up ∙ sym to.up) to.live to.spare (λ on. to.stands)
+            (λ on. MayStayOpen-stay (meanings x.boxes) x.opened.items y.opened.items stay x.place.root space.store.pool.geometry.pages want
+            (subst (λ (g : Geometry). MayStayOpen (meanings x.boxes) x.place.root g.pages want x.opened.items) (sym remains.geometry) (for.opened (sym for.down ∙ up))));
       };
       keeps = record {
         size = remains.size;
@@ -315,7 +350,7 @@ module _ {B D : Type 0} (meanings : B → Meanings) (told : D → Option Story) 
         ended = λ was. absurd (false≢true (sym up ∙ was));
       };
       runs = CanRun-as meanings told len d e x y opened (parts told len e space.store) runs boxes place is now remains.geometry remains.ready
-          (λ on. not_down space.store.book.down refl) (λ on. goes);
+          (λ on. not_down space.store.book.down refl) (λ on. goes) (λ on. AllOpen-stay (meanings x.boxes) x.opened.items y.opened.items stay (runs.opened up));
     }
       where
         not_down : (b : Bool) → space.store.book.down ≡ b → space.store.book.down ≡ false

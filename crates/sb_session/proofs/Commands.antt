@@ -18,6 +18,8 @@ use Rattle.sb_plain.specs.State.{Point as PlainPoint, State, Transaction as Plai
 use Rattle.sb_plain.specs.Step.{first_spent, if_up, ok, with_savepoint}
 use Rattle.sb_registry.specs.Boxes.{Meanings}
 use Rattle.sb_drive.specs.Spaces.{Wanted}
+use Rattle.sb_transactions.specs.OpenRelation.{OpenRelation}
+use Rattle.sb_transactions.specs.Opened.{IsOpen}
 use Rattle.sb_transactions.specs.Place.{Place}
 use Rattle.sb_txn.specs.Parts.{Parts, parts}
 use Rattle.sb_transactions.specs.Working.{extensions_of}
@@ -27,14 +29,14 @@ use Rattle.sb_transactions.specs.Tx.{Tx}
 use Rattle.sb_transactions.specs.declared.transactions.Point.{Point}
 use Rattle.sb_transactions.specs.declared.transactions.Transaction.{Transaction}
 use Rattle.sb_transactions.specs.Calls.{Remains}
-use Rattle.sb_transactions.specs.Transactions.{IsAt, IsFirst, IsNotBehind, IsPointOf, IsUsable, Rests, WasBegun, WasSo, unused}
+use Rattle.sb_transactions.specs.Transactions.{IsAt, IsFirst, IsNotBehind, IsPointOf, IsUsable, MayStayOpen, Rests, WasBegun, WasSo, unused}
 use Rattle.sb_session.specs.declared.session.Open.{Open}
 use Rattle.sb_session.specs.declared.session.Savepoint.{Savepoint}
 use Rattle.sb_session.specs.declared.session.Session.{Session}
 use Rattle.sb_session.specs.Ends.{reply_of}
 use Rattle.sb_session.specs.Points.{IsSaved, NotSaved, NotThere, is_named}
-use Rattle.sb_session.specs.Sessions.{AreInOrder, AreSavepoints, CanGoOn, CanRun, IsFor, IsOpenFor, going_at, going_in, parts_of}
-use Rattle.sb_session.proofs.Carried.{Carried, Carried-given, Carried-memory, Carried-ok, IsSame, IsSame-itself, SameOpen-put}
+use Rattle.sb_session.specs.Sessions.{AreInOrder, AreSavepoints, CanGoOn, CanRun, IsFor, IsOpenFor, going_at, going_in, parts_of, sizes_of}
+use Rattle.sb_session.proofs.Carried.{Carried, Carried-given, Carried-memory, Carried-ok, IsSame, IsSame-itself, SameOpen-put, StayOpen}
 use Rattle.sb_session.proofs.OpenLemmas.{Inside, IsAt-same, Outside, inside, outside}
 use Rattle.sb_session.proofs.PointLemmas.{AreInOrder-push, AreInOrder-take, AreSavepoints-back, AreSavepoints-push, found, names_known, not_behind, same_length}
 use Rattle.sb_session.proofs.Stepped.{Stepped, Stepped-abort, Stepped-begin, Stepped-checkpoint, Stepped-rollback, Stepped-savepoint, at_point}
@@ -83,18 +85,19 @@ module _ {B D : Type 0} (meanings : B → Meanings) (told : D → Option Story) 
         (λ want s is. Steps-misplaced (extensions_of (meanings x.boxes)) s c (up_state want s is) (misplaced s (inside_as want s is)))
 
     -- ---- transactions
-    module _ (e : D) (y : Session B) (space : Space) (now : y.space ≡ space) (boxes : meanings y.boxes ≡ meanings x.boxes) (place : y.place ≡ x.place) (down : y.down ≡ x.down) where
-      pub Carried-begin : (t : Transaction) (o : Open) → Remains told len faults d e x.space.store space.store (Ok t) → x.open ≡ None → y.open ≡ Some o → o.transaction ≡ t → o.points.items ≡ []
-          → ((m : Meanings) (place : Place) → place.owner ≡ 2 → IsUsable m place t.tx.store.number (parts told len e space.store) t.work)
+    module _ (e : D) (y : Session B) (space : Space) (now : y.space ≡ space) (boxes : meanings y.boxes ≡ meanings x.boxes) (place : y.place ≡ x.place) (down : y.down ≡ x.down)
+        (stay : StayOpen x.opened.items y.opened.items) where
+      pub Carried-begin : (t : Transaction) (o : Open) (ones : List OpenRelation) → ones ≡ x.opened.items → Remains told len faults d e x.space.store space.store (Ok t) → x.open ≡ None → y.open ≡ Some o → o.transaction ≡ t → o.points.items ≡ []
+          → ((m : Meanings) (place : Place) → place.owner ≡ 2 → All (IsOpen m) ones → IsUsable m place t.tx.store.number (parts told len e space.store) t.work)
           → ((m : Meanings) (root : ℕ) (want : Wanted) (db : Db) → Rests m root want db (parts_of told len d x) → WasBegun m root want db t.tx.store.number (parts told len e space.store))
           → ((m : Meanings) (place : Place) (want : Wanted) (g : Going) → place.owner ≡ 2 → IsFirst g → Rests m place.root want g.db (parts_of told len d x)
-          → IsAt m place want t.tx.store.number g (parts told len e space.store) t.work)
+          → MayStayOpen m place.root (sizes_of x).pages want ones → IsAt m place want t.tx.store.number g (parts told len e space.store) t.work)
           → HasSpent 0 space.store → Carried meanings told len faults command.Begin d e x y ok
-      Carried-begin t o remains none is same points usable begun at spent =
+      Carried-begin t o ones are remains none is same points usable begun at spent =
           let m : Meanings = meanings x.boxes in
           let q : Parts = parts told len e space.store in
-          Carried-ok meanings told len faults command.Begin d e x y space now boxes place up runs t (Some o) remains down is (
-            subst (λ (t : Transaction). IsUsable m x.place t.tx.store.number q t.work) (sym same) (usable m x.place runs.owner),
+          Carried-ok meanings told len faults command.Begin d e x y space now boxes place up runs t (Some o) remains down is stay (
+            subst (λ (t : Transaction). IsUsable m x.place t.tx.store.number q t.work) (sym same) (usable m x.place runs.owner (subst (λ (os : List OpenRelation). All (IsOpen m) os) (sym are) (runs.opened up))),
             subst (λ (ones : List Savepoint). All (λ one. IsPointOf o.transaction.tx.store.number one.point q o.transaction.work) ones) (sym points)
                 (All-nil (λ one. IsPointOf o.transaction.tx.store.number one.point q o.transaction.work)),
             subst (λ (ones : List Savepoint). AreInOrder ones) (sym points) tt,
@@ -103,7 +106,8 @@ module _ {B D : Type 0} (meanings : B → Meanings) (told : D → Option Story) 
           let out = outside_for none want s for in
           Stepped-begin (extensions_of m) m x.place want q s (up_state want s for) out.none o (record {
             at = subst (λ (t : Transaction). IsAt m x.place want t.tx.store.number (going_in (first_spent s)) q t.work) (sym same)
-                (at m x.place want (going_in (first_spent s)) runs.owner (record { queue = refl; used = refl }) out.rests);
+                (at m x.place want (going_in (first_spent s)) runs.owner (record { queue = refl; used = refl }) out.rests
+                (subst (λ (os : List OpenRelation). MayStayOpen m x.place.root (sizes_of x).pages want os) (sym are) (for.opened (up_state want s for))));
             begun = subst (λ (t : Transaction). WasBegun m x.place.root want (committed s) t.tx.store.number q) (sym same) (begun m x.place.root want (committed s) out.rests);
             points = subst (λ (ones : List Savepoint). AreSavepoints m x.place want o.transaction.tx.store.number q o.transaction.work ones []) (sym points) tt;
             spent = record { changes = 0; within = omega arith; spent = spent };
@@ -115,7 +119,7 @@ module _ {B D : Type 0} (meanings : B → Meanings) (told : D → Option Story) 
       Carried-abort o remains some none out rests =
           let m : Meanings = meanings x.boxes in
           let q : Parts = parts told len e space.store in
-          Carried-ok meanings told len faults command.Abort d e x y space now boxes place up runs tt None remains down none out
+          Carried-ok meanings told len faults command.Abort d e x y space now boxes place up runs tt None remains down none stay out
           (λ want s for.
           let within = inside_for o some want s for in
           Stepped-abort (extensions_of m) m x.place want q s (up_state want s for) within.of within.is (rests m x.place.root want (committed s) within.inside.begun))
@@ -126,7 +130,7 @@ module _ {B D : Type 0} (meanings : B → Meanings) (told : D → Option Story) 
       Carried-checkpoint remains none is out rests =
           let m : Meanings = meanings x.boxes in
           let q : Parts = parts told len e space.store in
-          Carried-ok meanings told len faults command.Checkpoint d e x y space now boxes place up runs tt None remains down is out
+          Carried-ok meanings told len faults command.Checkpoint d e x y space now boxes place up runs tt None remains down is stay out
           (λ want s for.
           let out = outside_for none want s for in
           Stepped-checkpoint (extensions_of m) m x.place want q s (up_state want s for) out.none (rests m x.place.root want (committed s) out.rests))
@@ -196,7 +200,7 @@ module _ {B D : Type 0} (meanings : B → Meanings) (told : D → Option Story) 
           pub Carried-rollback : Remains {T = Unit {0}} told len faults d e x.space.store space.store (Ok tt) → Carried meanings told len faults (command.Rollback name) d e x y ok
           Carried-rollback remains =
               let goes : CanGoOn (meanings x.boxes) x.place from (Some old) = subst (λ (o : Option Open). CanGoOn (meanings x.boxes) x.place from o) some (runs.goes up) in
-              Carried-ok meanings told len faults (command.Rollback name) d e x y space now boxes place up runs tt (Some new) remains down is (can_go goes)
+              Carried-ok meanings told len faults (command.Rollback name) d e x y space now boxes place up runs tt (Some new) remains down is stay (can_go goes)
               (λ want s for. steps_back want s for goes.2 (inside_for old some want s for))
 
     -- ---- savepoints
@@ -278,7 +282,7 @@ module _ {B D : Type 0} (meanings : B → Meanings) (told : D → Option Story) 
 
       -- one that was made
       module _ (y : Session B) (new : Open) (is : y.open ≡ Some new) (same : new.transaction ≡ old.transaction) (boxes : meanings y.boxes ≡ meanings x.boxes) (space : y.space ≡ x.space)
-          (place : y.place ≡ x.place) (down : y.down ≡ x.down) (saved : IsSaved x.space.store name old new) where
+          (place : y.place ≡ x.place) (down : y.down ≡ x.down) (opened : y.opened.items ≡ x.opened.items) (saved : IsSaved x.space.store name old new) where
         abbrev here : Parts
         here = parts_of told len d x
 
@@ -337,14 +341,14 @@ module _ {B D : Type 0} (meanings : B → Meanings) (told : D → Option Story) 
         pub Carried-savepoint : Carried meanings told len faults (command.Savepoint name) d d x y ok
         Carried-savepoint =
             let goes : CanGoOn (meanings x.boxes) x.place here (Some old) = subst (λ (o : Option Open). CanGoOn (meanings x.boxes) x.place here o) some (runs.goes up) in
-            Carried-ok meanings told len faults (command.Savepoint name) d d x y x.space space boxes place up runs tt (Some new) remains_here down is (can_save goes)
+            Carried-ok meanings told len faults (command.Savepoint name) d d x y x.space space boxes place up runs tt (Some new) remains_here down is (inl opened) (can_save goes)
             (λ want s for. steps_on want s for (inside_for old some want s for))
 
     -- whatever making one answers
     module _ (name : Name) (old new : Open) (y : Session B) (some : x.open ≡ Some old) (is : y.open ≡ Some new) (boxes : meanings y.boxes ≡ meanings x.boxes) (space : y.space ≡ x.space)
-        (place : y.place ≡ x.place) (down : y.down ≡ x.down) (same : new.transaction ≡ old.transaction) where
+        (place : y.place ≡ x.place) (down : y.down ≡ x.down) (opened : y.opened.items ≡ x.opened.items) (same : new.transaction ≡ old.transaction) where
       pub Carried-saved : (result : Result (Unit {0}) Refusal) → OnOk result (IsSaved x.space.store name old new) → IfErr result (λ r. NotSaved old.points.items name r)
           → OnErr result (new.points.items ≡ old.points.items) → Carried meanings told len faults (command.Savepoint name) d d x y (reply_of result)
-      Carried-saved (Ok done) saved why kept = Carried-savepoint name old some y new is same boxes space place down saved
+      Carried-saved (Ok done) saved why kept = Carried-savepoint name old some y new is same boxes space place down opened saved
       Carried-saved (Err r) saved why kept =
-          Carried-not_saved name old some y (record { boxes = boxes; space = space; place = place; down = down; opened = SameOpen-put old new x.open y.open some is same kept }) r why
+          Carried-not_saved name old some y (record { boxes = boxes; space = space; place = place; down = down; opened = SameOpen-put old new x.open y.open some is same kept; opened_same = opened }) r why

@@ -25,6 +25,8 @@ use Rattle.sb_registry.specs.Boxes.{Meanings}
 use Rattle.sb_drive.specs.Spaces.{Wanted}
 use Rattle.sb_txn.specs.Clauses.{LeavesWanted}
 use Rattle.sb_txn.specs.Parts.{Parts, parts}
+use Rattle.sb_transactions.specs.OpenRelation.{OpenRelation}
+use Rattle.sb_transactions.specs.Opened.{IsOpen}
 use Rattle.sb_transactions.specs.Refusals.{HasRefusalCause}
 use Rattle.sb_transactions.specs.Working.{IsNoneGone, extensions_of}
 use Rattle.sb_transactions.specs.Work.{Work as EngineWork}
@@ -34,7 +36,7 @@ use Rattle.sb_transactions.specs.Tx.{Tx}
 use Rattle.sb_transactions.specs.declared.transactions.Transaction.{Transaction}
 use Rattle.sb_transactions.specs.Calls.{IsOnlyFault, Remains}
 use Rattle.sb_transactions.specs.Commits.{FailsOn, Finishes, IsDone, IsStoppedOn, LeavesEither, LeavesOldOrFinished, Mounted, StaysOpen, StopsAt, finish_and_free, is_wanting}
-use Rattle.sb_transactions.specs.Transactions.{HasNothingLeft, IsAt, IsCommitted, IsPaidAt, IsPointOf, IsUsable, Rests, WasBegun}
+use Rattle.sb_transactions.specs.Transactions.{HasNothingLeft, IsAt, IsCommitted, IsPaidAt, IsPointOf, IsUsable, MayStayOpen, Rests, WasBegun}
 use Rattle.sb_session.specs.declared.session.Open.{Open}
 use Rattle.sb_session.specs.declared.session.Session.{Session}
 use Rattle.sb_session.specs.Ends.{Ends, IsFree, IsStep, MayHaveSpent, ends_with, is_end}
@@ -263,25 +265,26 @@ module _ {B D : Type 0} (meanings : B → Meanings) (told : D → Option Story) 
         ended = ended;
       }
 
-      runs-commit : (opened : Option Open) → y.open ≡ opened → (y.down ≡ false → space.store.book.down ≡ false) → (y.down ≡ false → CanGoOn m x.place q opened) → CanRun meanings told len e y
-      runs-commit opened is up_then goes = CanRun-as meanings told len d e x y opened q runs boxes place is now remains.geometry remains.ready up_then goes
+      runs-commit : (opened : Option Open) → y.open ≡ opened → (y.down ≡ false → space.store.book.down ≡ false) → (y.down ≡ false → CanGoOn m x.place q opened)
+          → All (IsOpen m) y.opened.items → CanRun meanings told len e y
+      runs-commit opened is up_then goes ones = CanRun-as meanings told len d e x y opened q runs boxes place is now remains.geometry remains.ready up_then goes (λ on. ones)
 
     -- ---- a commit that goes through
     pub Committed-ok : {T : Type 0} (value : T) (picks : List Key) → Remains told len faults d e x.space.store space.store (Ok value) → y.down ≡ x.down → y.open ≡ None
-        → ((want : Wanted) (g : Going) → IsAt m x.place want tx g p w → IsPaidAt g p → Finishes m g (IsDone m x.place.root want picks p) q)
-        → (space.store.book.down ≡ false → space.store.book.actives ≡ [])
+        → ((want : Wanted) (g : Going) → IsAt m x.place want tx g p w → IsPaidAt g p → Finishes m g (IsDone m x.place.root want picks y.opened.items p) q)
+        → All (IsOpen m) y.opened.items → (space.store.book.down ≡ false → space.store.book.actives ≡ [])
         → Committed meanings told len faults d e x y (reply.Done None picks)
-    Committed-ok value picks remains down none done out = record {
+    Committed-ok value picks remains down none done ones out = record {
       ends = λ want s for. step want s for (done want (going_on (within want s for).of) (at_commit want s for) (paid_commit want s for));
       keeps = KeepsSession-commit (Ok value) remains (reply.Done None picks) (down ∙ sym (or-false x.down)) (λ is. absurd (false≢true (ap (λ (r : Reply). ends_with r) is)));
-      runs = runs-commit (Ok value) remains None none (λ on. still_up space.store.book.down refl) (λ on. out (still_up space.store.book.down refl));
+      runs = runs-commit (Ok value) remains None none (λ on. still_up space.store.book.down refl) (λ on. out (still_up space.store.book.down refl)) ones;
     }
       where
         still_up : (b : Bool) → space.store.book.down ≡ b → space.store.book.down ≡ false
         still_up false is = is
         still_up true is = absurd (let e : Ok value ≡ Err refusal.Fault = remains.up is in cc)
 
-        step : (want : Wanted) (s : State) (for : IsFor meanings told len want s d x) → Finishes m (going_on (within want s for).of) (IsDone m x.place.root want picks p) q
+        step : (want : Wanted) (s : State) (for : IsFor meanings told len want s d x) → Finishes m (going_on (within want s for).of) (IsDone m x.place.root want picks y.opened.items p) q
             → IsStep (Behind want s) ext s command.Commit (reply.Done None picks)
         step want s for run = record {
           after = with_committed s run.after.db;
@@ -291,7 +294,7 @@ module _ {B D : Type 0} (meanings : B → Meanings) (told : D → Option Story) 
             stands = record {
               want = run.stands.now;
               is = IsFor-as meanings told len want s d e x y for run.stands.now (with_committed s run.after.db) None q boxes place none now (down ∙ up) refl refl
-                  (λ on. subst (λ (db : Db). Rests m x.place.root run.stands.now db q) (sym (committed-push s run.after.db)) run.stands.rests);
+                  (λ on. subst (λ (db : Db). Rests m x.place.root run.stands.now db q) (sym (committed-push s run.after.db)) run.stands.rests) (λ on. run.stands.opened);
             };
             leaves = λ on. left_now want s (with_committed s run.after.db) (inr (record {
               next = with_committed s run.after.db;
@@ -326,12 +329,21 @@ module _ {B D : Type 0} (meanings : B → Meanings) (told : D → Option Story) 
       not_end : is_end r ≡ false → y.down ≡ false
       not_end is = down ∙ ap (λ (b : Bool). x.down || b) is ∙ or-false x.down ∙ up
 
+      -- what is open between transactions stays so
+      open_still : y.opened.items ≡ x.opened.items → (want : Wanted) (s : State) → IsFor meanings told len want s d x → MayStayOpen m x.place.root q.store.pool.geometry.pages want y.opened.items
+      open_still ones want s for =
+          subst (λ (g : Geometry). MayStayOpen m x.place.root g.pages want y.opened.items) (sym remains.geometry)
+          (subst (λ (os : List OpenRelation). MayStayOpen m x.place.root (sizes_of x).pages want os) (sym ones) (for.opened (up_for want s for)))
+
+      all_open : y.opened.items ≡ x.opened.items → All (IsOpen m) y.opened.items
+      all_open ones = subst (λ (os : List OpenRelation). All (IsOpen m) os) (sym ones) (runs.opened up)
+
       -- what stands where the disk didn't fail
       kept_behind : (r ≡ refusal.Fault → ⊥) → (want : Wanted) (s t : State) → IsFor meanings told len want s d x → StandsFor meanings told len t e y → Behind want s t
       kept_behind not want s t for stands = record { stands = stands; leaves = λ on. left_now want s t (left_wanted (kept not) want s for t) }
 
       -- ---- and is over
-      module _ (over : is_wanting r ≡ false) (none : y.open ≡ None)
+      module _ (over : is_wanting r ≡ false) (none : y.open ≡ None) (ones : y.opened.items ≡ x.opened.items)
           (faulted : OnFault r (space.store.book.down ≡ true))
           (aborted : space.store.book.down ≡ false → (m : Meanings) (root : ℕ) (want : Wanted) (db : Db) → WasBegun m root want db tx p → Rests m root want db q)
           (out : space.store.book.down ≡ false → space.store.book.actives ≡ []) where
@@ -346,7 +358,8 @@ module _ {B D : Type 0} (meanings : B → Meanings) (told : D → Option Story) 
               stands = kept_behind (λ fault. false≢true (sym given ∙ ap is_free fault)) want s (without_transaction s) for (record {
                 want = want;
                 is = IsFor-as meanings told len want s d e x y for want (without_transaction s) None q boxes place none now (not_end (end_of_given r given)) refl refl
-                    (λ on. aborted (stays_up space.store.book.down refl (not_end (end_of_given r given))) m x.place.root want (committed s) (within want s for).inside.begun);
+                    (λ on. aborted (stays_up space.store.book.down refl (not_end (end_of_given r given))) m x.place.root want (committed s) (within want s for).inside.begun)
+                    (λ on. open_still ones want s for);
               });
             }
 
@@ -359,7 +372,8 @@ module _ {B D : Type 0} (meanings : B → Meanings) (told : D → Option Story) 
               stands = record {
                 stands = record {
                   want = want;
-                  is = IsFor-as meanings told len want s d e x y for want (downed s) y.open (parts_of told len e y) boxes place refl refl off refl refl (λ on. absurd (false≢true (sym on)));
+                  is = IsFor-as meanings told len want s d e x y for want (downed s) y.open (parts_of told len e y) boxes place refl refl off refl refl (λ on. absurd (false≢true (sym on)))
+                      (λ on. absurd (false≢true (sym on)));
                 };
                 leaves = λ on. left_now want s (downed s) (left_failed moments want s for);
               };
@@ -375,11 +389,11 @@ module _ {B D : Type 0} (meanings : B → Meanings) (told : D → Option Story) 
         Committed-over = record {
           ends = over_ends;
           keeps = KeepsSession-commit (Err r) remains (reply.Refused r) down (λ is. let same : r ≡ refusal.Fault = cc in of_fault r (space.store.book.down ≡ true) faulted same);
-          runs = runs-commit (Err r) remains None none (stays_up space.store.book.down refl) (λ on. out (stays_up space.store.book.down refl on));
+          runs = runs-commit (Err r) remains None none (stays_up space.store.book.down refl) (λ on. out (stays_up space.store.book.down refl on)) (all_open ones);
         }
 
       -- ---- and goes on
-      module _ (wanting : is_wanting r ≡ true) (t : Transaction) (is : y.open ≡ Some (record { transaction = t; points = o.points })) (numbered : t.tx ≡ o.transaction.tx)
+      module _ (wanting : is_wanting r ≡ true) (t : Transaction) (is : y.open ≡ Some (record { transaction = t; points = o.points })) (ones : y.opened.items ≡ x.opened.items) (numbered : t.tx ≡ o.transaction.tx)
           (stays : StaysOpen tx p q w t.work) (quiet : HasNothingLeft w → IsOnlyFault r space.store)
           (bare : (want : Wanted) (g : Going) → IsAt m x.place want tx g p w → IsPaidAt g p → g.queue.actions ≡ [] → IsNoneGone g.gone → is_room r ≡ false) where
         abbrev new : Open
@@ -446,7 +460,8 @@ module _ {B D : Type 0} (meanings : B → Meanings) (told : D → Option Story) 
         still_for : (want : Wanted) (s : State) (for : IsFor meanings told len want s d x) → Behind want s (left_by want s for)
         still_for want s for = kept_behind (λ fault. false≢true (sym (ap is_wanting fault) ∙ wanting)) want s (left_by want s for) for (record {
           want = want;
-          is = IsFor-as meanings told len want s d e x y for want (left_by want s for) (Some new) q boxes place is now (goes_on ∙ sym (up_for want s for)) refl refl (λ on. still_inside want s for);
+          is = IsFor-as meanings told len want s d e x y for want (left_by want s for) (Some new) q boxes place is now (goes_on ∙ sym (up_for want s for)) refl refl (λ on. still_inside want s for)
+              (λ on. open_still ones want s for);
         })
 
         may_spend : (want : Wanted) (s : State) (for : IsFor meanings told len want s d x) → MayHaveSpent ext s command.Commit (left_by want s for)
@@ -493,5 +508,5 @@ module _ {B D : Type 0} (meanings : B → Meanings) (told : D → Option Story) 
           ends = λ want s for. wanting_ends want s for (wanting_of r wanting);
           keeps = KeepsSession-commit (Err r) remains (reply.Refused r) down (λ is. let same : r ≡ refusal.Fault = cc in fault_wanting r same wanting);
           runs = runs-commit (Err r) remains (Some new) is (stays_up space.store.book.down refl)
-              (λ on. can_go (subst (λ (a : Option Open). CanGoOn m x.place p a) some (runs.goes up)));
+              (λ on. can_go (subst (λ (a : Option Open). CanGoOn m x.place p a) some (runs.goes up))) (all_open ones);
         }

@@ -5,6 +5,7 @@ pub use Rattle.sb_transactions.proofs.FinishLemmas
 pub use Rattle.sb_transactions.proofs.LentLemmas
 pub use Rattle.sb_transactions.proofs.LicenceLemmas
 pub use Rattle.sb_transactions.proofs.RunLemmas
+pub use Rattle.sb_transactions.proofs.StayLemmas
 pub use Rattle.sb_transactions.proofs.WorkLemmas
 pub mod StepLemmas
 pub mod CommitSteps

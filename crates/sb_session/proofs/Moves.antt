@@ -1,7 +1,8 @@
 -- What becomes of a session whose boxes become live or spare.
-use Rattle.std.proofs.Common.{◌≡◌, ℕ, ◌≤◌, ◌==◌, slice_index_or, Bool, true, false, List, [], Option, Some, None, is_some, refl, sym, ap, ◌∙◌, subst, arith}
+use Rattle.std.proofs.Common.{◌≡◌, ℕ, ◌≤◌, ◌==◌, slice_index_or, Bool, true, false, List, [], All, Option, Some, None, is_some, refl, sym, ap, ◌∙◌, subst, arith}
 use Rattle.std.proofs.lemmas.Bool.{false≢true}
 use Rattle.std.proofs.Math.Bool.{or-false}
+use Rattle.std.proofs.lemmas.List.Elements.{All-nil}
 use Rattle.std.specs.List.{find}
 use Rattle.sb_ctx.specs.Method.{Method}
 use Rattle.sb_ctx.specs.Attachment.{Attachment}
@@ -28,7 +29,8 @@ use Rattle.sb_drive.specs.Spaces.{Wanted}
 use Rattle.sb_transactions.specs.Place.{Place}
 use Rattle.sb_transactions.specs.Standing.{Keeps as KeepsPages}
 use Rattle.sb_transactions.specs.Tables.{Kept, db_of}
-use Rattle.sb_transactions.specs.Opened.{IsDurable}
+use Rattle.sb_transactions.specs.OpenRelation.{OpenRelation}
+use Rattle.sb_transactions.specs.Opened.{IsDurable, IsOpen}
 use Rattle.sb_txn.specs.Clauses.{IsReady}
 use Rattle.sb_txn.specs.Parts.{Parts, parts}
 use Rattle.sb_transactions.specs.Space.{Space}
@@ -40,8 +42,9 @@ use Rattle.sb_vectors.proofs.BoxLemmas.{has_box-codes}
 use Rattle.sb_vectors.proofs.LawLemmas.{registering_moves, registering_stays, retiring_moves, retiring_stays}
 use Rattle.sb_session.specs.declared.session.Open.{Open}
 use Rattle.sb_session.specs.declared.session.Session.{Session}
-use Rattle.sb_session.specs.Sessions.{CanGoOn, CanRun, IsFor, IsOpenFor, KeepsSession, parts_of}
+use Rattle.sb_session.specs.Sessions.{CanGoOn, CanRun, IsFor, IsOpenFor, KeepsSession, parts_of, sizes_of}
 use Rattle.sb_session.specs.Ends.{IsStep, ends_with}
+use Rattle.sb_transactions.proofs.StayLemmas.{MayStayOpen-none}
 use Rattle.sb_session.proofs.Carried.{Carried, Carried-given, Carried-memory, IsSame, SameOpen-none}
 use Rattle.sb_session.proofs.Commands.{outside_for}
 use Rattle.sb_session.proofs.MoveBoxes.{SameRules, SameRules-same, StillLive, StillLive-registers, StillLive-retires_attachment, StillLive-retires_method, Keeps-still, unused_attachment, unused_method}
@@ -119,12 +122,13 @@ module _ {B D : Type 0} (meanings : B → Meanings) (told : D → Option Story) 
   outside_state want s for = ap is_some (outside_for meanings told len faults d x runs up none want s for).none
 
   -- ---- what goes on
-  pub CanRun-moved : repeated_in n ≡ None → CanRun meanings told len d y
-  CanRun-moved unique = record {
+  pub CanRun-moved : repeated_in n ≡ None → y.opened.items ≡ [] → CanRun meanings told len d y
+  CanRun-moved unique closed = record {
     ready = subst (λ (a : Space). IsReady (parts told len d a.store)) (sym space) runs.ready;
     few = subst (λ (a : Space). a.store.pool.geometry.pages ≤ 65536) (sym space) runs.few;
     owner = ap (λ (a : Place). a.owner) place ∙ runs.owner;
     unique = unique;
+    opened = λ on. subst (λ (ones : List OpenRelation). All (IsOpen n) ones) (sym closed) (All-nil (IsOpen n));
     up = λ on. subst (λ (a : Space). a.store.book.down ≡ false) (sym space) (runs.up up);
     goes = λ on. subst (λ (a : Space). CanGoOn n y.place (parts told len d a.store) y.open) (sym space) (subst (λ (o : Option Open). CanGoOn n y.place p o) (sym (opened ∙ none))
         (out (subst (λ (o : Option Open). CanGoOn m x.place p o) none (runs.goes up))));
@@ -145,8 +149,8 @@ module _ {B D : Type 0} (meanings : B → Meanings) (told : D → Option Story) 
   }
 
   IsFor-moved : (want : Wanted) (s t : State) → IsFor meanings told len want s d x → committed t ≡ committed s → t.transaction ≡ None → t.down ≡ false → t.live ≡ live_codes n → t.spare ≡ spare_codes n
-      → Rests n x.place.root want (committed s) p → IsFor meanings told len want t d y
-  IsFor-moved want s t for same outside on live spare rests = record {
+      → Rests n x.place.root want (committed s) p → y.opened.items ≡ [] → IsFor meanings told len want t d y
+  IsFor-moved want s t for same outside on live spare rests closed = record {
     down = down ∙ up ∙ sym on;
     live = live;
     spare = spare;
@@ -156,6 +160,7 @@ module _ {B D : Type 0} (meanings : B → Meanings) (told : D → Option Story) 
         (subst (λ (o : Option Open). IsOpenFor n x.place want (committed t) p o t.transaction) (sym (opened ∙ none))
         (subst (λ (o : Option PlainTransaction). IsOpenFor n x.place want (committed t) p None o) (sym outside)
         (subst (λ (db : Db). Rests n x.place.root want db p) (sym same) rests))));
+    opened = λ is. MayStayOpen-none n y.place.root (sizes_of y).pages want y.opened.items closed;
   }
 
   rests_before : (want : Wanted) (s : State) → IsFor meanings told len want s d x → Rests m x.place.root want (committed s) p
@@ -165,9 +170,9 @@ module _ {B D : Type 0} (meanings : B → Meanings) (told : D → Option Story) 
   abbrev registered : State → State
   registered s = record s { live = with_code method code s.live; spare = without_code method code s.spare; transaction = None; down = false }
 
-  pub register-step : repeated_in n ≡ None → Registers method code true m n → (want : Wanted) (s : State) → IsFor meanings told len want s d x
+  pub register-step : y.opened.items ≡ [] → repeated_in n ≡ None → Registers method code true m n → (want : Wanted) (s : State) → IsFor meanings told len want s d x
       → IsStep (λ t. IsFor meanings told len want t d y) (extensions_of m) s (command.Register method code) ok
-  register-step still is want s for =
+  register-step closed still is want s for =
       let law = registering_moves method code m n runs.unique is in
       record {
         after = registered s;
@@ -176,16 +181,16 @@ module _ {B D : Type 0} (meanings : B → Meanings) (told : D → Option Story) 
             (λ known. Steps-register (extensions_of m) (record s { transaction = None; down = false }) refl method code refl known)
             (ap (λ (codes : Codes). has_code (codes_of method codes) code) for.spare ∙ spare_known m method code true (stood_spare m n method code is));
         stands = IsFor-moved want s (registered s) for refl refl refl (ap (with_code method code) for.live ∙ sym law.0) (ap (without_code method code) for.spare ∙ sym law.1)
-            (Rests-still m n x.place.root want (committed s) p (SameRules-same m n (registered-same method true code m n runs.unique still is)) (λ kept same keeps. StillLive-registers code m n kept method is) (rests_before want s for));
+            (Rests-still m n x.place.root want (committed s) p (SameRules-same m n (registered-same method true code m n runs.unique still is)) (λ kept same keeps. StillLive-registers code m n kept method is) (rests_before want s for)) closed;
       }
 
   -- ---- one that became spare
   abbrev retired : State → State
   retired s = record s { live = without_code method code s.live; spare = with_code method code s.spare; transaction = None; down = false }
 
-  pub retire-step : repeated_in n ≡ None → Retires method code true m n → (want : Wanted) (s : State) → IsFor meanings told len want s d x → first_use (view s) (command.Retire method code) ≡ None
+  pub retire-step : y.opened.items ≡ [] → repeated_in n ≡ None → Retires method code true m n → (want : Wanted) (s : State) → IsFor meanings told len want s d x → first_use (view s) (command.Retire method code) ≡ None
       → IsStep (λ t. IsFor meanings told len want t d y) (extensions_of m) s (command.Retire method code) ok
-  retire-step still is want s for unused =
+  retire-step closed still is want s for unused =
       let law = retiring_moves method code m n runs.unique is in
       let out = outside_for meanings told len faults d x runs up none want s for in
       let seen : first_use (committed s) (command.Retire method code) ≡ None =
@@ -200,30 +205,30 @@ module _ {B D : Type 0} (meanings : B → Meanings) (told : D → Option Story) 
             (Rests-still m n x.place.root want (committed s) p (SameRules-same m n (retired-same method true code m n runs.unique still is))
             (λ kept same keeps. retired_still m n method code x.place.root (slots_in p.store.pool.geometry.pages want) kept is keeps
             (subst (λ (db : Db). first_use db (command.Retire method code) ≡ None) same seen))
-            (rests_before want s for));
+            (rests_before want s for)) closed;
       }
 
   -- ---- nothing moved
   -- the boxes mean the same
-  pub IsSame-boxes : n ≡ m → IsSame meanings x y
-  IsSame-boxes same = record { boxes = same; space = space; place = place; down = down; opened = SameOpen-none x.open y.open none (opened ∙ none) }
+  pub IsSame-boxes : n ≡ m → y.opened.items ≡ x.opened.items → IsSame meanings x y
+  IsSame-boxes same ones = record { boxes = same; space = space; place = place; down = down; opened = SameOpen-none x.open y.open none (opened ∙ none); opened_same = ones }
 
   not_down : x.down ≡ true → y ≡ x
   not_down on = absurd (false≢true (sym up ∙ on))
 
-  pub Carried-not_spare : Registers method code false m n → Carried meanings told len faults (command.Register method code) d d x y (Refused (refusal.NoExtension code))
-  Carried-not_spare is =
+  pub Carried-not_spare : y.opened.items ≡ x.opened.items → Registers method code false m n → Carried meanings told len faults (command.Register method code) d d x y (Refused (refusal.NoExtension code))
+  Carried-not_spare ones is =
       let law = registering_stays method code m n is in
-      Carried-given meanings told len faults (command.Register method code) d x y (IsSame-boxes law.1) not_down runs (refusal.NoExtension code) refl
+      Carried-given meanings told len faults (command.Register method code) d x y (IsSame-boxes law.1 ones) not_down runs (refusal.NoExtension code) refl
       (λ want s for. Steps-no_spare (extensions_of m) s (sym for.down ∙ up) method code (outside_state want s for)
       (ap (λ (codes : Codes). has_code (codes_of method codes) code) for.spare ∙ spare_known m method code false law.0))
 
-  pub Carried-not_live : Retires method code false m n → Carried meanings told len faults (command.Retire method code) d d x y (Refused (refusal.NoExtension code))
-  Carried-not_live is =
+  pub Carried-not_live : y.opened.items ≡ x.opened.items → Retires method code false m n → Carried meanings told len faults (command.Retire method code) d d x y (Refused (refusal.NoExtension code))
+  Carried-not_live ones is =
       let law = retiring_stays method code m n is in
-      Carried-given meanings told len faults (command.Retire method code) d x y (IsSame-boxes law.1) not_down runs (refusal.NoExtension code) refl
+      Carried-given meanings told len faults (command.Retire method code) d x y (IsSame-boxes law.1 ones) not_down runs (refusal.NoExtension code) refl
       (λ want s for. Steps-no_live (extensions_of m) s (sym for.down ∙ up) method code (outside_state want s for)
       (ap (λ (codes : Codes). has_code (codes_of method codes) code) for.live ∙ live_known m method code false law.0))
 
-  pub Carried-no_memory : (c : Command) → n ≡ m → ((s : State) → may_want_memory s c ≡ true) → Carried meanings told len faults c d d x y (Refused refusal.NoMemory)
-  Carried-no_memory c same may = Carried-memory meanings told len faults c d x y (IsSame-boxes same) not_down runs up (λ want s for. may s)
+  pub Carried-no_memory : (c : Command) → n ≡ m → y.opened.items ≡ x.opened.items → ((s : State) → may_want_memory s c ≡ true) → Carried meanings told len faults c d d x y (Refused refusal.NoMemory)
+  Carried-no_memory c same ones may = Carried-memory meanings told len faults c d x y (IsSame-boxes same ones) not_down runs up (λ want s for. may s)

@@ -1,6 +1,7 @@
 pub use Rattle.sb_transactions.specs.Calls
 pub use Rattle.sb_transactions.specs.Commits
 pub use Rattle.sb_transactions.specs.Driven
+pub use Rattle.sb_transactions.specs.OpenRelation
 pub use Rattle.sb_transactions.specs.Opened
 pub use Rattle.sb_transactions.specs.Transactions
 pub use Rattle.sb_transactions.specs.declared.transactions.Point

@@ -20,6 +20,7 @@ use Rattle.sb_plain.specs.State.{Point as PlainPoint, State, Transaction as Plai
 use Rattle.sb_relation.specs.Db.{Db, Key}
 use Rattle.sb_registry.specs.Boxes.{Meanings, repeated_in}
 use Rattle.sb_drive.specs.Spaces.{Wanted}
+use Rattle.sb_transactions.specs.Opened.{IsOpen}
 use Rattle.sb_transactions.specs.Place.{Place}
 use Rattle.sb_txn.specs.Clauses.{IsReady}
 use Rattle.sb_txn.specs.Parts.{Parts, parts}
@@ -27,7 +28,7 @@ use Rattle.sb_transactions.specs.Spent.{HasSpent}
 use Rattle.sb_transactions.specs.Table.{table_len}
 use Rattle.sb_transactions.specs.Work.{Work}
 use Rattle.sb_transactions.specs.Working.{IsPaid, IsShortOf, extensions_of}
-use Rattle.sb_transactions.specs.Transactions.{HasNothingLeft, IsAt, IsCommitted, IsNotBehind, IsPointOf, IsUsable, Rests, WasBegun, WasSo}
+use Rattle.sb_transactions.specs.Transactions.{HasNothingLeft, IsAt, IsCommitted, IsNotBehind, IsPointOf, IsUsable, MayStayOpen, Rests, WasBegun, WasSo}
 use Rattle.sb_vectors.specs.Vectors.{live_codes, spare_codes}
 use Rattle.sb_session.specs.declared.session.Open.{Open}
 use Rattle.sb_session.specs.declared.session.Savepoint.{Savepoint}
@@ -83,14 +84,15 @@ parts_of told len disk x = parts told len disk x.space.store
 abbrev pub sizes_of : {B : Type 0} → Session B → Geometry
 sizes_of x = x.space.store.pool.geometry
 
--- With these pages wanted it stands for the state: its boxes have the codes; and until it is down its pages keep the databases, and its transaction
--- is that of the state.
+-- With these pages wanted it stands for the state: its boxes have the codes; and until it is down its pages keep the databases, its transaction
+-- is that of the state, and what is open between transactions are relations of the committed database.
 pub record IsFor {B D : Type 0} (meanings : B → Meanings) (told : D → Option Story) (len : D → ℕ) (want : Wanted) (s : State) (disk : D)
     (x : Session B) : Type 0 where
   pub down : x.down ≡ s.down
   pub live : s.live ≡ live_codes (meanings x.boxes)
   pub spare : s.spare ≡ spare_codes (meanings x.boxes)
   pub stands : s.down ≡ false → IsOpenFor (meanings x.boxes) x.place want (committed s) (parts_of told len disk x) x.open s.transaction
+  pub opened : s.down ≡ false → MayStayOpen (meanings x.boxes) x.place.root (sizes_of x).pages want x.opened.items
 
 -- so it is with some pages
 pub record StandsFor {B D : Type 0} (meanings : B → Meanings) (told : D → Option Story) (len : D → ℕ) (s : State) (disk : D) (x : Session B)
@@ -106,13 +108,14 @@ CanGoOn m place p (Some o) =
     × All (λ one. IsPointOf o.transaction.tx.store.number one.point p o.transaction.work) o.points.items
     × AreInOrder o.points.items
 
--- Commands can be carried out: the store is ready and has 65,536 pages at most, the catalogue's owner is 2, no code of a box repeats, and a store
--- that is down has ended the session.
+-- Commands can be carried out: the store is ready and has 65,536 pages at most, the catalogue's owner is 2, no code of a box repeats, live boxes keep
+-- what is open between transactions, and a store that is down has ended the session.
 pub record CanRun {B D : Type 0} (meanings : B → Meanings) (told : D → Option Story) (len : D → ℕ) (disk : D) (x : Session B) : Type 0 where
   pub ready : IsReady (parts_of told len disk x)
   pub few : x.space.store.pool.geometry.pages ≤ 65536
   pub owner : x.place.owner ≡ 2
   pub unique : repeated_in (meanings x.boxes) ≡ None
+  pub opened : x.down ≡ false → All (IsOpen (meanings x.boxes)) x.opened.items
   pub up : x.down ≡ false → x.space.store.book.down ≡ false
   pub goes : x.down ≡ false → CanGoOn (meanings x.boxes) x.place (parts_of told len disk x) x.open
 

@@ -18,7 +18,7 @@ use sb_vectors::Vectors;
 use std::alloc::Global;
 
 impl<B: Vectors> Session<B> {
-    /// Commits the open transaction, and gives the record keys that what waited picked. Where room or memory is wanting the transaction goes on; any other refusal ends it.
+    /// Commits the open transaction, and gives the record keys that what waited picked. The relations that it has opened stay open. Where room or memory is wanting the transaction goes on; any other refusal ends it.
     pub fn commit<D: Disk>(&mut self, disk: &mut D, alloc: Global) -> Result<Picks, Refusal>
         requires runs { CanRun B.meanings D.told D.len disk.old self.old }
 
@@ -52,7 +52,10 @@ impl<B: Vectors> Session<B> {
             transaction,
             alloc,
         ) {
-            Ok(picks) => Ok(Picks::from_vec(picks)),
+            Ok(committed) => {
+                self.opened = committed.opened;
+                Ok(Picks::from_vec(committed.picks))
+            }
             Err(uncommitted) => {
                 let Uncommitted {
                     refusal,

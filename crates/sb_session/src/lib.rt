@@ -8,6 +8,7 @@ mod session;
 mod transactions;
 
 pub use sb_transactions::{
-    Transaction, Uncommitted, abort, back_to, begin, commit, mark, next_descriptor, settle,
+    Committed, OpenRelation, Transaction, Uncommitted, abort, back_to, begin, commit, mark,
+    next_descriptor, settle,
 };
 pub use session::{Open, Savepoint, Session};

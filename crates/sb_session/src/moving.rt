@@ -16,7 +16,7 @@ use sb_fold::Refusal;
 use sb_vectors::Vectors;
 
 impl<B: Vectors> Session<B> {
-    /// Makes the spare box of a code live, between transactions.
+    /// Makes the spare box of a code live, between transactions. No relation stays open.
     pub fn register<D: Disk>(
         &mut self,
         disk: &mut D,
@@ -42,13 +42,16 @@ impl<B: Vectors> Session<B> {
             return Err(Refusal::State);
         }
         match self.boxes.register(method, code) {
-            Ok(true) => Ok(()),
+            Ok(true) => {
+                self.opened.clear();
+                Ok(())
+            }
             Ok(false) => Err(Refusal::NoExtension { code }),
             Err(_) => Err(Refusal::NoMemory),
         }
     }
 
-    /// Makes the live box of a code spare, between transactions. No relation may use it.
+    /// Makes the live box of a code spare, between transactions. No relation may use it, and none stays open.
     pub fn retire<D: Disk>(&mut self, disk: &mut D, method: bool, code: u16) -> Result<(), Refusal>
         requires runs { CanRun B.meanings D.told D.len disk.old self.old }
 
@@ -70,7 +73,10 @@ impl<B: Vectors> Session<B> {
             return Err(Refusal::State);
         }
         match self.boxes.retire(method, code) {
-            Ok(true) => Ok(()),
+            Ok(true) => {
+                self.opened.clear();
+                Ok(())
+            }
             Ok(false) => Err(Refusal::NoExtension { code }),
             Err(_) => Err(Refusal::NoMemory),
         }

@@ -1,10 +1,10 @@
 //! Sessions.
 
-ghost use Rattle.std.specs.Prelude.{◌≡◌, false, ◌||◌, Bool};
+ghost use Rattle.std.specs.Prelude.{◌≡◌, ◌||◌};
 ghost use Rattle.sb_session.specs.Ends.{is_end};
 
 use sb_fold::Refusal;
-use sb_transactions::{Place, Point, Space, Transaction};
+use sb_transactions::{OpenRelation, Place, Point, Space, Transaction};
 use sb_value::Str;
 
 /// A savepoint: its name, and where the work of its transaction stood.
@@ -21,13 +21,14 @@ pub struct Open {
     pub points: Vec<Savepoint>,
 }
 
-/// Boxes, live and spare; the pages of a store, and where its catalogue is; the open transaction; and whether a fault or damage ended the session.
-/// Once one has, every command answers `Down`.
+/// Boxes, live and spare; the pages of a store, and where its catalogue is; the relations of the committed database that stay open between
+/// transactions; the open transaction; and whether a fault or damage ended the session. Once one has, every command answers `Down`.
 #[derive(Drop)]
 pub struct Session<B> {
     pub boxes: B,
     pub space: Space,
     pub place: Place,
+    pub opened: Vec<OpenRelation>,
     pub open: Option<Open>,
     pub down: bool,
 }
@@ -40,6 +41,7 @@ impl<B> Session<B> {
         ensures boxes { self.new.boxes ≡ self.old.boxes }
         ensures space { self.new.space ≡ self.old.space }
         ensures place { self.new.place ≡ self.old.place }
+        ensures opened { self.new.opened ≡ self.old.opened }
         ensures open { self.new.open ≡ self.old.open }
     {
         if matches!(refusal, Refusal::Fault | Refusal::Damaged { .. }) {

@@ -18,7 +18,7 @@ use sb_vectors::Vectors;
 use std::alloc::Global;
 
 impl<B: Vectors> Session<B> {
-    /// Begins a transaction. It takes no memory.
+    /// Begins a transaction, with the relations that were open before it. It takes no memory.
     pub fn begin<D: Disk>(&mut self, disk: &mut D, alloc: Global) -> Result<(), Refusal>
         requires runs { CanRun B.meanings D.told D.len disk.old self.old }
 
@@ -38,7 +38,8 @@ impl<B: Vectors> Session<B> {
         if self.open.is_some() {
             return Err(Refusal::State);
         }
-        match begin(&mut self.space, disk, alloc) {
+        let opened = std::mem::replace(&mut self.opened, Vec::new(alloc));
+        match begin(&mut self.space, disk, opened, alloc) {
             Ok(transaction) => {
                 self.open = Some(Open {
                     transaction,

@@ -28,12 +28,14 @@ use Rattle.sb_txn.specs.Clauses.{HoldsPages, LeavesWanted}
 use Rattle.sb_txn.specs.Parts.{Parts, parts}
 use Rattle.sb_txn.specs.State.{State}
 use Rattle.sb_space.specs.Works.{Works}
+use Rattle.sb_tables.specs.OpenRelation.{OpenRelation}
 use Rattle.sb_tables.specs.Work.{Work}
 use Rattle.sb_tables.specs.Refusals.{HasRefusalCause}
 use Rattle.sb_tables.specs.Working.{extensions_of}
 use Rattle.sb_tables.specs.Tables.{db_of}
 use Rattle.sb_tables.proofs.RefusedLemmas.{of_fault, on_fault}
 use Rattle.sb_transactions.specs.Calls.{IsOnlyFault, KeepsWanted, Remains}
+use Rattle.sb_transactions.specs.declared.refusals.Committed.{Committed}
 use Rattle.sb_transactions.specs.declared.refusals.Uncommitted.{Uncommitted}
 use Rattle.sb_transactions.specs.declared.transactions.Point.{Point}
 use Rattle.sb_transactions.specs.Commits.{by_refusal, ComesTo, FailsOn, Finishes, IsFaulted, IsDone, IsLed, IsOrFaulted, IsStoppedOn, IsEnded, LeavesEither, LeavesOldOrFinished, Mounted, StopsAt, ended, finish_and_free, is_wanting}
@@ -67,6 +69,11 @@ pub remains-ended : {T : Type 0} (P : Result T Refusal → Type 0) (r : Result T
 remains-ended P (Ok x) is = is
 remains-ended P (Err q) is = is
 
+-- what is so of the relations that were open is so of those that stay open
+pub opened-ended : (P : List OpenRelation → Type 0) (ones : List OpenRelation) (r : Result Committed Refusal) → P ones → IfOk r (λ x. x.opened.items ≡ ones) → IfOk (ended r) (λ x. P x.opened.items)
+opened-ended P ones (Ok x) is same = subst P (sym same) is
+opened-ended P ones (Err q) is same = tt
+
 err_as : {T U : Type 0} (q : Refusal) → IsErrOf {T = T} (Err q) Fault → IsErrOf {T = U} (Err q) Fault
 err_as q is = let same : q ≡ Fault = cc in ap (λ (r : Refusal). Err r) same
 
@@ -99,13 +106,13 @@ module _ (m : Meanings) (place : Place) (want : Wanted) (tx : ℕ) (g : Going) (
 
 -- ---- by what the commit of the pages answers
 module _ (m : Meanings) (place : Place) (tx : ℕ) (p q : Parts) (w : Work) (left : HasNothingLeft w) where
-  pub done-left : {T : Type 0} (r : Result T Refusal) (items : T → List Key)
-      → IfOk r (λ picks. (m : Meanings) (place : Place) (want : Wanted) (g : Going) → IsAt m place want tx g p w → IsFinished m g w → IsDone m place.root want (items picks) p g q)
-      → IfOk (ended r) (λ picks. (want : Wanted) (g : Going) → IsAt m place want tx g p w → IsPaidAt g p → Finishes m g (IsDone m place.root want (items picks) p) q)
-  done-left (Ok picks) items done = λ want g at paid.
-      finished-left m place want tx g p w at left (IsDone m place.root want (items picks) p) q
-      (IsDone-freed m place.root want g p q (items picks) (done m place want g at (IsFinished-left m place want tx g p w at left)))
-  done-left (Err e) items done = tt
+  pub done-left : (r : Result Committed Refusal)
+      → IfOk r (λ x. (m : Meanings) (place : Place) (want : Wanted) (g : Going) → IsAt m place want tx g p w → IsFinished m g w → IsDone m place.root want x.picks.items x.opened.items p g q)
+      → IfOk (ended r) (λ x. (want : Wanted) (g : Going) → IsAt m place want tx g p w → IsPaidAt g p → Finishes m g (IsDone m place.root want x.picks.items x.opened.items p) q)
+  done-left (Ok x) done = λ want g at paid.
+      finished-left m place want tx g p w at left (IsDone m place.root want x.picks.items x.opened.items p) q
+      (IsDone-freed m place.root want g p q x.picks.items x.opened.items (done m place want g at (IsFinished-left m place want tx g p w at left)))
+  done-left (Err e) done = tt
 
   pub leaves-left : ((m : Meanings) (place : Place) (want : Wanted) (g : Going) → IsAt m place want tx g p w → IsFinished m g w → LeavesEither m place.root want p g q)
       → (want : Wanted) (g : Going) → IsAt m place want tx g p w → IsPaidAt g p → LeavesOldOrFinished m place.root want g p q
@@ -216,15 +223,15 @@ module _ {D : Type 0} (told : D → Option Story) (len faults : D → ℕ) (m : 
         (weaker (told d) (told e) (Restores s.pool.geometry want) (IsOldOrNew s.pool.geometry want pages) (λ image is. inl is) before)
         (subst (λ (x : Geometry). LeavesOnly (told e) (told f) (IsOldOrNew x want pages)) works.geometry leaves)
 
-    IsDone-over : (picks : List Key) (h : Going) → IsDone m place.root want picks mid h new → IsDone m place.root want picks old h new
-    IsDone-over picks h done = record { now = done.now; rests = done.rests; picked = done.picked; leaves = over done.now done.leaves }
+    IsDone-over : (picks : List Key) (opened : List OpenRelation) (h : Going) → IsDone m place.root want picks opened mid h new → IsDone m place.root want picks opened old h new
+    IsDone-over picks opened h done = record { now = done.now; rests = done.rests; opened = done.opened; picked = done.picked; leaves = over done.now done.leaves }
 
-    pub IsDone-behind : (picks : List Key) (tx' : ℕ) → tx' ≡ tx → t.book.down ≡ false
-        → ((m : Meanings) (place : Place) (want : Wanted) (g : Going) → IsAt m place want tx' g mid w → IsFinished m g w → IsDone m place.root want picks mid g new)
-        → Finishes m g (IsDone m place.root want picks old) new
-    IsDone-behind picks tx' same up done =
-        finish-map (ComesTo m place want tx w) (IsDone m place.root want picks old) ext g mid new
-        (λ h holds comes. IsDone-over picks h (done m place want h (subst (λ (n : ℕ). IsAt m place want n h mid w) (sym same) (comes up)) (record { gone = none; holds = holds }))) finished
+    pub IsDone-behind : (picks : List Key) (opened : List OpenRelation) (tx' : ℕ) → tx' ≡ tx → t.book.down ≡ false
+        → ((m : Meanings) (place : Place) (want : Wanted) (g : Going) → IsAt m place want tx' g mid w → IsFinished m g w → IsDone m place.root want picks opened mid g new)
+        → Finishes m g (IsDone m place.root want picks opened old) new
+    IsDone-behind picks opened tx' same up done =
+        finish-map (ComesTo m place want tx w) (IsDone m place.root want picks opened old) ext g mid new
+        (λ h holds comes. IsDone-over picks opened h (done m place want h (subst (λ (n : ℕ). IsAt m place want n h mid w) (sym same) (comes up)) (record { gone = none; holds = holds }))) finished
 
     wider : (h : Going) → LeavesEither m place.root want mid h new → LeavesEither m place.root want old h new
     wider h either = record {
@@ -245,11 +252,11 @@ module _ {D : Type 0} (told : D → Option Story) (len faults : D → ℕ) (m : 
 
   -- ---- by what the commit of the pages answers
   module _ (v : Work) (finished : (want : Wanted) (g : Going) → IsAt m place want tx g old v → IsPaidAt g old → Finishes m g (ComesTo m place want tx w) mid) (none : w.gone.items ≡ []) where
-    pub done-commit : {T : Type 0} (r : Result T Refusal) (items : T → List Key) (tx' : ℕ) → tx' ≡ tx → OnOk r (t.book.down ≡ false)
-        → IfOk r (λ picks. (m : Meanings) (place : Place) (want : Wanted) (g : Going) → IsAt m place want tx' g mid w → IsFinished m g w → IsDone m place.root want (items picks) mid g new)
-        → IfOk (ended r) (λ picks. (want : Wanted) (g : Going) → IsAt m place want tx g old v → IsPaidAt g old → Finishes m g (IsDone m place.root want (items picks) old) new)
-    done-commit (Ok picks) items tx' same up done = λ want g at paid. IsDone-behind want g (v, at) (finished want g at paid) none (items picks) tx' same up done
-    done-commit (Err e) items tx' same up done = tt
+    pub done-commit : (r : Result Committed Refusal) (tx' : ℕ) → tx' ≡ tx → OnOk r (t.book.down ≡ false)
+        → IfOk r (λ x. (m : Meanings) (place : Place) (want : Wanted) (g : Going) → IsAt m place want tx' g mid w → IsFinished m g w → IsDone m place.root want x.picks.items x.opened.items mid g new)
+        → IfOk (ended r) (λ x. (want : Wanted) (g : Going) → IsAt m place want tx g old v → IsPaidAt g old → Finishes m g (IsDone m place.root want x.picks.items x.opened.items old) new)
+    done-commit (Ok x) tx' same up done = λ want g at paid. IsDone-behind want g (v, at) (finished want g at paid) none x.picks.items x.opened.items tx' same up done
+    done-commit (Err e) tx' same up done = tt
 
     pub stops-commit : {T : Type 0} (r : Result T Refusal) → IfErr r (λ e. IsOnlyFault e u) → IfErr r (λ e. HasRefusalCause (FailsOn faults) e (record { disk = f; store = u }))
         → IfErr (ended r) (λ e. (want : Wanted) (g : Going) → IsAt m place want tx g old v → IsPaidAt g old

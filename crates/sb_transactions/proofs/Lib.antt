@@ -1,6 +1,7 @@
 pub use Rattle.sb_tables.proofs.LackingLemmas
 pub use Rattle.sb_tables.proofs.RefusedLemmas
 pub mod PageLemmas
+pub mod OpenLemmas
 pub mod WorkLemmas
 pub mod CallLemmas
 pub mod PointLemmas
@@ -8,7 +9,7 @@ pub mod CommitLemmas
 pub mod FinishLemmas
 pub mod DrivenLemmas
 pub mod EndLemmas
-pub mod OpenLemmas
+pub mod StayLemmas
 pub mod RunLemmas
 pub mod LicenceLemmas
 pub mod LentLemmas

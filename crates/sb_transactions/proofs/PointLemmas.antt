@@ -1,6 +1,7 @@
 -- Work at its begin, at a point, and back there.
 use Rattle.std.proofs.Common.{◌≡◌, ℕ, ◌≤◌, false, List, [], length, take, drop, sym, ap, subst, ◌∙◌, arith}
 use Rattle.std.proofs.Math.Seq.{take-length}
+use Rattle.std.proofs.lemmas.List.Elements.{All-weaker}
 use Rattle.sb_relation.specs.Db.{Db}
 use Rattle.sb_fold.specs.Outcome.{Going, Queue}
 use Rattle.sb_deferred.specs.Waiting.{mark_of, nothing}
@@ -10,7 +11,8 @@ use Rattle.sb_drive.specs.Slots.{Slots}
 use Rattle.sb_drive.specs.Spaces.{Wanted}
 use Rattle.sb_map.specs.declared.place.Place.{Place}
 use Rattle.sb_tables.specs.Standing.{Keeps}
-use Rattle.sb_tables.specs.Opened.{IsDurable}
+use Rattle.sb_tables.specs.OpenRelation.{OpenRelation}
+use Rattle.sb_tables.specs.Opened.{IsDurable, IsOpen}
 use Rattle.sb_txn.specs.Book.{standing_of}
 use Rattle.sb_txn.specs.Parts.{Parts}
 use Rattle.sb_space.specs.Table.{slots_in}
@@ -20,10 +22,11 @@ use Rattle.sb_space.specs.Works as space
 use Rattle.sb_space.proofs.GoingBack.{WasAt-mark}
 use Rattle.sb_tables.specs.Measures.{AreHeld, measured}
 use Rattle.sb_tables.specs.Work.{Work}
-use Rattle.sb_tables.specs.Working.{left_of}
+use Rattle.sb_tables.specs.Working.{AreOpened, IsOpened, left_of}
 use Rattle.sb_transactions.specs.declared.transactions.Point.{Point}
-use Rattle.sb_transactions.specs.Transactions.{IsAt, IsCommitted, IsCutTo, IsFirst, IsNotBehind, IsPointOf, IsSettled, IsTrimmed, Rests, WasBegun, WasSo, unused}
-use Rattle.sb_transactions.proofs.WorkLemmas.{IsUsable-none, IsUsable-trimmed, cut_gone, cut_left, cut_long, cut_queue, cut_waited, cut_within, left_same, mark_waited, none_opened, trimmed_opened}
+use Rattle.sb_transactions.specs.Transactions.{IsAt, IsCommitted, IsCutTo, IsFirst, IsNotBehind, IsPointOf, IsSettled, IsTrimmed, MayStayOpen, Rests, WasBegun, WasSo, last_open, unused}
+use Rattle.sb_transactions.proofs.StayLemmas.{AreOpened-last, none_opened}
+use Rattle.sb_transactions.proofs.WorkLemmas.{IsUsable-none, IsUsable-trimmed, cut_gone, cut_left, cut_long, cut_queue, cut_waited, cut_within, left_same, mark_waited, trimmed_opened}
 
 -- ---- trimmed
 pub IsAt-trimmed : (m : Meanings) (place : Place) (want : Wanted) (tx : ℕ) (g : Going) (p : Parts) (old new : Work) → IsTrimmed old new → IsAt m place want tx g p old → IsAt m place want tx (unused g) p new
@@ -60,23 +63,26 @@ module _ (m : Meanings) (root : ℕ) (want : Wanted) (db : Db) (tx : ℕ) (p q :
     committed = Rests-stays.committed;
   }
 
-pub IsAt-first : (m : Meanings) (place : Place) (want : Wanted) (tx : ℕ) (g : Going) (q : Parts) (w : Work) → space.Serves tx q → place.owner ≡ 2 → IsFirst g → Rests m place.root want g.db q
-    → w.queue ≡ nothing → w.done ≡ 0 → w.gone.items ≡ [] → w.opened.items ≡ [] → w.picks.items ≡ [] → IsAt m place want tx g q w
-IsAt-first m place want tx g q w serves owner first rests queue done gone opened picks = record {
-  usable = IsUsable-none m place tx q w serves owner opened (omega arith);
+pub IsAt-first : (m : Meanings) (place : Place) (want : Wanted) (tx : ℕ) (g : Going) (q : Parts) (w : Work) (ones : List OpenRelation) → space.Serves tx q → place.owner ≡ 2 → IsFirst g → Rests m place.root want g.db q
+    → MayStayOpen m place.root q.store.pool.geometry.pages want ones → w.queue ≡ nothing → w.done ≡ 0 → w.gone.items ≡ [] → w.opened.items ≡ last_open ones → w.picks.items ≡ [] → IsAt m place want tx g q w
+IsAt-first m place want tx g q w ones serves owner first rests stay queue done gone opened picks = record {
+  usable = record { ready = serves; owner = owner; opened = All-weaker (IsOpened m rests.committed.kept) (IsOpen m) (λ one is. is.is) w.opened.items are; within = omega arith };
   slots = slots_in q.store.pool.geometry.pages want;
   kept = rests.committed.kept;
   has = rests.has;
   db = rests.committed.is;
   keeps = subst (λ (gone : List ℕ). Keeps m IsDurable place.root (slots_in q.store.pool.geometry.pages want) gone rests.committed.kept) (sym gone) rests.committed.keeps;
   settled = subst (λ (q : Queue). IsSettled m rests.committed.kept q) (sym first.queue) rests.committed.settled;
-  opened = none_opened m rests.committed.kept w.opened.items opened;
+  opened = are;
   waits = left ∙ sym first.queue;
   picked = picks ∙ sym first.used;
   gone = λ _. gone;
   aside = λ f measure. omega (arith, ap (λ (l : List ℕ). measured f (slots_in q.store.pool.geometry.pages want) l) gone);
 }
   where
+    are : AreOpened m rests.committed.kept w.opened.items
+    are = subst (λ (os : List OpenRelation). AreOpened m rests.committed.kept os) (sym opened) (AreOpened-last m rests.committed.kept ones (stay rests.committed.kept rests.committed.keeps.tables))
+
     left : left_of w ≡ nothing
     left = subst (λ (n : ℕ). (v : Queue) → v ≡ nothing → record { actions = drop n v.actions; entries = v.entries } ≡ nothing) (sym done) (λ v is. is) w.queue queue
 

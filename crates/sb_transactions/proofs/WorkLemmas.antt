@@ -2,7 +2,6 @@
 use Rattle.std.proofs.Common.{◌≡◌, ℕ, ◌≤◌, List, [], ◌++◌, length, take, drop, All, sym, ap, subst, ◌∙◌, arith}
 use Rattle.std.proofs.Math.Seq.{take-length}
 use Rattle.std.proofs.lemmas.List.{drop_all, length-append, length-drop, length-take-le, nil_from_length, take-append-le, take-take}
-use Rattle.std.proofs.lemmas.List.Elements.{All-nil, All-take}
 use Rattle.sb_rule.specs.declared.action.Action.{Action}
 use Rattle.sb_fold.specs.Outcome.{Entry, Queue}
 use Rattle.sb_deferred.specs.Waiting.{IsFront, IsWithin, mark_of, nothing}
@@ -14,9 +13,10 @@ use Rattle.sb_tables.specs.Opened.{IsOpen}
 use Rattle.sb_txn.specs.Parts.{Parts}
 use Rattle.sb_space.specs.Works as space
 use Rattle.sb_tables.specs.Work.{Work}
-use Rattle.sb_tables.specs.Working.{AreOpened, IsOpened, left_of}
+use Rattle.sb_tables.specs.Working.{AreOpened, left_of}
 use Rattle.sb_transactions.specs.declared.transactions.Point.{Point}
-use Rattle.sb_transactions.specs.Transactions.{IsCutTo, IsNotBehind, IsTrimmed, IsUsable, waited_at}
+use Rattle.sb_transactions.specs.Transactions.{IsCutTo, IsNotBehind, IsTrimmed, IsUsable, last_open, waited_at}
+use Rattle.sb_transactions.proofs.StayLemmas.{AreOpened-last, last_all, none_open}
 
 pub Queue-same : (p q : Queue) → p.actions ≡ q.actions → p.entries ≡ q.entries → p ≡ q
 Queue-same p q actions entries = λ i. record { actions = actions i; entries = entries i }
@@ -27,32 +27,36 @@ take_front n old more new is less = ap (take n) is ∙ take-append-le n old more
 pub front_long : {A : Type 0} (old more new : List A) → new ≡ old ++ more → length old ≤ length new
 front_long old more new is = omega (arith, ap length is, length-append old more)
 
--- ---- nothing is open
-none_open : (m : Meanings) (opened : List OpenRelation) → opened ≡ [] → All (IsOpen m) opened
-none_open m opened none = subst (λ (os : List OpenRelation). All (IsOpen m) os) (sym none) (All-nil (IsOpen m))
-
-pub none_opened : (m : Meanings) (kept : List Kept) (opened : List OpenRelation) → opened ≡ [] → AreOpened m kept opened
-none_opened m kept opened none = subst (λ (os : List OpenRelation). AreOpened m kept os) (sym none) (All-nil (IsOpened m kept))
-
+-- ---- new, or trimmed
 pub left_same : (old new : Work) → new.done ≡ old.done → new.queue ≡ old.queue → left_of new ≡ left_of old
 left_same old new done queue = λ i. record { actions = drop (done i) (queue i).actions; entries = (queue i).entries }
 
--- a new one, or one that was cut, can be worked on
+-- a new one can be worked on
+pub IsUsable-first : (m : Meanings) (place : Place) (tx : ℕ) (p : Parts) (w : Work) (ones : List OpenRelation) → space.Serves tx p → place.owner ≡ 2 → All (IsOpen m) ones → w.opened.items ≡ last_open ones
+    → w.done ≡ 0 → IsUsable m place tx p w
+IsUsable-first m place tx p w ones serves owner all opened done = record {
+  ready = serves;
+  owner = owner;
+  opened = subst (λ (os : List OpenRelation). All (IsOpen m) os) (sym opened) (last_all (IsOpen m) ones all);
+  within = omega arith;
+}
+
+-- so can one that was cut
 pub IsUsable-none : (m : Meanings) (place : Place) (tx : ℕ) (p : Parts) (w : Work) → space.Serves tx p → place.owner ≡ 2 → w.opened.items ≡ [] → w.done ≤ length w.queue.actions → IsUsable m place tx p w
 IsUsable-none m place tx p w serves owner none within = record { ready = serves; owner = owner; opened = none_open m w.opened.items none; within = within }
 
--- so can one of which the first relations stay open
+-- and one of which the last relations stay open
 pub IsUsable-trimmed : (m : Meanings) (place : Place) (tx : ℕ) (p : Parts) (old new : Work) → IsTrimmed old new → IsUsable m place tx p old → IsUsable m place tx p new
 IsUsable-trimmed m place tx p old new trimmed usable = record {
   ready = usable.ready;
   owner = usable.owner;
-  opened = subst (λ (os : List OpenRelation). All (IsOpen m) os) (sym trimmed.opened) (All-take (IsOpen m) 64 old.opened.items usable.opened);
+  opened = subst (λ (os : List OpenRelation). All (IsOpen m) os) (sym trimmed.opened) (last_all (IsOpen m) old.opened.items usable.opened);
   within = let done = trimmed.done in let long = ap (λ (q : Queue). length q.actions) trimmed.queue in let within = usable.within in omega arith;
 }
 
 pub trimmed_opened : (m : Meanings) (kept : List Kept) (old new : Work) → IsTrimmed old new → AreOpened m kept old.opened.items → AreOpened m kept new.opened.items
 trimmed_opened m kept old new trimmed are =
-    subst (λ (os : List OpenRelation). AreOpened m kept os) (sym trimmed.opened) (All-take (IsOpened m kept) 64 old.opened.items are)
+    subst (λ (os : List OpenRelation). AreOpened m kept os) (sym trimmed.opened) (AreOpened-last m kept old.opened.items are)
 
 -- ---- cut to a point
 module _ (point : Point) (old new : Work) (queue : IsWithin point.queue old.queue) (cut : IsCutTo point old new) where

@@ -23,13 +23,14 @@ use Rattle.sb_txn.specs.State.{State}
 use Rattle.sb_space.specs.Spent.{HasSpent}
 use Rattle.sb_space.specs.Table.{table_len}
 use Rattle.sb_space.specs.Works.{Fails, StaysWanted, Works}
+use Rattle.sb_tables.specs.OpenRelation.{OpenRelation}
 use Rattle.sb_tables.specs.Refusals.{HasRefusalCause}
 use Rattle.sb_tables.specs.Working.{IsPaid, IsShortOf, extensions_of}
 use Rattle.sb_tables.specs.Work.{Work}
 use Rattle.sb_transactions.specs.declared.refusals.Uncommitted.{Uncommitted}
 use Rattle.sb_transactions.specs.declared.transactions.Point.{Point}
 use Rattle.sb_transactions.specs.Calls.{IsOnlyFault}
-use Rattle.sb_transactions.specs.Transactions.{IsAt, IsCommitted, IsPointOf, IsUsable, Rests, WasBegun, WasSo, unused}
+use Rattle.sb_transactions.specs.Transactions.{IsAt, IsCommitted, IsPointOf, IsUsable, MayStayOpen, Rests, WasBegun, WasSo, unused}
 
 -- ---- what is done before the pages are committed
 -- what waits, and then the pages of what went are given back
@@ -37,11 +38,12 @@ abbrev pub finish_and_free : Extensions → fold.Work (Unit {0})
 finish_and_free ext = finish ext >>= λ _. change_to freed
 
 -- ---- what is committed
--- The work's database is committed, in the pages that are wanted from then on, and these are the picks that it used. At each moment a crash left the
--- pages that were wanted, or these.
-pub record IsDone (m : Meanings) (root : ℕ) (want : Wanted) (picks : List Key) (old : Parts) (g : Going) (new : Parts) : Type 0 where
+-- The work's database is committed, in the pages that are wanted from then on, whose relations are open still, and these are the picks that it used. At
+-- each moment a crash left the pages that were wanted, or these.
+pub record IsDone (m : Meanings) (root : ℕ) (want : Wanted) (picks : List Key) (ones : List OpenRelation) (old : Parts) (g : Going) (new : Parts) : Type 0 where
   pub now : Wanted
   pub rests : Rests m root now g.db new
+  pub opened : MayStayOpen m root new.store.pool.geometry.pages now ones
   pub picked : picks ≡ g.used
   pub leaves : LeavesOnly old.told new.told (IsOldOrNew old.store.pool.geometry want now)
 

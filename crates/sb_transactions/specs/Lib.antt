@@ -4,6 +4,7 @@ pub use Rattle.sb_space.specs.Table
 pub use Rattle.sb_space.specs.declared.transactions.Space
 pub use Rattle.sb_space.specs.declared.transactions.Tx
 pub use Rattle.sb_tables.specs.Measures
+pub use Rattle.sb_tables.specs.OpenRelation
 pub use Rattle.sb_tables.specs.Opened
 pub use Rattle.sb_tables.specs.Owned
 pub use Rattle.sb_tables.specs.Refusals

@@ -1,5 +1,5 @@
 -- Where work in a transaction has come, and where going back to a point comes.
-use Rattle.std.specs.Prelude.{◌≡◌, ℕ, ◌≤◌, false, List, [], length, take, drop, None}
+use Rattle.std.specs.Prelude.{◌≡◌, ℕ, ◌-◌, ◌≤◌, false, List, [], length, take, drop, None}
 use Rattle.sb_relation.specs.Db.{Db}
 use Rattle.sb_fold.specs.Extensions.{box_of}
 use Rattle.sb_fold.specs.Finish.{first_failing}
@@ -11,8 +11,9 @@ use Rattle.sb_registry.specs.Boxes.{Meanings}
 use Rattle.sb_drive.specs.Slots.{Slots}
 use Rattle.sb_drive.specs.Spaces.{Wanted}
 use Rattle.sb_map.specs.declared.place.Place.{Place}
-use Rattle.sb_tables.specs.Tables.{Kept, db_of}
+use Rattle.sb_tables.specs.Tables.{Kept, Tables, db_of}
 use Rattle.sb_tables.specs.Standing.{Keeps}
+use Rattle.sb_tables.specs.OpenRelation.{OpenRelation}
 use Rattle.sb_tables.specs.Opened.{IsDurable}
 use Rattle.sb_txn.specs.Book.{standing_of}
 use Rattle.sb_txn.specs.Parts.{Parts}
@@ -51,6 +52,14 @@ pub record IsCommitted (m : Meanings) (root pages : ℕ) (want : Wanted) (db : D
 pub record Rests (m : Meanings) (root : ℕ) (want : Wanted) (db : Db) (p : Parts) : Type 0 where
   pub has : HasPages want (slots_in p.store.pool.geometry.pages want) p
   pub committed : IsCommitted m root p.store.pool.geometry.pages want db
+
+-- Open relations may stay open: each catalogue that so many pages have has them, with their descriptors.
+abbrev pub MayStayOpen : Meanings → ℕ → ℕ → Wanted → List OpenRelation → Type 0
+MayStayOpen m root pages want ones = (kept : List Kept) → Tables m IsDurable root (slots_in pages want) kept → AreOpened m kept ones
+
+-- the last 64 of them
+abbrev pub last_open : List OpenRelation → List OpenRelation
+last_open ones = drop (length ones - 64) ones
 
 -- Within a transaction that was begun over the database: to take all its changes out again gives the pages wanted, which keep it.
 pub record WasBegun (m : Meanings) (root : ℕ) (want : Wanted) (db : Db) (tx : ℕ) (p : Parts) : Type 0 where
@@ -155,10 +164,10 @@ pub record IsCutTo (point : Point) (old new : Work) : Type 0 where
   pub opened : new.opened.items ≡ []
   pub picks : new.picks.items ≡ []
 
--- the first 64 relations stay open, and no pick is noted; the rest is as it was
+-- the last 64 relations stay open, and no pick is noted; the rest is as it was
 pub record IsTrimmed (old new : Work) : Type 0 where
   pub queue : new.queue ≡ old.queue
   pub done : new.done ≡ old.done
   pub gone : new.gone.items ≡ old.gone.items
-  pub opened : new.opened.items ≡ take 64 old.opened.items
+  pub opened : new.opened.items ≡ last_open old.opened.items
   pub picks : new.picks.items ≡ []

@@ -1,6 +1,6 @@
 //! Commits.
 
-ghost use Rattle.std.specs.Prelude.{◌≡◌, [], true, false, is_some, ℕ, Some, IfErr, IfOk, IfSome, OnOk};
+ghost use Rattle.std.specs.Prelude.{◌≡◌, [], All, true, false, is_some, ℕ, Some, IfErr, IfOk, IfSome, OnOk};
 ghost use Rattle.sb_relation.specs.Db.{Db};
 ghost use Rattle.sb_fold.specs.Outcome.{Going};
 ghost use Rattle.sb_cascade.specs.Runs.{OnFault, is_room};
@@ -11,6 +11,7 @@ ghost use Rattle.sb_txn.specs.Book.{ActiveTransaction, transaction_with};
 ghost use Rattle.sb_txn.specs.Clauses.{CommitAsksNothing};
 ghost use Rattle.sb_txn.specs.Parts.{parts};
 ghost use Rattle.sb_space.specs.Works.{Serves};
+ghost use Rattle.sb_tables.specs.Opened.{IsOpen};
 ghost use Rattle.sb_tables.specs.Refusals.{HasRefusalCause};
 ghost use Rattle.sb_tables.specs.Working.{IsNoneGone};
 ghost use Rattle.sb_transactions.specs.Calls.{IsOnlyFault, KeepsWanted, Remains};
@@ -19,7 +20,7 @@ ghost use Rattle.sb_transactions.specs.Transactions.{HasNothingLeft, IsAt, IsFin
 
 use crate::finishing::{finish_work, is_idle};
 use crate::points::mark;
-use crate::refusals::{Uncommitted, ended, stop};
+use crate::refusals::{Committed, Uncommitted, ended, stop};
 use crate::transactions::Transaction;
 use sb_disk::Disk;
 use sb_fold::Refusal;
@@ -27,10 +28,9 @@ use sb_map::Place;
 use sb_registry::Boxes;
 use sb_space::Space;
 use sb_tables::refusal_of;
-use sb_value::RecKey;
 use std::alloc::Global;
 
-/// Commits the transaction: does what waits for it, gives back the pages of owners that are to go, and commits the pages. It gives the record keys that the work picked.
+/// Commits the transaction: does what waits for it, gives back the pages of owners that are to go, and commits the pages. It gives the record keys that the work picked, and the relations that it has opened.
 ///
 /// Where room or memory is wanting for that, the transaction goes on as it was. Any other refusal aborts it; or `Fault` is answered, where the disk fails then.
 pub fn commit<B: Boxes, D: Disk>(
@@ -40,14 +40,15 @@ pub fn commit<B: Boxes, D: Disk>(
     place: Place,
     mut transaction: Transaction,
     alloc: Global,
-) -> Result<Vec<RecKey>, Uncommitted>
+) -> Result<Committed, Uncommitted>
     requires usable { IsUsable (B.meanings boxes.now) place transaction.tx.store.number (parts D.told D.len disk.old space.old.store) transaction.work }
 
-    ensures done { IfOk result (λ picks. (want : Wanted) (g : Going)
+    ensures done { IfOk result (λ x. (want : Wanted) (g : Going)
         → IsAt (B.meanings boxes.now) place want transaction.tx.store.number g (parts D.told D.len disk.old space.old.store) transaction.work
         → IsPaidAt g (parts D.told D.len disk.old space.old.store)
-        → Finishes (B.meanings boxes.now) g (IsDone (B.meanings boxes.now) place.root want picks.items (parts D.told D.len disk.old space.old.store))
+        → Finishes (B.meanings boxes.now) g (IsDone (B.meanings boxes.now) place.root want x.picks.items x.opened.items (parts D.told D.len disk.old space.old.store))
         (parts D.told D.len disk.new space.new.store)) }
+    ensures opened { IfOk result (λ x. All (IsOpen (B.meanings boxes.now)) x.opened.items) }
     ensures refused { IfErr result (λ e. (want : Wanted) (g : Going)
         → IsAt (B.meanings boxes.now) place want transaction.tx.store.number g (parts D.told D.len disk.old space.old.store) transaction.work
         → IsPaidAt g (parts D.told D.len disk.old space.old.store)
@@ -96,18 +97,19 @@ pub fn commit<B: Boxes, D: Disk>(
     }
 }
 
-/// Commits a transaction of which nothing is left to be done, and gives the record keys that its work picked. One that made no change makes no call on the disk. It takes no memory.
+/// Commits a transaction of which nothing is left to be done, and gives the record keys that its work picked, and the relations that it has opened. One that made no change makes no call on the disk. It takes no memory.
 pub fn commit_pages<D: Disk>(
     space: &mut Space,
     disk: &mut D,
     transaction: Transaction,
-) -> Result<Vec<RecKey>, Refusal>
+) -> Result<Committed, Refusal>
     requires serves { Serves transaction.tx.store.number (parts D.told D.len disk.old space.old.store) }
 
-    ensures done { IfOk result (λ picks. (m : Meanings) (place : Place) (want : Wanted) (g : Going)
+    ensures done { IfOk result (λ x. (m : Meanings) (place : Place) (want : Wanted) (g : Going)
         → IsAt m place want transaction.tx.store.number g (parts D.told D.len disk.old space.old.store) transaction.work
         → IsFinished m g transaction.work
-        → IsDone m place.root want picks.items (parts D.told D.len disk.old space.old.store) g (parts D.told D.len disk.new space.new.store)) }
+        → IsDone m place.root want x.picks.items x.opened.items (parts D.told D.len disk.old space.old.store) g (parts D.told D.len disk.new space.new.store)) }
+    ensures opened { IfOk result (λ x. x.opened.items ≡ transaction.work.opened.items) }
     ensures any_moment { (m : Meanings) (place : Place) (want : Wanted) (g : Going)
         → IsAt m place want transaction.tx.store.number g (parts D.told D.len disk.old space.old.store) transaction.work
         → IsFinished m g transaction.work
@@ -122,7 +124,10 @@ pub fn commit_pages<D: Disk>(
 {
     let Transaction { tx, work } = transaction;
     match space.commit(disk, tx) {
-        Ok(()) => Ok(work.picks),
+        Ok(()) => Ok(Committed {
+            picks: work.picks,
+            opened: work.opened,
+        }),
         Err(fault) => Err(refusal_of(fault)),
     }
 }

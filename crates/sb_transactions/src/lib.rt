@@ -10,8 +10,8 @@ mod transactions;
 
 pub use commits::{commit, commit_pages};
 pub use points::{back_to, mark};
-pub use refusals::Uncommitted;
+pub use refusals::{Committed, Uncommitted};
 pub use sb_map::Place;
 pub use sb_space::Space;
-pub use sb_tables::{next_descriptor, refusal_of};
+pub use sb_tables::{OpenRelation, next_descriptor, refusal_of};
 pub use transactions::{Point, Transaction, abort, begin, settle};

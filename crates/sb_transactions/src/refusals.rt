@@ -1,4 +1,4 @@
-//! Commits that are refused.
+//! What commits come to.
 
 ghost use Rattle.std.specs.Prelude.{◌≡◌, [], false, is_some, ℕ, IfSome};
 ghost use Rattle.sb_relation.specs.Db.{Db};
@@ -15,7 +15,15 @@ use crate::transactions::{Point, Transaction, abort};
 use sb_disk::Disk;
 use sb_fold::Refusal;
 use sb_space::Space;
+use sb_tables::OpenRelation;
 use sb_value::RecKey;
+
+/// What was committed: the record keys that the work picked, and the relations that it has opened, which may stay so.
+#[derive(Drop)]
+pub struct Committed {
+    pub picks: Vec<RecKey>,
+    pub opened: Vec<OpenRelation>,
+}
 
 /// Why a transaction wasn't committed: the refusal, and the transaction where it goes on.
 #[derive(Drop)]
@@ -32,11 +40,11 @@ fn is_wanting(refusal: &Refusal) -> bool
 }
 
 /// The answer of a call behind which the transaction is over.
-pub(crate) fn ended(answer: Result<Vec<RecKey>, Refusal>) -> Result<Vec<RecKey>, Uncommitted>
+pub(crate) fn ended(answer: Result<Committed, Refusal>) -> Result<Committed, Uncommitted>
     ensures { result ≡ ended answer }
 {
     match answer {
-        Ok(picks) => Ok(picks),
+        Ok(committed) => Ok(committed),
         Err(refusal) => Err(Uncommitted {
             refusal,
             transaction: None,

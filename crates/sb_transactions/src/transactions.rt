@@ -1,6 +1,6 @@
 //! The transactions of an engine.
 
-ghost use Rattle.std.specs.Prelude.{◌≡◌, ◌≤◌, [], false, length, ℕ, IfErr, IfOk, OnOk};
+ghost use Rattle.std.specs.Prelude.{◌≡◌, ◌≤◌, [], All, false, length, ℕ, IfErr, IfOk, OnOk};
 ghost use Rattle.sb_relation.specs.Db.{Db};
 ghost use Rattle.sb_fold.specs.Outcome.{Going};
 ghost use Rattle.sb_deferred.specs.Waiting.{nothing};
@@ -11,16 +11,17 @@ ghost use Rattle.sb_txn.specs.Clauses.{AsksNothing, Grows, IsReady, Leads};
 ghost use Rattle.sb_txn.specs.Parts.{parts, Parts};
 ghost use Rattle.sb_space.specs.Spent.{HasSpent};
 ghost use Rattle.sb_space.specs.Works.{Serves};
+ghost use Rattle.sb_tables.specs.Opened.{IsOpen};
 ghost use Rattle.sb_tables.specs.Refusals.{HasRefusalCause};
 ghost use Rattle.sb_transactions.specs.Calls.{IsOnlyFault, KeepsWanted, Remains};
 ghost use Rattle.sb_transactions.specs.Commits.{FailsOn};
-ghost use Rattle.sb_transactions.specs.Transactions.{IsAt, IsFirst, IsTrimmed, IsUsable, Rests, WasBegun, unused};
+ghost use Rattle.sb_transactions.specs.Transactions.{IsAt, IsFirst, IsTrimmed, IsUsable, MayStayOpen, Rests, WasBegun, last_open, unused};
 
 use sb_deferred::{Queue, QueueMark};
 use sb_disk::Disk;
 use sb_fold::Refusal;
 use sb_space::{Mark, Space, Tx};
-use sb_tables::{Work, refusal_of};
+use sb_tables::{OpenRelation, Work, refusal_of};
 use std::alloc::Global;
 
 /// A transaction of the engine: that of the store, and what the engine keeps beside its pages. It is spent by `commit` or `abort`.
@@ -39,10 +40,11 @@ pub struct Point {
     pub(crate) gone: usize,
 }
 
-/// Begins a transaction. A checkpoint is taken first where more than half of the log or of its gates is used; else disk and journal stay as they were. It takes no memory.
+/// Begins a transaction, in which the last 64 of these relations are open. A checkpoint is taken first where more than half of the log or of its gates is used; else disk and journal stay as they were. It takes no memory.
 pub fn begin<D: Disk>(
     space: &mut Space,
     disk: &mut D,
+    opened: Vec<OpenRelation>,
     alloc: Global,
 ) -> Result<Transaction, Refusal>
     requires ready { IsReady (parts D.told D.len disk.old space.old.store) }
@@ -51,13 +53,15 @@ pub fn begin<D: Disk>(
 
     ensures serves { IfOk result (λ t. Serves t.tx.store.number (parts D.told D.len disk.new space.new.store)) }
     ensures within { IfOk result (λ t. t.work.done ≤ length t.work.queue.actions) }
-    ensures usable { IfOk result (λ t. (m : Meanings) (place : Place) → place.owner ≡ 2
+    ensures opened { IfOk result (λ t. t.work.opened.items ≡ last_open opened.items) }
+    ensures usable { IfOk result (λ t. (m : Meanings) (place : Place) → place.owner ≡ 2 → All (IsOpen m) opened.items
         → IsUsable m place t.tx.store.number (parts D.told D.len disk.new space.new.store) t.work) }
     ensures begun { IfOk result (λ t. (m : Meanings) (root : ℕ) (want : Wanted) (db : Db)
         → Rests m root want db (parts D.told D.len disk.old space.old.store)
         → WasBegun m root want db t.tx.store.number (parts D.told D.len disk.new space.new.store)) }
     ensures at { IfOk result (λ t. (m : Meanings) (place : Place) (want : Wanted) (g : Going) → place.owner ≡ 2 → IsFirst g
         → Rests m place.root want g.db (parts D.told D.len disk.old space.old.store)
+        → MayStayOpen m place.root space.old.store.pool.geometry.pages want opened.items
         → IsAt m place want t.tx.store.number g (parts D.told D.len disk.new space.new.store) t.work) }
     ensures spent { OnOk result (HasSpent 0 space.new.store) }
     ensures pages { IfOk result (λ t. Leads (parts D.told D.len disk.old space.old.store) (parts D.told D.len disk.new space.new.store) (λ now. now)) }
@@ -69,22 +73,23 @@ pub fn begin<D: Disk>(
     match space.begin(disk) {
         Ok(tx) => Ok(Transaction {
             tx,
-            work: new_work(alloc),
+            work: new_work(opened, alloc),
         }),
         Err(fault) => Err(refusal_of(fault)),
     }
 }
 
 /// What is kept of a transaction at its begin.
-fn new_work(alloc: Global) -> Work
+fn new_work(mut opened: Vec<OpenRelation>, alloc: Global) -> Work
     ensures queue { result.queue ≡ nothing }
     ensures done { result.done ≡ 0 }
     ensures gone { result.gone.items ≡ [] }
-    ensures opened { result.opened.items ≡ [] }
+    ensures opened { result.opened.items ≡ last_open opened.items }
     ensures picks { result.picks.items ≡ [] }
 {
+    close_first(&mut opened);
     Work {
-        opened: Vec::new(alloc),
+        opened,
         queue: Queue::new(alloc),
         done: 0,
         gone: Vec::new(alloc),
@@ -92,10 +97,18 @@ fn new_work(alloc: Global) -> Work
     }
 }
 
-/// How many relations stay open from one command of a transaction to the next.
+/// How many relations stay open from one command to the next.
 const MOST_OPEN: usize = 64;
 
-/// Before a command: at most 64 relations stay open, those that were opened first, so that their descriptors aren't read again; and no pick is noted.
+/// Closes all relations but the last 64 that were opened.
+fn close_first(opened: &mut Vec<OpenRelation>)
+    ensures { opened.new.items ≡ last_open opened.old.items }
+{
+    let more = opened.len().saturating_sub(MOST_OPEN);
+    opened.drain(..more);
+}
+
+/// Before a command: at most 64 relations stay open, those that were opened last, so that their descriptors aren't read again; and no pick is noted.
 pub fn settle(transaction: &mut Transaction)
     ensures trimmed { IsTrimmed transaction.old.work transaction.new.work }
     ensures tx { transaction.new.tx ≡ transaction.old.tx }
@@ -106,7 +119,7 @@ pub fn settle(transaction: &mut Transaction)
         → IsUsable m place transaction.old.tx.store.number p transaction.old.work
         → IsUsable m place transaction.old.tx.store.number p transaction.new.work }
 {
-    transaction.work.opened.truncate(MOST_OPEN);
+    close_first(&mut transaction.work.opened);
     transaction.work.picks.clear();
 }
 

@@ -1,4 +1,4 @@
-use Rattle.std.proofs.Common.{Err, refl, sym, ap, ◌∙◌, subst}
+use Rattle.std.proofs.Common.{◌≡◌, Err, refl, sym, ap, ◌∙◌, subst}
 use Rattle.sb_value.proofs.Truths.{is_some-none}
 use Rattle.sb_plain.specs.declared.command.Command.{Command}
 use Rattle.sb_plain.specs.declared.command.Command.TheVariants as command
@@ -50,13 +50,13 @@ returns-in-Ok-clause-ended g c =
     let method = c.args.method in
     let code = c.args.code in
     let e = c.test_outside-tested.new.disk in
-    let y : Session g.row.B.Denot = record { boxes = x.boxes; space = c.test_outside-tested.new.space; place = x.place; «open» = x.open; down = x.down } in
+    let y : Session g.row.B.Denot = record { boxes = x.boxes; space = c.test_outside-tested.new.space; place = x.place; opened = x.opened; «open» = x.open; down = x.down } in
     let f = c.retire.new.disk in
     let z = c.retire.new.self in
     let did = c.retire.ensures in
     let none = is_some-none x.open (sym c.is_some.ensures ∙ c.if-is_some.false) in
     subst (λ (r : Reply). Executed meanings told len faults k d f x z r) (sym c.reply_of.ensures)
-    (Executed-tested meanings told len faults k d e x y c.requires.runs c.requires.up none refl refl refl refl c.in-Ok.ensures.passes c.test_outside-tested.ensures.leaves (λ s. ap (may_want_room s) c.requires.retires) f z (reply_of c.retire.result) did.disk did.space did.same did.keeps did.runs
+    (Executed-tested meanings told len faults k d e x y c.requires.runs c.requires.up none refl refl refl refl refl c.in-Ok.ensures.passes c.test_outside-tested.ensures.leaves (λ s. ap (may_want_room s) c.requires.retires) f z (reply_of c.retire.result) did.disk did.space did.same did.keeps did.runs
     (λ want s for none.
     subst (λ (k : Command). Ends (λ t. IsFor meanings told len want t f z) (Lacks (sizes_of y)) (HasFailed faults e f) (extensions_of (meanings x.boxes)) s k (reply_of c.retire.result)) (sym c.requires.retires)
     (did.ends want s for
@@ -77,13 +77,15 @@ returns-in-Err-clause-ended g c =
     let y = c.told.new.session in
     let space = c.test_outside-tested.new.space in
     let did = c.told.ensures in
-    let ended = c.in-Err.ensures.refused in
+    let ended = c.in-Err.ensures.refused x.opened.items in
     let result = Err c.in-Err.refusal in
     let none = is_some-none x.open (sym c.is_some.ensures ∙ c.if-is_some.false) in
     let still = did.current ∙ none in
+    let listed : y.opened.items ≡ x.opened.items = λ i. (did.opened i).items in
     Executed-moved meanings told len faults k d e x y c.told.result (same-stays (meanings x.boxes) (meanings y.boxes) (ap meanings did.boxes))
     (keeps_session meanings told len faults k d e x y c.requires.runs c.requires.up space did.space did.boxes did.place result c.told.result did.reply did.down ended.remains ended.fault)
-    (runs_alone meanings told len faults k d e x y c.requires.runs c.requires.up space did.space did.boxes did.place result c.told.result did.reply did.down ended.remains none still ended)
-    (ends_alone meanings told len faults k d e x y c.requires.runs c.requires.up space did.space did.boxes did.place result c.told.result did.reply did.down ended.remains none still ended)
-    (room_outside meanings told len faults k d e x y c.requires.runs c.requires.up space did.space did.boxes did.place result c.told.result did.reply did.down ended.remains none still ended)
+    (runs_alone meanings told len faults k d e x y c.requires.runs c.requires.up space did.space did.boxes did.place result c.told.result did.reply did.down ended.remains none still x.opened.items listed ended
+    (c.requires.runs.opened c.requires.up))
+    (ends_alone meanings told len faults k d e x y c.requires.runs c.requires.up space did.space did.boxes did.place result c.told.result did.reply did.down ended.remains none still x.opened.items listed ended)
+    (room_outside meanings told len faults k d e x y c.requires.runs c.requires.up space did.space did.boxes did.place result c.told.result did.reply did.down ended.remains none still x.opened.items listed ended)
     (λ never. leaves_session meanings told len faults k d e x y c.requires.runs c.requires.up space did.space did.boxes did.place result c.told.result did.reply did.down c.test_outside-tested.ensures.leaves)

@@ -17,7 +17,7 @@ returns-clause-ends g c =
     let some : x.open ≡ Some c.in-Some.current = sym c.take.ensures.value ∙ c.in-Some.is in
     ends_inside g.B.Boxes.meanings g.D.Disk.told g.D.Disk.len g.D.Disk.faults c.args.command.now c.args.disk.now c.work_inside-result.new.disk x c.told.new.session c.requires.runs c.requires.up
     c.work_inside-result.new.space c.told.ensures.space c.told.ensures.boxes c.told.ensures.place c.work_inside-result.result c.told.result c.told.ensures.reply c.told.ensures.down
-    c.work_inside-result.ensures.remains c.in-Some.current c.work_inside-result.new.current some c.told.ensures.current c.work_inside-result.ensures
+    c.work_inside-result.ensures.remains c.in-Some.current c.work_inside-result.new.current some c.told.ensures.current (λ i. (c.told.ensures.opened i).items) c.work_inside-result.ensures
 
 pub returns-clause-room : goal.returns-clause-room
 returns-clause-room g c =
@@ -25,7 +25,7 @@ returns-clause-room g c =
     let some : x.open ≡ Some c.in-Some.current = sym c.take.ensures.value ∙ c.in-Some.is in
     room_within g.B.Boxes.meanings g.D.Disk.told g.D.Disk.len g.D.Disk.faults c.args.command.now c.args.disk.now c.work_inside-result.new.disk x c.told.new.session c.requires.runs c.requires.up
     c.work_inside-result.new.space c.told.ensures.space c.told.ensures.boxes c.told.ensures.place c.work_inside-result.result c.told.result c.told.ensures.reply c.told.ensures.down
-    c.work_inside-result.ensures.remains c.in-Some.current c.work_inside-result.new.current some c.told.ensures.current c.work_inside-result.ensures
+    c.work_inside-result.ensures.remains c.in-Some.current c.work_inside-result.new.current some c.told.ensures.current (λ i. (c.told.ensures.opened i).items) c.work_inside-result.ensures
 
 pub returns-clause-any_moment : goal.returns-clause-any_moment
 returns-clause-any_moment g c =
@@ -47,4 +47,4 @@ returns-clause-runs g c =
     let some : x.open ≡ Some c.in-Some.current = sym c.take.ensures.value ∙ c.in-Some.is in
     runs_inside g.B.Boxes.meanings g.D.Disk.told g.D.Disk.len g.D.Disk.faults c.args.command.now c.args.disk.now c.work_inside-result.new.disk x c.told.new.session c.requires.runs c.requires.up
     c.work_inside-result.new.space c.told.ensures.space c.told.ensures.boxes c.told.ensures.place c.work_inside-result.result c.told.result c.told.ensures.reply c.told.ensures.down
-    c.work_inside-result.ensures.remains c.in-Some.current c.work_inside-result.new.current some c.told.ensures.current c.work_inside-result.ensures
+    c.work_inside-result.ensures.remains c.in-Some.current c.work_inside-result.new.current some c.told.ensures.current (λ i. (c.told.ensures.opened i).items) c.work_inside-result.ensures

@@ -11,8 +11,8 @@ use Rattle.sb_execution.proofs.AloneLemmas.{EndsAlone-committed}
 use Rattle.sb_execution.proofs.AloneCommit.{EndsAlone-let_go, EndsAlone-not_let_go, EndsAlone-over}
 use Rattle.sb_execution.proofs.outside.commit_answer.Goals as goal
 
-pub returns-in-Ok : goal.returns-in-Ok
-returns-in-Ok g c =
+pub returns-in-Ok-clause-ended : goal.returns-in-Ok-clause-ended
+returns-in-Ok-clause-ended g c =
     let told = g.D.Disk.told in
     let len = g.D.Disk.len in
     let faults = g.D.Disk.faults in
@@ -24,9 +24,10 @@ returns-in-Ok g c =
     let w = c.args.transaction.work in
     let v = c.commit.new.disk in
     let vs = c.commit.new.space.store in
-    λ k d s has.
-    subst (λ (r : Reply). EndsAlone told len faults m place k d v s vs (Ok r)) (sym c.replied.ensures)
-    (EndsAlone-committed told len faults m place k d e s t tx w (answer_of c.args.answer) has v vs c.in-Ok.picks c.in-Ok.picks.items c.in-Ok.ensures.remains
+    λ k d s ones has.
+    let opened = c.in-Ok.committed.opened.items in
+    subst (λ (r : Reply). EndsAlone told len faults m place k d v s vs ones opened (Ok r)) (sym c.replied.ensures)
+    (EndsAlone-committed told len faults m place k d e s t tx w ones (answer_of c.args.answer) has v vs c.in-Ok.committed c.in-Ok.committed.picks.items opened c.in-Ok.ensures.remains
     (c.in-Ok.ensures.none tt) c.in-Ok.ensures.done)
 
 pub abort-requires : goal.abort-requires
@@ -43,8 +44,8 @@ abort-requires g c =
           (stays.usable (g.B.Boxes.meanings c.args.boxes.now) c.args.place c.requires.usable.owner).ready;
     }
 
-pub returns-in-Ok-abort : goal.returns-in-Ok-abort
-returns-in-Ok-abort g c =
+pub returns-in-Ok-abort-clause-ended : goal.returns-in-Ok-abort-clause-ended
+returns-in-Ok-abort-clause-ended g c =
     let told = g.D.Disk.told in
     let len = g.D.Disk.len in
     let faults = g.D.Disk.faults in
@@ -60,13 +61,13 @@ returns-in-Ok-abort g c =
     let between = parts told len v vs in
     let same : c.in-Some.kept.tx ≡ c.args.transaction.tx = subst (λ (o : Option Transaction). IfSome o (λ t. t.tx ≡ c.args.transaction.tx)) c.in-Some.is c.in-Err.ensures.tx in
     let stays : StaysOpen tx here between w c.in-Some.kept.work = subst (λ (o : Option Transaction). IfSome o (λ t. StaysOpen tx here between w t.work)) c.in-Some.is c.in-Err.ensures.stays in
-    λ k d s has.
-    EndsAlone-let_go told len faults m place k d e v s t vs tx w (answer_of c.args.answer) has c.in-Err.uncommitted.refusal c.in-Err.ensures.remains c.in-Err.ensures.refused
+    λ k d s ones has.
+    EndsAlone-let_go told len faults m place k d e v s t vs tx w ones (answer_of c.args.answer) has c.args.opened.now.items c.requires.none_open c.in-Err.uncommitted.refusal c.in-Err.ensures.remains c.in-Err.ensures.refused
     c.in-Some.kept.work stays c.abort.new.disk c.abort.new.space.store c.in-Ok-abort.ensures.any_moment (sym c.in-Err.ensures.wanting ∙ ap is_some c.in-Some.is)
     c.in-Ok-abort.ensures.remains c.in-Ok-abort.ensures.none c.in-Some.kept.tx.store.number (ap (λ (a : Tx). a.store.number) same) c.in-Ok-abort.ensures.rests
 
-pub returns-in-Err-abort : goal.returns-in-Err-abort
-returns-in-Err-abort g c =
+pub returns-in-Err-abort-clause-ended : goal.returns-in-Err-abort-clause-ended
+returns-in-Err-abort-clause-ended g c =
     let told = g.D.Disk.told in
     let len = g.D.Disk.len in
     let faults = g.D.Disk.faults in
@@ -81,12 +82,12 @@ returns-in-Err-abort g c =
     let here = parts told len e t in
     let between = parts told len v vs in
     let stays : StaysOpen tx here between w c.in-Some.kept.work = subst (λ (o : Option Transaction). IfSome o (λ t. StaysOpen tx here between w t.work)) c.in-Some.is c.in-Err.ensures.stays in
-    λ k d s has.
-    EndsAlone-not_let_go told len faults m place k d e v s t vs tx w (answer_of c.args.answer) has c.in-Err.uncommitted.refusal c.in-Err.ensures.remains c.in-Err.ensures.refused
+    λ k d s ones has.
+    EndsAlone-not_let_go told len faults m place k d e v s t vs tx w ones (answer_of c.args.answer) has c.args.opened.now.items c.requires.none_open c.in-Err.uncommitted.refusal c.in-Err.ensures.remains c.in-Err.ensures.refused
     c.in-Some.kept.work stays c.abort.new.disk c.abort.new.space.store c.in-Err-abort.ensures.any_moment c.in-Err-abort.fault c.in-Err-abort.ensures.remains c.in-Err-abort.ensures.err
 
-pub returns-in-None : goal.returns-in-None
-returns-in-None g c =
+pub returns-in-None-clause-ended : goal.returns-in-None-clause-ended
+returns-in-None-clause-ended g c =
     let told = g.D.Disk.told in
     let len = g.D.Disk.len in
     let faults = g.D.Disk.faults in
@@ -98,6 +99,6 @@ returns-in-None g c =
     let w = c.args.transaction.work in
     let v = c.commit.new.disk in
     let vs = c.commit.new.space.store in
-    λ k d s has.
-    EndsAlone-over told len faults m place k d e v s t vs tx w (answer_of c.args.answer) has c.in-Err.uncommitted.refusal c.in-Err.ensures.remains c.in-Err.ensures.refused
+    λ k d s ones has.
+    EndsAlone-over told len faults m place k d e v s t vs tx w ones (answer_of c.args.answer) has c.args.opened.now.items c.requires.none_open c.in-Err.uncommitted.refusal c.in-Err.ensures.remains c.in-Err.ensures.refused
     c.in-Err.ensures.any_moment c.in-Err.ensures.kept (c.in-Err.ensures.none c.in-None.is) (c.in-Err.ensures.aborted c.in-None.is) c.in-Err.ensures.fault

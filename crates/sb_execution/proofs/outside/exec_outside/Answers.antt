@@ -17,33 +17,34 @@ returns-clause-ends g c =
     let x = c.args.session.now in
     ends_alone g.B.Boxes.meanings g.D.Disk.told g.D.Disk.len g.D.Disk.faults c.args.command.now c.args.disk.now c.work_outside-result.new.disk x c.told.new.session c.requires.runs c.requires.up
     c.work_outside-result.new.space c.told.ensures.space c.told.ensures.boxes c.told.ensures.place c.work_outside-result.result c.told.result c.told.ensures.reply c.told.ensures.down
-    c.work_outside-result.ensures.remains c.requires.none (c.told.ensures.current ∙ c.requires.none) c.work_outside-result.ensures
+    c.work_outside-result.ensures.ended.remains c.requires.none (c.told.ensures.current ∙ c.requires.none) c.work_outside-result.new.opened.items (λ i. (c.told.ensures.opened i).items) c.work_outside-result.ensures.ended
 
 pub returns-clause-room : goal.returns-clause-room
 returns-clause-room g c =
     let x = c.args.session.now in
     room_outside g.B.Boxes.meanings g.D.Disk.told g.D.Disk.len g.D.Disk.faults c.args.command.now c.args.disk.now c.work_outside-result.new.disk x c.told.new.session c.requires.runs c.requires.up
     c.work_outside-result.new.space c.told.ensures.space c.told.ensures.boxes c.told.ensures.place c.work_outside-result.result c.told.result c.told.ensures.reply c.told.ensures.down
-    c.work_outside-result.ensures.remains c.requires.none (c.told.ensures.current ∙ c.requires.none) c.work_outside-result.ensures
+    c.work_outside-result.ensures.ended.remains c.requires.none (c.told.ensures.current ∙ c.requires.none) c.work_outside-result.new.opened.items (λ i. (c.told.ensures.opened i).items) c.work_outside-result.ensures.ended
 
 pub returns-clause-keeps : goal.returns-clause-keeps
 returns-clause-keeps g c =
     let x = c.args.session.now in
     keeps_session g.B.Boxes.meanings g.D.Disk.told g.D.Disk.len g.D.Disk.faults c.args.command.now c.args.disk.now c.work_outside-result.new.disk x c.told.new.session c.requires.runs c.requires.up
     c.work_outside-result.new.space c.told.ensures.space c.told.ensures.boxes c.told.ensures.place c.work_outside-result.result c.told.result c.told.ensures.reply c.told.ensures.down
-    c.work_outside-result.ensures.remains c.work_outside-result.ensures.fault
+    c.work_outside-result.ensures.ended.remains c.work_outside-result.ensures.ended.fault
 
 pub returns-clause-runs : goal.returns-clause-runs
 returns-clause-runs g c =
     let x = c.args.session.now in
     runs_alone g.B.Boxes.meanings g.D.Disk.told g.D.Disk.len g.D.Disk.faults c.args.command.now c.args.disk.now c.work_outside-result.new.disk x c.told.new.session c.requires.runs c.requires.up
     c.work_outside-result.new.space c.told.ensures.space c.told.ensures.boxes c.told.ensures.place c.work_outside-result.result c.told.result c.told.ensures.reply c.told.ensures.down
-    c.work_outside-result.ensures.remains c.requires.none (c.told.ensures.current ∙ c.requires.none) c.work_outside-result.ensures
+    c.work_outside-result.ensures.ended.remains c.requires.none (c.told.ensures.current ∙ c.requires.none) c.work_outside-result.new.opened.items (λ i. (c.told.ensures.opened i).items) c.work_outside-result.ensures.ended
+    c.work_outside-result.ensures.are_open
 
 pub returns-clause-leaves : goal.returns-clause-leaves
 returns-clause-leaves g c = λ never.
     let x = c.args.session.now in
     leaves_session g.B.Boxes.meanings g.D.Disk.told g.D.Disk.len g.D.Disk.faults c.args.command.now c.args.disk.now c.work_outside-result.new.disk x c.told.new.session c.requires.runs c.requires.up
     c.work_outside-result.new.space c.told.ensures.space c.told.ensures.boxes c.told.ensures.place c.work_outside-result.result c.told.result c.told.ensures.reply c.told.ensures.down
-    (c.work_outside-result.ensures.leaves
+    (c.work_outside-result.ensures.ended.leaves
     (sym (ap (λ (r : Reply). may_have_committed c.args.command.now false r) c.told.ensures.reply) ∙ never))

@@ -6,7 +6,7 @@ use Rattle.sb_engine.proofs.PaidLemmas.{paid_looking}
 use Rattle.sb_engine.proofs.RefusedLemmas.{of_fault, on_fault}
 use Rattle.sb_execution.specs.Serving.{Looked, Tested}
 use Rattle.sb_execution.proofs.ReplyLemmas.{refused_given}
-use Rattle.sb_execution.proofs.ServeLemmas.{given_stop, roomless_stop, tested_served, tested_unserved}
+use Rattle.sb_execution.proofs.ServeLemmas.{given_stop, roomless_stop, tested_opened, tested_served, tested_unserved}
 use Rattle.sb_execution.proofs.WorkLemmas.{looks_works, works_behind}
 use Rattle.sb_execution.proofs.serving.serve.Goals as goal
 
@@ -36,6 +36,11 @@ returns-in-Err-clause-refused g c = λ s h stands seen posed.
     (roomless_stop g.S.PageSpace.has g.S.PageSpace.spent g.S.PageSpace.leads g.S.PageSpace.fails g.S.PageSpace.table (g.B.Boxes.meanings c.args.boxes.now) h c.in-Err.refusal c.refusal_over.new.space
     c.in-Err.ensures.room (c.in-Err.ensures.cause s h stands seen)
     (paid_looking g.S.PageSpace.spent g.S.PageSpace.leads g.met.S.PageSpace.spends c.args.space.now c.refusal_over.new.space c.in-Err.ensures.leads stands.paid))
+
+pub returns-in-Ok-None-clause-opened : goal.returns-in-Ok-None-clause-opened
+returns-in-Ok-None-clause-opened g c =
+    tested_opened g.S.PageSpace.has g.S.PageSpace.leads (g.B.Boxes.meanings c.args.boxes.now) c.args.place.root c.args.space.now c.refusal_over.new.space c.carry_out.new.space c.args.work.now c.carry_out.new.work
+    c.in-Ok-None.ensures.leads c.carry_out.ensures.works.leads c.carry_out.result c.carry_out.ensures.opened
 
 pub returns-in-Ok-None-clause-reads : goal.returns-in-Ok-None-clause-reads
 returns-in-Ok-None-clause-reads g c = c.carry_out.ensures.reads

@@ -1,7 +1,7 @@
 use Rattle.std.proofs.Common.{ap, sym, refl, ◌∙◌}
 use Rattle.sb_txn.specs.declared.store.Tx.{Tx}
 use Rattle.sb_session.proofs.LentLemmas.{IsStoreLent, faulted-lent}
-use Rattle.sb_execution.proofs.LentLemmas.{begun-lent, leaves-lent, led-lent, points-lent, served-lent, serves-lent, stand-lent, unserved-lent, usable-lent}
+use Rattle.sb_execution.proofs.LentLemmas.{begun-lent, leaves-lent, led-lent, opened-lent, points-lent, served-lent, serves-lent, stand-lent, unserved-lent, usable-lent}
 use Rattle.sb_execution.proofs.serving.serve_in.Goals as goal
 
 pub returns : goal.returns
@@ -29,6 +29,7 @@ returns g c =
       fault = faulted-lent told len faults m place disk store tx a b v w is works.leads ready _ same c.serve.result c.serve.ensures.fault;
       reads = c.serve.ensures.reads;
       answer = c.serve.ensures.answer;
+      opened = opened-lent told len faults m place disk store tx a b v w is works ready _ same c.serve.result c.serve.ensures.opened;
       points = points-lent told len faults m place disk store tx a b v w is works ready _ same;
       stand = stand-lent told len faults m place disk store tx a b v w is works ready _ same;
       begun = begun-lent told len faults m place disk store tx a b v w is works ready _ same;

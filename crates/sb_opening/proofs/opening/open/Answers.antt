@@ -161,7 +161,7 @@ returns-clause-stands g c = λ h want db stored.
     ∙ over-stored g.D.Disk.told g.D.Disk.len g.D.Disk.faults c.args.disk.now c.open_store.new.disk c.in_ok-store.store c.in_ok-store.ensures.opened c.in_ok-store.ensures.space (g.B.Boxes.meanings c.args.boxes) h want db stored
     c.catalogue-owner.result.1 (λ s kept. c.in_ok-named.named.items ≡ named_in kept) (ap (λ (r : ℕ × ℕ). r.1) c.catalogue-owner.ensures) c.in_ok-named.ensures.named in
     IsFor-opened g.D.Disk.told g.D.Disk.len g.D.Disk.faults c.args.disk.now c.open_store.new.disk c.in_ok-store.store c.in_ok-store.ensures.opened c.in_ok-store.ensures.space
-    g.B.Boxes.meanings c.make_live.new.boxes c.named_codes.new.disk c.named_codes.new.space.store _ c.in_ok-named.ensures.look.geometry c.in_ok-named.ensures.rests (g.B.Boxes.meanings c.args.boxes) h want db stored
+    g.B.Boxes.meanings c.make_live.new.boxes c.named_codes.new.disk c.named_codes.new.space.store _ c.new.result c.new.ensures.items c.in_ok-named.ensures.look.geometry c.in_ok-named.ensures.rests (g.B.Boxes.meanings c.args.boxes) h want db stored
     (ap (λ (r : ℕ × ℕ). r.1) c.catalogue-owner.ensures)
     (subst (λ (ns : List Named). HasLive (g.B.Boxes.meanings c.args.boxes) ns (g.B.Boxes.meanings c.make_live.new.boxes)) named c.in_ok-make_live.ensures.live)
 
@@ -175,7 +175,7 @@ returns-clause-live g c = λ h want db stored.
 pub returns-clause-runs : goal.returns-clause-runs
 returns-clause-runs g c =
     CanRun-opened g.D.Disk.told g.D.Disk.len g.D.Disk.faults c.args.disk.now c.open_store.new.disk c.in_ok-store.store c.in_ok-store.ensures.opened c.in_ok-store.ensures.space
-    g.B.Boxes.meanings c.make_live.new.boxes c.named_codes.new.disk c.named_codes.new.space.store _ c.in_ok-named.ensures.look.geometry c.in_ok-named.ensures.rests
+    g.B.Boxes.meanings c.make_live.new.boxes c.named_codes.new.disk c.named_codes.new.space.store _ c.new.result c.new.ensures.items c.in_ok-named.ensures.look.geometry c.in_ok-named.ensures.rests
     (ap (λ (r : ℕ × ℕ). r.0) c.catalogue-owner.ensures) (g.B.Boxes.meanings c.args.boxes) c.as_slice.result.now c.in_ok-make_live.ensures.live
 
 pub returns-clause-wanted : goal.returns-clause-wanted

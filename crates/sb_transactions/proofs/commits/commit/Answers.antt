@@ -1,14 +1,15 @@
-use Rattle.std.proofs.Common.{◌≡◌, ℕ, true, sym, ap, subst, ◌∙◌}
+use Rattle.std.proofs.Common.{◌≡◌, ℕ, true, All, sym, ap, subst, ◌∙◌}
 use Rattle.std.proofs.lemmas.Bool.{false≢true}
 use Rattle.sb_cascade.specs.Runs.{is_room}
 use Rattle.sb_txn.specs.Parts.{parts}
 use Rattle.sb_space.specs.declared.transactions.Tx.{Tx}
+use Rattle.sb_tables.specs.Opened.{IsOpen}
 use Rattle.sb_tables.proofs.RefusedLemmas.{on_fault}
 use Rattle.sb_transactions.specs.Calls.{Remains}
 use Rattle.sb_transactions.specs.Commits.{is_wanting}
 use Rattle.sb_transactions.specs.Transactions.{IsBack, IsPointOf, WasBegun}
 use Rattle.sb_transactions.proofs.CallLemmas.{up-earlier}
-use Rattle.sb_transactions.proofs.EndLemmas.{KeepsWanted-stopped, LeavesOldOrFinished-abort, LeavesOldOrFinished-commit, Remains-behind, Remains-stopped, StopsAt-stopped, done-commit, done-left, down-stopped, leaves-left, none-ended, only-ended, remains-ended, roomless-stopped, stops-commit, stops-left}
+use Rattle.sb_transactions.proofs.EndLemmas.{KeepsWanted-stopped, LeavesOldOrFinished-abort, LeavesOldOrFinished-commit, Remains-behind, Remains-stopped, StopsAt-stopped, done-commit, done-left, down-stopped, leaves-left, none-ended, only-ended, opened-ended, remains-ended, roomless-stopped, stops-commit, stops-left}
 use Rattle.sb_transactions.proofs.OpenLemmas.{goes-open, same-open, stays-open}
 use Rattle.sb_transactions.proofs.commits.commit.Goals as goal
 
@@ -25,7 +26,12 @@ returns-then-is_idle-clause-done g c =
     let u = c.commit_pages.new.space.store in
     let r = c.commit_pages.result in
     let left = c.is_idle.ensures.0 c.if-is_idle.true in
-    rw c.ended.ensures (done-left m c.args.place tx (parts told len d s) (parts told len f u) v left r (λ picks. picks.items) c.commit_pages.ensures.done)
+    rw c.ended.ensures (done-left m c.args.place tx (parts told len d s) (parts told len f u) v left r c.commit_pages.ensures.done)
+
+pub returns-then-is_idle-clause-opened : goal.returns-then-is_idle-clause-opened
+returns-then-is_idle-clause-opened g c =
+    let m = g.B.Boxes.meanings c.args.boxes.now in
+    rw c.ended.ensures (opened-ended (All (IsOpen m)) c.args.transaction.work.opened.items c.commit_pages.result c.requires.usable.opened c.commit_pages.ensures.opened)
 
 pub returns-then-is_idle-clause-refused : goal.returns-then-is_idle-clause-refused
 returns-then-is_idle-clause-refused g c =
@@ -138,7 +144,13 @@ returns-in-Ok-clause-done g c =
     let f = c.commit_pages-in-Ok.new.disk in
     let u = c.commit_pages-in-Ok.new.space.store in
     let r = c.commit_pages-in-Ok.result in
-    rw c.ended-in-Ok.ensures (done-commit told len faults m c.args.place tx d e f s t u w led v c.in-Ok.ensures.finished c.in-Ok.ensures.none r (λ picks. picks.items) next same c.commit_pages-in-Ok.ensures.up c.commit_pages-in-Ok.ensures.done)
+    rw c.ended-in-Ok.ensures (done-commit told len faults m c.args.place tx d e f s t u w led v c.in-Ok.ensures.finished c.in-Ok.ensures.none r next same c.commit_pages-in-Ok.ensures.up c.commit_pages-in-Ok.ensures.done)
+
+pub returns-in-Ok-clause-opened : goal.returns-in-Ok-clause-opened
+returns-in-Ok-clause-opened g c =
+    let m = g.B.Boxes.meanings c.args.boxes.now in
+    rw c.ended-in-Ok.ensures
+    (opened-ended (All (IsOpen m)) c.finish_work.new.transaction.work.opened.items c.commit_pages-in-Ok.result c.finish_work.ensures.usable.opened c.commit_pages-in-Ok.ensures.opened)
 
 pub returns-in-Ok-clause-refused : goal.returns-in-Ok-clause-refused
 returns-in-Ok-clause-refused g c =

@@ -1,4 +1,4 @@
-use Rattle.std.proofs.Common.{refl, sym, ◌∙◌}
+use Rattle.std.proofs.Common.{inl, refl, sym, ◌∙◌}
 use Rattle.sb_txn.specs.Parts.{parts}
 use Rattle.sb_session.specs.declared.session.Session.{Session}
 use Rattle.sb_session.proofs.Commands.{Carried-abort}
@@ -21,6 +21,6 @@ returns-in-Ok-clause-ends g c =
     let faults = g.D.Disk.faults in
     let x = c.args.self.now in
     let d = c.args.disk.now in
-    let y : Session g.row.B.Denot = record { boxes = x.boxes; space = c.abort.new.space; place = x.place; «open» = c.take.new.self; down = x.down } in
-    (Carried-abort meanings told len faults d x c.requires.runs c.if-self.false c.abort.new.disk y c.abort.new.space refl refl refl refl c.in-Some.current c.in-Ok.ensures.remains (sym c.take.ensures.value ∙ c.in-Some.is)
+    let y : Session g.row.B.Denot = record { boxes = x.boxes; space = c.abort.new.space; place = x.place; opened = x.opened; «open» = c.take.new.self; down = x.down } in
+    (Carried-abort meanings told len faults d x c.requires.runs c.if-self.false c.abort.new.disk y c.abort.new.space refl refl refl refl (inl refl) c.in-Some.current c.in-Ok.ensures.remains (sym c.take.ensures.value ∙ c.in-Some.is)
     c.take.ensures.after c.in-Ok.ensures.none c.in-Ok.ensures.rests).ends

@@ -27,9 +27,9 @@ returns-in-Ok-true-clause-ends g c =
     let faults = g.D.Disk.faults in
     let x = c.args.self.now in
     let d = c.args.disk.now in
-    let y : Session g.row.B.Denot = record { boxes = c.register.new.self; space = x.space; place = x.place; «open» = x.open; down = x.down } in
+    let y : Session g.row.B.Denot = record { boxes = c.register.new.self; space = x.space; place = x.place; opened = c.clear.new.self; «open» = x.open; down = x.down } in
     let none = is_some-none x.open (sym c.is_some.ensures ∙ c.if-is_some.false) in
-    register-step meanings told len faults d x y c.requires.runs c.if-self.false none refl refl refl refl c.args.method c.args.code c.in-Ok-true.ensures.unique (subst (λ (b : Bool). Registers c.args.method c.args.code b (meanings x.boxes) (meanings c.register.new.self)) c.in-Ok-true.field-0-test c.in-Ok-true.ensures.ok)
+    register-step meanings told len faults d x y c.requires.runs c.if-self.false none refl refl refl refl c.args.method c.args.code c.clear.ensures.items c.in-Ok-true.ensures.unique (subst (λ (b : Bool). Registers c.args.method c.args.code b (meanings x.boxes) (meanings c.register.new.self)) c.in-Ok-true.field-0-test c.in-Ok-true.ensures.ok)
 
 pub returns-in-Ok-false-clause-ends : goal.returns-in-Ok-false-clause-ends
 returns-in-Ok-false-clause-ends g c =
@@ -39,9 +39,9 @@ returns-in-Ok-false-clause-ends g c =
     let faults = g.D.Disk.faults in
     let x = c.args.self.now in
     let d = c.args.disk.now in
-    let y : Session g.row.B.Denot = record { boxes = c.register.new.self; space = x.space; place = x.place; «open» = x.open; down = x.down } in
+    let y : Session g.row.B.Denot = record { boxes = c.register.new.self; space = x.space; place = x.place; opened = x.opened; «open» = x.open; down = x.down } in
     let none = is_some-none x.open (sym c.is_some.ensures ∙ c.if-is_some.false) in
-    (Carried-not_spare meanings told len faults d x y c.requires.runs c.if-self.false none refl refl refl refl c.args.method c.args.code (subst (λ (b : Bool). Registers c.args.method c.args.code b (meanings x.boxes) (meanings c.register.new.self)) c.in-Ok-false.field-0-test c.in-Ok-false.ensures.ok)).ends
+    (Carried-not_spare meanings told len faults d x y c.requires.runs c.if-self.false none refl refl refl refl c.args.method c.args.code refl (subst (λ (b : Bool). Registers c.args.method c.args.code b (meanings x.boxes) (meanings c.register.new.self)) c.in-Ok-false.field-0-test c.in-Ok-false.ensures.ok)).ends
 
 pub returns-in-Ok-true-clause-same : goal.returns-in-Ok-true-clause-same
 returns-in-Ok-true-clause-same g c =

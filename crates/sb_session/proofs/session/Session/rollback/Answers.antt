@@ -1,4 +1,4 @@
-use Rattle.std.proofs.Common.{◌≡◌, ℕ, Bool, List, Option, Some, position, is_some, refl, sym, ap, ◌∙◌}
+use Rattle.std.proofs.Common.{◌≡◌, ℕ, Bool, List, Option, Some, position, inl, is_some, refl, sym, ap, ◌∙◌}
 use Rattle.sb_txn.specs.Parts.{parts}
 use Rattle.sb_session.specs.declared.session.Open.{Open}
 use Rattle.sb_session.specs.declared.session.Savepoint.{Savepoint}
@@ -30,10 +30,10 @@ returns-in_default-clause-ends g c =
     let faults = g.D.Disk.faults in
     let x = c.args.self.now in
     let d = c.args.disk.now in
-    let y : Session g.row.B.Denot = record { boxes = x.boxes; space = x.space; place = x.place; «open» = Some c.in-Some.current; down = x.down } in
+    let y : Session g.row.B.Denot = record { boxes = x.boxes; space = x.space; place = x.place; opened = x.opened; «open» = Some c.in-Some.current; down = x.down } in
     let some : x.open ≡ Some c.in-Some.current = c.in-Some.is in
     (Carried-not_there meanings told len faults d x c.requires.runs c.if-self.false c.args.name.now c.in-Some.current some y
-    (record { boxes = refl; space = refl; place = refl; down = refl; opened = SameOpen-put c.in-Some.current c.in-Some.current x.open (Some c.in-Some.current) some refl refl refl }) c.no_name.result
+    (record { boxes = refl; space = refl; place = refl; down = refl; opened = SameOpen-put c.in-Some.current c.in-Some.current x.open (Some c.in-Some.current) some refl refl refl; opened_same = refl }) c.no_name.result
     (c.no_name.ensures c.in-Some.current.points.items
     (sym (place_known (is_named c.args.name.now) c.deref.result.now c.in-Some.current.points.items c.point_of.result c.point_of.ensures c.deref.ensures.value) ∙ ap is_some c.in_default.is))).ends
 
@@ -49,10 +49,10 @@ returns-in_default-clause-keeps g c =
     let faults = g.D.Disk.faults in
     let x = c.args.self.now in
     let d = c.args.disk.now in
-    let y : Session g.row.B.Denot = record { boxes = x.boxes; space = x.space; place = x.place; «open» = Some c.in-Some.current; down = x.down } in
+    let y : Session g.row.B.Denot = record { boxes = x.boxes; space = x.space; place = x.place; opened = x.opened; «open» = Some c.in-Some.current; down = x.down } in
     let some : x.open ≡ Some c.in-Some.current = c.in-Some.is in
     (Carried-not_there meanings told len faults d x c.requires.runs c.if-self.false c.args.name.now c.in-Some.current some y
-    (record { boxes = refl; space = refl; place = refl; down = refl; opened = SameOpen-put c.in-Some.current c.in-Some.current x.open (Some c.in-Some.current) some refl refl refl }) c.no_name.result
+    (record { boxes = refl; space = refl; place = refl; down = refl; opened = SameOpen-put c.in-Some.current c.in-Some.current x.open (Some c.in-Some.current) some refl refl refl; opened_same = refl }) c.no_name.result
     (c.no_name.ensures c.in-Some.current.points.items
     (sym (place_known (is_named c.args.name.now) c.deref.result.now c.in-Some.current.points.items c.point_of.result c.point_of.ensures c.deref.ensures.value) ∙ ap is_some c.in_default.is))).keeps
 
@@ -65,8 +65,8 @@ returns-in-Ok-clause-ends g c =
     let x = c.args.self.now in
     let d = c.args.disk.now in
     let new : Open = record { transaction = c.back_to.new.transaction; points = c.truncate.new.self } in
-    let y : Session g.row.B.Denot = record { boxes = x.boxes; space = c.back_to.new.space; place = x.place; «open» = Some new; down = x.down } in
-    (Carried-rollback meanings told len faults d x c.requires.runs c.if-self.false c.back_to.new.disk y c.back_to.new.space refl refl refl refl c.args.name.now c.in-Some.current new c.in-Some-point_of.i
+    let y : Session g.row.B.Denot = record { boxes = x.boxes; space = c.back_to.new.space; place = x.place; opened = x.opened; «open» = Some new; down = x.down } in
+    (Carried-rollback meanings told len faults d x c.requires.runs c.if-self.false c.back_to.new.disk y c.back_to.new.space refl refl refl refl (inl refl) c.args.name.now c.in-Some.current new c.in-Some-point_of.i
     c.index.result.now c.index.result.now.point c.in-Some.is refl
     (first_place (is_named c.args.name.now) c.deref.result.now c.in-Some.current.points.items c.point_of.result c.in-Some-point_of.i c.point_of.ensures c.deref.ensures.value c.in-Some-point_of.is) (sym (ap (λ (s : Savepoint). s.point) c.index.ensures))
     c.truncate.ensures.items c.in-Ok.ensures.tx c.in-Ok.ensures.back c.in-Ok.ensures.earlier c.in-Ok.ensures.stand c.in-Ok.ensures.begun c.in-Ok.ensures.usable c.in-Ok.ensures.spent c.in-Ok.ensures.remains).ends
@@ -80,8 +80,8 @@ returns-in-Ok-clause-runs g c =
     let x = c.args.self.now in
     let d = c.args.disk.now in
     let new : Open = record { transaction = c.back_to.new.transaction; points = c.truncate.new.self } in
-    let y : Session g.row.B.Denot = record { boxes = x.boxes; space = c.back_to.new.space; place = x.place; «open» = Some new; down = x.down } in
-    (Carried-rollback meanings told len faults d x c.requires.runs c.if-self.false c.back_to.new.disk y c.back_to.new.space refl refl refl refl c.args.name.now c.in-Some.current new c.in-Some-point_of.i
+    let y : Session g.row.B.Denot = record { boxes = x.boxes; space = c.back_to.new.space; place = x.place; opened = x.opened; «open» = Some new; down = x.down } in
+    (Carried-rollback meanings told len faults d x c.requires.runs c.if-self.false c.back_to.new.disk y c.back_to.new.space refl refl refl refl (inl refl) c.args.name.now c.in-Some.current new c.in-Some-point_of.i
     c.index.result.now c.index.result.now.point c.in-Some.is refl
     (first_place (is_named c.args.name.now) c.deref.result.now c.in-Some.current.points.items c.point_of.result c.in-Some-point_of.i c.point_of.ensures c.deref.ensures.value c.in-Some-point_of.is) (sym (ap (λ (s : Savepoint). s.point) c.index.ensures))
     c.truncate.ensures.items c.in-Ok.ensures.tx c.in-Ok.ensures.back c.in-Ok.ensures.earlier c.in-Ok.ensures.stand c.in-Ok.ensures.begun c.in-Ok.ensures.usable c.in-Ok.ensures.spent c.in-Ok.ensures.remains).runs

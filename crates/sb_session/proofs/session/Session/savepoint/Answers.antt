@@ -11,8 +11,8 @@ returns-clause-ends g c =
     let faults = g.D.Disk.faults in
     let x = c.args.self.now in
     let d = c.args.disk.now in
-    let y : Session g.row.B.Denot = record { boxes = x.boxes; space = x.space; place = x.place; «open» = Some c.save-saved.new.current; down = x.down } in
-    (Carried-saved meanings told len faults d x c.requires.runs c.if-self.false c.args.name.now c.in-Some.current c.save-saved.new.current y (sym c.take.ensures.value ∙ c.in-Some.is) refl refl refl refl refl
+    let y : Session g.row.B.Denot = record { boxes = x.boxes; space = x.space; place = x.place; opened = x.opened; «open» = Some c.save-saved.new.current; down = x.down } in
+    (Carried-saved meanings told len faults d x c.requires.runs c.if-self.false c.args.name.now c.in-Some.current c.save-saved.new.current y (sym c.take.ensures.value ∙ c.in-Some.is) refl refl refl refl refl refl
     c.save-saved.ensures.transaction c.save-saved.result c.save-saved.ensures.saved c.save-saved.ensures.refused c.save-saved.ensures.same).ends
 
 pub returns-clause-runs : goal.returns-clause-runs
@@ -23,6 +23,6 @@ returns-clause-runs g c =
     let faults = g.D.Disk.faults in
     let x = c.args.self.now in
     let d = c.args.disk.now in
-    let y : Session g.row.B.Denot = record { boxes = x.boxes; space = x.space; place = x.place; «open» = Some c.save-saved.new.current; down = x.down } in
-    (Carried-saved meanings told len faults d x c.requires.runs c.if-self.false c.args.name.now c.in-Some.current c.save-saved.new.current y (sym c.take.ensures.value ∙ c.in-Some.is) refl refl refl refl refl
+    let y : Session g.row.B.Denot = record { boxes = x.boxes; space = x.space; place = x.place; opened = x.opened; «open» = Some c.save-saved.new.current; down = x.down } in
+    (Carried-saved meanings told len faults d x c.requires.runs c.if-self.false c.args.name.now c.in-Some.current c.save-saved.new.current y (sym c.take.ensures.value ∙ c.in-Some.is) refl refl refl refl refl refl
     c.save-saved.ensures.transaction c.save-saved.result c.save-saved.ensures.saved c.save-saved.ensures.refused c.save-saved.ensures.same).runs
