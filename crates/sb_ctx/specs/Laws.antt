@@ -90,7 +90,7 @@ pub record IsCharged (a : Attachment) : Type 0 where
       → a.cost (ask.Changed c) (content_over a inst rule db buckets) (content_after a inst rule db buckets c)
       ≤ rule_cost ext db inst.relation rule buckets c)
 
--- The same of an attachment, whose searches find rising keys. One that keeps no pages is formed without an owner and without pages, has no content, and edits nothing.
+-- The same of an attachment, whose searches find rising keys. One that keeps no pages is formed without an owner and without pages, has no content, and edits nothing. One that keeps pages edits no more of them than is charged, where its code is one of ours; and to build over a row is charged no more than to insert it.
 pub record IsAttachment (a : Attachment) : Type 0 where
   pub pageless : keeps_pages a.rules.code ≡ false → (inst : Instance) (P : Pages) → inst.owner ≡ 0 → ((n : ℕ) → P n ≡ []) → a.content inst P ≡ Some no_content
   pub searches : (content : Content) (query : List Value) → are_rising_keys (a.hits content query) ≡ true

@@ -1,6 +1,6 @@
 //! Spaces of pages: what a driver stands on, wherever the pages are.
 
-ghost use Rattle.std.specs.Prelude.{◌≡◌, ◌≢◌, ◌+◌, ◌<◌, ◌≤◌, ℕ, Bool, IsTrue, List, [], IsOk, OnOk, OnErr, IfErr};
+ghost use Rattle.std.specs.Prelude.{◌≡◌, ◌≢◌, ◌+◌, ◌<◌, ◌≤◌, ℕ, Bool, IsTrue, [], IsOk, OnOk, OnErr, IfErr};
 ghost use Rattle.sb_ctx.specs.View.{HoldsPart, dropped, edits_of, stored};
 ghost use Rattle.sb_drive.specs.Slots.{AreWhole, Slots, owned};
 ghost use Rattle.sb_drive.specs.Spaces.{IsAnswerFault, IsAskFault, IsStoreFault, IsFull, IsGift, IsGivenIn, Leaves, LeadsWithin, UnlessDown, Wanted};

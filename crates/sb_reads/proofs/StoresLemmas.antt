@@ -11,7 +11,7 @@ use Rattle.sb_rule.specs.Spelling.{rule_code}
 use Rattle.sb_relation.specs.declared.image.Image.{Image}
 use Rattle.sb_relation.specs.Content.{Content}
 use Rattle.sb_relation.specs.Db
-use Rattle.sb_relation.specs.Db.{Key, Name, Row, Rows, Relation, relation_at, rows_at, schema_at}
+use Rattle.sb_relation.specs.Db.{Key, Name, Rows, Relation, relation_at, rows_at, schema_at}
 use Rattle.sb_relation.specs.Foreign.{AttachRules, attach_rules}
 use Rattle.sb_relation.specs.Images.{Entry, image, index_entries, page_image}
 use Rattle.sb_fold.specs.Extensions.{Extensions, box_of}

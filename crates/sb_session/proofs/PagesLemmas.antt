@@ -1,5 +1,5 @@
 -- Want of room to a command: the points that its step reaches, and what it spends.
-use Rattle.std.proofs.Common.{◌≡◌, ℕ, ◌+◌, ◌≤◌, true, false, List, [], ◌++◌, Some, refl, sym, ap, subst, ◌∙◌, arith}
+use Rattle.std.proofs.Common.{◌≡◌, ℕ, ◌≤◌, true, false, List, [], ◌++◌, Some, refl, sym, ap, subst, ◌∙◌, arith}
 use Rattle.std.specs.List.{Any}
 use Rattle.sb_relation.specs.Db.{Key}
 use Rattle.sb_fold.specs.declared.refusal.Refusal.{Refusal}

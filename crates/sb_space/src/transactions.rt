@@ -1,6 +1,6 @@
 //! Transactions of a space of pages.
 
-ghost use Rattle.std.specs.Prelude.{◌≡◌, ◌≤◌, [], false, ℕ, List, Some, OnOk, IfOk, IfErr};
+ghost use Rattle.std.specs.Prelude.{◌≡◌, ◌≤◌, [], false, ℕ, Some, OnOk, IfOk, IfErr};
 ghost use Rattle.sb_disk.specs.Moments.{LeavesOnly};
 ghost use Rattle.sb_drive.specs.Slots.{Slots};
 ghost use Rattle.sb_drive.specs.Spaces.{UnlessDown, Wanted};

@@ -1,6 +1,6 @@
 //! Attachments that go by their names, and mirrors of a relation's attachments. What is made of an open relation goes by calls of `drop`.
 
-ghost use Rattle.std.specs.Prelude.{◌≡◌, ℕ, ◌*◌, ◌++◌, ◌∷◌, List, IfOk, IfErr, OnOk, length, option_copied, option_map, true};
+ghost use Rattle.std.specs.Prelude.{◌≡◌, ℕ, ◌*◌, ◌++◌, List, IfOk, IfErr, OnOk, length, option_copied, option_map, true};
 ghost use Rattle.sb_relation.specs.Build.{mirror_name, mirror_of};
 ghost use Rattle.sb_relation.specs.Db.{Db, Name as Named};
 ghost use Rattle.sb_fold.specs.Building.{mirrored_in, without_attached, without_mirror, without_mirrors};
@@ -8,7 +8,6 @@ ghost use Rattle.sb_fold.specs.Costs.{descriptor_cost};
 ghost use Rattle.sb_fold.specs.Fold.{attachments_at};
 ghost use Rattle.sb_cascade.specs.Runs.{is_free};
 ghost use Rattle.sb_drive.specs.Spaces.{LeadsOn, LeadsWithin};
-ghost use Rattle.sb_catalog.specs.Descriptors.{IsStorableDescriptor};
 ghost use Rattle.sb_standing.specs.Standing.{owners_named, without_described};
 ghost use Rattle.sb_engine.specs.Refusals.{HasFaultCause, HasRefusalCause, refusal_of};
 ghost use Rattle.sb_engine.specs.Working.{Goes, IsServing, extensions_in, extensions_of};
